@@ -1,7 +1,8 @@
 """The judge in a test of one's own: the forms of examples/in-a-test, by their own tests, in each language that is installed.
 
-A right set has to be `ok` there, and three wrong ones refused. If there is no judge, or one that answers something else, these tests
-have to fail with a sentence that says so. Every wait is bounded.
+A right set has to be `ok` there, and three wrong ones refused; what hangs or crashes is judged up to there. If there is no judge, or one
+that answers something else, these tests have to fail with a sentence that says so. The page's engine in node is another judge
+(tests/foreign.py tries the library). Every wait is bounded.
 """
 
 import importlib.util
@@ -12,7 +13,7 @@ import subprocess
 import sys
 import unittest
 
-from harness.cases import NEEDS, TOP, Wrong, each
+from harness.cases import NEEDS, TOP, Wrong, each, needs
 
 FORMS = TOP / "examples" / "in-a-test"
 SECONDS = 300  # for each compiler, and for each run of tests
@@ -22,6 +23,7 @@ NO_VERDICT = "{} gave no verdict, but said: %s. Take a listset that has the word
 NO_JUDGES = {
     "missing": ("", "LISTSET names {}, which cannot be run: build listset, and name it there"),
     "old": ("#!/bin/sh\necho 'error: unrecognized subcommand' >&2\nexit 2\n", NO_VERDICT % "error: unrecognized subcommand"),
+    "no script": ("#!/no/such/shell\n", "LISTSET names {}, which cannot be run: build listset, and name it there"),
     "silent": ("#!/bin/sh\nexit 0\n", NO_VERDICT % "nothing"),
     "ok that fails": ("#!/bin/sh\necho ok 9 calls\nexit 1\n", NO_VERDICT % "ok 9 calls"),
     "refusal that passes": ("#!/bin/sh\necho not linearizable\n", NO_VERDICT % "not linearizable"),
@@ -31,7 +33,7 @@ NO_JUDGES = {
 def ran(where, words, judge=None):
     """The status of a command, with this judge or with none, and what it said."""
     environment = {name: it for name, it in os.environ.items() if name not in ("LISTSET", "RUST_BACKTRACE")}
-    environment |= {"LISTSET": str(judge)} if judge else {}
+    environment |= {"LISTSET": str(judge), "TMPDIR": str(judge.parent)} if judge else {}
     how = {"stdin": subprocess.DEVNULL, "stdout": subprocess.PIPE, "stderr": subprocess.STDOUT, "text": True, "timeout": SECONDS}
     done = subprocess.run([*map(str, words)], cwd=where, env=environment, **how)
     return done.returncode, done.stdout
@@ -71,7 +73,7 @@ def googletest(room):
 
 
 def python(_):
-    return FORMS / "python", [sys.executable, "-B", "-m", "unittest", "test_sets"]
+    return FORMS / "python", [sys.executable, "-B", "-m", "unittest", "test_sets", "test_servers"]
 
 
 def pytest(_):
@@ -80,12 +82,12 @@ def pytest(_):
 
 def java(room):
     built(FORMS / "java", "javac", "-Xlint:all,-serial", "-Werror", "-d", room, "Judge.java", "Sets.java", "Tests.java")
-    return room, ["java", "-cp", room, "Tests"]
+    return room, ["java", f"-Djava.io.tmpdir={room}", "-cp", room, "Tests"]
 
 
 def junit(room):
     built(FORMS / "java", "javac", "-cp", JUNIT, "-d", room, "Judge.java", "Sets.java", "SetsTest.java")
-    return room, ["java", "-jar", JUNIT, "-cp", room, "--scan-classpath", "--disable-banner"]
+    return room, ["java", f"-Djava.io.tmpdir={room}", "-jar", JUNIT, "-cp", room, "--scan-classpath", "--disable-banner"]
 
 
 def go(room):
@@ -124,3 +126,30 @@ def a_form_judges(case, language):
         status, said = ran(where, words, judge)
         if status == 0 or due.format(judge) not in said:
             raise Wrong(f"with a judge that is {name}: status {status}\n{said[-3000:]}")
+
+
+# Of each language how its first test alone is run, which prints its verdict
+FIRST = {"Rust": ["my_set_is_linearizable", "--", "--nocapture"], "C++": ["first"], "Java": ["first"]}
+FIRST |= {"Python": ["test_sets.Sets.test_my_set_is_linearizable"], "Go": ["-test.run", "TestIsLinearizable", "-test.v"]}
+ENGINE = TOP / "page" / "listset.js"
+
+
+def first_said(case, language, judge):
+    """What the first test of a language says, with this judge."""
+    look_for(language)
+    where, words = LANGUAGES[language](case.room)
+    words = [it for it in words if not str(it).startswith("test_")]
+    status, said = ran(where, [*words, *FIRST[language]], judge)
+    if status:
+        raise Wrong(f"the first test ended with status {status}\n{said[-3000:]}")
+    return said
+
+
+@needs("node")
+@each(FIRST)
+def the_engine_in_node_judges(case, language):
+    if "judge" not in subprocess.run(["node", ENGINE, "--words"], capture_output=True, text=True, timeout=SECONDS).stdout.split():
+        raise unittest.SkipTest("page/listset.js has no word judge")
+    said = first_said(case, language, ENGINE)
+    if f"judge: {ENGINE}, proof " not in said:
+        raise Wrong(said)

@@ -1,11 +1,14 @@
 // A right set, and wrong ones that have to be refused. The tests of this folder are over them.
 #pragma once
 #include <atomic>
+#include <chrono>
+#include <csignal>
 #include <mutex>
 #include <set>
 #include <stdexcept>
 #include <thread>
 #include <utility>
+#include <unistd.h>
 
 struct MySet {
     std::set<unsigned> keys;
@@ -87,6 +90,28 @@ struct DoubleRemove {
         is_there[key] = false;
         return true;
     }
+};
+
+// The thirtieth remove hangs, with the lock held, or crashes.
+template <class Last> struct Stops : MySet {
+    int removes = 0;
+    bool remove(unsigned key) {
+        std::lock_guard held(lock);
+        if (++removes == 30) Last()();
+        return keys.erase(key);
+    }
+};
+struct Hangs {
+    void operator()() { for (;;) std::this_thread::sleep_for(std::chrono::hours(1)); }
+};
+struct Crashes {
+    void operator()() { raise(SIGSEGV); }
+};
+struct Exits {
+    void operator()() { _exit(3); }
+};
+struct FindsAllAndHangs : Stops<Hangs> {
+    bool contains(unsigned) { return true; }
 };
 
 struct CannotBeMade : MySet {

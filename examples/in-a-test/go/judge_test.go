@@ -2,6 +2,7 @@ package judge
 
 import (
 	"errors"
+	"os"
 	"runtime"
 	"strings"
 	"sync"
@@ -75,7 +76,7 @@ func (FindsAll) Contains(uint32) bool { return true }
 
 func TestASeedGivesTheSameCallsAgain(t *testing.T) {
 	of := func(seed int64) (found *NotLinearizable) {
-		_, err := Judge(func() FindsAll { return FindsAll{NewMySet()} }, Options{1, 50, 4, 20, 1, seed})
+		_, err := Judge(func() FindsAll { return FindsAll{NewMySet()} }, Options{1, 50, 4, 20, 1, seed, 10})
 		if !errors.As(err, &found) {
 			t.Fatal(err)
 		}
@@ -170,6 +171,48 @@ func TestDoubleRemoveIsRefused(t *testing.T) {
 	isRefused(t, func() *DoubleRemove { return &DoubleRemove{} })
 }
 
+// Hangs has a thirtieth remove that does not come back, with the lock held.
+type Hangs struct {
+	*MySet
+	removes int
+}
+
+func (it *Hangs) Remove(key uint32) bool {
+	it.lock.Lock()
+	defer it.lock.Unlock()
+	if it.removes++; it.removes == 30 {
+		select {}
+	}
+	was := it.keys[key]
+	delete(it.keys, key)
+	return was
+}
+
+type FindsAllAndHangs struct{ *Hangs }
+
+func (FindsAllAndHangs) Contains(uint32) bool { return true }
+
+func hangs[S Set](t *testing.T, make func() S, judged string) {
+	var hung *NotEnded
+	how := Usual()
+	how.Seconds = 1
+	if _, err := Judge(make, how); !errors.As(err, &hung) {
+		t.Fatal(err)
+	}
+	text, err := os.ReadFile(hung.File)
+	if !strings.HasPrefix(hung.Said, "the set hung: no call began or ended for 1 s\nunder way:\ncall ") || string(text) != hung.Recording {
+		t.Fatal(hung, err)
+	}
+	if !strings.Contains(hung.Said, "\nup to there: "+judged) {
+		t.Fatal(hung)
+	}
+}
+
+func TestWhatHangsIsJudgedUpToThere(t *testing.T) {
+	hangs(t, func() *Hangs { return &Hangs{MySet: NewMySet()} }, "some order explains the calls")
+	hangs(t, func() FindsAllAndHangs { return FindsAllAndHangs{&Hangs{MySet: NewMySet()}} }, "not linearizable\n")
+}
+
 // FailsToAdd panics.
 type FailsToAdd struct{ *MySet }
 
@@ -183,12 +226,13 @@ func TestWhatGivesNoVerdictIsOneSentence(t *testing.T) {
 	}
 	of := func(how Options) error { _, err := Judge(NewMySet, how); return err }
 	few := Options{Threads: 2, Calls: 9, Keys: 4, Runs: 1}
-	says("Threads is 65, and has to be 1 to 64", of(Options{65, 9, 4, 20, 1, 1}))
-	says("Calls is 0, and has to be 1 to 1000000", of(Options{2, 0, 4, 20, 1, 1}))
-	says("Threads times Calls is 1000002, and has to be 1 to 1000000", of(Options{2, 500001, 4, 20, 1, 1}))
-	says("Keys is 0, and has to be 1 to 1048576", of(Options{2, 9, 0, 20, 1, 1}))
-	says("Pauses is 101, and has to be 0 to 100", of(Options{2, 9, 4, 101, 1, 1}))
-	says("Runs is 0, and has to be 1 to 1000000", of(Options{2, 9, 4, 20, 0, 1}))
+	says("Threads is 65, and has to be 1 to 64", of(Options{65, 9, 4, 20, 1, 1, 10}))
+	says("Calls is 0, and has to be 1 to 1000000", of(Options{2, 0, 4, 20, 1, 1, 10}))
+	says("Threads times Calls is 1000002, and has to be 1 to 1000000", of(Options{2, 500001, 4, 20, 1, 1, 10}))
+	says("Keys is 0, and has to be 1 to 1048576", of(Options{2, 9, 0, 20, 1, 1, 10}))
+	says("Pauses is 101, and has to be 0 to 100", of(Options{2, 9, 4, 101, 1, 1, 10}))
+	says("Runs is 0, and has to be 1 to 1000000", of(Options{2, 9, 4, 20, 0, 1, 10}))
+	says("Seconds is 3601, and has to be 1 to 3600", of(Options{2, 9, 4, 20, 1, 1, 3601}))
 	_, err := Judge(func() *MySet { panic("no room") }, few)
 	says("the set could not be made: no room", err)
 	_, err = Judge(func() FailsToAdd { return FailsToAdd{NewMySet()} }, few)

@@ -6,6 +6,7 @@ import java.util.concurrent.ConcurrentHashMap;
 import java.util.concurrent.ConcurrentSkipListSet;
 import java.util.concurrent.atomic.AtomicInteger;
 import java.util.concurrent.atomic.AtomicIntegerArray;
+import java.util.concurrent.locks.LockSupport;
 
 /** A right set, and wrong ones that have to be refused. The tests of this folder are over them. */
 final class Sets {
@@ -90,6 +91,21 @@ final class Sets {
     }
 
     static final class FindsAll extends ConcurrentSkipListSet<Integer> {
+        @Override public boolean contains(Object key) { return true; }
+    }
+
+    /** Its thirtieth remove hangs, with the lock of all others. */
+    static class Hangs extends ConcurrentSkipListSet<Integer> {
+        private int removes = 0;
+
+        @Override public synchronized boolean remove(Object key) {
+            removes++;
+            while (removes >= 30) LockSupport.park();
+            return super.remove(key);
+        }
+    }
+
+    static final class FindsAllAndHangs extends Hangs {
         @Override public boolean contains(Object key) { return true; }
     }
 

@@ -3,7 +3,10 @@
 python3 -m unittest test_sets
 """
 
+import os
+import signal
 import threading
+import time
 import unittest
 
 import listset_judge
@@ -98,6 +101,37 @@ class FindsAll(MySet):
         return True
 
 
+class Stops(MySet):
+    """Its thirtieth remove does not come back."""
+
+    removes, forever = 0, 1 << 20
+
+    def remove(self, key):
+        self.removes += 1
+        if self.removes == 30:
+            self.last()
+        return super().remove(key)
+
+
+class Hangs(Stops):
+    def last(self):
+        with self.lock:
+            time.sleep(self.forever)
+
+
+class Crashes(Stops):
+    def last(self):
+        signal.raise_signal(signal.SIGSEGV)
+
+
+class FindsAllAndExits(Stops):
+    def __contains__(self, key):
+        return True
+
+    def last(self):
+        os._exit(3)
+
+
 class FailsToAdd(MySet):
     def add(self, key):
         raise MemoryError("no memory")
@@ -145,6 +179,21 @@ class Sets(unittest.TestCase):
         with self.assertRaisesRegex(listset_judge.NotLinearizable, "seed [0-9]+: not linearizable"):
             listset_judge.judge(make, **FEW)
 
+    def test_what_hangs_or_crashes_is_judged_up_to_there(self):
+        for make, how, judged in (
+            (Hangs, "the set hung: no call began or ended for 1 s", "some order explains the calls"),
+            (Crashes, "the set crashed: SIGSEGV", "some order explains the calls"),
+            (FindsAllAndExits, "the set ended its process with the status 3", "not linearizable"),
+        ):
+            with self.subTest(how), self.assertRaises(listset_judge.NotEnded) as found:
+                listset_judge.judge(make, seconds=1 if make is Hangs else 10, **FEW)
+            self.assertTrue(found.exception.said.startswith(f"{how}\nunder way:\ncall "), found.exception)
+            self.assertIn(f"\nup to there: {judged}", found.exception.said)
+            self.assertEqual(found.exception.file.read_text(), found.exception.recording)
+
+    def test_in_this_process(self):
+        listset_judge.judge(MySet, threads=2, calls=100, runs=2, own_process=False)
+
     def test_what_gives_no_verdict_is_one_sentence(self):
         for make, how, said in (
             (MySet, {"threads": 65}, "threads is 65, and has to be 1 to 64"),
@@ -153,6 +202,7 @@ class Sets(unittest.TestCase):
             (MySet, {"keys": "4"}, "keys is 4, and has to be 1 to 1048576"),
             (MySet, {"pauses": 101}, "pauses is 101, and has to be 0 to 100"),
             (MySet, {"runs": 0}, "runs is 0, and has to be 1 to 1000000"),
+            (MySet, {"seconds": 0}, "seconds is 0, and has to be 1 to 3600"),
             (cannot_be_made, {}, "the set could not be made: no room"),
             (FailsToAdd, {}, "a call of the set failed: no memory"),
             (set, {"keys": 1}, "a call of the set failed: "),

@@ -8,20 +8,25 @@
 //! ```
 //!
 //! `MySet` has `new`, `add`, `remove` and `contains`; [`judge`] takes any other set, by closures. Threads call fresh sets, and the
-//! begin and the end of each call are recorded. `listset judge -` says whether any order of the calls explains their replies: the
-//! environment variable `LISTSET` names this program, else it is `listset` of `PATH`.
+//! begin and the end of each call are recorded. A judge says whether any order of the calls explains their replies: `liblistset`, if
+//! `build.rs` finds it; else the program that the environment variable `LISTSET` names, or `listset` of `PATH`. `LISTSET` may also
+//! name the page's `listset.js`, which node runs. On Linux each run has a process of its own, so that a set that crashes or hangs is
+//! judged up to there.
 
-use std::collections::HashMap;
-use std::fmt::{self, Write as _};
-use std::io::Write as _;
-use std::panic::{catch_unwind, AssertUnwindSafe};
-use std::process::{Command, Stdio};
-use std::sync::atomic::{AtomicU32, Ordering::SeqCst};
+mod area;
+mod child;
+mod judges;
+mod run;
 
-const QUOTA: u32 = 16_384; // the most adds that answered true, of one thread number of a recording
+use std::any::Any;
+use std::fmt;
+
+use area::{Area, CallsOf};
+use judges::Judge;
+use run::Run;
+
 const MOST_CALLS: u64 = 1_000_000; // of a recording
 const FEW: u64 = 5; // of 100 calls
-const LONGEST: u32 = 100; // looks at the counter, of a pause
 
 /// How the set is called. Each field is checked before the first set is made.
 #[derive(Clone, Debug)]
@@ -38,11 +43,16 @@ pub struct Options {
     pub runs: u32,
     /// What calls, keys and pauses of the first run are drawn from.
     pub seed: u32,
+    /// A run in which no call begins or ends for so long is ended: 1 to 3,600.
+    pub seconds: u32,
+    /// If false, sets are called in this process, which then crashes or hangs with them. That is for a debugger, for coverage, and for
+    /// a set that needs threads which this process has started.
+    pub own_process: bool,
 }
 
 impl Default for Options {
     fn default() -> Self {
-        Options { threads: 8, calls: 1000, keys: 4, pauses: 20, runs: 20, seed: 1 }
+        Options { threads: 8, calls: 1000, keys: 4, pauses: 20, runs: 20, seed: 1, seconds: 10, own_process: true }
     }
 }
 
@@ -52,20 +62,37 @@ pub struct Verdict {
     pub calls: u64,
     /// Calls that overlapped an `add` or a `remove` of their key that answered `true`.
     pub overlapped: u64,
+    /// Which judge it was, and whether it says that it is proved.
+    pub judge: String,
 }
 
 impl fmt::Display for Verdict {
     fn fmt(&self, f: &mut fmt::Formatter<'_>) -> fmt::Result {
         write!(f, "ok: {} calls, of which {} overlapped a change of their key", self.calls, self.overlapped)?;
         let is_few = self.overlapped * 100 < self.calls * FEW;
-        write!(f, "{}", if is_few { "; that is few: take more threads, fewer keys or a machine that does less" } else { "" })
+        write!(f, "{}", if is_few { "; that is few: take more threads, fewer keys or a machine that does less" } else { "" })?;
+        write!(f, "; judge: {}", self.judge)
     }
+}
+
+/// A run that failed.
+pub struct Failed {
+    pub seed: u64,
+    /// What the judge said, below how the run came to no end if it did not.
+    pub said: String,
+    /// What was judged.
+    pub recording: String,
+    /// The file that has the recording.
+    pub file: String,
+    pub judge: String,
 }
 
 /// Why there is no `Verdict`. It prints itself, by `unwrap` too.
 pub enum Failure {
-    /// No order explains the run of this seed: what the judge said, and the recording that it judged.
-    NotLinearizable { seed: u64, said: String, recording: String },
+    /// No order explains the run.
+    NotLinearizable(Failed),
+    /// The set crashed or hung in the run, which was judged up to there.
+    NotEnded(Failed),
     /// Nothing is known of the set: an option is out of range, the set panicked, or there is no judge.
     NoVerdict(String),
 }
@@ -73,7 +100,9 @@ pub enum Failure {
 impl fmt::Display for Failure {
     fn fmt(&self, f: &mut fmt::Formatter<'_>) -> fmt::Result {
         match self {
-            Failure::NotLinearizable { seed, said, .. } => write!(f, "seed {seed}: {said}"),
+            Failure::NotLinearizable(it) | Failure::NotEnded(it) => {
+                write!(f, "seed {}: {}\nrecorded in {}; judge: {}", it.seed, it.said, it.file, it.judge)
+            }
             Failure::NoVerdict(why) => write!(f, "{why}"),
         }
     }
@@ -107,16 +136,17 @@ pub fn judge<S: Sync>(
     options: Options,
 ) -> Result<Verdict, Failure> {
     options.check()?;
+    let judge = Judge::found()?;
     let calls_of = CallsOf { add: &add, remove: &remove, contains: &contains };
-    let mut verdict = Verdict { calls: 0, overlapped: 0 };
+    let mut verdict = Verdict { calls: 0, overlapped: 0, judge: judge.to_string() };
     for seed in (u64::from(options.seed)..).take(options.runs as usize) {
-        let set = quietly(&make).map_err(|why| Failure::NoVerdict(format!("the set could not be made: {why}")))?;
-        let run = quietly(|| Run::of(&set, &calls_of, &options, seed))
-            .map_err(|why| Failure::NoVerdict(format!("a call of the set failed: {why}")))?;
-        let recording = run.text();
-        if let Some(said) = refused(&recording)? {
-            return Err(Failure::NotLinearizable { seed, said, recording });
+        let area = Area::new(&options, seed)?;
+        let trouble = child::run(&area, &|| area.call_all(&make, &calls_of))?;
+        if let Some(why) = area.why_it_failed() {
+            return Err(Failure::NoVerdict(why));
         }
+        let run = Run::of(&area, trouble);
+        run.judged(&judge, seed)?;
         verdict.calls += run.rows.len() as u64;
         verdict.overlapped += run.overlapped();
     }
@@ -132,171 +162,24 @@ impl Options {
             ("keys", u64::from(self.keys), 1, 1_048_576),
             ("pauses", u64::from(self.pauses), 0, 100),
             ("runs", u64::from(self.runs), 1, 1_000_000),
+            ("seconds", u64::from(self.seconds), 1, 3600),
         ];
         match ranges.iter().find(|(_, given, least, most)| !(least..=most).contains(&given)) {
-            Some((name, given, least, most)) => Err(Failure::NoVerdict(format!("{name} is {given}, and has to be {least} to {most}"))),
+            Some((name, given, least, most)) => no_verdict(format!("{name} is {given}, and has to be {least} to {most}")),
             None => Ok(()),
         }
     }
 }
 
-/// What a call gives, or with which words it panicked.
-fn quietly<T>(call: impl FnOnce() -> T) -> Result<T, String> {
-    catch_unwind(AssertUnwindSafe(call)).map_err(|why| match (why.downcast_ref::<&str>(), why.downcast_ref::<String>()) {
+fn no_verdict<T>(why: String) -> Result<T, Failure> {
+    Err(Failure::NoVerdict(why))
+}
+
+/// The words with which something panicked.
+fn words_of(panic: Box<dyn Any + Send>) -> String {
+    match (panic.downcast_ref::<&str>(), panic.downcast_ref::<String>()) {
         (Some(words), _) => words.to_string(),
         (_, Some(words)) => words.clone(),
         _ => "it panicked".to_string(),
-    })
-}
-
-// ---- a run, recorded
-
-struct CallsOf<'a, S> {
-    add: &'a (dyn Fn(&S, u32) -> bool + Sync),
-    remove: &'a (dyn Fn(&S, u32) -> bool + Sync),
-    contains: &'a (dyn Fn(&S, u32) -> bool + Sync),
-}
-
-impl<S> CallsOf<'_, S> {
-    fn keys(&self, set: &S, below: u32) -> Vec<u32> {
-        (0..below).filter(|&key| (self.contains)(set, key)).collect()
     }
-}
-
-struct Row {
-    thread: u32,
-    call: &'static str,
-    key: u32,
-    begin: u32,
-    end: u32,
-    reply: bool,
-}
-
-impl Row {
-    fn is_change(&self) -> bool {
-        self.reply && self.call != "contains"
-    }
-}
-
-/// The calls of one set by their begins, with the keys before and after.
-struct Run {
-    opening: Vec<u32>,
-    rows: Vec<Row>,
-    left: Vec<u32>,
-}
-
-impl Run {
-    fn of<S: Sync>(set: &S, calls_of: &CallsOf<S>, options: &Options, seed: u64) -> Run {
-        let opening = calls_of.keys(set, options.keys);
-        let (tickets, there) = (&AtomicU32::new(1), &AtomicU32::new(0));
-        let call = |thread: u32| {
-            let mut draws = Draws((seed << 6) + u64::from(thread));
-            there.fetch_add(1, SeqCst);
-            while there.load(SeqCst) < options.threads {
-                std::thread::yield_now(); // none begins before all are there
-            }
-            (0..options.calls).map(|_| row(set, calls_of, options, tickets, (thread, &mut draws))).collect::<Vec<Row>>()
-        };
-        let mut rows: Vec<Row> = std::thread::scope(|scope| {
-            let started: Vec<_> = (0..options.threads).map(|thread| scope.spawn(move || call(thread))).collect();
-            let ended: Vec<_> = started.into_iter().map(|it| it.join()).collect();
-            ended.into_iter().flat_map(|it| it.unwrap_or_else(|why| std::panic::resume_unwind(why))).collect()
-        });
-        rows.sort_unstable_by_key(|it| it.begin);
-        Run { opening, rows, left: calls_of.keys(set, options.keys) }
-    }
-
-    /// How many calls overlapped a change of their key.
-    fn overlapped(&self) -> u64 {
-        let mut open_of = HashMap::<u32, Vec<usize>>::new(); // of each key the calls that have begun, while they may be open
-        let mut is_met = vec![false; self.rows.len()];
-        for (i, it) in self.rows.iter().enumerate() {
-            let open = open_of.entry(it.key).or_default();
-            open.retain(|&other| self.rows[other].end > it.begin);
-            for &other in open.iter() {
-                is_met[i] |= self.rows[other].is_change();
-                is_met[other] |= it.is_change();
-            }
-            open.push(i);
-        }
-        is_met.iter().filter(|&&it| it).count() as u64
-    }
-
-    /// The recording that `listset judge` reads. A thread whose quota is used goes on under another number.
-    fn text(&self) -> String {
-        let mut text = format!("listset-calls 2\nlist lazy\nthreads 64\nquota {QUOTA}\n");
-        let (mut numbers, mut next) = (HashMap::<u32, (u32, u32)>::new(), 0);
-        self.opening.iter().for_each(|key| writeln!(text, "opening {key}").unwrap());
-        for Row { thread, call, key, begin, end, reply } in &self.rows {
-            let (number, added) = numbers.entry(*thread).or_insert((u32::MAX, QUOTA));
-            if *added == QUOTA {
-                (*number, *added, next) = (next, 0, next + 1);
-            }
-            *added += u32::from(*call == "add" && *reply);
-            writeln!(text, "call {number} {call} {key} {begin} - {end} {reply}").unwrap();
-        }
-        self.left.iter().for_each(|key| writeln!(text, "key {key}").unwrap());
-        text + "end\n"
-    }
-}
-
-fn row<S>(set: &S, calls_of: &CallsOf<S>, options: &Options, tickets: &AtomicU32, (thread, draws): (u32, &mut Draws)) -> Row {
-    let (call, key) = (["add", "remove", "contains"][draws.below(3) as usize], draws.below(options.keys));
-    let pause = if draws.below(100) < options.pauses { draws.below(LONGEST) } else { 0 };
-    (0..pause).for_each(|_| _ = tickets.load(SeqCst));
-    let begin = tickets.fetch_add(1, SeqCst);
-    let reply = match call {
-        "add" => (calls_of.add)(set, key),
-        "remove" => (calls_of.remove)(set, key),
-        _ => (calls_of.contains)(set, key),
-    };
-    Row { thread, call, key, begin, end: tickets.fetch_add(1, SeqCst), reply }
-}
-
-/// Random numbers (SplitMix64).
-struct Draws(u64);
-
-impl Draws {
-    fn below(&mut self, bound: u32) -> u32 {
-        self.0 = self.0.wrapping_add(0x9e37_79b9_7f4a_7c15);
-        let mixed = (self.0 ^ (self.0 >> 30)).wrapping_mul(0xbf58_476d_1ce4_e5b9);
-        let mixed = (mixed ^ (mixed >> 27)).wrapping_mul(0x94d0_49bb_1331_11eb);
-        ((u128::from(mixed ^ (mixed >> 31)) * u128::from(bound)) >> 64) as u32
-    }
-}
-
-// ---- the judge
-
-/// What the judge says of a recording that no order explains, or `None` if one does.
-fn refused(recording: &str) -> Result<Option<String>, Failure> {
-    let named = std::env::var("LISTSET").ok();
-    let program = named.as_deref().unwrap_or("listset");
-    let (status, said) = answer(program, recording).map_err(|_| {
-        Failure::NoVerdict(match &named {
-            Some(it) => format!("LISTSET names {it}, which cannot be run: build listset, and name it there"),
-            None => "there is no listset in PATH: build it, and put it there or name it by LISTSET".to_string(),
-        })
-    })?;
-    match status {
-        Some(0) if said.starts_with("ok ") => Ok(None),
-        Some(1) if said.starts_with("not linearizable") => Ok(Some(said)),
-        _ => {
-            let first = said.lines().next().unwrap_or("nothing");
-            Err(Failure::NoVerdict(format!("{program} gave no verdict, but said: {first}. Take a listset that has the word judge")))
-        }
-    }
-}
-
-/// The status of the program, and what it said.
-fn answer(program: &str, recording: &str) -> std::io::Result<(Option<i32>, String)> {
-    let mut command = Command::new(program);
-    command.args(["judge", "-"]).stdin(Stdio::piped()).stdout(Stdio::piped()).stderr(Stdio::piped());
-    let mut child = command.spawn()?;
-    let mut input = child.stdin.take().expect("it is piped");
-    std::thread::scope(|scope| {
-        scope.spawn(move || input.write_all(recording.as_bytes())); // (one that has ended reads no further)
-        let ended = child.wait_with_output()?;
-        let said = if ended.stdout.is_empty() { ended.stderr } else { ended.stdout };
-        Ok((ended.status.code(), String::from_utf8_lossy(&said).trim().to_string()))
-    })
 }

@@ -68,7 +68,7 @@ fn a_seed_gives_the_same_calls_again() {
     let of = |seed| {
         let options = Options { threads: 1, calls: 50, runs: 1, seed, ..Options::default() };
         match listset_judge::judge(MySet::new, MySet::add, MySet::remove, |_, _| true, options) {
-            Err(Failure::NotLinearizable { recording, .. }) => recording,
+            Err(Failure::NotLinearizable(it)) => it.recording,
             other => panic!("{other:?}"),
         }
     };
@@ -77,7 +77,7 @@ fn a_seed_gives_the_same_calls_again() {
 
 fn is_refused(judged: Result<listset_judge::Verdict, Failure>) {
     match judged {
-        Err(refused @ Failure::NotLinearizable { .. }) => println!("{refused}"),
+        Err(refused @ Failure::NotLinearizable(_)) => println!("{refused}"),
         other => panic!("it has to be refused: {other:?}"),
     }
 }
@@ -154,6 +154,46 @@ fn a_double_remove_is_refused() {
     is_refused(judge!(DoubleRemove));
 }
 
+/// Its thirtieth call hangs with the lock held, or crashes.
+#[cfg(target_os = "linux")]
+struct Stops { set: MySet, calls: AtomicU64, at_last: fn() }
+
+#[cfg(target_os = "linux")]
+impl Stops {
+    fn contains(&self, key: u32) -> bool { self.set.contains(key) }
+    fn add(&self, key: u32) -> bool { self.set.add(key) }
+    fn remove(&self, key: u32) -> bool {
+        let mut keys = self.set.0.lock().unwrap();
+        if self.calls.fetch_add(1, SeqCst) == 30 { (self.at_last)() }
+        keys.remove(&key)
+    }
+}
+
+#[cfg(target_os = "linux")]
+#[test]
+fn what_hangs_or_crashes_is_judged_up_to_there() {
+    let said = |seconds, at_last: fn(), contains: fn(&Stops, u32) -> bool| {
+        let make = move || Stops { set: MySet::new(), calls: AtomicU64::new(0), at_last };
+        match listset_judge::judge(make, Stops::add, Stops::remove, contains, Options { seconds, ..Options::default() }) {
+            Err(Failure::NotEnded(it)) if std::fs::read_to_string(&it.file).unwrap() == it.recording => it.said,
+            other => panic!("{other:?}"),
+        }
+    };
+    let hung = said(1, || loop { std::thread::park() }, Stops::contains);
+    assert!(hung.starts_with("the set hung: no call began or ended for 1 s\nunder way:\ncall "), "{hung}");
+    assert!(hung.contains(" remove ") && hung.ends_with("\nup to there: some order explains the calls"), "{hung}");
+    let crashed = said(10, || std::process::abort(), Stops::contains);
+    assert!(crashed.starts_with("the set crashed: signal 6, SIGABRT\nunder way:\ncall "), "{crashed}");
+    let ended = said(10, || std::process::exit(3), |_, _| true);
+    assert!(ended.starts_with("the set ended its process with the status 3\n"), "{ended}");
+    assert!(ended.contains("\nup to there: not linearizable\n"), "{ended}");
+}
+
+#[test]
+fn a_set_may_be_called_in_this_process() {
+    judge!(MySet, Options { runs: 2, own_process: false, ..Options::default() }).unwrap();
+}
+
 /// It cannot be made, or its `add` fails.
 struct Fails;
 
@@ -173,6 +213,7 @@ fn what_gives_no_verdict_is_one_sentence() {
     assert_eq!(said(judge!(MySet, Options { keys: 0, ..few() })), "keys is 0, and has to be 1 to 1048576");
     assert_eq!(said(judge!(MySet, Options { pauses: 101, ..few() })), "pauses is 101, and has to be 0 to 100");
     assert_eq!(said(judge!(MySet, Options { runs: 0, ..few() })), "runs is 0, and has to be 1 to 1000000");
+    assert_eq!(said(judge!(MySet, Options { seconds: 0, ..few() })), "seconds is 0, and has to be 1 to 3600");
     assert_eq!(said(judge!(Fails, few())), "the set could not be made: no room");
     let failing = listset_judge::judge(|| Fails, Fails::add, Fails::remove, Fails::contains, few());
     assert_eq!(said(failing), "a call of the set failed: no memory");

@@ -1,0 +1,210 @@
+//! A run, written down as it goes, in memory that a process of its own shares with this one.
+use std::alloc::{alloc_zeroed, dealloc, Layout};
+use std::panic::{catch_unwind, resume_unwind, AssertUnwindSafe};
+use std::slice::from_raw_parts;
+use std::sync::atomic::Ordering::{Acquire, Release, SeqCst};
+use std::sync::atomic::{AtomicBool, AtomicU32, AtomicU8};
+
+use crate::{child, no_verdict, words_of, Failure, Options};
+
+const LONGEST: u32 = 100; // looks at the counter, of a pause
+pub const WORDS: [&str; 3] = ["add", "remove", "contains"];
+
+/// What was thrown where a set was made or called stands in so many bytes.
+const MOST_WHY: usize = 240;
+
+/// A call as its thread writes it: at its begin, and again at its end. A moment is 0 as long as there is none.
+pub struct Slot {
+    pub word: AtomicU8,
+    pub key: AtomicU32,
+    pub reply: AtomicBool,
+    pub begin: AtomicU32,
+    pub end: AtomicU32,
+}
+
+struct Head {
+    tickets: AtomicU32,
+    looks: AtomicU32,
+    there: AtomicU32,
+    is_failing: AtomicBool,
+    is_ended: AtomicBool,
+    why: [AtomicU8; MOST_WHY],
+}
+
+/// The three calls of a set.
+pub struct CallsOf<'a, S> {
+    pub add: &'a (dyn Fn(&S, u32) -> bool + Sync),
+    pub remove: &'a (dyn Fn(&S, u32) -> bool + Sync),
+    pub contains: &'a (dyn Fn(&S, u32) -> bool + Sync),
+}
+
+impl<S> CallsOf<'_, S> {
+    fn reply(&self, set: &S, word: u8, key: u32) -> bool {
+        [self.add, self.remove, self.contains][usize::from(word)](set, key)
+    }
+}
+
+/// The memory of a run. All in it are atomics, of which zero bytes are values.
+pub struct Area {
+    place: *mut u8,
+    layout: Layout,
+    pub options: Options,
+    seed: u64,
+}
+
+// SAFETY: what stands in the memory is shared by references to atomics alone.
+unsafe impl Sync for Area {}
+
+impl Area {
+    pub fn new(options: &Options, seed: u64) -> Result<Area, Failure> {
+        let calls = options.threads as usize * options.calls as usize;
+        let size = size_of_head() + calls * std::mem::size_of::<Slot>() + 2 * options.keys as usize;
+        let layout = Layout::from_size_align(size, 64).expect("a million calls have room");
+        // SAFETY: the layout is not empty.
+        let place = if options.own_process { child::shared(size) } else { unsafe { alloc_zeroed(layout) } };
+        if place.is_null() {
+            return no_verdict("there is no memory for the calls of a run".to_string());
+        }
+        Ok(Area { place, layout, options: options.clone(), seed })
+    }
+
+    fn head(&self) -> &Head {
+        // SAFETY: the memory begins with a head, and lives as long as the area.
+        unsafe { &*self.place.cast::<Head>() }
+    }
+
+    /// The slots of each thread in turn.
+    pub fn slots(&self) -> &[Slot] {
+        let calls = self.options.threads as usize * self.options.calls as usize;
+        // SAFETY: they stand behind the head, and were counted for the layout.
+        unsafe { from_raw_parts(self.place.add(size_of_head()).cast::<Slot>(), calls) }
+    }
+
+    fn keys(&self) -> &[AtomicBool] {
+        let behind = size_of_head() + std::mem::size_of_val(self.slots());
+        // SAFETY: they stand behind the slots, and were counted for the layout.
+        unsafe { from_raw_parts(self.place.add(behind).cast::<AtomicBool>(), 2 * self.options.keys as usize) }
+    }
+
+    /// The keys that the set had before the calls.
+    pub fn opening(&self) -> Vec<u32> {
+        keys_in(&self.keys()[..self.options.keys as usize])
+    }
+
+    /// The keys that it had when all calls had ended.
+    pub fn left(&self) -> Vec<u32> {
+        keys_in(&self.keys()[self.options.keys as usize..])
+    }
+
+    /// What changes as long as the run goes on.
+    pub fn moved(&self) -> u32 {
+        self.head().tickets.load(SeqCst).wrapping_add(self.head().looks.load(SeqCst))
+    }
+
+    pub fn is_ended(&self) -> bool {
+        self.head().is_ended.load(SeqCst)
+    }
+
+    /// Why nothing is known of the set.
+    pub fn why_it_failed(&self) -> Option<String> {
+        let bytes: Vec<u8> = self.head().why.iter().map(|it| it.load(SeqCst)).take_while(|&it| it != 0).collect();
+        self.head().is_failing.load(SeqCst).then(|| String::from_utf8_lossy(&bytes).into_owned())
+    }
+
+    /// Writes down why it failed; the first stays.
+    fn fail(&self, why: String) {
+        if !self.head().is_failing.swap(true, SeqCst) {
+            self.head().why.iter().zip(why.bytes()).for_each(|(to, byte)| to.store(byte, SeqCst));
+        }
+    }
+
+    /// Makes a set and calls it, to the end.
+    pub fn call_all<S: Sync>(&self, make: &dyn Fn() -> S, calls_of: &CallsOf<S>) {
+        match catch_unwind(AssertUnwindSafe(make)) {
+            Err(why) => self.fail(format!("the set could not be made: {}", words_of(why))),
+            Ok(set) => {
+                let called = catch_unwind(AssertUnwindSafe(|| self.call_from_threads(&set, calls_of)));
+                called.unwrap_or_else(|why| self.fail(format!("a call of the set failed: {}", words_of(why))));
+            }
+        }
+        self.head().is_ended.store(true, SeqCst);
+    }
+
+    fn call_from_threads<S: Sync>(&self, set: &S, calls_of: &CallsOf<S>) {
+        let (opening, left) = self.keys().split_at(self.options.keys as usize);
+        self.look_up(set, calls_of, opening);
+        std::thread::scope(|scope| {
+            let started: Vec<_> = (0..self.options.threads).map(|it| scope.spawn(move || self.call(set, calls_of, it))).collect();
+            let ended: Vec<_> = started.into_iter().map(|it| it.join()).collect();
+            ended.into_iter().for_each(|it| it.unwrap_or_else(|why| resume_unwind(why)));
+        });
+        self.look_up(set, calls_of, left);
+    }
+
+    fn look_up<S>(&self, set: &S, calls_of: &CallsOf<S>, keys: &[AtomicBool]) {
+        for (key, is_there) in (0..).zip(keys) {
+            is_there.store((calls_of.contains)(set, key), SeqCst);
+            self.head().looks.fetch_add(1, SeqCst);
+        }
+    }
+
+    /// The calls of one thread.
+    fn call<S>(&self, set: &S, calls_of: &CallsOf<S>, thread: u32) {
+        let Head { tickets, there, .. } = self.head();
+        let mut draws = Draws((self.seed << 6) + u64::from(thread));
+        there.fetch_add(1, SeqCst);
+        while there.load(SeqCst) < self.options.threads {
+            std::thread::yield_now(); // none begins before all are there
+        }
+        let calls = self.options.calls as usize;
+        for slot in &self.slots()[thread as usize * calls..][..calls] {
+            let (word, key) = (draws.below(3) as u8, draws.below(self.options.keys));
+            let pause = if draws.below(100) < self.options.pauses { draws.below(LONGEST) } else { 0 };
+            slot.word.store(word, Release);
+            slot.key.store(key, Release);
+            (0..pause).for_each(|_| _ = tickets.load(SeqCst));
+            slot.begin.store(tickets.fetch_add(1, SeqCst) + 1, Release);
+            slot.reply.store(calls_of.reply(set, word, key), Release);
+            slot.end.store(tickets.fetch_add(1, SeqCst) + 1, Release);
+        }
+    }
+}
+
+impl Slot {
+    /// Its moments; the second is 0 if the call has not ended.
+    pub fn moments(&self) -> (u32, u32) {
+        let end = self.end.load(Acquire);
+        (self.begin.load(Acquire), end)
+    }
+}
+
+impl Drop for Area {
+    fn drop(&mut self) {
+        if self.options.own_process {
+            child::give_back(self.place, self.layout.size());
+        } else {
+            // SAFETY: it was allocated with this layout.
+            unsafe { dealloc(self.place, self.layout) }
+        }
+    }
+}
+
+fn size_of_head() -> usize {
+    (std::mem::size_of::<Head>() + 63) / 64 * 64
+}
+
+fn keys_in(there: &[AtomicBool]) -> Vec<u32> {
+    (0..).zip(there).filter(|(_, it)| it.load(SeqCst)).map(|(key, _)| key).collect()
+}
+
+/// Random numbers (SplitMix64).
+struct Draws(u64);
+
+impl Draws {
+    fn below(&mut self, bound: u32) -> u32 {
+        self.0 = self.0.wrapping_add(0x9e37_79b9_7f4a_7c15);
+        let mixed = (self.0 ^ (self.0 >> 30)).wrapping_mul(0xbf58_476d_1ce4_e5b9);
+        let mixed = (mixed ^ (mixed >> 27)).wrapping_mul(0x94d0_49bb_1331_11eb);
+        ((u128::from(mixed ^ (mixed >> 31)) * u128::from(bound)) >> 64) as u32
+    }
+}

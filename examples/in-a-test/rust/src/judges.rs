@@ -1,0 +1,114 @@
+//! The judge underneath.
+use std::fmt;
+use std::io::{Error, Write};
+use std::process::{Command, Stdio};
+
+use crate::{no_verdict, Failure};
+
+/// The judge that is used, and what it says of its proof.
+pub struct Judge {
+    name: String,
+    proof: String,
+    /// The command to which words are added; none is the library.
+    command: Vec<String>,
+}
+
+impl fmt::Display for Judge {
+    fn fmt(&self, f: &mut fmt::Formatter<'_>) -> fmt::Result {
+        write!(f, "{}, {}", self.name, self.proof)
+    }
+}
+
+impl Judge {
+    pub fn found() -> Result<Judge, Failure> {
+        if let Some(version) = library::version() {
+            return Ok(Judge { name: "liblistset".to_string(), proof: proof_in(&version), command: Vec::new() });
+        }
+        let named = std::env::var("LISTSET").ok();
+        let name = named.clone().unwrap_or_else(|| "listset".to_string());
+        let is_script = name.ends_with(".js");
+        let command = if is_script { vec!["node".to_string(), name.clone()] } else { vec![name.clone()] };
+        match ran(&command, &["--version", "--long"], "") {
+            Ok((Some(127), _)) | Err(_) => no_verdict(match named {
+                Some(it) if is_script => format!("node is not in PATH, which runs the {it} that LISTSET names"),
+                Some(it) => format!("LISTSET names {it}, which cannot be run: build listset, and name it there"),
+                None => "there is no listset in PATH: build it, and put it there or name it by LISTSET".to_string(),
+            }),
+            Ok((_, version)) => Ok(Judge { name, proof: proof_in(&version), command }),
+        }
+    }
+
+    /// What the judge says of a recording that no order explains, or `None` if one does.
+    pub fn refused(&self, recording: &str) -> Result<Option<String>, Failure> {
+        let answer = if self.command.is_empty() { library::judge(recording) } else { ran(&self.command, &["judge", "-"], recording) };
+        match answer {
+            Ok((Some(0), said)) if said.starts_with("ok ") => Ok(None),
+            Ok((Some(1), said)) if said.starts_with("not linearizable") => Ok(Some(said)),
+            other => {
+                let said = other.map_or_else(|fault| fault.to_string(), |it| it.1);
+                let first = said.lines().next().unwrap_or("nothing");
+                no_verdict(format!("{} gave no verdict, but said: {first}. Take a listset that has the word judge", self.name))
+            }
+        }
+    }
+}
+
+/// The line in which a judge says whether it is proved.
+fn proof_in(version: &str) -> String {
+    version.lines().find(|it| it.starts_with("proof ")).unwrap_or("proof unknown").to_string()
+}
+
+/// The status of a command with these words on this input, and what it said.
+fn ran(command: &[String], words: &[&str], input: &str) -> Result<(Option<i32>, String), Error> {
+    let mut made = Command::new(&command[0]);
+    made.args(&command[1..]).args(words).stdin(Stdio::piped()).stdout(Stdio::piped()).stderr(Stdio::piped());
+    let mut child = made.spawn()?;
+    let mut to = child.stdin.take().expect("it is piped");
+    std::thread::scope(|scope| {
+        scope.spawn(move || to.write_all(input.as_bytes())); // (one that has ended reads no further)
+        let ended = child.wait_with_output()?;
+        let said = if ended.stdout.is_empty() { ended.stderr } else { ended.stdout };
+        Ok((ended.status.code(), String::from_utf8_lossy(&said).trim().to_string()))
+    })
+}
+
+#[cfg(linked)]
+mod library {
+    use std::ffi::CStr;
+    use std::io::Error;
+    use std::os::raw::c_char;
+
+    extern "C" {
+        fn listset_version() -> *const c_char;
+        fn listset_judge(text: *const u8, length: usize, room: *mut u8, size: usize, status: *mut u8) -> usize;
+    }
+
+    pub fn version() -> Option<String> {
+        // SAFETY: it gives a text that is constant and ends with a zero byte.
+        Some(unsafe { CStr::from_ptr(listset_version()) }.to_string_lossy().into_owned())
+    }
+
+    pub fn judge(recording: &str) -> Result<(Option<i32>, String), Error> {
+        let mut room = vec![0; 4096];
+        loop {
+            let mut status = 0;
+            // SAFETY: the pointers are those of a text, a room of that size and a status, which nobody else writes.
+            let length = unsafe { listset_judge(recording.as_ptr(), recording.len(), room.as_mut_ptr(), room.len(), &mut status) };
+            if length <= room.len() {
+                return Ok((Some(status.into()), String::from_utf8_lossy(&room[..length]).trim().to_string()));
+            }
+            room.resize(length, 0);
+        }
+    }
+}
+
+#[cfg(not(linked))]
+mod library {
+    pub fn version() -> Option<String> {
+        None
+    }
+
+    pub fn judge(_: &str) -> Result<(Option<i32>, String), std::io::Error> {
+        unreachable!("there is no library")
+    }
+}
