@@ -1,0 +1,112 @@
+-- A call of which each step, made alone, ends it or comes nearer to its end, ends alone.
+use Rattle.std.specs.Prelude.{◌≡◌, ℕ, ◌<◌, ◌≤◌, ◌⊎◌, Option, Some, List, if◌then◌else◌, ◌==◌, length, refl}
+use Rattle.std.proofs.Common.{arith, inl, inr, sym, ◌∙◌, ap, subst, zero, suc}
+use Rattle.lset_words.proofs.Numbers.{if_same, if_other}
+use Rattle.lset_words.specs.declared.Reply.{Reply}
+use Rattle.lset_words.specs.Words.{Sizes, Opening, sizes}
+use Rattle.lset_steps.specs.declared.Action.{Action}
+use Rattle.lset_steps.specs.declared.Event.{Event}
+use Rattle.lset_steps.specs.declared.Event.TheVariants.{Go}
+use Rattle.lset_steps.specs.declared.Fed.{Fed}
+use Rattle.lset_steps.specs.declared.Local.{Local}
+use Rattle.lset_steps.specs.Steps.{Table, State, Run, Enabled, state_at, after, local_of, seen_by, seen_next, left_by}
+use Rattle.lset_steps.specs.Laws.{Lawful}
+use Rattle.lset_steps.proofs.MoreEvents.{state_agree}
+use Rattle.lset_steps.proofs.Discipline.{put_same}
+use Rattle.lset_progress.specs.Progress.{IsPending, Answers, EndsAlone}
+
+-- the run that goes on by a step of t after k events
+abbrev pub then_go : (ℕ → Event) → ℕ → ℕ → ℕ → Event
+then_go es k t j = if j == k then Go t else es j
+
+last_is : (es : ℕ → Event) (k t : ℕ) → then_go es k t k ≡ Go t
+last_is es k t = if_same k k refl (Go t) (es k)
+
+first_are : (es : ℕ → Event) (k t j : ℕ) → j < k → then_go es k t j ≡ es j
+first_are es k t j l = if_other j k (omega arith) (Go t) (es j)
+
+this_or_before : (j k : ℕ) → j < suc k → (j ≡ k) ⊎ (j < k)
+this_or_before j k l = grind arith
+
+module _ (T : Table) (op : Opening) (es : ℕ → Event) (k t : ℕ) where
+  pub same_until : (j : ℕ) → j ≤ k → state_at T op (then_go es k t) j ≡ state_at T op es j
+  same_until j l = state_agree T op es (then_go es k t) j (λ i m. first_are es k t i (omega arith))
+
+  pub goes_on : Run T op es k → Enabled (state_at T op es k) (Go t) → Run T op (then_go es k t) (suc k)
+  goes_on r en = record {
+    opens = r.opens;
+    enabled = λ j l. elim (this_or_before j k l) [
+      | inl e ↦ subst (λ z. Enabled (state_at T op (then_go es k t) z) (then_go es k t z)) (sym e)
+          (subst (λ z. Enabled (state_at T op (then_go es k t) k) z) (sym (last_is es k t))
+          (subst (λ s. Enabled s (Go t)) (sym (same_until k (omega arith))) en))
+      | inr h ↦ subst (λ z. Enabled (state_at T op (then_go es k t) j) z) (sym (first_are es k t j h))
+          (subst (λ s. Enabled s (es j)) (sym (same_until j (omega arith))) (r.enabled j h))
+    ];
+  }
+
+-- a stage of a call, with so many steps to its end at most
+abbrev pub Stages : Type 1
+Stages = Sizes → State → ℕ → ℕ → Type 0
+
+pub record Nears (T : Table) (Stage : Stages) : Type 0 where
+  pub some : (sz : Sizes) (s : State) (t : ℕ) → Stage sz s t 0 → ⊥
+  pub pending : (sz : Sizes) (s : State) (t n : ℕ) → Stage sz s t n → IsPending s t
+  -- a step of t at the moment k of a run
+  pub steps : (op : Opening) (es : ℕ → Event) (k t n : ℕ) → Run T op es (suc k) → es k ≡ Go t → t < op.threads
+      → Stage (sizes op) (state_at T op es k) t (suc n)
+      → Answers T (state_at T op es k) t ⊎ Stage (sizes op) (after T (state_at T op es k) (Go t)) t n
+
+module _ (T : Table) (law : Lawful T) (Stage : Stages) (near : Nears T Stage) (op : Opening) (t : ℕ) (tn : t < op.threads) where
+  pub ends_alone : (n k : ℕ) (es : ℕ → Event) → Run T op es k → Stage (sizes op) (state_at T op es k) t n
+      → EndsAlone T (state_at T op es k) t n
+  ends_alone zero k es r g = absurd (near.some (sizes op) (state_at T op es k) t g)
+  ends_alone (suc n) k es r g =
+      let s : State = state_at T op es k in
+      let es' : ℕ → Event = then_go es k t in
+      let locals : length (state_at T op es k).locals ≡ op.threads = (law.states op k k es r (omega arith)).locals in
+      let en : Enabled (state_at T op es k) (Go t) = (rw locals tn, near.pending (sizes op) (state_at T op es k) t (suc n) g) in
+      let r' : Run T op (then_go es k t) (suc k) = goes_on T op es k t r en in
+      let same : state_at T op (then_go es k t) k ≡ state_at T op es k = same_until T op es k t k (omega arith) in
+      let on : state_at T op (then_go es k t) (suc k) ≡ after T (state_at T op es k) (Go t) =
+      ap (λ e. after T (state_at T op (then_go es k t) k) e) (last_is es k t) ∙ ap (λ x. after T x (Go t)) same in
+      let next : Answers T (state_at T op es k) t ⊎ Stage (sizes op) (after T (state_at T op es k) (Go t)) t n =
+      subst (λ x. Answers T x t ⊎ Stage (sizes op) (after T x (Go t)) t n) same
+      (near.steps op (then_go es k t) k t n r' (last_is es k t) tn
+      (subst (λ x. Stage (sizes op) x t (suc n)) (sym same) g)) in (
+        en,
+        elim next [
+          | inl a ↦ inl a
+          | inr g' ↦ inr (subst (λ x. EndsAlone T x t n) on
+              (ends_alone n (suc k) (then_go es k t) r' (subst (λ x. Stage (sizes op) x t n) (sym on) g')))
+        ],
+      )
+
+-- ONE STEP of a thread that holds l, over the words ws: the call ends, or P holds of what it leaves
+pub data Step (T : Table) (ws : List ℕ) (l : Local) (P : List ℕ → Local → Type 0) : Type 0 where
+  goes : (a : Action) (l' : Local) (answer : Option Reply) → T.next l ≡ a
+      → T.feed l (seen_by ws a) ≡ record { local = l'; answer = answer } → P (left_by ws a) l' → Step T ws l P
+  stops : (a : Action) (l' : Local) (reply : Reply) → T.next l ≡ a
+      → T.feed l (seen_by ws a) ≡ record { local = l'; answer = Some reply } → Step T ws l P
+
+pub then_so : {T : Table} {ws : List ℕ} {l : Local} {P Q : List ℕ → Local → Type 0}
+    → ((ws' : List ℕ) (l' : Local) → P ws' l' → Q ws' l') → Step T ws l P → Step T ws l Q
+then_so f (goes a l' answer acts feeds p) = goes a l' answer acts feeds (f _ l' p)
+then_so f (stops a l' reply acts feeds) = stops a l' reply acts feeds
+
+module _ (T : Table) (s : State) (t : ℕ) (h : t < length s.locals) (P : List ℕ → Local → Type 0) where
+  fed_is : (a : Action) (f : Fed) → T.next (local_of s t) ≡ a → T.feed (local_of s t) (seen_by s.words a) ≡ f
+      → T.feed (local_of s t) (seen_next T s t) ≡ f
+  fed_is a f acts feeds = ap (λ x. T.feed (local_of s t) (seen_by s.words x)) acts ∙ feeds
+
+  pub stepped : Step T s.words (local_of s t) P
+      → Answers T s t ⊎ P (after T s (Go t)).words (local_of (after T s (Go t)) t)
+  stepped (goes a l' answer acts feeds p) = inr
+      (let local_is : local_of (after T s (Go t)) t ≡ l' =
+      put_same s t (T.feed (local_of s t) (seen_next T s t)).local h
+      ∙ ap (λ f. f.local) (fed_is a (record { local = l'; answer = answer }) acts feeds) in
+      subst (λ x. P (after T s (Go t)).words x) (sym local_is)
+      (subst (λ x. P (left_by s.words x) l') (sym acts) p))
+  stepped (stops a l' reply acts feeds) = inl (
+    reply,
+    ap (λ f. f.answer) (fed_is a (record { local = l'; answer = Some reply }) acts feeds),
+  )

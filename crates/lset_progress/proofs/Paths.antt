@@ -1,0 +1,72 @@
+-- Paths along links.
+use Rattle.std.specs.Prelude.{◌≡◌, ◌≢◌, ℕ, ◌/◌, ◌<◌, ◌≤◌, List, [], ◌∷◌}
+use Rattle.std.proofs.Common.{arith, sym, ap, subst, refl}
+use Rattle.lset_steps.specs.Chain.{View, Segment, InChain, IsOrdered}
+
+-- from i over ns to j
+abbrev pub Leads : (ℕ → ℕ) → ℕ → List ℕ → ℕ → Type 0
+Leads link i [] j = i ≡ j
+Leads link i (a ∷ ns) j = (i ≢ 1) × Leads link (link i / 2) ns j
+
+abbrev pub Path : (ℕ → ℕ) → ℕ → ℕ → Type 0
+Path link i j = (ns : List ℕ) × Leads link i ns j
+
+pub no_steps : (link : ℕ → ℕ) (i : ℕ) → Path link i i
+no_steps link i = ([], refl)
+
+leads_on : (link : ℕ → ℕ) (i j : ℕ) (ns : List ℕ) → Leads link i ns j → j ≢ 1 → Path link i (link j / 2)
+leads_on link i j [] p d = (i ∷ [], (subst (λ x. x ≢ 1) (sym p) d, ap (λ x. link x / 2) p))
+leads_on link i j (a ∷ ns) p d = let q = leads_on link (link i / 2) j ns p.1 d in (a ∷ q.0, (p.0, q.1))
+
+-- one step more at its end,
+pub path_on : (link : ℕ → ℕ) (i j c : ℕ) → Path link i j → j ≢ 1 → link j / 2 ≡ c → Path link i c
+path_on link i j c p d e = subst (Path link i) e (leads_on link i j p.0 p.1 d)
+
+leads_from : (link : ℕ → ℕ) (i j : ℕ) (ns : List ℕ) → i ≢ j → Leads link i ns j → Path link (link i / 2) j
+leads_from link i j [] d p = absurd (d p)
+leads_from link i j (a ∷ ns) d p = (ns, p.1)
+
+-- and one less at its beginning
+pub path_from : (link : ℕ → ℕ) (i j : ℕ) → i ≢ j → Path link i j → Path link (link i / 2) j
+path_from link i j d p = leads_from link i j p.0 d p.1
+
+leads_up : (v : View) → IsOrdered v → (i j : ℕ) (ns : List ℕ) → v.published i → Leads v.link i ns j → v.key i ≤ v.key j
+leads_up v ord i j [] m p = let e : v.key i ≡ v.key j = ap v.key p in omega arith
+leads_up v ord i j (a ∷ ns) m p =
+    let h : v.key i < v.key (v.link i / 2) = ord.rises i m p.0 in
+    let r : v.key (v.link i / 2) ≤ v.key j = leads_up v ord (v.link i / 2) j ns (ord.next_published i m p.0) p.1 in
+    omega arith
+
+-- keys rise along a path
+pub path_up : (v : View) → IsOrdered v → (i j : ℕ) → v.published i → Path v.link i j → v.key i ≤ v.key j
+path_up v ord i j m p = leads_up v ord i j p.0 m p.1
+
+-- a path from the head is the chain up to its end
+segment_of : (v : View) (i j : ℕ) (ns : List ℕ) → Leads v.link i ns j → (bs : List ℕ) × Segment v i bs j
+segment_of v i j [] p = ([], p)
+segment_of v i j (a ∷ ns) p = let q = segment_of v (v.link i / 2) j ns p.1 in (i ∷ q.0, (refl, p.0, q.1))
+
+pub in_chain_of : (v : View) (b : ℕ) → Path v.link 0 b → InChain v b
+in_chain_of v b p = segment_of v 0 b p.0 p.1
+
+leads_of : (v : View) (i j : ℕ) (ns : List ℕ) → Segment v i ns j → Leads v.link i ns j
+leads_of v i j [] p = p
+leads_of v i j (a ∷ ns) p = (p.1, leads_of v (v.link i / 2) j ns p.2)
+
+pub path_of : (v : View) (b : ℕ) → InChain v b → Path v.link 0 b
+path_of v b i = (i.0, leads_of v 0 b i.0 i.1)
+
+-- links behind the end of a path have no part in it
+leads_same : (v : View) → IsOrdered v → (link : ℕ → ℕ) (i j : ℕ) (ns : List ℕ) → v.published i
+    → ((a : ℕ) → v.key a < v.key j → link a ≡ v.link a) → Leads v.link i ns j → Leads link i ns j
+leads_same v ord link i j [] m same p = p
+leads_same v ord link i j (a ∷ ns) m same p =
+    let m' : v.published (v.link i / 2) = ord.next_published i m p.0 in
+    let h : v.key i < v.key (v.link i / 2) = ord.rises i m p.0 in
+    let r : v.key (v.link i / 2) ≤ v.key j = leads_up v ord (v.link i / 2) j ns m' p.1 in
+    let e : link i ≡ v.link i = same i (omega arith) in
+    (p.0, subst (λ x. Leads link (x / 2) ns j) (sym e) (leads_same v ord link (v.link i / 2) j ns m' same p.1))
+
+pub path_same : (v : View) → IsOrdered v → (link : ℕ → ℕ) (i j : ℕ) → v.published i
+    → ((a : ℕ) → v.key a < v.key j → link a ≡ v.link a) → Path v.link i j → Path link i j
+path_same v ord link i j m same p = (p.0, leads_same v ord link i j p.0 m same p.1)

@@ -1,0 +1,5 @@
+use Rattle.lset_progress.proofs.OptimisticLocks.{optimistic_gets_on}
+use Rattle.lset_progress.proofs.some_optimistic_call_gets_on.Goals as goal
+
+pub returns : goal.returns
+returns c = optimistic_gets_on

@@ -1,0 +1,85 @@
+-- Progress of calls, as laws of runs (Herlihy and Shavit's terms). Nothing is asked of the schedule: each law speaks of each moment
+-- of each run.
+use Rattle.std.specs.Prelude.{◌≡◌, ◌≢◌, ℕ, zero, suc, ◌+◌, ◌*◌, ◌%◌, ◌<◌, ◌⊎◌, Some, slice_index}
+use Rattle.lset_words.specs.declared.Call.{Call}
+use Rattle.lset_words.specs.declared.Call.TheVariants as call
+use Rattle.lset_words.specs.declared.Reply.{Reply}
+use Rattle.lset_words.specs.Words.{node_count, word_count, Sizes, Opening, sizes}
+use Rattle.lset_steps.specs.declared.Action.TheVariants.{Exchange}
+use Rattle.lset_steps.specs.declared.Event.{Event}
+use Rattle.lset_steps.specs.declared.Event.TheVariants.{Go}
+use Rattle.lset_steps.specs.Steps.{Table, State, Run, Enabled, state_at, after, told, local_of}
+use Rattle.lset_steps.specs.Chain.{View, InChain}
+use Rattle.lset_steps.specs.Laws.{IsLockWord, views}
+
+-- thread t has a call that has not answered
+abbrev pub IsPending : State → ℕ → Type 0
+IsPending s t = (local_of s t).pc ≢ 0
+
+-- thread t holds the lock word x
+pub record Holds (sz : Sizes) (s : State) (t x : ℕ) : Type 0 where
+  pub is_lock : IsLockWord x
+  pub inside : x < word_count sz
+  pub mine : slice_index s.words x ≡ t + 1
+
+-- no thread but t holds a lock word
+abbrev pub NoOtherHolds : Sizes → State → ℕ → Type 0
+NoOtherHolds sz s t = (u x : ℕ) → u < sz.threads → u ≢ t → Holds sz s u x → ⊥
+
+-- the next step of thread t ends its call
+abbrev pub Answers : Table → State → ℕ → Type 0
+Answers T s t = (reply : Reply) × ((told T s (Go t)).answer ≡ Some reply)
+
+-- [Ends alone]: thread t makes steps, and no other thread does; one of the first n of them ends its call.
+abbrev pub EndsAlone : Table → State → ℕ → ℕ → Type 0
+EndsAlone T s t zero = ⊥
+EndsAlone T s t (suc n) = Enabled s (Go t) × (Answers T s t ⊎ EndsAlone T (after T s (Go t)) t n)
+
+-- SOLO TERMINATION of a list with locks: while no other thread holds a lock, a call that runs alone ends within `most` steps.
+abbrev pub CallsEndAlone : Table → (Sizes → ℕ) → Type 0
+CallsEndAlone T most = (op : Opening) (k t : ℕ) (es : ℕ → Event) → Run T op es k → t < op.threads
+    → IsPending (state_at T op es k) t → NoOtherHolds (sizes op) (state_at T op es k) t
+    → EndsAlone T (state_at T op es k) t (most (sizes op))
+
+-- OBSTRUCTION FREEDOM of a list without locks: whatever the other threads are about to do, a call that runs alone ends within `most`
+-- steps. A ceiling may begin again at a marked node for as long as nobody takes that node out: for it no node of the chain is
+-- marked.
+abbrev pub IsCeiling : Call → Type 0
+IsCeiling (call.Ceiling k) = Unit {0}
+IsCeiling call = ⊥
+
+abbrev pub NoMarkInChain : View → Type 0
+NoMarkInChain v = (b : ℕ) → InChain v b → v.link b % 2 ≡ 0
+
+abbrev pub CallsEndUnhindered : Table → (Sizes → ℕ) → Type 0
+CallsEndUnhindered T most = (op : Opening) (k t : ℕ) (es : ℕ → Event) → Run T op es k → t < op.threads
+    → IsPending (state_at T op es k) t
+    → (IsCeiling (local_of (state_at T op es k) t).call → NoMarkInChain (views T op es k))
+    → EndsAlone T (state_at T op es k) t (most (sizes op))
+
+-- thread t has a call, and its next step is no failed try of a lock
+pub record GetsOn (T : Table) (s : State) (t : ℕ) : Type 0 where
+  pub enabled : Enabled s (Go t)
+  pub tries : (x old new : ℕ) → IsLockWord x → T.next (local_of s t) ≡ Exchange x old new → slice_index s.words x ≡ old
+
+-- NO DEADLOCK: while a call is pending, some thread gets on.
+abbrev pub SomeThreadGetsOn : Table → Type 0
+SomeThreadGetsOn T = (op : Opening) (k t : ℕ) (es : ℕ → Event) → Run T op es k → t < op.threads
+    → IsPending (state_at T op es k) t
+    → (u : ℕ) × (u < op.threads) × GetsOn T (state_at T op es k) u
+
+-- THE MOST STEPS, for N nodes: the head, the tail, n threads with q slots each, and those of the opening keys
+abbrev pub coarse_steps : Sizes → ℕ
+coarse_steps sz = 2 * node_count sz + 3
+
+abbrev pub fine_steps : Sizes → ℕ
+fine_steps sz = 4 * node_count sz + 3
+
+abbrev pub optimistic_steps : Sizes → ℕ
+optimistic_steps sz = 8 * node_count sz + 9
+
+abbrev pub lock_free_steps : Sizes → ℕ
+lock_free_steps sz = 4 * node_count sz + 5
+
+abbrev pub lazy_steps : Sizes → ℕ
+lazy_steps sz = 4 * node_count sz + 15
