@@ -35,15 +35,13 @@ abbrev pub EndsAlone : Table → State → ℕ → ℕ → Type 0
 EndsAlone T s t zero = ⊥
 EndsAlone T s t (suc n) = Enabled s (Go t) × (Answers T s t ⊎ EndsAlone T (after T s (Go t)) t n)
 
--- SOLO TERMINATION of a list with locks: while no other thread holds a lock, a call that runs alone ends within `most` steps.
+-- [Calls end alone]: in a list with locks, while no other thread holds a lock, a call that runs alone ends within `most` steps
+-- (solo termination).
 abbrev pub CallsEndAlone : Table → (Sizes → ℕ) → Type 0
 CallsEndAlone T most = (op : Opening) (k t : ℕ) (es : ℕ → Event) → Run T op es k → t < op.threads
     → IsPending (state_at T op es k) t → NoOtherHolds (sizes op) (state_at T op es k) t
     → EndsAlone T (state_at T op es k) t (most (sizes op))
 
--- OBSTRUCTION FREEDOM of a list without locks: whatever the other threads are about to do, a call that runs alone ends within `most`
--- steps. A ceiling may begin again at a marked node for as long as nobody takes that node out: for it no node of the chain is
--- marked.
 abbrev pub IsCeiling : Call → Type 0
 IsCeiling (call.Ceiling k) = Unit {0}
 IsCeiling call = ⊥
@@ -51,6 +49,9 @@ IsCeiling call = ⊥
 abbrev pub NoMarkInChain : View → Type 0
 NoMarkInChain v = (b : ℕ) → InChain v b → v.link b % 2 ≡ 0
 
+-- [Calls end unhindered]: in a list without locks, whatever the other threads are about to do, a call that runs alone ends within
+-- `most` steps (obstruction freedom). But a ceiling begins again at a marked node, and takes it not out: it ends where no node of the
+-- chain is marked.
 abbrev pub CallsEndUnhindered : Table → (Sizes → ℕ) → Type 0
 CallsEndUnhindered T most = (op : Opening) (k t : ℕ) (es : ℕ → Event) → Run T op es k → t < op.threads
     → IsPending (state_at T op es k) t
@@ -62,7 +63,8 @@ pub record GetsOn (T : Table) (s : State) (t : ℕ) : Type 0 where
   pub enabled : Enabled s (Go t)
   pub tries : (x old new : ℕ) → IsLockWord x → T.next (local_of s t) ≡ Exchange x old new → slice_index s.words x ≡ old
 
--- NO DEADLOCK: while a call is pending, some thread gets on.
+-- [Some thread gets on]: while a call is pending, some thread has one whose next step is no failed try of a lock (freedom from
+-- deadlock).
 abbrev pub SomeThreadGetsOn : Table → Type 0
 SomeThreadGetsOn T = (op : Opening) (k t : ℕ) (es : ℕ → Event) → Run T op es k → t < op.threads
     → IsPending (state_at T op es k) t
