@@ -4228,7 +4228,7 @@ function showHistory(event) {
 
 function listHeight() {
   if (page.view === "list" || page.view === "history" || innerWidth <= 940) return Infinity;
-  if (page.view === "lecture") return Math.max(200, innerHeight / 1.5 - 345 - byId("question-box").clientHeight);
+  if (page.view === "lecture") return Math.max(200, innerHeight / 1.5 - 294 - byId("bar").clientHeight - byId("question-box").clientHeight);
   const isAtWork = byId("moves-box").parentElement.id === "moves-wide";
   const below = isJudging() ? 430 : byId("bar").clientHeight + 76 + 42 * Math.min(page.trace.threads, 6) + (isAtWork ? 0 : 30);
   return Math.max(isJudging() ? 190 : 260, innerHeight - byId("list").getBoundingClientRect().top - scrollY - below);
@@ -4475,7 +4475,7 @@ function conditionsOf(goal, run) {
 }
 
 function missingLine(goal, end, run) {
-  const begin = goal.findLastIndex(({ says }, index) => says !== undefined && index < end) + 1;
+  const begin = goal.slice(0, end).map(({ says }) => says !== undefined).lastIndexOf(true) + 1;
   if (end - begin < 2) return null;
   let at = begin;
   while (canMeet(goal.slice(0, at + 1), run)) at++;

@@ -94,6 +94,15 @@ async function driveMovesOfPlaces() {
     };
     check(`${hash}: each control of a row names its thread`, rows.length === 2 && rows.every(isNamed));
   }
+  frame.contentWindow.location.hash = "#learn=lost-pred";
+  await until(() => isSeen("lessons"));
+  press("0");
+  const tried = inPage("page.text");
+  runSchedule([...header("coarse", 3), "begin 0 add 5"]);
+  check(`a schedule of another set is no try of the lesson: ${inPage("page.name")}`, inPage("page.name").startsWith("my schedule"));
+  check("and it is shown outside of it", placeIs("watch", "stage") && textOf("title") === "CoarseList, 3 threads");
+  await sleep(KEEPS);
+  check("the try stays as it was", inPage("works.byName.get('lesson lost-pred').box") === tried);
 }
 
 // The maps tell how far one has come.

@@ -14,6 +14,8 @@ const BOOK = path.join(PAGE, "book.course");
 const NAME = inPage("BOOK_NAME");
 const ORDER = "judge read-in-anothers-step replies 0-true,2-true,1-false,3-true";
 const BROKEN = "break last-slot #list=lock-free&threads=1&quota=1&s=b0.add.5,g0.3&event=4";
+const BROKEN_OWN =
+  "break mark-in-remove #list=lock-free&threads=2&quota=2&opening=3.7&s=b0.remove.3,g0.4,b1.remove.3,g1.4,g0.2,g1.2&event=14";
 const result = { passed: 0, failed: [] };
 
 function check(name, isGood) {
@@ -114,6 +116,28 @@ function checkTeacher(course, folder) {
   check(`two texts of one student: ${twice.lines}`, twice.status === 0 && twice.lines.length === 1);
 }
 
+// What is not a student's own: schedules that two have, to the byte, and that of an example; and a course that is not there.
+function checkOwn(ask, course, folder) {
+  const text = (student, solutions, lines = []) => handInText(NAME, student, solutions, lines);
+  const own = ({ name, solution }, from, to) => ({ name, schedule: solution.replace(from, to) });
+  const [waits, marked] = ["one-lock", "marked-in-chain"].map((name) => course.lessons.find((lesson) => lesson.name === name));
+  const first = [own(waits, "go 0 1\n", "go 0 2\n"), own(marked, "go 0 3\n", "go 0 1\ngo 0 2\n")];
+  const second = [first[0], own(marked, "go 0 3\n", "go 0 2\ngo 0 1\n")];
+  const group = said(folder, text("Ada", first, [BROKEN_OWN]), text("Dee", second, [BROKEN_OWN]), text("Bo", [own(marked, "", "")])).lines;
+  const same = group.filter((line) => line.startsWith("the same schedules: "));
+  check(`the same schedules: ${same}`, same.join() === "the same schedules: Ada, Dee (one-lock, break mark-in-remove)");
+  const example = ask("listset_example", "stale-pred").text;
+  const trace = new (inPage("Trace"))(ask("listset_trace_lacking", "second-walk", example).text, inPage("versionOf")(example));
+  const shown = inPage("scheduleOfTrace")(trace);
+  const line = `break second-walk ${inPage("addressOf")(shown, trace.total)}`;
+  const [named] = said(folder, text("Eve", [], [line])).lines.slice(-1);
+  check(`that of an example: ${named}`, named.endsWith("1 list broken; of these 1 by the very schedule of an example: stale-pred"));
+  const other = said(folder, text("Eve", [], [BROKEN_OWN])).lines.at(-1);
+  check(`but not one's own: ${other}`, other.endsWith("1 list broken"));
+  const nowhere = said(folder, "listset-lessons 2\ncourse Another\nstudent Eve\nend\n").lines.at(-1);
+  check(`a course that is not there: ${nowhere}`, nowhere === "Eve: not counted: name the course on the command line");
+}
+
 function checkBadTexts(folder) {
   const text = `listset-lessons 2
 student \u001b[2JEve
@@ -210,6 +234,7 @@ async function main() {
   const folder = fs.mkdtempSync(path.join(os.tmpdir(), "lessons-"));
   checkMail(course);
   checkTeacher(course, folder);
+  checkOwn((...asked) => engine.ask(...asked), course, folder);
   checkBadTexts(folder);
   checkCourses(folder);
   checkWords(folder);

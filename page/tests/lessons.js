@@ -95,6 +95,28 @@ function checkTries(ask, { lessons }) {
   for (const one of lessons) check(`${one.name}: a solution is no dead end`, judged(ask, one, one.solution).deadEnd === null);
 }
 
+// Of a condition that several lines make, the one that is missing is told in words.
+function checkMissing(ask, { lessons }) {
+  const told = (name, events) => {
+    const lesson = lessons.find((one) => one.name === name);
+    return judged(ask, lesson, scheduleOf(lesson, events.split(" ").join())).conditions.map(({ missing }) => missing);
+  };
+  const begun = "b0.add.5,b1.add.6,b2.add.7";
+  const cases = [
+    ["one-lock", "b1.add.6,b0.add.5,b2.add.7", "an add of thread 1, begins after the add of thread 0"],
+    ["one-lock", `${begun},g0.7,g1.7,g2.7`, "the add of thread 1, takes effect after the add of thread 2"],
+    ["one-lock", `${begun},g2.7,g1.7`, "the add of thread 0, answers true"],
+    ["two-at-once", "b0.remove.9,g0.12,b1.add.1", "a time in which thread 0 makes no step, holding 2"],
+    ["stopped-thread", "b0.remove.5,b1.add.7,g0.5,g1.9", null],
+  ];
+  for (const [name, events, missing] of cases) {
+    const found = told(name, events);
+    check(`${name}, ${events}: ${found}`, missing === null || found.includes(missing));
+  }
+  const step = "5 times a step of thread 1, tries in vain a lock of thread 0, in the time in which thread 0 makes no step";
+  check(`a count: ${told("stopped-thread", "b0.remove.5,b1.add.7,g0.5,g1.5")}`, told("stopped-thread", "b0.remove.5,b1.add.7,g0.5,g1.5").includes(step));
+}
+
 // Schedules that are not looked at, each with the reason.
 function checkReasons(ask, [lesson]) {
   const answer = lesson.solution;
@@ -223,6 +245,7 @@ async function main() {
   checkBook(ask, course);
   checkRecorded(ask, course);
   checkTries(ask, course);
+  checkMissing(ask, course);
   checkReasons(ask, course.lessons);
   checkFaults();
   checkTrials(ask);

@@ -134,6 +134,8 @@ function checkGoingOn(engine, texts) {
     const line = "begin 0 add 9";
     const own = inPage("scheduleAndLine")(whole, whole.total, line, scheduleOfTrace(whole));
     check("a line more, of the text that was run", own === inPage("scheduleAndLine")(whole, whole.total, line));
+    const middle = inPage("scheduleAndLine")(whole, 2, line, scheduleOfTrace(whole));
+    check("and from an event in the middle", middle === inPage("scheduleAndLine")(whole, 2, line) && middle.endsWith(`${line}\n`));
   }
 }
 

@@ -141,7 +141,7 @@ export function conditionsOf(goal, run) {
 
 // Of a condition that ends before a line of a goal, and has several lines, the first one that is missing; else null.
 function missingLine(goal, end, run) {
-  const begin = goal.findLastIndex(({ says }, index) => says !== undefined && index < end) + 1;
+  const begin = goal.slice(0, end).map(({ says }) => says !== undefined).lastIndexOf(true) + 1;
   if (end - begin < 2) return null;
   let at = begin;
   while (canMeet(goal.slice(0, at + 1), run)) at++;
