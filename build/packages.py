@@ -74,7 +74,7 @@ def wheel(files, version, tag, about):
     told = {
         "METADATA": f"{head}License: {NO_LICENCE}\nRequires-Python: >=3.9\n\n{about}.\n",
         "WHEEL": f"Wheel-Version: 1.0\nGenerator: build/release\nRoot-Is-Purelib: false\nTag: {tag}\n",
-        "top_level.txt": "listset\n",
+        "top_level.txt": "listset\nlistset_judge\n",
     }
     files = {**files, **{f"{info}/{name}": text.encode() for name, text in told.items()}}
     lines = [f"{name},sha256={sum_in_wheel(content)},{len(content)}\n" for name, content in files.items()]

@@ -32,6 +32,17 @@ try:
 except listset.Wrong as wrong:
     print(wrong.text.strip(), wrong.status)
 """
+OF_FORM = """import listset_judge, threading
+class MySet(set):
+    lock = threading.Lock()
+    def add(self, key):
+        with self.lock:
+            return len(self) < (super().add(key) or len(self))
+    def remove(self, key):
+        with self.lock:
+            return len(self) > (self.discard(key) or len(self))
+print(listset_judge.judge(MySet, threads=2, calls=50, runs=2))
+"""
 OF_RUST = """fn main() {
     print!("{}", listset::version());
     let report = std::fs::read(std::env::args().nth(1).expect("a file")).expect("it is read");
@@ -233,6 +244,8 @@ def the_wheel_is_installed(case):
     well(sys.executable, "-m", "pip", "install", "--no-index", "--no-deps", "--quiet", "--target", top, file, env=BARE)
     how = {"env": {**BARE, "PYTHONPATH": str(top)}}
     same(well(sys.executable, "-B", "-c", OF_PYTHON, SCHEDULES / "snip.broken.report", **how), told_of_broken(case.program), "the judge")
+    said, proved = well(sys.executable, "-B", "-c", OF_FORM, **how), origin.told(proof()).splitlines()[3]
+    same((said[:14], said.rpartition("; ")[2]), ("ok: 200 calls,", f"judge: liblistset, {proved}\n"), "the judge in a test")
 
 
 @needs("cargo")
