@@ -114,30 +114,13 @@ def look_for(language):
         raise unittest.SkipTest(f"{language} is not installed: {package}")
 
 
-@each(LANGUAGES)
-def a_form_judges(case, language):
-    look_for(language)
-    where, words = LANGUAGES[language](case.room)
-    status, said = ran(where, words, made(case.room / "judge", f"#!/bin/sh\necho progress >&2\nexec '{case.program}' \"$@\"\n"))
-    if status:
-        raise Wrong(f"the tests ended with status {status}\n{said[-3000:]}")
-    for name, (script, due) in list(NO_JUDGES.items())[: 1 if language in LIBRARIES else None]:
-        judge = made(case.room / f"judge {name}", script)
-        status, said = ran(where, words, judge)
-        if status == 0 or due.format(judge) not in said:
-            raise Wrong(f"with a judge that is {name}: status {status}\n{said[-3000:]}")
-
-
 # Of each language how its first test alone is run, which prints its verdict
 FIRST = {"Rust": ["my_set_is_linearizable", "--", "--nocapture"], "C++": ["first"], "Java": ["first"]}
 FIRST |= {"Python": ["test_sets.Sets.test_my_set_is_linearizable"], "Go": ["-test.run", "TestIsLinearizable", "-test.v"]}
-ENGINE = TOP / "page" / "listset.js"
 
 
-def first_said(case, language, judge):
+def first_said(where, words, language, judge):
     """What the first test of a language says, with this judge."""
-    look_for(language)
-    where, words = LANGUAGES[language](case.room)
     words = [it for it in words if not str(it).startswith("test_")]
     status, said = ran(where, [*words, *FIRST[language]], judge)
     if status:
@@ -145,11 +128,39 @@ def first_said(case, language, judge):
     return said
 
 
+def proof_of(program):
+    """The line in which a program says whether it is proved."""
+    return subprocess.run([program, "--version", "--long"], capture_output=True, text=True, timeout=SECONDS).stdout.splitlines()[3]
+
+
+def tells_judge(said, judge, proof):
+    if f"; judge: {judge}, {proof}" not in said:
+        raise Wrong(f"the judge is not told: {said}")
+
+
+@each(LANGUAGES)
+def a_form_judges(case, language):
+    look_for(language)
+    where, words = LANGUAGES[language](case.room)
+    status, said = ran(where, words, made(case.room / "judge", f"#!/bin/sh\necho progress >&2\nexec '{case.program}' \"$@\"\n"))
+    if status:
+        raise Wrong(f"the tests ended with status {status}\n{said[-3000:]}")
+    if language in FIRST:
+        tells_judge(first_said(where, words, language, case.room / "judge"), case.room / "judge", proof_of(case.program))
+    for name, (script, due) in list(NO_JUDGES.items())[: 1 if language in LIBRARIES else None]:
+        judge = made(case.room / f"judge {name}", script)
+        status, said = ran(where, words, judge)
+        if status == 0 or due.format(judge) not in said:
+            raise Wrong(f"with a judge that is {name}: status {status}\n{said[-3000:]}")
+
+
+ENGINE = TOP / "page" / "listset.js"
+
+
 @needs("node")
 @each(FIRST)
 def the_engine_in_node_judges(case, language):
     if "judge" not in subprocess.run(["node", ENGINE, "--words"], capture_output=True, text=True, timeout=SECONDS).stdout.split():
         raise unittest.SkipTest("page/listset.js has no word judge")
-    said = first_said(case, language, ENGINE)
-    if f"judge: {ENGINE}, proof " not in said:
-        raise Wrong(said)
+    look_for(language)
+    tells_judge(first_said(*LANGUAGES[language](case.room), language, ENGINE), ENGINE, "proof unknown")

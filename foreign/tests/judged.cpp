@@ -15,7 +15,8 @@ template <listset::list KIND> struct Shared {
 template <listset::list KIND> static bool is_right() {
   listset::verdict verdict = listset::judge<Shared<KIND>>();
   std::cout << verdict << "\n";
-  return verdict && verdict.overlapped > 0 && verdict.judge.rfind("liblistset, proof ", 0) == 0;
+  std::string version(listset::version()), proof = version.substr(version.find("\nproof ") + 1);
+  return verdict && verdict.overlapped > 0 && "liblistset, " + proof.substr(0, proof.find('\n')) == verdict.judge;
 }
 
 int main() {
