@@ -25,6 +25,12 @@ template <class S> void is_refused(const char *name) {
     expect(!verdict && verdict.said.rfind("not linearizable", 0) == 0 && verdict.recording.rfind("listset-calls 2", 0) == 0, name);
 }
 
+int open_calls(const std::string &text) {
+    int count = 0;
+    for (size_t at = 0; (at = text.find(" - - -\n", at)) != std::string::npos; at++) count++;
+    return count;
+}
+
 // A run that comes to no end: how, what was under way, and what the judge says of the calls up to there.
 template <class S> void stops(const char *how, const char *judged, bool own_process = true) {
     listset::options options;
@@ -35,6 +41,8 @@ template <class S> void stops(const char *how, const char *judged, bool own_proc
     text << std::ifstream(verdict.file).rdbuf();
     expect(!verdict && verdict.said.rfind(how, 0) == 0 && verdict.said.find("\nunder way:\ncall ") != std::string::npos, how);
     expect(verdict.said.find(judged) != std::string::npos && text.str() == verdict.recording, how);
+    // (what was under way stands there too, beside a remove of each key)
+    expect(open_calls(verdict.recording) > open_calls(verdict.said), how);
 }
 
 // The parts of one set's recording, judged as one by the program.

@@ -203,6 +203,10 @@ func hangs[S Set](t *testing.T, make func() S, judged string) {
 	if !strings.HasPrefix(hung.Said, "the set hung: no call began or ended for 1 s\nunder way:\ncall ") || string(text) != hung.Recording {
 		t.Fatal(hung, err)
 	}
+	// (what was under way stands there too, beside a remove of each key)
+	if strings.Count(hung.Recording, " - - -\n") <= strings.Count(hung.Said, " - - -\n") {
+		t.Fatal(hung.Recording)
+	}
 	if !strings.Contains(hung.Said, "\nup to there: "+judged) {
 		t.Fatal(hung)
 	}

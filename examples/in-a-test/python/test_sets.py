@@ -190,6 +190,8 @@ class Sets(unittest.TestCase):
             self.assertTrue(found.exception.said.startswith(f"{how}\nunder way:\ncall "), found.exception)
             self.assertIn(f"\nup to there: {judged}", found.exception.said)
             self.assertEqual(found.exception.file.read_text(), found.exception.recording)
+            # (what was under way stands there too, beside a remove of each key)
+            self.assertGreater(found.exception.recording.count(" - - -\n"), found.exception.said.count(" - - -\n"))
 
     def test_in_this_process(self):
         listset_judge.judge(MySet, threads=2, calls=100, runs=2, own_process=False)
