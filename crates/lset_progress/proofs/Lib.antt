@@ -17,3 +17,6 @@ mod LazyLocks
 mod LazyMarks
 mod LazyAlone
 mod LockFreeAlone
+mod WrittenRuns
+mod CeilingWaits
+mod WrongMachines

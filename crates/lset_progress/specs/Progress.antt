@@ -58,6 +58,20 @@ CallsEndUnhindered T most = (op : Opening) (k t : ℕ) (es : ℕ → Event) → 
     → (IsCeiling (local_of (state_at T op es k) t).call → NoMarkInChain (views T op es k))
     → EndsAlone T (state_at T op es k) t (most (sizes op))
 
+-- [A ceiling that never ends]: the call of a thread is a ceiling, every other thread is idle, and however many steps the thread makes
+-- alone, none ends its call.
+pub record SomeCeilingNeverEnds (T : Table) : Type 0 where
+  pub opening : Opening
+  pub events : ℕ → Event
+  pub moment : ℕ
+  pub thread : ℕ
+  pub run : Run T opening events moment
+  pub in_threads : thread < opening.threads
+  pub pending : IsPending (state_at T opening events moment) thread
+  pub is_ceiling : IsCeiling (local_of (state_at T opening events moment) thread).call
+  pub others_idle : (u : ℕ) → u < opening.threads → u ≢ thread → (local_of (state_at T opening events moment) u).pc ≡ 0
+  pub never : (n : ℕ) → EndsAlone T (state_at T opening events moment) thread n → ⊥
+
 -- thread t has a call, and its next step is no failed try of a lock
 pub record GetsOn (T : Table) (s : State) (t : ℕ) : Type 0 where
   pub enabled : Enabled s (Go t)

@@ -12,6 +12,7 @@ ghost use Rattle.lset_lock_free.specs.LockFree.{lock_free};
 ghost use Rattle.lset_progress.specs.Progress.{
   CallsEndAlone,
   CallsEndUnhindered,
+  SomeCeilingNeverEnds,
   SomeThreadGetsOn,
   coarse_steps,
   fine_steps,
@@ -19,6 +20,7 @@ ghost use Rattle.lset_progress.specs.Progress.{
   lock_free_steps,
   optimistic_steps,
 };
+ghost use Rattle.lset_progress.specs.Wrong.{NoCallsEndAlone, NoCallsEndUnhindered, crossed, keeping, spinning};
 
 /// While no other thread holds the lock of a CoarseList, a call that runs alone ends within `2N + 3` steps. (Solo termination, of
 /// Herlihy and Shavit's coarse-grained list.)
@@ -52,6 +54,12 @@ pub fn lock_free_calls_end_alone()
     ensures { CallsEndUnhindered lock_free lock_free_steps }
 {}
 
+/// A `ceiling` of LockFreeList may never end, though every other thread is idle: an ended `remove` has left its marked node in the
+/// chain. So of LockFreeList only `add`, `remove` and `contains` are free of obstruction. (This project's own call.)
+pub fn a_lock_free_ceiling_may_never_end()
+    ensures { SomeCeilingNeverEnds lock_free }
+{}
+
 /// While a call of a CoarseList is pending, some thread can make a step that is no failed try of the lock. (Freedom from deadlock.)
 pub fn some_coarse_call_gets_on()
     ensures { SomeThreadGetsOn coarse }
@@ -73,4 +81,20 @@ pub fn some_optimistic_call_gets_on()
 /// Herlihy and Shavit's order of the nodes.)
 pub fn some_lazy_call_gets_on()
     ensures { SomeThreadGetsOn lazy }
+{}
+
+/// The law of `lock_free_calls_end_alone` refuses a LockFreeList whose walk tries to take a marked node out again where that has
+/// failed, and does not start again from the head.
+pub fn a_spinning_walk_is_refused()
+    ensures { NoCallsEndUnhindered spinning }
+{}
+
+/// The law of `optimistic_calls_end_alone` refuses an OptimisticList that keeps a lock where its validation fails.
+pub fn a_kept_lock_is_refused()
+    ensures { NoCallsEndAlone keeping }
+{}
+
+/// The law of `some_lazy_call_gets_on` refuses a LazyList whose `remove` takes its two locks in the other order.
+pub fn crossed_locks_are_refused()
+    ensures { SomeThreadGetsOn crossed → ⊥ }
 {}

@@ -1,0 +1,77 @@
+-- [Wrong machines]: each is wrong in one row, and a law of progress does not hold for it.
+use Rattle.std.specs.Prelude.{ℕ, ◌+◌, ◌*◌, if◌then◌else◌, ◌==◌, Option, Some, None}
+use Rattle.lset_words.specs.declared.Call.{Call}
+use Rattle.lset_words.specs.declared.Call.TheVariants as call
+use Rattle.lset_words.specs.declared.Reply.{Reply}
+use Rattle.lset_words.specs.Words.{lock_index, Sizes}
+use Rattle.lset_steps.specs.declared.Action.{Action}
+use Rattle.lset_steps.specs.declared.Action.TheVariants.{Exchange}
+use Rattle.lset_steps.specs.declared.Fed.{Fed}
+use Rattle.lset_steps.specs.declared.Local.{Local}
+use Rattle.lset_steps.specs.Steps.{Table}
+use Rattle.lset_steps.specs.ReadRows.{continued}
+use Rattle.lset_optimistic.specs.Optimistic.{optimistic}
+use Rattle.lset_lazy.specs.Lazy.{lazy}
+use Rattle.lset_lock_free.specs.LockFree.{lock_free}
+use Rattle.lset_progress.specs.Progress.{CallsEndAlone, CallsEndUnhindered}
+
+-- LockFreeList whose walk tries the exchange of row 3 again where it failed, and does not start again from the head
+abbrev pub spins_on : Local → ℕ → Fed
+spins_on l seen = if seen == 2 * l.curr then continued (record l { pc = 2; curr = l.succ }) else continued l
+
+abbrev pub spinning : Table
+spinning = record {
+  marks = lock_free.marks;
+  begin = lock_free.begin;
+  next = lock_free.next;
+  feed = λ l seen. if l.pc == 3 then spins_on l seen else lock_free.feed l seen;
+  effect = lock_free.effect;
+}
+
+-- OptimisticList that keeps the lock of pred where validation fails: from there it goes to row 15, and leaves row 14 out
+abbrev pub keeps_pred : Option Reply → Local → Local
+keeps_pred None l = record l { pc = 15 }
+keeps_pred (Some r) l = l
+
+abbrev pub keeps_a_lock : Fed → Fed
+keeps_a_lock f = record { local = if f.local.pc == 14 then keeps_pred f.local.reply f.local else f.local; answer = f.answer }
+
+abbrev pub keeping : Table
+keeping = record {
+  marks = optimistic.marks;
+  begin = optimistic.begin;
+  next = optimistic.next;
+  feed = λ l seen. keeps_a_lock (optimistic.feed l seen);
+  effect = optimistic.effect;
+}
+
+-- LazyList whose remove takes the lock of curr before that of pred, and its add the other way round
+abbrev pub first_lock : Call → Local → ℕ
+first_lock (call.Remove k) l = l.curr
+first_lock c l = l.pred
+
+abbrev pub second_lock : Call → Local → ℕ
+second_lock (call.Remove k) l = l.pred
+second_lock c l = l.curr
+
+abbrev pub crossed_next : Local → Action
+crossed_next l =
+    if l.pc == 4 then Exchange (lock_index (first_lock l.call l)) 0 (l.thread + 1)
+    else if l.pc == 5 then Exchange (lock_index (second_lock l.call l)) 0 (l.thread + 1)
+    else lazy.next l
+
+abbrev pub crossed : Table
+crossed = record {
+  marks = lazy.marks;
+  begin = lazy.begin;
+  next = crossed_next;
+  feed = lazy.feed;
+  effect = lazy.effect;
+}
+
+-- The law holds with no number of steps.
+abbrev pub NoCallsEndAlone : Table → Type 0
+NoCallsEndAlone T = (most : Sizes → ℕ) → CallsEndAlone T most → ⊥
+
+abbrev pub NoCallsEndUnhindered : Table → Type 0
+NoCallsEndUnhindered T = (most : Sizes → ℕ) → CallsEndUnhindered T most → ⊥
