@@ -23,6 +23,7 @@ LAST_ROWS = [
     ("lset_text/specs/Spellings.antt", "HasReply version r = Unit {0}", [REPLY]),
     ("lset_text/specs/Spellings.antt", "same_reply x y = false", [REPLY]),
     ("lset_steps/specs/Promises.antt", "IsContains call = ⊥", [CALL]),
+    ("broken_tables/specs/BrokenFine.antt", "with_one_lock call l = l", [CALL]),
     ("lset_session/specs/Sessions.antt", "Wrote end w w' talk = Appends w w' (answers_in talk)", [WHY]),
     ("lset_session/specs/Sessions.antt", "text_end end = end", [WHY]),
     ("lset_session/specs/SessionText.antt", "turns_after left other later = line other ∷ (if left == 1 then limit ∷ [] else later)", [REQUEST]),

@@ -26,8 +26,8 @@ SHOWN = {
     "functions-histories": {
         "lset_history": ["check_order", "why_refused", "Oracle::opened", "Oracle::apply", "History::opened", "History::begin",
                          "History::end"],
-        "lset_counts": ["counts_refute"],
         "lset_judge": ["judge", "first_refused", "window_of", "is_judged"],
+        "lset_claims": ["claim_of"],
         "lset_parts": ["Parts::new", "Parts::judge", "Parts::add", "Parts::keys", "Parts::latest", "Parts::is_at_rest"],
     },
     "functions-steps": {

@@ -199,8 +199,8 @@ pub extern "C" fn listset_trace_with_chains_lacking(
     hand(alloc, traced_broken(alloc, name, text, true), room, status)
 }
 
-/// What `listset show --lacks NAME` prints of it: the picture of the report of its run, with status 1 where its order is refused, and
-/// a last line where counting shows that no order explains it; or a line as of `listset_replay_lacking`. The options are those of
+/// What `listset show --lacks NAME` prints of it: the picture of the report of its run, with status 1 if its order is refused, and
+/// last lines that say whether another order explains it; or a line as of `listset_replay_lacking`. The options are those of
 /// `listset_show`.
 #[unsafe(no_mangle)]
 pub extern "C" fn listset_show_lacking(

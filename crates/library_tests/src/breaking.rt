@@ -1,11 +1,11 @@
-//! Random runs: counting refutes none of the five lists, and `check_order` refuses each broken list. Counting refutes no
-//! history that was laid round a legal order.
+//! Random runs: some order explains each of the five lists, `check_order` refuses each broken list, and of each but one `claim_of` says
+//! that no order at all explains a run. It says so of no history that was laid round a legal order.
 
 ghost use Rattle.std.specs.Prelude.{⊤};
 
 use broken_lists::{ALL, BrokenList, BrokenMachine, BrokenWorld, Task, on_broken, run_broken};
+use lset_claims::{Claim, claim_of};
 use lset_coarse::CoarseList;
-use lset_counts::find_miscount;
 use lset_fine::FineList;
 use lset_history::{History, Oracle, check_order};
 use lset_lazy::LazyList;
@@ -103,20 +103,28 @@ fn report_of(alloc: Global, broken: BrokenList, text: &str) -> Result<Report, Fa
     }
 }
 
-/// Whether the order of a report is refused, and whether counting shows that none explains it.
-fn judged(alloc: Global, report: &Report) -> Result<(bool, bool), Fail> {
-    let refused = check_order(alloc, &report.history, &report.order, &report.keys).is_err();
-    let counted = find_miscount(alloc, &report.history, &report.keys)?.is_some();
-    Ok((refused, counted))
+/// Whether it is known of a history that no order explains it and leaves the keys.
+fn is_unexplained(alloc: Global, history: &History, keys: &[u32]) -> Result<bool, AllocError> {
+    match claim_of(alloc, history, keys)? {
+        Claim::Explained | Claim::Unknown => Ok(false),
+        Claim::OfKey(_, _) | Claim::OfFull(_) | Claim::OfKeys => Ok(true),
+    }
 }
 
-/// Whether the order of a random run is refused; one that counting refutes is.
-fn is_refused<R: Abort>(
+/// Whether the order of a report is refused, and whether it is known that none explains it.
+fn judged(alloc: Global, report: &Report) -> Result<(bool, bool), Fail> {
+    let refused = check_order(alloc, &report.history, &report.order, &report.keys).is_err();
+    let unexplained = is_unexplained(alloc, &report.history, &report.keys)?;
+    Ok((refused, unexplained))
+}
+
+/// Whether the order of a random run is refused, and whether it is known that none explains it; then its own is refused.
+fn run_of<R: Abort>(
     rt: &R,
     alloc: Global,
     broken: BrokenList,
     seed: u64,
-) -> Result<bool, Fail> {
+) -> Result<(bool, bool), Fail> {
     let drawing = Drawing {
         alloc,
         broken,
@@ -124,35 +132,48 @@ fn is_refused<R: Abort>(
     };
     let text = on_broken(broken, drawing)?;
     let report = report_of(alloc, broken, text.as_str())?;
-    let (refused, counted) = judged(alloc, &report)?;
-    assert!(rt; refused || !counted);
-    Ok(refused)
+    let (refused, unexplained) = judged(alloc, &report)?;
+    assert!(rt; refused || !unexplained);
+    Ok((refused, unexplained))
 }
 
-/// Whether some random run is refused.
-fn is_found<R: Abort>(rt: &R, alloc: Global, broken: BrokenList) -> Result<bool, Fail> {
-    let mut found = false;
+/// Whether some random run is refused, and whether of some it is known that no order explains it.
+fn found<R: Abort>(rt: &R, alloc: Global, broken: BrokenList) -> Result<(bool, bool), Fail> {
+    let mut found = (false, false);
     for seed in 0..RUNS {
-        found = is_refused(rt, alloc, broken, seed)? || found;
+        let (refused, unexplained) = run_of(rt, alloc, broken, seed)?;
+        found = (found.0 || refused, found.1 || unexplained);
     }
     Ok(found)
+}
+
+/// No run is known that no order explains, of the list whose `contains` looks at no mark.
+fn is_known_to_break(broken: BrokenList) -> bool {
+    broken != BrokenList::MarkInContains
 }
 
 #[test]
 fn each_broken_list_is_refused(rt: HostRuntime) -> Result<(), Fail> {
     for broken in &ALL {
-        assert!(rt; is_found(&rt, rt.alloc(), *broken)?, "{}", broken.name());
+        let (refused, unexplained) = found(&rt, rt.alloc(), *broken)?;
+        assert!(rt; refused, "{}", broken.name());
+        assert_eq!(rt;
+            unexplained,
+            is_known_to_break(*broken),
+            "{}",
+            broken.name()
+        );
     }
     Ok(())
 }
 
-/// Counting refutes no random run of the list `M`.
+/// Some order explains each random run of the list `M`, and nothing else is said of it.
 fn assert_not_refuted<M: Machine, R: Abort>(rt: &R, alloc: Global) -> Result<(), Fail> {
     for seed in 0..RUNS {
         let schedule = generate::<M>(alloc, 3, 2, 12, 4, seed)?;
         let report = replay(alloc, &schedule)?;
-        let (refused, counted) = judged(alloc, &report)?;
-        assert!(rt; !refused && !counted, "seed {seed}");
+        let (refused, unexplained) = judged(alloc, &report)?;
+        assert!(rt; !refused && !unexplained, "seed {seed}");
     }
     Ok(())
 }
@@ -175,7 +196,8 @@ enum Stand {
     Done(u32, Reply),
 }
 
-/// Whether counting refutes a history of three threads, each call of which takes effect at once, at some moment of its bar.
+/// Whether `claim_of` says that no order explains a history of three threads, each call of which takes effect at once, at some moment
+/// of its bar.
 fn is_refuted(alloc: Global, rng: &mut Pcg32) -> Result<bool, Fail> {
     let mut oracle = Oracle::opened(alloc, 3, 2, &OPENING)?;
     let mut history = History::opened(alloc, 3, 2, Vec::from_slice(alloc, &OPENING)?);
@@ -196,7 +218,7 @@ fn is_refuted(alloc: Global, rng: &mut Pcg32) -> Result<bool, Fail> {
         };
     }
     let keys = oracle.keys()?;
-    Ok(find_miscount(alloc, &history, &keys)?.is_some())
+    Ok(is_unexplained(alloc, &history, &keys)?)
 }
 
 #[test]

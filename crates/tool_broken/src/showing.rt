@@ -26,8 +26,8 @@ fn shown_by(
     drawn(alloc, &picture, form, window)
 }
 
-/// Draws the report that `replayed_broken` makes, as `show` draws any report: status 1 where its order is refused, and else 0, and
-/// a last line where counting shows that no order explains it. The errors are those of `replayed_broken`, and `Bad(From)` where
+/// Draws the report that `replayed_broken` makes, as `show` draws any report: status 0 if its order explains it, and 1 if that is
+/// refused, with last lines that say whether another order explains it. The errors are those of `replayed_broken`, and `Bad(From)` if
 /// the window begins past the picture.
 pub fn shown_broken(
     alloc: Global,

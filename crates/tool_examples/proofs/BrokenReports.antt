@@ -2,9 +2,10 @@
 use Rattle.std.proofs.Common.{◌≡◌, ℕ, List, [], Bor, Option, Some, None, IfSome, unwrap_or, refl, sym, ap, subst}
 use Rattle.std.specs.Prelude.{Ok}
 use Rattle.std.specs.Option.{option_copied}
+use Rattle.lset_words.specs.History.{IsHistory}
 use Rattle.lset_report.specs.Report.{ReportValue}
 use Rattle.lset_report.specs.ReportReading.{reading, ReportsReadBack}
-use Rattle.lset_counts.specs.Unexplained.{IsUnexplained}
+use Rattle.lset_judge.specs.Verdict.{IsUnexplained}
 use Rattle.tool_examples.specs.declared.example.Example.{Example}
 use Rattle.tool_examples.specs.declared.example.Example.TheVariants.{FailedTries, Full, HandOverHand, SameGap}
 use Rattle.tool_examples.specs.declared.example.Example.TheVariants.{StalePred, MarkedInChain, MarkedPred, ReadInAnothersStep}
@@ -19,10 +20,11 @@ use Rattle.tool_examples.proofs.Unexplained as unexplained
 
 -- a text that is read as a report on the example's list which no order explains
 read_as : ReportsReadBack → (e : Example) (r : ReportValue) (own text : List ℕ) → reading own ≡ Ok r → r.kind ≡ kind_of e
-    → IsUnexplained r.history r.keys → Some own ≡ Some text → IsBrokenReportOf e text
+    → (IsHistory r.history.opening.threads r.history.calls → IsUnexplained r.history r.keys) → Some own ≡ Some text
+    → IsBrokenReportOf e text
 read_as back e r own text reads kind none is =
     let found = (back r own).1 reads in
-    subst (IsBrokenReportOf e) (ap (λ o. unwrap_or o []) is) (r, found.0, kind, found.1, none)
+    subst (IsBrokenReportOf e) (ap (λ o. unwrap_or o []) is) (r, found.0, kind, found.1, none found.0.history)
 
 is_broken_report : ReportsReadBack → (e : Example) (text : List ℕ) → broken_of e ≡ Some text → IsBrokenReportOf e text
 is_broken_report back SameGap text is =

@@ -10,3 +10,5 @@ mod texts;
 mod windows;
 
 pub use judging::{judge_bytes, tool_judge};
+pub use texts::reason_text;
+pub use windows::window_text;

@@ -1,40 +1,60 @@
-ghost use Rattle.std.specs.Prelude.{◌≡◌, ◌++◌, IfOk, OnOk, string_bytes};
+ghost use Rattle.std.specs.Prelude.{◌≡◌, ◌<◌, ◌++◌, IfOk, IfSome, All, length};
 ghost use Rattle.tool_drawing.specs.Pictures.{view};
-ghost use Rattle.tool_show.specs.Endings.{miscount_line, IsEnding};
+ghost use Rattle.tool_show.specs.Endings.{of_full, of_key, IsEnding};
 
-use lset_counts::{Miscount, find_miscount};
+use lset_claims::{Claim, claim_of};
+use lset_history::History;
+use lset_judge::{Refusal, Window};
 use std::alloc::{AllocError, Global};
 use tool_drawing::Picture;
+use tool_judge::{reason_text, window_text};
 
-fn put_miscount(out: &mut String, miscount: Miscount) -> Result<(), AllocError>
-    ensures { OnOk result (string_bytes out.new ≡ string_bytes out.old ++ miscount_line miscount) }
+const EXPLAINED: &[u8] = b"\nanother order explains this report\n";
+
+const UNKNOWN: &[u8] = b"\nit is not known whether another order explains this report\n";
+
+const NOT_RISING: &[u8] = b"\nnot linearizable\nno order leaves these keys, which do not rise\n";
+
+fn of_full(alloc: Global, call: u32) -> Result<Vec<u8>, AllocError>
+    ensures { IfOk result (λ text. text.items ≡ of_full call) }
 {
-    match miscount {
-        Miscount::Left(key) => write!(
-            out,
-            "\nno order explains this report: count the adds and the removes of {key} that answered true\n"
-        ),
-        Miscount::Read(call) => write!(
-            out,
-            "\nno order explains this report: count the adds and the removes of the key of call {call} that answered true before it\n"
-        ),
-        Miscount::Full(call) => write!(
-            out,
-            "\nno order explains this report: count the adds of the thread of call {call} that answered true before it\n"
-        ),
-    }
+    let text = format!(in alloc;
+        "\nnot linearizable\ncall {call} answers full, and its thread has not used its quota up\n"
+    )?;
+    Ok(text.into_bytes())
 }
 
-/// The line with which the picture of a refused order ends where counting shows that no order explains the report; else nothing.
-/// The only error is want of memory. (Herlihy and Shavit's set, by counting.)
-pub fn ending(alloc: Global, picture: &Picture) -> Result<String, AllocError>
-    ensures { IfOk result (λ s. IsEnding (view picture.now) (string_bytes s)) }
+fn of_key(
+    alloc: Global,
+    history: &History,
+    refusal: Refusal,
+    window: Option<Window>,
+) -> Result<Vec<u8>, AllocError>
+    requires { IfSome window (λ w. All (λ n. n < length history.now.calls) w.calls.items) }
+    ensures { IfOk result (λ text. text.items ≡ of_key history.now.calls refusal window) }
 {
-    let mut line = String::new(alloc);
-    if picture.refusal.is_some() {
-        if let Some(miscount) = find_miscount(alloc, &picture.history, &picture.keys)? {
-            put_miscount(&mut line, miscount)?;
-        }
+    let mut text = Vec::from_slice(alloc, b"\n")?;
+    text.extend_from_slice(&reason_text(alloc, refusal)?)?;
+    if let Some(window) = window {
+        text.extend_from_slice(&window_text(alloc, history, &window)?)?;
     }
-    Ok(line)
+    Ok(text)
+}
+
+/// The lines with which the picture of a refused order ends: whether any other order explains the report and leaves its keys; if none
+/// does, why, as `judge` says it. A report with `ceiling` or `full` may be one of which it is not known. The lines of any other picture are
+/// none. The only error is that memory was refused.
+pub fn ending(alloc: Global, picture: &Picture) -> Result<Vec<u8>, AllocError>
+    ensures { IfOk result (λ text. IsEnding (view picture.now) text.items) }
+{
+    if picture.refusal.is_none() {
+        return Ok(Vec::new(alloc));
+    }
+    match claim_of(alloc, &picture.history, &picture.keys)? {
+        Claim::Explained => Vec::from_slice(alloc, EXPLAINED),
+        Claim::OfKey(refusal, window) => of_key(alloc, &picture.history, refusal, window),
+        Claim::OfFull(call) => of_full(alloc, call),
+        Claim::OfKeys => Vec::from_slice(alloc, NOT_RISING),
+        Claim::Unknown => Vec::from_slice(alloc, UNKNOWN),
+    }
 }

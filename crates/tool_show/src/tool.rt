@@ -82,7 +82,7 @@ fn text_of(
         Form::Text(width) => {
             let mut text = write_picture(alloc, picture, window, width)?;
             let end = ending(alloc, picture)?;
-            text.extend_from_slice(end.as_bytes())?;
+            text.extend_from_slice(&end)?;
             Ok(text)
         }
         Form::Svg => write_svg(alloc, picture, window),

@@ -1,0 +1,35 @@
+-- WHAT IS KNOWN of all orders of a history of calls and the keys left.
+use Rattle.std.specs.Prelude.{◌≡◌, ℕ, ◌<◌, List, take, length, All, IfSome, IsSomeAnd}
+use Rattle.std.specs.List.Sorted.{IsStrictlyIncreasing}
+use Rattle.lset_words.specs.declared.Reply.{Reply}
+use Rattle.lset_words.specs.declared.Reply.TheVariants.{Full}
+use Rattle.lset_words.specs.SequentialSet.{has_key}
+use Rattle.lset_words.specs.History.{call_numbered}
+use Rattle.lset_history.specs.History.{HistoryValue}
+use Rattle.lset_judge.specs.declared.window.Window.{Window}
+use Rattle.lset_judge.specs.Verdict.{IsExplained, IsUnexplained, IsJudged, adds_of}
+use Rattle.lset_judge.specs.Window.{alone}
+use Rattle.lset_claims.specs.declared.claim.Claim.{Claim}
+use Rattle.lset_claims.specs.declared.claim.Claim.TheVariants.{Explained, OfKey, OfFull, OfKeys, Unknown}
+
+-- The calls of a window are calls of the history, and no order explains these calls alone, of a set that opens with the key or without it
+-- as the window has it: whatever keys they leave, or if they leave the key as it is left. (`ShowsNone` of lset_judge, of calls of which
+-- some may be ceilings that answered the key.)
+pub record HaveNoOrder (h : HistoryValue) (w : Window) : Type 0 where
+  pub known : All (λ (n : ℕ). n < length h.calls) w.calls.items
+  pub none : (keys : List ℕ) → IfSome w.left (λ left. has_key w.key.0 keys ≡ left) → IsUnexplained (alone h w) keys
+
+-- the call with that number answered full, and the adds of its thread before it that put their keys in are fewer than the quota
+pub record IsTooSoon (h : HistoryValue) (number : ℕ) : Type 0 where
+  pub known : number < length h.calls
+  pub full : IsSomeAnd (call_numbered h.calls number).ended (λ (e : ℕ × Reply). e.1 ≡ Full)
+  pub few : adds_of (call_numbered h.calls number).thread (take number h.calls) < h.opening.quota
+
+-- WHAT EACH ANSWER SAYS: that some order explains the calls and leaves the keys; that none does, and why; or that the history is none that
+-- the judge decides
+abbrev pub IsClaim : HistoryValue → List ℕ → Claim → Type 0
+IsClaim h keys Explained = IsExplained h keys
+IsClaim h keys (OfKey refusal window) = IsUnexplained h keys × IfSome window (HaveNoOrder h)
+IsClaim h keys (OfFull call) = IsUnexplained h keys × IsTooSoon h call
+IsClaim h keys OfKeys = IsUnexplained h keys × (IsStrictlyIncreasing keys → ⊥)
+IsClaim h keys Unknown = IsJudged h → ⊥

@@ -1,4 +1,0 @@
-pub mod Legal
-pub mod Sums
-pub mod Fronts
-pub mod Refuted

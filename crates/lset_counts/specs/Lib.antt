@@ -1,2 +1,0 @@
-pub mod Unexplained
-pub mod Counts
