@@ -39,7 +39,8 @@ static void expect_calls() {
   std::string head = "listset-calls 2\nlist lock-free\nthreads 2\nquota 4\n", calls = "call 0 add 5 1 3 6 true\ncall 1 contains 5 2 - 4 true\n";
   expect(listset::check(listset::report(head + calls + "key 5\nend\n").text).is_ok(), "recorded calls");
   expect(listset::check(listset::report(head + calls + "end\n").text).text == "refused WrongSet\n", "a key is left out");
-  expect(listset::judge_text(head + calls + "key 5\nend\n").text == "ok 2 calls\n", "judged");
+  listset::said right = listset::judge_text(head + calls + "key 5\nend\n");
+  expect(right.is_ok() && begins(right.text, "ok 2 calls\n"), "judged");
   listset::said refused = listset::judge_text(head + calls + "end\n");
   expect(refused.status == LISTSET_WRONG_TEXT && begins(refused.text, "not linearizable\n"), "judged without a key");
 }

@@ -69,7 +69,7 @@ fn recorded_calls_are_judged() {
     let without_key = report(CALLS.replace("key 5\n", "")).unwrap();
     assert_eq!(check(without_key).unwrap_err().to_string(), "refused WrongSet");
     assert_eq!(report(CALLS.replace("1 3 6", "1 - 6")).unwrap_err().status, 1);
-    assert_eq!(judge_text(CALLS.replace("1 3 6", "1 - 6")).as_deref(), Ok("ok 2 calls\n"));
+    assert!(judge_text(CALLS.replace("1 3 6", "1 - 6")).unwrap().starts_with("ok 2 calls\n"));
     let refused = judge_text(CALLS.replace("key 5\n", "")).unwrap_err();
     assert!(refused.status == 1 && refused.text.starts_with("not linearizable\n"), "{refused}");
 }
