@@ -7487,7 +7487,6 @@ class LessonsOnPage {
   }
 
   listen() {
-    lessonPart("list").onchange = () => this.choose(this.course.lessons.find(({ name }) => name === lessonPart("list").value));
     lessonPart("start").onclick = () => this.begin();
     lessonPart("go-on").onclick = () => openWork(this.ownWork());
     lessonPart("own").onclick = () => this.open(this.own.solutions.get(this.lesson.name), "Your solution.");
@@ -7600,7 +7599,7 @@ class LessonsOnPage {
     this.verdict.isShown = looked.has(name) && schedule === solution && schedule !== solutions.get(name);
     if (this.verdict.isSolved && !this.verdict.isShown && !solutions.has(name)) this.take(schedule);
     this.save();
-    this.drawList();
+    drawStrip();
     this.drawButtons();
     this.drawVerdict(verdictText(this.verdict, schedule === this.lesson.begun));
   }
@@ -7633,14 +7632,6 @@ class LessonsOnPage {
 
   isSolved(name) {
     return this.own.solutions.has(name);
-  }
-
-  drawList() {
-    const { lessons } = this.course;
-    const textOf = ({ name, title }, index) => `${this.isSolved(name) ? "✓ " : ""}${index + 1} ${title}`;
-    lessonPart("list").replaceChildren(...lessons.map((lesson, index) => new Option(textOf(lesson, index), lesson.name)));
-    lessonPart("list").value = this.lesson.name;
-    drawStrip();
   }
 
   drawButtons() {

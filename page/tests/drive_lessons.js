@@ -5,11 +5,10 @@ const lessonPart = (name) => part(`lesson-${name}`);
 const lessonText = (name) => lessonPart(name).textContent;
 const solvedLessons = () => Number(/^\d+/.exec(lessonText("count"))?.[0]);
 const chosenLesson = () => inPage("learning.panel.lesson");
-const lessonNames = () => [...lessonPart("list").options].map((option) => option.value);
+const lessonNames = () => inPage("learning.panel.course.lessons.map(({ name }) => name)");
 
 function chooseLesson(name) {
-  lessonPart("list").value = name;
-  lessonPart("list").onchange();
+  inPage(`learning.panel.choose(learning.panel.course.lessons.find((lesson) => lesson.name === "${name}"))`);
 }
 
 // Writes a text in the box and runs it.
@@ -28,7 +27,6 @@ async function reloadWithKept(kept) {
     for (const [name, value] of Object.entries(kept)) inPage("localStorage").setItem(name, value);
   }
   await loadAgain("#example=snip&event=0");
-  lessonPart("box").open = true;
   await sleep(50); // that is told to the panel later
 }
 
@@ -50,7 +48,8 @@ function driveLesson(name, count) {
   runText(solution);
   check(`${title}: a solution is ticked`, lessonText("verdict") === "Solved." && solvedLessons() === count + 1);
   check(`${title}: all conditions are met`, lessonPart("conditions").querySelectorAll(".unmet").length === 0);
-  check(`${title}: in the list`, lessonPart("list").selectedOptions[0].textContent.startsWith("✓ "));
+  const mark = part("lesson-levels").querySelector("[aria-current]");
+  check(`${title}: in the strip`, mark.textContent === "✓" && mark.title === title);
   check(`${title}: now it is told what it teaches`, !lessonPart("teaches-fold").hidden && lessonText("teaches") === teaches);
 }
 

@@ -7,7 +7,6 @@ const isSeen = (id) => part(id).getClientRects().length > 0;
 function driveOneScreen() {
   const below = [];
   const moved = [];
-  lessonPart("box").open = false;
   for (const name of inPage("exampleNames()")) {
     pick(name);
     const tops = new Set();
@@ -128,7 +127,6 @@ function driveSides() {
   runSchedule([...header("lazy", 2), "begin 0 add 5", "begin 1 contains 5"]);
   frame.contentWindow.location.hash = "";
   inPage("shownSides").sides = null;
-  part("sides-box").open = false;
   inPage("openCompare(readAddress('#sides=coarse.lazy&calls=0.add.5,0.remove.5,1.contains.5&turns=0.0').sides)");
   const turn = (thread) => part("sides-turns").querySelector(`[data-thread="${thread}"]`);
   check("two lists are shown", part("sides-pictures").querySelectorAll("section").length === 2);
@@ -153,7 +151,6 @@ function driveSides() {
   part("sides-program").value = "0: ad 5";
   part("sides-begin").click();
   check("a call that is none is told", textOf("sides-told") === '"ad 5" is no call as "add 5"');
-  part("sides-box").open = false;
 }
 
 // A million events: the page can be used while they run, the run can be cancelled, and each event is there at once.
@@ -184,7 +181,6 @@ async function driveMillion() {
 function driveHeight() {
   pick("read-in-anothers-step");
   goToEvent(20);
-  lessonPart("box").open = false;
   const { documentElement } = frame.contentDocument;
   const open = [...frame.contentDocument.querySelectorAll("details[open]")].map(({ id }) => id);
   check(`no fold is open on a narrow screen, but ${open}`, open.length === 0);

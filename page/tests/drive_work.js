@@ -278,9 +278,9 @@ function drivePlaces() {
   check(`the steps stand in ${where}`, where === (isAtWork ? "moves-wide" : "moves-narrow"));
   const wide = frame.contentDocument.documentElement;
   check("nothing is wider than the page", wide.scrollWidth <= wide.clientWidth);
-  part("lesson-box").open = part("table-box").open = true;
-  check("nor with the lessons and the table unfolded", wide.scrollWidth <= wide.clientWidth);
-  part("lesson-box").open = part("table-box").open = false;
+  part("table-box").open = true;
+  check("nor with the table unfolded", wide.scrollWidth <= wide.clientWidth);
+  part("table-box").open = false;
   const inRoom = (control) => control.getBoundingClientRect().right <= part("moves").getBoundingClientRect().right;
   check("nor a control than its column", [...part("moves").querySelectorAll("button, select")].every(inRoom));
   if (frame.contentWindow.matchMedia("(pointer: coarse)").matches) driveFingers();

@@ -31,7 +31,6 @@ class LessonsOnPage {
   }
 
   listen() {
-    lessonPart("list").onchange = () => this.choose(this.course.lessons.find(({ name }) => name === lessonPart("list").value));
     lessonPart("start").onclick = () => this.begin();
     lessonPart("go-on").onclick = () => openWork(this.ownWork());
     lessonPart("own").onclick = () => this.open(this.own.solutions.get(this.lesson.name), "Your solution.");
@@ -153,7 +152,7 @@ class LessonsOnPage {
     this.verdict.isShown = looked.has(name) && schedule === solution && schedule !== solutions.get(name);
     if (this.verdict.isSolved && !this.verdict.isShown && !solutions.has(name)) this.take(schedule);
     this.save();
-    this.drawList();
+    drawStrip();
     this.drawButtons();
     this.drawVerdict(verdictText(this.verdict, schedule === this.lesson.begun));
   }
@@ -190,14 +189,6 @@ class LessonsOnPage {
 
   isSolved(name) {
     return this.own.solutions.has(name);
-  }
-
-  drawList() {
-    const { lessons } = this.course;
-    const textOf = ({ name, title }, index) => `${this.isSolved(name) ? "✓ " : ""}${index + 1} ${title}`;
-    lessonPart("list").replaceChildren(...lessons.map((lesson, index) => new Option(textOf(lesson, index), lesson.name)));
-    lessonPart("list").value = this.lesson.name;
-    drawStrip();
   }
 
   drawButtons() {
