@@ -7,7 +7,7 @@
 //
 // A file may have courses and texts of many students, as they came by mail (hand_in.js). Without a course the lessons are those of
 // book.course. Each schedule is run by the proved replayer, each order is judged by the proved check, and a broken list
-// is broken where counting refutes the run, as the module of this folder.
+// is broken if no order explains the run, as the module of this folder says.
 // The status is 0 where nothing is missing, 1 where something is, 2 where the words are wrong, a file cannot be read or has no such
 // text, and 70 where there is no engine.
 "use strict";

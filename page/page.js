@@ -717,7 +717,6 @@ const $run_judged = (() => {
 const { callText, openReply } = $run_markup;
 const { HEADER_LINES } = $run_trace;
 const MOST_JUDGED = 60; // events of a run that is judged
-const COUNTED = "no order explains this report: "; // how the line of `show` begins that counting refutes a report
 
 const LEVELS = {
   points: { task: "The replies are shown. Where does each call take effect?", hidden: ["change", "effect"] },
@@ -821,13 +820,26 @@ function verdictOn(ask, answer) {
   return { isRight: false, clash, report, says: faultInWords(answer, told) };
 }
 
+const ENDINGS = {
+  "not linearizable": "none",
+  "another order explains this report": "another",
+  "it is not known whether another order explains this report": "unknown",
+};
+
+function otherOrders(drawn) {
+  const lines = drawn.trimEnd().split("\n");
+  const at = lines.findIndex((line) => Object.hasOwn(ENDINGS, line));
+  return at === -1 ? { kind: "own", lines: [] } : { kind: ENDINGS[lines[at]], lines: lines.slice(at + 1) };
+}
+
 function verdictOnClaim(ask, { isWhole, reportText }) {
   const said = (isRight, says) => ({ isRight, clash: null, report: null, says });
   const there = "There is one: this is a run of a list that is proved to have an order for each of its runs. Find it.";
   if (isWhole) return said(false, there);
-  const isCounted = ask("listset_show", reportText).text.includes(`\n${COUNTED}`);
-  if (isCounted) return said(true, "Right: no order explains this report (proved by counting). A broken list gave it.");
-  return said(null, "Counting does not tell: a broken list gave this report, and another order may explain it.");
+  const { kind } = otherOrders(ask("listset_show", reportText).text);
+  if (kind === "none") return said(true, "Right: no order explains this report (proved). A broken list gave it.");
+  if (kind === "unknown") return said(null, "A broken list gave this report, and whether an order explains it is not known.");
+  return said(false, "There is one, although a broken list gave this report. Find it.");
 }
 
 function rightInWords(answer) {
@@ -876,7 +888,7 @@ function answerOfWord(exercise, word) {
   }
   return answer;
 }
-return { MOST_JUDGED, COUNTED, LEVELS, exerciseOf, nameOfCall, lastMoment, repliesOf, OwnAnswer, reportOfAnswer, verdictOn, wordOfAnswer, answerOfWord };
+return { MOST_JUDGED, LEVELS, exerciseOf, nameOfCall, lastMoment, repliesOf, OwnAnswer, reportOfAnswer, verdictOn, otherOrders, wordOfAnswer, answerOfWord };
 })();
 
 // run/schedule_text.js
@@ -1577,7 +1589,7 @@ const BREAK_LEVELS = {
   },
   "mark-in-ceiling": {
     grade: 2,
-    story: "ceiling(2) asks for the least key from 2 on. Here an order that check refuses is enough: counting cannot tell more.",
+    story: "ceiling(2) asks for the least key from 2 on. It takes the first node that it finds. Any node?",
     hints: [
       "A remove of 3, and a ceiling of 2. Let something end in between.",
       "The remove has marked the node of 3 and has not ended. A contains of 3 answers false. And then the ceiling?",
@@ -2586,7 +2598,7 @@ return { wantsLessMotion, stopPlay, startPlay, togglePlay, changeSpeed, goByHand
 const $run_broken = (() => {
 const { LACKING } = $made_classics;
 const { LISTS } = $made_rows;
-const { COUNTED, exerciseOf, nameOfCall } = $run_judged;
+const { exerciseOf, nameOfCall, otherOrders } = $run_judged;
 const { escaped } = $run_markup;
 const { scheduleOfTrace, titleOf } = $run_schedule_text;
 const { isFailed, isLock, momentAt, sentenceOf } = $run_sentences;
@@ -2596,15 +2608,14 @@ const LACKING_THREADS = 2;
 const LACKING_QUOTA = 2;
 const LACKING_OPENING = [3, 7]; // what such a list opens with, until the reader changes that
 const EXPLAINED = "Explained: this schedule does not break it.";
-const BY_POINTS =
-  "Not by its points: check refuses the order by the moments that the table names. Another order may explain these replies: try";
-const UNEXPLAINED = "No order of these calls explains that (proved by counting).";
-const TO_BREAK = "No order explains what the calls answer (proved by counting)."; // the condition of a lesson
+const BY_POINTS = "Not by its points: check refuses the order by the moments that the table names.";
+const OTHER = "Another order explains these replies.";
+const UNKNOWN = "Whether another order explains these replies is not known.";
+const UNEXPLAINED = "No order of these calls explains that (proved).";
+const TO_BREAK = "No order explains what the calls answer (proved)."; // the condition of a lesson
 
-const UNCOUNTED = ["mark-in-contains", "mark-in-ceiling"];
 const NO_TASK = "mark-in-contains";
-const isToldOf = (lacks, { kind }) => kind === "broken" || (kind === "points" && UNCOUNTED.includes(lacks));
-const isTaskDone = (lacks, verdict) => isToldOf(lacks, verdict) && lacks !== NO_TASK;
+const isTaskDone = (lacks, { kind }) => kind === "broken" && lacks !== NO_TASK;
 
 const askList = (ask, name, lacks, ...texts) => (lacks === null ? ask(name, ...texts) : ask(`${name}_lacking`, lacks, ...texts));
 
@@ -2626,39 +2637,47 @@ function verdictOnLacking(ask, lacks, schedule) {
   const { status, text } = ask("listset_replay_lacking", lacks, schedule);
   if (status !== 0) return { kind: "refused", says: `The schedule is refused: ${text.trim()}`, report: null };
   if (ask("listset_check", text).text === "ok\n") return { kind: "explained", says: EXPLAINED, report: text };
-  const counted = countedIn(ask("listset_show", text).text);
-  if (counted === null) return { kind: "points", says: BY_POINTS, report: text };
-  return { kind: "broken", says: `Broken: ${countInWords(text, counted)}. ${UNEXPLAINED}`, report: text };
+  const { kind, lines } = otherOrders(ask("listset_show", text).text);
+  if (kind !== "none") return { kind: "points", says: `${BY_POINTS} ${kind === "another" ? OTHER : UNKNOWN}`, report: text };
+  return { kind: "broken", says: `Broken: ${whyNone(text, lines)}. ${UNEXPLAINED}`, report: text };
 }
 
-const countedIn = (drawn) => drawn.split("\n").find((line) => line.startsWith(COUNTED))?.slice(COUNTED.length) ?? null;
-
-function countInWords(report, counted) {
+function whyNone(report, [reason, ...lines]) {
   const exercise = exerciseOf(report, "claim");
-  const [, key, number] = /^count the adds (?:and the removes of (\d+)|.* of call (\d+)) /.exec(counted);
-  if (key !== undefined) {
-    const isLeft = exercise.keyLines.includes(`key ${key}`);
-    return `${changesInWords(exercise, Number(key), Infinity)}, and the set ${isLeft ? "has" : "lacks"} it`;
-  }
-  const call = exercise.calls[number];
-  const says = `${nameOfCall(call)} answers ${call.reply}`;
-  if (call.reply === "full") {
-    const own = exercise.calls.filter((other) => other.thread === call.thread && isChange("add", other));
-    return `${says}, and its thread had put in ${own.length} of the ${exercise.head[3].replace("quota ", "")} keys of its quota`;
-  }
-  const read = Number(/^at-(\d+)$/.exec(call.reply)?.[1] ?? call.key);
-  return `${says}, and before it ${changesInWords(exercise, read, call.begun)}`;
+  const full = /^call (\d+) answers full/.exec(reason);
+  if (full !== null) return fullInWords(exercise, exercise.calls[full[1]]);
+  const [, key, end] = /^no order explains the calls of key (\d+) (up|and)/.exec(reason) ?? [];
+  if (key === undefined) return reason;
+  if (end === "and" && isLost(exercise, Number(key))) return `${key} was put in once and never taken out, and the set lacks it`;
+  const start = /^key \d+ is (there|not there) at moment (\d+)$/.exec(lines[0] ?? "");
+  const calls = lines.map((line) => callInWords(exercise, line)).filter((words) => words !== null);
+  const last = end === "and" ? [`at last the set ${isLeft(exercise, key) ? "has" : "lacks"} it`] : [];
+  const then = [...calls, ...last].join(", ");
+  if (start === null) return then === "" ? reason : then;
+  const when = start[2] === "0" ? "at first" : `after event ${start[2]}`;
+  return `${key} is ${start[1]} ${when}, and then ${then}`;
 }
 
 const isChange = (operation, call) => call.operation === operation && call.reply === "true";
-const timesInWords = (count) => ["never", "once", "twice"][count] ?? `${count} times`;
+const isLeft = ({ keyLines }, key) => keyLines.includes(`key ${key}`);
 
-function changesInWords({ head, calls }, key, before) {
-  const count = (operation) => calls.filter((call) => isChange(operation, call) && call.key === key && call.ended < before).length;
-  const [puts, takes] = [timesInWords(count("add")), timesInWords(count("remove"))];
-  const put = puts === "never" ? "never put in" : `put in ${puts}`;
-  const taken = takes === "never" ? "never taken out" : `taken out ${takes}`;
-  return `${key} was ${head.includes(`opening ${key}`) ? "there at first, " : ""}${put} and ${taken}`;
+function fullInWords({ head, calls }, call) {
+  const own = calls.filter((other) => other.thread === call.thread && isChange("add", other));
+  const quota = head[3].replace("quota ", "");
+  return `${nameOfCall(call)} answers full, and its thread had put in ${own.length} of the ${quota} keys of its quota`;
+}
+
+function isLost(exercise, key) {
+  const count = (operation) => exercise.calls.filter((call) => isChange(operation, call) && call.key === key).length;
+  const isOpening = exercise.head.includes(`opening ${key}`);
+  return count("add") === 1 && count("remove") === 0 && !isOpening && !isLeft(exercise, key);
+}
+
+function callInWords({ calls }, line) {
+  const [, operation, key, begun] = /^call \d+ (\w+) (\d+) (\d+) - /.exec(line) ?? [];
+  const call = calls.find((one) => one.operation === operation && one.key === Number(key) && one.begun === Number(begun));
+  if (call === undefined) return null;
+  return `${nameOfCall(call)} ${call.ended === null ? "is open" : `answers ${call.reply}`}`;
 }
 
 function departureOf(ask, trace) {
@@ -2682,7 +2701,7 @@ function rowInWords(trace, number) {
   const isSaid = event.deed === "exchange" && isFailed(event) && isLock(event.word);
   return row === 0 || isSaid ? "" : ` It goes on at row ${row}, ${escaped(step)}.`;
 }
-return { EXPLAINED, TO_BREAK, UNCOUNTED, NO_TASK, isToldOf, isTaskDone, askList, titleOfLacking, startOfLacking, verdictOnLacking, departureOf };
+return { EXPLAINED, TO_BREAK, NO_TASK, isTaskDone, askList, titleOfLacking, startOfLacking, verdictOnLacking, departureOf };
 })();
 
 // page/run_text.js
@@ -5468,7 +5487,7 @@ const { askNow, goTo, page } = $page_now;
 const { goByHand } = $page_play;
 const { openLacking } = $page_work;
 const { addressOf } = $run_address;
-const { departureOf, isTaskDone, isToldOf, NO_TASK, UNCOUNTED, verdictOnLacking } = $run_broken;
+const { departureOf, isTaskDone, NO_TASK, verdictOnLacking } = $run_broken;
 const { escaped, tag } = $run_markup;
 const { scheduleOfTrace, versionOf } = $run_schedule_text;
 const { Trace } = $run_trace;
@@ -5505,7 +5524,7 @@ function keepBroken(trace) {
 
 function drawBreaking(trace, verdict) {
   const { lacks } = trace;
-  drawDeparture(isToldOf(lacks, verdict));
+  drawDeparture(verdict.kind === "broken");
   drawLevel(trace, verdict);
   document.body.classList.toggle("refuted", verdict.kind === "broken");
   const line = Object.fromEntries(brokenLines())[lacks];
@@ -5531,20 +5550,20 @@ const holds = (says, why = "") => ({ kind: "holds", says, why });
 function stateOf(trace, verdict) {
   const { lacks } = trace;
   const isPoints = verdict.kind === "points";
+  const isBroken = verdict.kind === "broken";
   if (verdict.kind === "refused") return holds(verdict.says);
-  if (isToldOf(lacks, verdict) && isShownBreak(lacks, scheduleOfTrace(trace))) return stateOfShown();
+  if (isBroken && isShownBreak(lacks, scheduleOfTrace(trace))) return stateOfShown();
   if (isPoints && lacks === NO_TASK) {
     return holds("Refused by its points, and not broken.", "Another order explains these replies. Why is there always one?");
   }
-  if (isPoints && UNCOUNTED.includes(lacks)) return won("Refused by its points.", "Counting cannot tell more of this list.");
-  if (isToldOf(lacks, verdict)) return won("Broken!", countOf(verdict));
+  if (isBroken) return won("Broken!", reasonOf(verdict));
   const isAnswered = trace.calls.some(({ ended }) => ended !== null);
   if (!isAnswered) return { kind: "", says: "Nothing has answered yet.", why: "Let a thread begin a call, and go on." };
   const explained = "An order explains all answers so far.";
-  return holds(HOLDS, isPoints ? "Its own order is refused, but another one may explain the answers." : explained);
+  return holds(HOLDS, isPoints ? verdict.says.replace("Not by its points: check refuses", "check refuses") : explained);
 }
 
-const countOf = ({ says }) => says.replace(/^Broken: /, "").replace(/and the set (has|lacks) it/, "and the list $1 it");
+const reasonOf = ({ says }) => says.replace(/^Broken: /, "").replace(/and the set (has|lacks) it/, "and the list $1 it");
 
 function stateOfShown() {
   const says = page.count === page.trace.total ? "Broken, as shown." : "Step on, and look.";
@@ -7122,7 +7141,7 @@ const { askNow, NO_ENGINE, page, show, takeScheduleOfTrace, takeTrace, tellFault
 const { keepBefore, openText, takeName } = $page_work;
 const { askList } = $run_broken;
 const { faultOfTrace } = $run_check_trace;
-const { COUNTED } = $run_judged;
+const { otherOrders } = $run_judged;
 const { scheduleOfTrace } = $run_schedule_text;
 const { Trace } = $run_trace;
 const REPLY_WIDTH = 60; // of a call in the picture of a report: what stands right of its bar
@@ -7209,7 +7228,11 @@ function drawPicture(text) {
   scrollToClash();
 }
 
-const refusalIn = (text) => text.split("\n").filter((line) => line.startsWith("refused ") || line.startsWith(COUNTED)).join("; ");
+function refusalIn(text) {
+  const { kind, lines } = otherOrders(text);
+  const refused = text.split("\n").filter((line) => line.startsWith("refused "));
+  return [...refused, ...(kind === "none" ? lines.filter((line) => !line.endsWith(":")) : [])].join("; ");
+}
 
 function scrollToClash() {
   const box = byId("picture");
@@ -7998,7 +8021,7 @@ const TERMS = {
   marked: "A node that is removed and may still be in the chain.",
   quota: "How many keys a thread may put in. Each wants a node of its own; then add answers full.",
   claim: "A report that may be false. Is there an order, or none?",
-  counting: "Proves that no order explains a report: a key was put in and taken out in numbers that do not fit.",
+  "no order": "Proved of a report by a few of its calls: from a moment on no order of them explains their replies.",
   refused: "check names the first call of an order that could not answer so there.",
 };
 

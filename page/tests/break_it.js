@@ -22,17 +22,17 @@ const plain = (text) => text.replace(/<[^>]*>/g, "");
 const scheduleOf = (name) => fs.readFileSync(path.join(TOP, "examples", "schedules", "lacks", `${name}.schedule`), "utf8");
 const startOf = inPage("startOfLacking");
 const LOST = /^(\d+) was put in once and never taken out, and the set lacks it$/; // as docs/CLASSIC.md tells it in short
-const isUncounted = (name) => inPage("UNCOUNTED").includes(name);
+const isTask = (name) => name !== inPage("NO_TASK");
 
 // The schedule breaks the list, as docs/CLASSIC.md says it, or is refused by its points alone; and never before its last call.
 function checkBroken(ask, name) {
   const schedule = scheduleOf(name);
   const { kind, says } = verdictOnLacking(ask, name, schedule);
-  check(`${name} is broken: ${says}`, kind === (isUncounted(name) ? "points" : "broken"));
-  check(`${name}: of a refused order alone it says: ${says}`, says.includes("(proved by counting)") === (kind === "broken"));
+  check(`${name} is broken: ${says}`, kind === (isTask(name) ? "broken" : "points"));
+  check(`${name}: of a refused order alone it says: ${says}`, says.includes("(proved)") === (kind === "broken"));
   const line = CLASSIC.split("\n").find((one) => one.startsWith(`- \`${name}\` (${LACKING[name]}): `)) ?? "";
-  const counted = says.slice("Broken: ".length, says.indexOf(". No order")).replace(LOST, "$1 is lost");
-  const told = kind === "broken" ? `${counted}.` : "the order is refused, and counting tells nothing.";
+  const why = says.slice("Broken: ".length, says.indexOf(". No order")).replace(LOST, "$1 is lost");
+  const told = kind === "broken" ? `${why}.` : "the order is refused, and another order explains the calls.";
   check(`docs/CLASSIC.md says of ${name}: ${told}`, line.toLowerCase().endsWith(` ${told}`.toLowerCase()));
   const begun = verdictOnLacking(ask, name, startOf(name));
   check(`${name}: nothing breaks it at its start`, begun.kind === "explained" && begun.says === inPage("EXPLAINED"));
@@ -72,14 +72,14 @@ function checkFile(engine, ask, name) {
   check(`${name}: a check that is none`, inPage("faultOfTrace")(text.replace(`lacks ${name}`, "lacks luck"))?.startsWith("line 3: "));
 }
 
-// Counted are the calls that ended before, and of a full add those of its own thread.
-function checkCounts(ask) {
+// What is told are the calls that have no order, and of a full add those of its own thread.
+function checkReasons(ask) {
   const saidOf = (name, schedule, lines) => {
     const { text } = inPage("scheduleOfDraft")(ask, `${schedule}${lines.join("\n")}\n`, name);
     return verdictOnLacking(ask, name, text).says;
   };
   const later = saidOf("mark-at-key", scheduleOf("mark-at-key"), ["begin 1 add 7", "go 1 out"]);
-  check(`what comes later is not counted: ${later}`, later.includes("before it 7 was there at first, never put in and taken out once."));
+  check(`what comes later is not told: ${later}`, later.includes("7 is not there after event 18, and then contains(7) of t0 answers true."));
   const adds = ["begin 1 add 9", "go 1 out", "begin 0 add 4", "go 0 out", "begin 0 add 5", "go 0 out"];
   const other = saidOf("last-slot", startOf("last-slot"), adds);
   check(`nor that of another thread: ${other}`, other.includes("add(5) of t0 answers full, and its thread had put in 1 of the 2 keys"));
@@ -103,7 +103,7 @@ function checkDrafts(ask) {
   }
 }
 
-// What is handed in is judged by the list that its line names, by counting; an order that is refused alone is no solution.
+// What is handed in is judged by the list that its line names; an order that is refused alone is no solution.
 function checkHandedIn(ask) {
   const judge = (line) => inPage("judgedPart")(ask, [], line);
   for (const name of NAMES) {
@@ -124,12 +124,12 @@ function checkHandedIn(ask) {
   check("and that is no solution", !judge(`break mark-at-key ${points}`).isSolved);
 }
 
-// The sentences about a claim: right where counting refutes the report, and else nothing is said.
+// The sentences about a claim: right if no order explains the report.
 function checkClaims(ask, name) {
   const { report } = verdictOnLacking(ask, name, scheduleOf(name));
   const claim = Object.assign(new (inPage("OwnAnswer"))(inPage("exerciseOf")(report, "claim", false)), { isNone: true });
   const { isRight, says } = inPage("verdictOn")(ask, claim);
-  check(`${name}, that there is none: ${says}`, isRight === (isUncounted(name) ? null : true));
+  check(`${name}, that there is none: ${says}`, isRight === isTask(name));
 }
 
 const LESSON = `listset-course 1
@@ -181,7 +181,7 @@ async function main() {
     checkFile(engine, ask, name);
     checkClaims(ask, name);
   }
-  checkCounts(ask);
+  checkReasons(ask);
   checkDrafts(ask);
   checkHandedIn(ask);
   checkLesson(ask);

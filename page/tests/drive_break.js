@@ -53,8 +53,7 @@ function driveBreak(name) {
   check(`${name} begins whole: ${breakText("verdict")}`, breakText("verdict") === "Nothing has answered yet.");
   check("its departure is not told", part("break-departs").hidden);
   for (const deed of DEEDS[name].split(", ")) doDeed(deed);
-  const isCounted = !inPage("UNCOUNTED").includes(name);
-  const wanted = isCounted ? "Broken!" : "Refused by its points";
+  const wanted = name === inPage("NO_TASK") ? "Refused by its points, and not broken." : "Broken!";
   check(`${name}: ${breakText("verdict")}`, breakText("verdict").startsWith(wanted) && textOf("fault") === "");
   if (name === "mark-in-contains") return;
   check("it is asked first", part("break-departs").hidden);
@@ -67,7 +66,7 @@ function driveBreak(name) {
   const line = breakText("line");
   check(`${name} is kept: ${line}`, name === "mark-in-contains" ? line === "" : line.includes(`: break ${name} #list=`));
   part("undo").click();
-  check(`${name}: a deed before it: ${breakText("verdict")}`, !isCounted || !breakText("verdict").startsWith("Refused"));
+  check(`${name}: a deed before it: ${breakText("verdict")}`, !breakText("verdict").startsWith("Refused"));
 }
 
 // Three hints, one by one, and no more.
@@ -83,14 +82,14 @@ function driveHints() {
   check("another level begins without", hints.children.length === 0 && isAble("break-hint"));
 }
 
-// "Not by its points" opens Judge yourself with this report: another order may be right, and that none is right is not proved.
+// "Not by its points" opens Judge yourself with this report: another order is right, and that none is right is wrong.
 function driveDoubt() {
   pick("break: mark-in-contains");
   for (const deed of DEEDS["mark-in-contains"].split(", ")) doDeed(deed);
   part("break-judge").click();
   check("the report is judged", !part("judge").hidden && part("judge").getClientRects().length > 0);
   part("judge-none").click();
-  check(`that there is none: ${textOf("judge-verdict")}`, textOf("judge-verdict").startsWith("Counting does not tell: "));
+  check(`that there is none: ${textOf("judge-verdict")}`, textOf("judge-verdict").startsWith("There is one, although a broken list"));
   dragPoint(1, 10, 10);
   dragPoint(0, 12, 12);
   part("judge-ask").click();

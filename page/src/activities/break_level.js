@@ -11,7 +11,7 @@ import { askNow, goTo, page } from "../page/now.js";
 import { goByHand } from "../page/play.js";
 import { openLacking } from "../page/work.js";
 import { addressOf } from "../run/address.js";
-import { departureOf, isTaskDone, isToldOf, NO_TASK, UNCOUNTED, verdictOnLacking } from "../run/broken.js";
+import { departureOf, isTaskDone, NO_TASK, verdictOnLacking } from "../run/broken.js";
 import { escaped, tag } from "../run/markup.js";
 import { scheduleOfTrace, versionOf } from "../run/schedule_text.js";
 import { Trace } from "../run/trace.js";
@@ -49,7 +49,7 @@ function keepBroken(trace) {
 
 function drawBreaking(trace, verdict) {
   const { lacks } = trace;
-  drawDeparture(isToldOf(lacks, verdict));
+  drawDeparture(verdict.kind === "broken");
   drawLevel(trace, verdict);
   document.body.classList.toggle("refuted", verdict.kind === "broken");
   const line = Object.fromEntries(brokenLines())[lacks];
@@ -78,21 +78,21 @@ const holds = (says, why = "") => ({ kind: "holds", says, why });
 function stateOf(trace, verdict) {
   const { lacks } = trace;
   const isPoints = verdict.kind === "points";
+  const isBroken = verdict.kind === "broken";
   if (verdict.kind === "refused") return holds(verdict.says);
-  if (isToldOf(lacks, verdict) && isShownBreak(lacks, scheduleOfTrace(trace))) return stateOfShown();
+  if (isBroken && isShownBreak(lacks, scheduleOfTrace(trace))) return stateOfShown();
   if (isPoints && lacks === NO_TASK) {
     return holds("Refused by its points, and not broken.", "Another order explains these replies. Why is there always one?");
   }
-  if (isPoints && UNCOUNTED.includes(lacks)) return won("Refused by its points.", "Counting cannot tell more of this list.");
-  if (isToldOf(lacks, verdict)) return won("Broken!", countOf(verdict));
+  if (isBroken) return won("Broken!", reasonOf(verdict));
   const isAnswered = trace.calls.some(({ ended }) => ended !== null);
   if (!isAnswered) return { kind: "", says: "Nothing has answered yet.", why: "Let a thread begin a call, and go on." };
   const explained = "An order explains all answers so far.";
-  return holds(HOLDS, isPoints ? "Its own order is refused, but another one may explain the answers." : explained);
+  return holds(HOLDS, isPoints ? verdict.says.replace("Not by its points: check refuses", "check refuses") : explained);
 }
 
-// What counting tells: of the list, since no set is this.
-const countOf = ({ says }) => says.replace(/^Broken: /, "").replace(/and the set (has|lacks) it/, "and the list $1 it");
+// Why no order explains the answers: of the list, since no set is this.
+const reasonOf = ({ says }) => says.replace(/^Broken: /, "").replace(/and the set (has|lacks) it/, "and the list $1 it");
 
 function stateOfShown() {
   const says = page.count === page.trace.total ? "Broken, as shown." : "Step on, and look.";

@@ -18,7 +18,7 @@ const TERMS = {
   marked: "A node that is removed and may still be in the chain.",
   quota: "How many keys a thread may put in. Each wants a node of its own; then add answers full.",
   claim: "A report that may be false. Is there an order, or none?",
-  counting: "Proves that no order explains a report: a key was put in and taken out in numbers that do not fit.",
+  "no order": "Proved of a report by a few of its calls: from a moment on no order of them explains their replies.",
   refused: "check names the first call of an order that could not answer so there.",
 };
 

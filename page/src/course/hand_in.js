@@ -132,8 +132,7 @@ function judgedOrder(ask, [run = "", level = "", word = "", ...more]) {
   return { task, isSolved: isRight === true, says: isRight === true ? "" : says };
 }
 
-// Of a line `break NAME SCHEDULE`: whether counting refutes the run of the list that lacks this check, or, where counting never can,
-// its order is refused.
+// Of a line `break NAME SCHEDULE`: whether no order explains the run of the list that lacks this check.
 function judgedBreak(ask, [name = "", link = "", ...more]) {
   const task = `break ${name}`;
   const not = (says) => ({ task, isSolved: false, says });

@@ -128,7 +128,7 @@ export const BREAK_LEVELS = {
   },
   "mark-in-ceiling": {
     grade: 2,
-    story: "ceiling(2) asks for the least key from 2 on. Here an order that check refuses is enough: counting cannot tell more.",
+    story: "ceiling(2) asks for the least key from 2 on. It takes the first node that it finds. Any node?",
     hints: [
       "A remove of 3, and a ceiling of 2. Let something end in between.",
       "The remove has marked the node of 3 and has not ended. A contains of 3 answers false. And then the ceiling?",

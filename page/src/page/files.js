@@ -7,7 +7,7 @@ import { askNow, NO_ENGINE, page, show, takeScheduleOfTrace, takeTrace, tellFaul
 import { keepBefore, openText, takeName } from "./work.js";
 import { askList } from "../run/broken.js";
 import { faultOfTrace } from "../run/check_trace.js";
-import { COUNTED } from "../run/judged.js";
+import { otherOrders } from "../run/judged.js";
 import { scheduleOfTrace } from "../run/schedule_text.js";
 import { Trace } from "../run/trace.js";
 
@@ -101,8 +101,12 @@ function drawPicture(text) {
   scrollToClash();
 }
 
-// The lines of a picture that say why its order is refused, or which event is, and that no order explains the report.
-const refusalIn = (text) => text.split("\n").filter((line) => line.startsWith("refused ") || line.startsWith(COUNTED)).join("; ");
+// The lines of a picture that say why its order is refused, or which event is, and why no order explains the report.
+function refusalIn(text) {
+  const { kind, lines } = otherOrders(text);
+  const refused = text.split("\n").filter((line) => line.startsWith("refused "));
+  return [...refused, ...(kind === "none" ? lines.filter((line) => !line.endsWith(":")) : [])].join("; ");
+}
 
 // Brings the first call that clashes into sight, with its reply, where the picture is wider than its place.
 function scrollToClash() {

@@ -1,11 +1,11 @@
 // Broken lists: each lacks one check, and the reader looks for a schedule after which no order explains what its calls answer. Here is
 // what needs no browser: its run, the verdict on it, and where the whole list departs from it.
 //
-// The verdict comes from proved functions: `check` judges the order by the moments that the table names, and counting refutes all
-// orders at once. That this one order is refused does not say that there is none.
+// The verdict comes from proved functions: `check` judges the order by the moments that the table names, and `show` ends with what is
+// known of all others. That this one order is refused does not say that there is none.
 import { LACKING } from "../../made/classics.js";
 import { LISTS } from "../../made/rows.js";
-import { COUNTED, exerciseOf, nameOfCall } from "./judged.js";
+import { exerciseOf, nameOfCall, otherOrders } from "./judged.js";
 import { escaped } from "./markup.js";
 import { scheduleOfTrace, titleOf } from "./schedule_text.js";
 import { isFailed, isLock, momentAt, sentenceOf } from "./sentences.js";
@@ -16,17 +16,15 @@ const LACKING_THREADS = 2;
 const LACKING_QUOTA = 2;
 const LACKING_OPENING = [3, 7]; // what such a list opens with, until the reader changes that
 export const EXPLAINED = "Explained: this schedule does not break it.";
-const BY_POINTS =
-  "Not by its points: check refuses the order by the moments that the table names. Another order may explain these replies: try";
-const UNEXPLAINED = "No order of these calls explains that (proved by counting).";
-export const TO_BREAK = "No order explains what the calls answer (proved by counting)."; // the condition of a lesson
+const BY_POINTS = "Not by its points: check refuses the order by the moments that the table names.";
+const OTHER = "Another order explains these replies.";
+const UNKNOWN = "Whether another order explains these replies is not known.";
+const UNEXPLAINED = "No order of these calls explains that (proved).";
+export const TO_BREAK = "No order explains what the calls answer (proved)."; // the condition of a lesson
 
-// LazyList's `contains` and `ceiling` without the mark: counting refutes no run of theirs, and so an order that is refused is what
-// can be reached. Of the first no history is known that no order explains, and it is no task.
-export const UNCOUNTED = ["mark-in-contains", "mark-in-ceiling"];
+// LazyList's `contains` without the mark: no history is known that no order explains, and it is no task.
 export const NO_TASK = "mark-in-contains";
-export const isToldOf = (lacks, { kind }) => kind === "broken" || (kind === "points" && UNCOUNTED.includes(lacks));
-export const isTaskDone = (lacks, verdict) => isToldOf(lacks, verdict) && lacks !== NO_TASK;
+export const isTaskDone = (lacks, { kind }) => kind === "broken" && lacks !== NO_TASK;
 
 // What a function of the engine says of a schedule, on the whole list or on a broken one.
 export const askList = (ask, name, lacks, ...texts) => (lacks === null ? ask(name, ...texts) : ask(`${name}_lacking`, lacks, ...texts));
@@ -47,47 +45,57 @@ export function startOfLacking(name) {
   return [...set, ...LACKING_OPENING.map((key) => `opening ${key}`), ""].join("\n");
 }
 
-// What is said of the run of a schedule on such a list: broken, points, explained, or refused where it is no run.
+// What is said of the run of a schedule on such a list: broken; points, if its own order alone is refused; explained; or refused if it
+// is no run.
 export function verdictOnLacking(ask, lacks, schedule) {
   const { status, text } = ask("listset_replay_lacking", lacks, schedule);
   if (status !== 0) return { kind: "refused", says: `The schedule is refused: ${text.trim()}`, report: null };
   if (ask("listset_check", text).text === "ok\n") return { kind: "explained", says: EXPLAINED, report: text };
-  const counted = countedIn(ask("listset_show", text).text);
-  if (counted === null) return { kind: "points", says: BY_POINTS, report: text };
-  return { kind: "broken", says: `Broken: ${countInWords(text, counted)}. ${UNEXPLAINED}`, report: text };
+  const { kind, lines } = otherOrders(ask("listset_show", text).text);
+  if (kind !== "none") return { kind: "points", says: `${BY_POINTS} ${kind === "another" ? OTHER : UNKNOWN}`, report: text };
+  return { kind: "broken", says: `Broken: ${whyNone(text, lines)}. ${UNEXPLAINED}`, report: text };
 }
 
-// What is to be counted, where counting refutes the report that `show` has drawn; else null.
-const countedIn = (drawn) => drawn.split("\n").find((line) => line.startsWith(COUNTED))?.slice(COUNTED.length) ?? null;
-
-// The counts to which the engine's line points, in words.
-function countInWords(report, counted) {
+// Why no order explains a report, in words, of the lines with which `show` ends: the key, the moment at which it is there or is not,
+// and the few calls after it that have no order; or the call that answers full too soon.
+function whyNone(report, [reason, ...lines]) {
   const exercise = exerciseOf(report, "claim");
-  const [, key, number] = /^count the adds (?:and the removes of (\d+)|.* of call (\d+)) /.exec(counted);
-  if (key !== undefined) {
-    const isLeft = exercise.keyLines.includes(`key ${key}`);
-    return `${changesInWords(exercise, Number(key), Infinity)}, and the set ${isLeft ? "has" : "lacks"} it`;
-  }
-  const call = exercise.calls[number];
-  const says = `${nameOfCall(call)} answers ${call.reply}`;
-  if (call.reply === "full") {
-    const own = exercise.calls.filter((other) => other.thread === call.thread && isChange("add", other));
-    return `${says}, and its thread had put in ${own.length} of the ${exercise.head[3].replace("quota ", "")} keys of its quota`;
-  }
-  const read = Number(/^at-(\d+)$/.exec(call.reply)?.[1] ?? call.key);
-  return `${says}, and before it ${changesInWords(exercise, read, call.begun)}`;
+  const full = /^call (\d+) answers full/.exec(reason);
+  if (full !== null) return fullInWords(exercise, exercise.calls[full[1]]);
+  const [, key, end] = /^no order explains the calls of key (\d+) (up|and)/.exec(reason) ?? [];
+  if (key === undefined) return reason;
+  if (end === "and" && isLost(exercise, Number(key))) return `${key} was put in once and never taken out, and the set lacks it`;
+  const start = /^key \d+ is (there|not there) at moment (\d+)$/.exec(lines[0] ?? "");
+  const calls = lines.map((line) => callInWords(exercise, line)).filter((words) => words !== null);
+  const last = end === "and" ? [`at last the set ${isLeft(exercise, key) ? "has" : "lacks"} it`] : [];
+  const then = [...calls, ...last].join(", ");
+  if (start === null) return then === "" ? reason : then;
+  const when = start[2] === "0" ? "at first" : `after event ${start[2]}`;
+  return `${key} is ${start[1]} ${when}, and then ${then}`;
 }
 
 const isChange = (operation, call) => call.operation === operation && call.reply === "true";
-const timesInWords = (count) => ["never", "once", "twice"][count] ?? `${count} times`;
+const isLeft = ({ keyLines }, key) => keyLines.includes(`key ${key}`);
 
-// How often a key was put in and taken out by calls that ended before a moment.
-function changesInWords({ head, calls }, key, before) {
-  const count = (operation) => calls.filter((call) => isChange(operation, call) && call.key === key && call.ended < before).length;
-  const [puts, takes] = [timesInWords(count("add")), timesInWords(count("remove"))];
-  const put = puts === "never" ? "never put in" : `put in ${puts}`;
-  const taken = takes === "never" ? "never taken out" : `taken out ${takes}`;
-  return `${key} was ${head.includes(`opening ${key}`) ? "there at first, " : ""}${put} and ${taken}`;
+function fullInWords({ head, calls }, call) {
+  const own = calls.filter((other) => other.thread === call.thread && isChange("add", other));
+  const quota = head[3].replace("quota ", "");
+  return `${nameOfCall(call)} answers full, and its thread had put in ${own.length} of the ${quota} keys of its quota`;
+}
+
+// Whether a key was put in once, and neither taken out nor there at first, and is not left.
+function isLost(exercise, key) {
+  const count = (operation) => exercise.calls.filter((call) => isChange(operation, call) && call.key === key).length;
+  const isOpening = exercise.head.includes(`opening ${key}`);
+  return count("add") === 1 && count("remove") === 0 && !isOpening && !isLeft(exercise, key);
+}
+
+// A call of such a line, with its reply; null if the line is that of no call.
+function callInWords({ calls }, line) {
+  const [, operation, key, begun] = /^call \d+ (\w+) (\d+) (\d+) - /.exec(line) ?? [];
+  const call = calls.find((one) => one.operation === operation && one.key === Number(key) && one.begun === Number(begun));
+  if (call === undefined) return null;
+  return `${nameOfCall(call)} ${call.ended === null ? "is open" : `answers ${call.reply}`}`;
 }
 
 // Where the whole list departs from the run of such a list: the event, and what each does there; null where it does not.

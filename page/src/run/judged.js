@@ -8,7 +8,6 @@ import { callText, openReply } from "./markup.js";
 import { HEADER_LINES } from "./trace.js";
 
 export const MOST_JUDGED = 60; // events of a run that is judged
-export const COUNTED = "no order explains this report: "; // how the line of `show` begins that counting refutes a report
 
 // Of each level what is asked for, and which outcomes of a sentence would tell it.
 export const LEVELS = {
@@ -123,15 +122,30 @@ export function verdictOn(ask, answer) {
   return { isRight: false, clash, report, says: faultInWords(answer, told) };
 }
 
-// A claim that there is no order is judged by what is proved, not by a search: each run of the replayer has an order, and a report
-// that counting refutes has none. Of any other nothing is said.
+// What is known of the other orders of a report whose own is refused, by the lines with which `show` ends: that there is none, with
+// the lines that say why; another one; or that it is not known. Of a report whose own order explains it, that.
+const ENDINGS = {
+  "not linearizable": "none",
+  "another order explains this report": "another",
+  "it is not known whether another order explains this report": "unknown",
+};
+
+export function otherOrders(drawn) {
+  const lines = drawn.trimEnd().split("\n");
+  const at = lines.findIndex((line) => Object.hasOwn(ENDINGS, line));
+  return at === -1 ? { kind: "own", lines: [] } : { kind: ENDINGS[lines[at]], lines: lines.slice(at + 1) };
+}
+
+// A claim that there is no order is judged by what is proved, not by a search: each run of the replayer has an order, and of another
+// report `show` says what is known.
 function verdictOnClaim(ask, { isWhole, reportText }) {
   const said = (isRight, says) => ({ isRight, clash: null, report: null, says });
   const there = "There is one: this is a run of a list that is proved to have an order for each of its runs. Find it.";
   if (isWhole) return said(false, there);
-  const isCounted = ask("listset_show", reportText).text.includes(`\n${COUNTED}`);
-  if (isCounted) return said(true, "Right: no order explains this report (proved by counting). A broken list gave it.");
-  return said(null, "Counting does not tell: a broken list gave this report, and another order may explain it.");
+  const { kind } = otherOrders(ask("listset_show", reportText).text);
+  if (kind === "none") return said(true, "Right: no order explains this report (proved). A broken list gave it.");
+  if (kind === "unknown") return said(null, "A broken list gave this report, and whether an order explains it is not known.");
+  return said(false, "There is one, although a broken list gave this report. Find it.");
 }
 
 function rightInWords(answer) {
