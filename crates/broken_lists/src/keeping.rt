@@ -30,7 +30,7 @@ impl From<AllocError> for Unkept {
 }
 
 impl From<HistoryFault> for Unkept {
-    ghost from_gives = { λ fault unkept. unkept ≡ Lost → fault ≢ faults.Memory };
+    ghost from_gives = { λ fault unkept. (unkept ≡ Lost → fault ≢ faults.Memory) × (unkept ≡ Memory → fault ≡ faults.Memory) };
 
     fn from(fault: HistoryFault) -> Unkept {
         match fault {
@@ -54,6 +54,7 @@ fn stepping(recorder: &Recorder, thread: u32, moment: u32) -> Result<OpenCall, U
     ensures open { IfOk result (λ o. open_call_at recorder.now.under_way.items thread ≡ Some o) }
     ensures known { IfOk result (λ o. o.number < length recorder.now.places.items) }
     ensures begun { IfOk result (λ o. o.begun ≤ moment) }
+    ensures cause { IfErr result (λ cause. cause ≡ Lost) }
     ensures lost { IfErr result (λ _. MayStep recorder.now.history recorder.now.under_way.items recorder.now.places.items thread
         moment → ⊥) }
 {
@@ -70,6 +71,8 @@ fn begin(recorder: &mut Recorder, thread: u32, call: Call, moment: u32) -> Resul
     ensures inside { OnOk result (StandUpTo moment recorder.old.places.items → StandUpTo moment recorder.new.places.items) }
     ensures lost { IfErr result (λ cause. cause ≡ Lost
         → CanKeep recorder.old.history.opening moment (began thread call) (trace_of recorder.old) → ⊥) }
+    ensures memory { IfErr result (λ cause. cause ≡ Memory
+        → CanKeep recorder.old.history.opening moment (began thread call) (trace_of recorder.old)) }
 {
     let seat = thread as usize;
     if seat >= recorder.under_way.len() {
