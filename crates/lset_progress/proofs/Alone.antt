@@ -19,7 +19,7 @@ use Rattle.lset_progress.specs.Progress.{IsPending, Answers, EndsAlone}
 abbrev pub then_go : (ℕ → Event) → ℕ → ℕ → ℕ → Event
 then_go es k t j = if j == k then Go t else es j
 
-last_is : (es : ℕ → Event) (k t : ℕ) → then_go es k t k ≡ Go t
+pub last_is : (es : ℕ → Event) (k t : ℕ) → then_go es k t k ≡ Go t
 last_is es k t = if_same k k refl (Go t) (es k)
 
 first_are : (es : ℕ → Event) (k t j : ℕ) → j < k → then_go es k t j ≡ es j

@@ -22,10 +22,11 @@ use Rattle.lset_coarse.specs.Coarse.{coarse, targets}
 use Rattle.lset_coarse.specs.Lawful.{coarse_lawful}
 use Rattle.lset_coarse.specs.Lawful.Outline.{At, Walking, one_lock, coarse_follows}
 use Rattle.lset_coarse.specs.Lawful.Outline.At.{at0, at1, at2, at3, at4, at5, at6, at7, at8, at9, at10}
-use Rattle.lset_progress.specs.Progress.{NoOtherHolds, IsPending, CallsEndAlone, GetsOn, SomeThreadGetsOn, coarse_steps}
+use Rattle.lset_progress.specs.Progress.{NoOtherHolds, IsPending, CallsEndAlone, CanEnd, GetsOn, Holds, SomeCallCanEnd, SomeThreadGetsOn, coarse_steps}
 use Rattle.lset_progress.proofs.Rest.{rest, few, fewer}
 use Rattle.lset_progress.proofs.Alone.{Nears, Step, stepped, ends_alone}
 use Rattle.lset_progress.proofs.Alone.Step.{goes, stops}
+use Rattle.lset_progress.proofs.CanEnd.{alone_can}
 use Rattle.lset_progress.proofs.Decided.{leads_on}
 use Rattle.lset_progress.proofs.Holders.{MayHold, kept, after_store, after_try, holder_known, one_or_more, try_succeeds, others_wait}
 use Rattle.lset_progress.proofs.Waiting.{Climbs, on_load, on_store, on_try, some_gets_on}
@@ -354,3 +355,31 @@ module _ (op : Opening) (k : ℕ) (es : ℕ → Event) (r : Run coarse op es k) 
 
 pub coarse_gets_on : SomeThreadGetsOn coarse
 coarse_gets_on op k t es r tn busy = some_gets_on coarse (state_at coarse op es k) op.threads (climbing op k es r) t tn busy
+
+-- SOME CALL CAN END: that of the thread that has the lock, or each, if nobody has it
+module _ (op : Opening) (k t : ℕ) (es : ℕ → Event) (r : Run coarse op es k) where
+  only_word : (v x : ℕ) → Holds (sizes op) (state_at coarse op es k) v x → slice_index (state_at coarse op es k).words 0 ≡ v + 1
+  only_word v x h =
+      let m = holder_known coarse coarse_lawful May coarse_may op es k r x h.is_lock h.inside k (omega arith) v h.mine in
+      ap (λ i. slice_index (state_at coarse op es k).words i) (sym m.1.0) ∙ h.mine
+
+  can_end : t < op.threads → IsPending (state_at coarse op es k) t → CanEnd coarse (state_at coarse op es k) (coarse_steps (sizes op))
+  can_end tn busy = elim (same_or_not (slice_index (state_at coarse op es k).words 0) 0) [
+    | inl z ↦ alone_can coarse (state_at coarse op es k) t (coarse_steps (sizes op)) (coarse_calls_end op k t es r tn busy
+        (λ v x vn d h. absurd (let y : slice_index (state_at coarse op es k).words 0 ≡ v + 1 = only_word v x h in omega arith)))
+    | inr z ↦
+        elim (one_or_more (slice_index (state_at coarse op es k).words 0)) [
+          | inl e ↦ absurd (z e)
+          | inr e ↦
+              (let m = holder_known coarse coarse_lawful May coarse_may op es k r 0 (inl refl) (omega arith) k (omega arith)
+              e.0 e.1 in
+              let low : 2 ≤ (local_of (state_at coarse op es k) e.0).pc = m.1.1 in
+              alone_can coarse (state_at coarse op es k) e.0 (coarse_steps (sizes op))
+              (coarse_calls_end op k e.0 es r m.0 (λ z. omega arith) (λ v x vn d h. absurd
+              (let y : slice_index (state_at coarse op es k).words 0 ≡ v + 1 = only_word v x h in
+              let y' : slice_index (state_at coarse op es k).words 0 ≡ e.0 + 1 = e.1 in d (omega arith)))))
+        ]
+  ]
+
+pub coarse_can_end : SomeCallCanEnd coarse coarse_steps
+coarse_can_end op k t es r tn busy = can_end op k t es r tn busy

@@ -1,7 +1,7 @@
 -- That a call of FineList ends alone.
 use Rattle.std.specs.Prelude.{◌≡◌, ◌≢◌, ℕ, ◌+◌, ◌*◌, ◌/◌, ◌<◌, ◌≤◌, ◌⊎◌, Bool, false, Some, None, List, slice_index, refl}
 use Rattle.std.specs.Prelude.{if◌then◌else◌, ◌==◌, slice_set}
-use Rattle.std.proofs.Common.{arith, inl, inr, sym, ◌∙◌, subst, suc}
+use Rattle.std.proofs.Common.{arith, inl, inr, sym, ◌∙◌, ap, subst, suc}
 use Rattle.lset_words.proofs.Numbers.{same_or_not, below_or_not, if_same, if_other, if_below, if_not_below}
 use Rattle.lset_words.specs.declared.Reply.TheVariants.{True}
 use Rattle.lset_words.specs.Words.{key_index, link_index, lock_index, node_count, target, Sizes, Opening, sizes}
@@ -23,7 +23,9 @@ use Rattle.lset_fine.specs.Fine.{fine, targets}
 use Rattle.lset_fine.specs.Lawful.{fine_lawful}
 use Rattle.lset_fine.specs.Lawful.Outline.{At, fine_follows}
 use Rattle.lset_fine.specs.Lawful.Outline.At.{at0, at1, at2, at3, at4, at5, at6, at7, at8, at9, at10, at11, at12, at13}
-use Rattle.lset_progress.specs.Progress.{NoOtherHolds, IsPending, CallsEndAlone, GetsOn, SomeThreadGetsOn, fine_steps}
+use Rattle.lset_progress.specs.Progress.{NoOtherHolds, IsPending, Answers, CallsEndAlone, CanEnd, GetsOn, SomeCallCanEnd, SomeThreadGetsOn, fine_steps, for_each}
+use Rattle.lset_progress.proofs.Ahead.{ahead}
+use Rattle.lset_progress.proofs.CanEnd.{Before, Shrinks, alone_can, can_more, some_can_end}
 use Rattle.lset_progress.proofs.Rest.{rest, few, fewer, keys_stay, keys_tried, rest_same}
 use Rattle.lset_progress.proofs.Alone.{Nears, Step, stepped, ends_alone}
 use Rattle.lset_progress.proofs.Alone.Step.{goes, stops}
@@ -195,14 +197,14 @@ fine_may = record {
 }
 
 -- HOW MANY STEPS are left behind the next one, at each row
-abbrev left : ℕ → List ℕ → Local → ℕ
-left size ws l =
+abbrev left_by_keys : ℕ → (ℕ → ℕ) → Local → ℕ
+left_by_keys size key l =
     if l.pc == 1 then 4 * size + 1
     else if l.pc == 2 then 4 * size
-    else if l.pc == 3 then 4 * rest size ws l.curr + 6
-    else if l.pc == 4 then 4 * rest size ws l.curr + 5
-    else if l.pc == 5 then 4 * rest size ws l.curr + 4
-    else if l.pc == 6 then 4 * rest size ws l.curr + 3
+    else if l.pc == 3 then 4 * ahead key size (key l.curr) + 6
+    else if l.pc == 4 then 4 * ahead key size (key l.curr) + 5
+    else if l.pc == 5 then 4 * ahead key size (key l.curr) + 4
+    else if l.pc == 6 then 4 * ahead key size (key l.curr) + 3
     else if l.pc == 7 then 4
     else if l.pc == 8 then 3
     else if l.pc == 9 then 2
@@ -210,6 +212,9 @@ left size ws l =
     else if l.pc == 11 then 2
     else if l.pc == 12 then 1
     else 0
+
+abbrev left : ℕ → List ℕ → Local → ℕ
+left size ws l = left_by_keys size (node_key ws) l
 
 -- fewer than n, and the call is open
 abbrev Left : ℕ → List ℕ → ℕ → Local → Type 0
@@ -492,3 +497,151 @@ module _ (op : Opening) (k : ℕ) (es : ℕ → Event) (r : Run fine op es k) wh
 
 pub fine_gets_on : SomeThreadGetsOn fine
 fine_gets_on op k t es r tn busy = some_gets_on fine (state_at fine op es k) op.threads (climbing op k es r) t tn busy
+
+-- SOME CALL CAN END: a step before the decision leaves keys and links,
+module _ (ws : List ℕ) (l : Local) where
+  abbrev KeysStay : Type 0
+  KeysStay = node_key (left_by ws (fine.next l)) ≡ node_key ws
+
+  loading : (w : ℕ) → fine.next l ≡ Load w → KeysStay
+  loading w acts = ap (λ a. node_key (left_by ws a)) acts
+
+  trying : (a v : ℕ) → fine.next l ≡ Exchange (lock_index a) 0 v → KeysStay
+  trying a v acts = ap (λ x. node_key (left_by ws x)) acts ∙ keys_tried ws a v
+
+  giving : (a v : ℕ) → fine.next l ≡ Store (lock_index a) v → KeysStay
+  giving a v acts = ap (λ x. node_key (left_by ws x)) acts ∙ keys_stay ws a v
+
+left_same : (size : ℕ) (ws ws' : List ℕ) (l : Local) → node_key ws' ≡ node_key ws → left size ws' l ≡ left size ws l
+left_same size ws ws' l e = ap (λ (f : ℕ → ℕ). left_by_keys size f l) e
+
+-- and from the decision on a thread tries no lock
+abbrev Late : Sizes → State → ℕ → ℕ → Type 0
+Late sz s t n = (7 ≤ (local_of s t).pc) × (left (node_count sz) s.words (local_of s t) < n)
+
+late_next : {q t : ℕ} {vs : ℕ → View} {first now : ℕ} {v : View} {done : Bool} {l : Local} (size n : ℕ) (ws : List ℕ)
+    → At q t vs first now v done l → 7 ≤ l.pc → left size ws l < suc n
+    → Step fine ws l (λ ws' l'. (7 ≤ l'.pc) × (left size ws' l' < n))
+late_next size n ws (at0 e) low h = absurd (omega arith)
+late_next size n ws (at1 e d) low h = absurd (omega arith)
+late_next size n ws (at2 e d p x) low h = absurd (omega arith)
+late_next size n ws (at3 e d b) low h = absurd (omega arith)
+late_next size n ws (at4 e d b) low h = absurd (omega arith)
+late_next size n ws (at5 e d b lt) low h = absurd (omega arith)
+late_next size n ws (at6 e d x lt) low h = absurd (omega arith)
+late_next {l = l} size n ws (at7 e d b a) low h = let y : left size ws l ≡ 4 = rw e refl in
+    goes (Store (key_index (own_slot l)) (target l.call)) (record l { pc = 8 }) None (rw e refl) (rw e refl)
+    (omega arith, omega arith)
+late_next {l = l} size n ws (at8 e d b a x) low h = let y : left size ws l ≡ 3 = rw e refl in
+    goes (Store (link_index (own_slot l)) (2 * l.curr)) (record l { pc = 9 }) None (rw e refl) (rw e refl)
+    (omega arith, omega arith)
+late_next {l = l} size n ws (at9 e d b a x z) low h = let y : left size ws l ≡ 2 = rw e refl in
+    goes (Store (link_index l.pred) (2 * own_slot l)) (record l { pc = 12; reply = Some True; used = l.used + 1 }) None
+    (rw e refl) (rw e refl) (omega arith, omega arith)
+late_next {l = l} size n ws (at10 e d b a) low h = let y : left size ws l ≡ 3 = rw e refl in
+    goes (Load (link_index l.curr)) (record l { pc = 11; succ = node_link ws l.curr / 2 }) None (rw e refl) (rw e refl)
+    (omega arith, omega arith)
+late_next {l = l} size n ws (at11 e d b a x) low h = let y : left size ws l ≡ 2 = rw e refl in
+    goes (Store (link_index l.pred) (2 * l.succ)) (record l { pc = 12; reply = Some True }) None (rw e refl) (rw e refl)
+    (omega arith, omega arith)
+late_next {l = l} size n ws (at12 e p c d r ry due) low h = let y : left size ws l ≡ 1 = rw e refl in
+    goes (Store (lock_index l.curr) 0) (record l { pc = 13 }) None (rw e refl) (rw e refl) (omega arith, omega arith)
+late_next {l = l} size n ws (at13 e p r ry due) low h =
+    stops (Store (lock_index l.pred) 0) (record l { pc = 0 }) r (rw e refl) (rw (e, ry) refl)
+
+late_nears : Nears fine Late
+late_nears = record {
+  some = λ sz s t g. (let h : left (node_count sz) s.words (local_of s t) < 0 = g.1 in omega arith);
+  pending = λ sz s t n g z. (let low : 7 ≤ (local_of s t).pc = g.0 in omega arith);
+  steps = λ op es k t n r ee tn g.
+      let i : Known op k es = known op (suc k) k es r (omega arith) in
+      stepped fine (state_at fine op es k) t (rw i.locals tn)
+      (λ ws' l'. (7 ≤ l'.pc) × (left (node_count (sizes op)) ws' l' < n))
+      (late_next (node_count (sizes op)) n (state_at fine op es k).words (i.threads t tn).at g.0 g.1);
+}
+
+abbrev Time : Sizes → List ℕ → ℕ → Local → Type 0
+Time sz ws n l = left (node_count sz) ws l < n
+
+module _ (op : Opening) (es : ℕ → Event) (k u n : ℕ) (r : Run fine op es k) (un : u < op.threads)
+    (g : GetsOn fine (state_at fine op es k) u)
+    (time : Time (sizes op) (state_at fine op es k).words (suc n) (local_of (state_at fine op es k) u)) where
+  abbrev Here : State
+  Here = state_at fine op es k
+
+  abbrev Own : Local
+  Own = local_of Here u
+
+  now : Known op k es
+  now = known op k k es r (omega arith)
+
+  regs : Registers (sizes op) u Own
+  regs = (now.threads u un).registers
+
+  abbrev Outcome : Type 0
+  Outcome = CanEnd fine Here 6 ⊎ Answers fine Here u ⊎ Before fine Time (sizes op) Here u n
+
+  decided : 7 ≤ Own.pc → left (node_count (sizes op)) Here.words Own < 6 → Outcome
+  decided low h = inl (alone_can fine Here u 6 (ends_alone fine fine_lawful Late late_nears op u un 6 k es r (low, h)))
+
+  free : Free Here.words Own
+  free = (
+    λ e. g.tries (lock_index 0) 0 (u + 1) (inr (0, refl)) (rw (e, regs.thread) refl),
+    λ e d. g.tries (lock_index Own.curr) 0 (u + 1) (inr (Own.curr, refl)) (rw (e, regs.thread) refl),
+  )
+
+  quiet : KeysStay Here.words Own → Outcome
+  quiet keys =
+      let at = (now.threads u un).at in
+      elim (stepped fine Here u g.enabled.0 (λ ws' l'. Left (node_count (sizes op)) ws' n l')
+      (next (sizes op) Here.words (used_in Here) now.memory u Own regs (views fine op es) (begun_at (log_of fine op es) u k) k
+      (has_changed (log_of fine op es) u k) free n time at g.enabled.1)) [
+        | inl a ↦ inr (inl a)
+        | inr p ↦ inr (inr (record {
+          time = p.1;
+          open_call = p.0;
+          stays = λ m l t. rw (left_same (node_count (sizes op)) Here.words (left_by Here.words (fine.next Own)) l keys) t;
+        }))
+      ]
+
+  outcome : At (sizes op).quota u (views fine op es) (begun_at (log_of fine op es) u k) k
+      (view (sizes op) Here.words (used_in Here)) (has_changed (log_of fine op es) u k) Own → Outcome
+  outcome (at0 e) = absurd (g.enabled.1 e)
+  outcome (at1 e d) = quiet (trying Here.words Own 0 (u + 1) (rw (e, regs.thread) refl))
+  outcome (at2 e d p x) = quiet (loading Here.words Own (link_index 0) (rw e refl))
+  outcome (at3 e d b) = quiet (trying Here.words Own Own.curr (u + 1) (rw (e, regs.thread) refl))
+  outcome (at4 e d b) = quiet (loading Here.words Own (key_index Own.curr) (rw e refl))
+  outcome (at5 e d b lt) = quiet (giving Here.words Own Own.pred 0 (rw e refl))
+  outcome (at6 e d x lt) = quiet (loading Here.words Own (link_index Own.curr) (rw e refl))
+  outcome (at7 e d b a) = let y : left (node_count (sizes op)) Here.words Own ≡ 4 = rw e refl in decided (omega arith) (omega arith)
+  outcome (at8 e d b a x) = let y : left (node_count (sizes op)) Here.words Own ≡ 3 = rw e refl in
+      decided (omega arith) (omega arith)
+  outcome (at9 e d b a x z) = let y : left (node_count (sizes op)) Here.words Own ≡ 2 = rw e refl in
+      decided (omega arith) (omega arith)
+  outcome (at10 e d b a) = let y : left (node_count (sizes op)) Here.words Own ≡ 3 = rw e refl in
+      decided (omega arith) (omega arith)
+  outcome (at11 e d b a x) = let y : left (node_count (sizes op)) Here.words Own ≡ 2 = rw e refl in
+      decided (omega arith) (omega arith)
+  outcome (at12 e p c d z ry due) = let y : left (node_count (sizes op)) Here.words Own ≡ 1 = rw e refl in
+      decided (omega arith) (omega arith)
+  outcome (at13 e p z ry due) = let y : left (node_count (sizes op)) Here.words Own ≡ 0 = rw e refl in
+      decided (omega arith) (omega arith)
+
+shrinks : Shrinks fine 6 Time
+shrinks = record {
+  some = λ sz ws l t. omega arith;
+  steps = λ op es k u n r un g time. outcome op es k u n r un g time ((known op k k es r (omega arith)).threads u un).at;
+}
+
+seven : (a : ℕ) → a + 6 + 1 ≤ a + 7
+seven a = omega arith
+
+pub fine_can_end : SomeCallCanEnd fine (for_each fine_steps)
+fine_can_end op k t es r tn busy =
+    let i : Known op k es = known op k k es r (omega arith) in
+    let c = some_can_end fine 6 Time shrinks fine_gets_on op (fine_steps (sizes op)) k t es r tn busy
+    (λ v vn b. starts (sizes op) (state_at fine op es k).words (used_in (state_at fine op es k)) i.memory v
+    (local_of (state_at fine op es k) v) (i.threads v vn).registers (views fine op es)
+    (begun_at (log_of fine op es) v k) k (has_changed (log_of fine op es) v k) (i.threads v vn).at b) in
+    can_more fine (state_at fine op es k) (op.threads * fine_steps (sizes op) + 6 + 1) (for_each fine_steps (sizes op))
+    (seven (op.threads * fine_steps (sizes op))) c

@@ -44,7 +44,7 @@ pub record TakesOut (threads : ℕ) (locals : ℕ → Local) (b : ℕ) : Type 0 
   pub node : (locals by).curr ≡ b
 
 -- each marked node of the chain is about to be taken out
-abbrev Marked : ℕ → List ℕ → (ℕ → Local) → Type 0
+abbrev pub Marked : ℕ → List ℕ → (ℕ → Local) → Type 0
 Marked threads ws locals = (b : ℕ) → Path (node_link ws) 0 b → node_link ws b % 2 ≡ 1 → TakesOut threads locals b
 
 -- what stands at row 12
@@ -235,7 +235,7 @@ module _ (op : Opening) (es : ℕ → Event) (last : ℕ) (r : Run lazy op es la
       (in_chain_published W memory.ordered b (in_chain_of W b p)))
 
 module _ (op : Opening) (es : ℕ → Event) (last : ℕ) (r : Run lazy op es last) where
-  abbrev MarkedAt : ℕ → Type 0
+  abbrev pub MarkedAt : ℕ → Type 0
   MarkedAt k = Marked op.threads (state_at lazy op es k).words (local_of (state_at lazy op es k))
 
   marked_after : (k : ℕ) → k < last → (e : Event) → Enabled (state_at lazy op es k) e → MarkedAt k
@@ -263,7 +263,7 @@ module _ (op : Opening) (es : ℕ → Event) (last : ℕ) (r : Run lazy op es la
       (in_chain_published (view_of (sizes op) (opening op)) m.ordered b (in_chain_of (view_of (sizes op) (opening op)) b p)) in
       absurd (let even : node_link (opening op).words b % 2 ≡ 0 = m.unmarked refl b inn in omega arith)
 
-  marked_at : (k : ℕ) → k ≤ last → MarkedAt k
+  pub marked_at : (k : ℕ) → k ≤ last → MarkedAt k
   marked_at zero l = none_opens
   marked_at (suc k) l = marked_after k (omega arith) (es k) (r.enabled k (omega arith)) (marked_at k (omega arith))
 
@@ -286,4 +286,12 @@ no_marks op last k t es r l free never b p = elim (even_or_odd (node_link (state
         inside = omega arith;
         mine = h.walk.held.mine;
       })))
+]
+
+-- where nobody is about to take a node out no node of the chain is marked
+pub plain_then : (op : Opening) (k : ℕ) (es : ℕ → Event) → Run lazy op es k
+    → ((u : ℕ) → u < op.threads → (local_of (state_at lazy op es k) u).pc ≢ 12) → Plain (state_at lazy op es k).words
+plain_then op k es r none b p = elim (even_or_odd (node_link (state_at lazy op es k).words b)) [
+  | inl even ↦ even
+  | inr odd ↦ (let x = marked_at op es k r k (omega arith) b p odd in absurd (none x.by x.thread x.row))
 ]

@@ -6,6 +6,7 @@ mod Alone
 mod Holders
 mod Waiting
 mod NodeLocks
+mod CanEnd
 mod HeadPlain
 mod ReadStays
 mod ReadAlone

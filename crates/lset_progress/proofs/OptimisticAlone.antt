@@ -22,14 +22,17 @@ use Rattle.lset_optimistic.specs.Lawful.{optimistic_lawful}
 use Rattle.lset_optimistic.specs.Lawful.Outline.{At}
 use Rattle.lset_optimistic.specs.Lawful.Outline.At.{at0, at1, at2, at3, at4, at5, at6, at7, at8, at9, at10, at11, at12, at13}
 use Rattle.lset_optimistic.specs.Lawful.Outline.At.{at14, at15}
-use Rattle.lset_progress.specs.Progress.{NoOtherHolds, CallsEndAlone, optimistic_steps}
-use Rattle.lset_progress.proofs.Rest.{rest, few, fewer, keys_tried, links_tried, rest_same}
+use Rattle.lset_progress.specs.Progress.{Answers, NoOtherHolds, CallsEndAlone, CanEnd, GetsOn, SomeCallCanEnd, for_each}
+use Rattle.lset_progress.specs.Progress.{optimistic_steps}
+use Rattle.lset_progress.proofs.Ahead.{ahead}
+use Rattle.lset_progress.proofs.CanEnd.{Before, Shrinks, alone_can, can_more, some_can_end}
+use Rattle.lset_progress.proofs.Rest.{rest, few, fewer, keys_stay, keys_tried, links_stay, links_tried, rest_same}
 use Rattle.lset_progress.proofs.Paths.{Path, no_steps, path_on, path_from, path_up}
 use Rattle.lset_progress.proofs.Alone.{Nears, Step, stepped, ends_alone}
 use Rattle.lset_progress.proofs.Alone.Step.{goes, stops}
 use Rattle.lset_progress.proofs.Decided.{leads_on, some_or_none}
 use Rattle.lset_progress.proofs.Holders.{try_succeeds, others_wait}
-use Rattle.lset_progress.proofs.OptimisticLocks.{Known, known, May, optimistic_may}
+use Rattle.lset_progress.proofs.OptimisticLocks.{Known, known, May, optimistic_may, optimistic_gets_on}
 
 -- HOW MANY STEPS are left behind the next one, at each row, of a walk that is valid. Where there is no reply both locks are given
 -- back, and the walk starts again.
@@ -40,15 +43,15 @@ abbrev then_again : ℕ → Option Reply → ℕ
 then_again size None = round size
 then_again size (Some r) = 0
 
-abbrev left : ℕ → List ℕ → Local → ℕ
-left size ws l =
+abbrev left_by_keys : ℕ → (ℕ → ℕ) → Local → ℕ
+left_by_keys size key l =
     if l.pc == 1 then 4 * size + 3
-    else if l.pc == 2 then 2 * rest size ws l.curr + 2 * size + 6
-    else if l.pc == 3 then 2 * rest size ws l.curr + 2 * size + 5
+    else if l.pc == 2 then 2 * ahead key size (key l.curr) + 2 * size + 6
+    else if l.pc == 3 then 2 * ahead key size (key l.curr) + 2 * size + 5
     else if l.pc == 4 then 2 * size + 5
     else if l.pc == 5 then 2 * size + 4
-    else if l.pc == 6 then 2 * rest size ws l.node + 5
-    else if l.pc == 7 then 2 * rest size ws l.node + 6
+    else if l.pc == 6 then 2 * ahead key size (key l.node) + 5
+    else if l.pc == 7 then 2 * ahead key size (key l.node) + 6
     else if l.pc == 8 then 5
     else if l.pc == 9 then 4
     else if l.pc == 10 then 3
@@ -57,6 +60,9 @@ left size ws l =
     else if l.pc == 13 then 2
     else if l.pc == 14 then 1 + then_again size l.reply
     else then_again size l.reply
+
+abbrev left : ℕ → List ℕ → Local → ℕ
+left size ws l = left_by_keys size (node_key ws) l
 
 -- A VALID WALK: pred is in the chain, curr comes after it, and the second walk is on its way to pred.
 record Valid (ws : List ℕ) (l : Local) : Type 0 where
@@ -494,3 +500,226 @@ optimistic_calls_end op k t es r tn busy others =
             (begun_at (log_of optimistic op es) t k) k (has_changed (log_of optimistic op es) t k) (i.threads t tn).at busy,
       ),
     )
+
+-- SOME CALL CAN END: a step before the decision leaves keys and links,
+module _ (ws : List ℕ) (l : Local) where
+  abbrev Quiet : Type 0
+  Quiet = (node_key (left_by ws (optimistic.next l)) ≡ node_key ws) × (node_link (left_by ws (optimistic.next l)) ≡ node_link ws)
+
+  loading : (w : ℕ) → optimistic.next l ≡ Load w → Quiet
+  loading w acts = (ap (λ a. node_key (left_by ws a)) acts, ap (λ a. node_link (left_by ws a)) acts)
+
+  trying : (a v : ℕ) → optimistic.next l ≡ Exchange (lock_index a) 0 v → Quiet
+  trying a v acts = (
+    ap (λ x. node_key (left_by ws x)) acts ∙ keys_tried ws a v,
+    ap (λ x. node_link (left_by ws x)) acts ∙ links_tried ws a v,
+  )
+
+  giving : (a v : ℕ) → optimistic.next l ≡ Store (lock_index a) v → Quiet
+  giving a v acts = (
+    ap (λ x. node_key (left_by ws x)) acts ∙ keys_stay ws a v,
+    ap (λ x. node_link (left_by ws x)) acts ∙ links_stay ws a v,
+  )
+
+valid_same : (ws ws' : List ℕ) (l : Local) → node_link ws' ≡ node_link ws → Valid ws l → Valid ws' l
+valid_same ws ws' l e v = record {
+  to_pred = λ a b c. subst (λ f. Path f 0 l.pred) (sym e) (v.to_pred a b c);
+  to_curr = λ a. subst (λ f. Path f 0 l.curr) (sym e) (v.to_curr a);
+  follows = λ a b c. ap (λ f. f l.pred) e ∙ v.follows a b c;
+  on_its_way = λ a b. subst (λ f. Path f l.node l.pred) (sym e) (v.on_its_way a b);
+  not_there = v.not_there;
+}
+
+timed_same : (size n : ℕ) (ws ws' : List ℕ) (l : Local) → node_key ws' ≡ node_key ws → node_link ws' ≡ node_link ws
+    → Timed size ws n l → Timed size ws' n l
+timed_same size n ws ws' l keys links time =
+    let same : left size ws' l ≡ left size ws l = ap (λ (f : ℕ → ℕ). left_by_keys size f l) keys in
+    elim time [
+      | inl v ↦ inl (let h : left size ws l < n = v.1 in (valid_same ws ws' l links v.0, omega arith))
+      | inr h ↦ inr (omega arith)
+    ]
+
+-- and from the decision on a thread tries no lock, and has a reply where it gives its locks back
+abbrev LateRow : Local → Type 0
+LateRow l = ((9 ≤ l.pc) × (l.pc ≤ 13)) ⊎ ((13 < l.pc) × (l.pc ≤ 15) × ((r : Reply) × (l.reply ≡ Some r)))
+
+abbrev Late : Sizes → State → ℕ → ℕ → Type 0
+Late sz s t n = LateRow (local_of s t) × (left (node_count sz) s.words (local_of s t) < n)
+
+late_from : (l : Local) → LateRow l → 9 ≤ l.pc
+late_from l (inl e) = e.0
+late_from l (inr e) = let z : 13 < l.pc = e.0 in omega arith
+
+late_upto : (l : Local) → LateRow l → l.pc ≤ 15
+late_upto l (inl e) = let z : l.pc ≤ 13 = e.1 in omega arith
+late_upto l (inr e) = e.1
+
+has_reply : (l : Local) → LateRow l → 13 < l.pc → (r : Reply) × (l.reply ≡ Some r)
+has_reply l (inl e) h = absurd (let z : l.pc ≤ 13 = e.1 in omega arith)
+has_reply l (inr e) h = e.2
+
+module _ (l : Local) (size n : ℕ) (ws : List ℕ)
+    (late : LateRow l) (h : left size ws l < suc n) where
+  abbrev Goes : Type 0
+  Goes = Step optimistic ws l (λ ws' l'. LateRow l' × (left size ws' l' < n))
+
+  low : 9 ≤ l.pc
+  low = late_from l late
+
+  high : l.pc ≤ 15
+  high = late_upto l late
+
+  gives_first : (r : Reply) → l.reply ≡ Some r → l.pc ≡ 14 → Goes
+  gives_first r f e =
+      let y : left size ws l ≡ 1 = rw (e, f) refl in
+      let y' : left size (slice_set ws (lock_index l.pred) 0) (record l { pc = 15 }) ≡ 0 = rw f refl in
+      goes (Store (lock_index l.pred) 0) (record l { pc = 15 }) None (rw e refl) (rw e refl)
+      (inr (omega arith, omega arith, (r, f)), omega arith)
+
+  gives_last : (r : Reply) → l.reply ≡ Some r → l.pc ≡ 15 → Goes
+  gives_last r f e = stops (Store (lock_index l.curr) 0) (record l { pc = 0 }) r (rw e refl) (rw (e, f) refl)
+
+  late_next : {q t : ℕ} {vs : ℕ → View} {first now : ℕ} {v : View} {done : Bool} → At q t vs first now v done l → Goes
+  late_next (at0 e) = absurd (omega arith)
+  late_next (at1 e d) = absurd (omega arith)
+  late_next (at2 e d x k) = absurd (omega arith)
+  late_next (at3 e d c k b) = absurd (omega arith)
+  late_next (at4 e d f) = absurd (omega arith)
+  late_next (at5 e d f p) = absurd (omega arith)
+  late_next (at6 e d f c k start g x) = absurd (omega arith)
+  late_next (at7 e d f c start g x) = absurd (omega arith)
+  late_next (at8 e d f c x a) = absurd (omega arith)
+  late_next (at9 e d b a) = let y : left size ws l ≡ 4 = rw e refl in
+      goes (Store (key_index (own_slot l)) (target l.call)) (record l { pc = 10 }) None (rw e refl) (rw e refl) (inl (omega arith, omega arith), omega arith)
+  late_next (at10 e d b a x) = let y : left size ws l ≡ 3 = rw e refl in
+      goes (Store (link_index (own_slot l)) (2 * l.curr)) (record l { pc = 11 }) None (rw e refl) (rw e refl) (inl (omega arith, omega arith), omega arith)
+  late_next (at11 e d b a x z) = let y : left size ws l ≡ 2 = rw e refl in
+      goes (Store (link_index l.pred) (2 * own_slot l)) (record l { pc = 14; reply = Some True; used = l.used + 1 }) None (rw e refl) (rw e refl) (inr (omega arith, omega arith, (True, refl)), omega arith)
+  late_next (at12 e d b a) = let y : left size ws l ≡ 3 = rw e refl in
+      goes (Load (link_index l.curr)) (record l { pc = 13; succ = node_link ws l.curr / 2 }) None (rw e refl) (rw e refl) (inl (omega arith, omega arith), omega arith)
+  late_next (at13 e d b a x) = let y : left size ws l ≡ 2 = rw e refl in
+      goes (Store (link_index l.pred) (2 * l.succ)) (record l { pc = 14; reply = Some True }) None (rw e refl) (rw e refl) (inr (omega arith, omega arith, (True, refl)), omega arith)
+  late_next (at14 e p c x i o) = let z = has_reply l late (omega arith) in gives_first z.0 z.1 e
+  late_next (at15 e c o) = let z = has_reply l late (omega arith) in gives_last z.0 z.1 e
+
+late_nears : Nears optimistic Late
+late_nears = record {
+  some = λ sz s t g. (let h : left (node_count sz) s.words (local_of s t) < 0 = g.1 in omega arith);
+  pending = λ sz s t n g z. (let low : 9 ≤ (local_of s t).pc = late_from (local_of s t) g.0 in omega arith);
+  steps = λ op es k t n r ee tn g.
+      let i : Known op k es = known op (suc k) k es r (omega arith) in
+      stepped optimistic (state_at optimistic op es k) t (rw i.locals tn)
+      (λ ws' l'. LateRow l' × (left (node_count (sizes op)) ws' l' < n))
+      (late_next (local_of (state_at optimistic op es k) t) (node_count (sizes op)) n (state_at optimistic op es k).words g.0 g.1
+      (i.threads t tn).at);
+}
+
+abbrev Time : Sizes → List ℕ → ℕ → Local → Type 0
+Time sz ws n l = Timed (node_count sz) ws n l
+
+module _ (op : Opening) (es : ℕ → Event) (k u n : ℕ) (r : Run optimistic op es k) (un : u < op.threads)
+    (g : GetsOn optimistic (state_at optimistic op es k) u)
+    (time : Time (sizes op) (state_at optimistic op es k).words (suc n) (local_of (state_at optimistic op es k) u)) where
+  abbrev Here : State
+  Here = state_at optimistic op es k
+
+  abbrev Own : Local
+  Own = local_of Here u
+
+  now : Known op k es
+  now = known op k k es r (omega arith)
+
+  regs : Registers (sizes op) u Own
+  regs = (now.threads u un).registers
+
+  abbrev Outcome : Type 0
+  Outcome = CanEnd optimistic Here 6 ⊎ Answers optimistic Here u ⊎ Before optimistic Time (sizes op) Here u n
+
+  decided : LateRow Own → left (node_count (sizes op)) Here.words Own < 6 → Outcome
+  decided late h = inl (alone_can optimistic Here u 6 (ends_alone optimistic optimistic_lawful Late late_nears op u un 6 k es r (late, h)))
+
+  free : Free Here.words Own
+  free = (
+    λ e. g.tries (lock_index Own.pred) 0 (u + 1) (inr (Own.pred, refl)) (rw (e, regs.thread) refl),
+    λ e d. g.tries (lock_index Own.curr) 0 (u + 1) (inr (Own.curr, refl)) (rw (e, regs.thread) refl),
+  )
+
+  quiet : Quiet Here.words Own → Outcome
+  quiet same =
+      let at = (now.threads u un).at in
+      elim (stepped optimistic Here u g.enabled.0 (λ ws' l'. Left (node_count (sizes op)) ws' n l')
+      (next (sizes op) Here.words (used_in Here) now.memory u Own regs (views optimistic op es) (begun_at (log_of optimistic op es) u k) k
+      (has_changed (log_of optimistic op es) u k) free n time at g.enabled.1)) [
+        | inl a ↦ inr (inl a)
+        | inr p ↦ inr (inr (record {
+          time = p.1;
+          open_call = p.0;
+          stays = λ m l. timed_same (node_count (sizes op)) m Here.words (left_by Here.words (optimistic.next Own)) l same.0 same.1;
+        }))
+      ]
+
+  -- where the locks are given back, with a reply or without
+  first_with : (r : Reply) → Own.reply ≡ Some r → Own.pc ≡ 14 → Outcome
+  first_with r f e =
+      let y : left (node_count (sizes op)) Here.words Own ≡ 1 = rw (e, f) refl in
+      decided (inr (omega arith, omega arith, (r, f))) (omega arith)
+
+  first_with_or_not : Own.pc ≡ 14 → Outcome
+  first_with_or_not e = elim (some_or_none Own.reply) [
+    | inl z ↦ quiet (giving Here.words Own Own.pred 0 (rw e refl))
+    | inr z ↦ first_with z.0 z.1 e
+  ]
+
+  last_with : (r : Reply) → Own.reply ≡ Some r → Own.pc ≡ 15 → Outcome
+  last_with r f e =
+      let y : left (node_count (sizes op)) Here.words Own ≡ 0 = rw (e, f) refl in
+      decided (inr (omega arith, omega arith, (r, f))) (omega arith)
+
+  last_with_or_not : Own.pc ≡ 15 → Outcome
+  last_with_or_not e = elim (some_or_none Own.reply) [
+    | inl z ↦ quiet (giving Here.words Own Own.curr 0 (rw e refl))
+    | inr z ↦ last_with z.0 z.1 e
+  ]
+
+  outcome : At (sizes op).quota u (views optimistic op es) (begun_at (log_of optimistic op es) u k) k
+      (view (sizes op) Here.words (used_in Here)) (has_changed (log_of optimistic op es) u k) Own → Outcome
+  outcome (at0 e) = absurd (g.enabled.1 e)
+  outcome (at1 e d) = quiet (loading Here.words Own (link_index 0) (rw e refl))
+  outcome (at2 e d x y) = quiet (loading Here.words Own (key_index Own.curr) (rw e refl))
+  outcome (at3 e d c y b) = quiet (loading Here.words Own (link_index Own.curr) (rw e refl))
+  outcome (at4 e d f) = quiet (trying Here.words Own Own.pred (u + 1) (rw (e, regs.thread) refl))
+  outcome (at5 e d f p) = quiet (trying Here.words Own Own.curr (u + 1) (rw (e, regs.thread) refl))
+  outcome (at6 e d f c y start z x) = quiet (loading Here.words Own (link_index Own.node) (rw e refl))
+  outcome (at7 e d f c start z x) = quiet (loading Here.words Own (key_index Own.node) (rw e refl))
+  outcome (at8 e d f c x a) = quiet (loading Here.words Own (link_index Own.pred) (rw e refl))
+  outcome (at9 e d b a) = let y : left (node_count (sizes op)) Here.words Own ≡ 4 = rw e refl in
+      decided (inl (omega arith, omega arith)) (omega arith)
+  outcome (at10 e d b a x) = let y : left (node_count (sizes op)) Here.words Own ≡ 3 = rw e refl in
+      decided (inl (omega arith, omega arith)) (omega arith)
+  outcome (at11 e d b a x z) = let y : left (node_count (sizes op)) Here.words Own ≡ 2 = rw e refl in
+      decided (inl (omega arith, omega arith)) (omega arith)
+  outcome (at12 e d b a) = let y : left (node_count (sizes op)) Here.words Own ≡ 3 = rw e refl in
+      decided (inl (omega arith, omega arith)) (omega arith)
+  outcome (at13 e d b a x) = let y : left (node_count (sizes op)) Here.words Own ≡ 2 = rw e refl in
+      decided (inl (omega arith, omega arith)) (omega arith)
+  outcome (at14 e p c x i y) = first_with_or_not e
+  outcome (at15 e c y) = last_with_or_not e
+
+shrinks : Shrinks optimistic 6 Time
+shrinks = record {
+  some = λ sz ws l t. some_time (node_count sz) ws l t;
+  steps = λ op es k u n r un g time. outcome op es k u n r un g time ((known op k k es r (omega arith)).threads u un).at;
+}
+
+seven : (a : ℕ) → a + 6 + 1 ≤ a + 7
+seven a = omega arith
+
+pub optimistic_can_end : SomeCallCanEnd optimistic (for_each optimistic_steps)
+optimistic_can_end op k t es r tn busy =
+    let i : Known op k es = known op k k es r (omega arith) in
+    let c = some_can_end optimistic 6 Time shrinks optimistic_gets_on op (optimistic_steps (sizes op)) k t es r tn busy
+    (λ v vn b. starts (sizes op) (state_at optimistic op es k).words (used_in (state_at optimistic op es k)) i.memory v
+    (local_of (state_at optimistic op es k) v) (i.threads v vn).registers (views optimistic op es)
+    (begun_at (log_of optimistic op es) v k) k (has_changed (log_of optimistic op es) v k) (i.threads v vn).at b) in
+    can_more optimistic (state_at optimistic op es k) (op.threads * optimistic_steps (sizes op) + 6 + 1) (for_each optimistic_steps (sizes op))
+    (seven (op.threads * optimistic_steps (sizes op))) c

@@ -18,7 +18,7 @@ use Rattle.lset_steps.proofs.QuietMove.{in_chain_published}
 use Rattle.lset_steps.proofs.ReadTables.{HasReadRows, IsReadRow}
 use Rattle.lset_steps.proofs.ReadOutline.{Reading}
 use Rattle.lset_steps.proofs.ReadOutline.Reading.{reads20, reads21, reads22, reads23, reads24, reads25}
-use Rattle.lset_progress.proofs.Ahead.{ahead_most}
+use Rattle.lset_progress.proofs.Ahead.{ahead, ahead_most}
 use Rattle.lset_progress.proofs.Rest.{rest, few, fewer}
 use Rattle.lset_progress.proofs.Paths.{Path, no_steps, path_on}
 use Rattle.lset_progress.proofs.Alone.{Step}
@@ -29,13 +29,16 @@ abbrev pub Plain : List ℕ → Type 0
 Plain ws = (b : ℕ) → Path (node_link ws) 0 b → node_link ws b % 2 ≡ 0
 
 -- how many steps are left behind the next one
-abbrev pub reads_left : ℕ → List ℕ → Local → ℕ
-reads_left size ws l =
-    if l.pc == 20 then 2 * rest size ws l.curr
-    else if l.pc == 21 then 2 * rest size ws l.curr + 1
-    else if l.pc == 23 then 2 * rest size ws l.curr
-    else if l.pc == 24 then 2 * rest size ws l.curr + 1
+abbrev pub reads_left_by_keys : ℕ → (ℕ → ℕ) → Local → ℕ
+reads_left_by_keys size key l =
+    if l.pc == 20 then 2 * ahead key size (key l.curr)
+    else if l.pc == 21 then 2 * ahead key size (key l.curr) + 1
+    else if l.pc == 23 then 2 * ahead key size (key l.curr)
+    else if l.pc == 24 then 2 * ahead key size (key l.curr) + 1
     else 0
+
+abbrev pub reads_left : ℕ → List ℕ → Local → ℕ
+reads_left size ws l = reads_left_by_keys size (node_key ws) l
 
 -- a ceiling has come along the chain
 abbrev pub AlongChain : List ℕ → Local → Type 0

@@ -84,6 +84,20 @@ SomeThreadGetsOn T = (op : Opening) (k t : ℕ) (es : ℕ → Event) → Run T o
     → IsPending (state_at T op es k) t
     → (u : ℕ) × (u < op.threads) × GetsOn T (state_at T op es k) u
 
+-- [Some call can end]: threads that have calls can make steps, at most n, of which the last ends a call.
+abbrev pub CanEnd : Table → State → ℕ → Type 0
+CanEnd T s zero = ⊥
+CanEnd T s (suc n) = (u : ℕ) × Enabled s (Go u) × (Answers T s u ⊎ CanEnd T (after T s (Go u)) n)
+
+abbrev pub SomeCallCanEnd : Table → (Sizes → ℕ) → Type 0
+SomeCallCanEnd T most = (op : Opening) (k t : ℕ) (es : ℕ → Event) → Run T op es k → t < op.threads
+    → IsPending (state_at T op es k) t
+    → CanEnd T (state_at T op es k) (most (sizes op))
+
+-- as many steps for each thread, and some from a decision to the end
+abbrev pub for_each : (Sizes → ℕ) → Sizes → ℕ
+for_each most sz = sz.threads * most sz + 7
+
 -- THE MOST STEPS, for N nodes: the head, the tail, n threads with q slots each, and those of the opening keys
 abbrev pub coarse_steps : Sizes → ℕ
 coarse_steps sz = 2 * node_count sz + 3

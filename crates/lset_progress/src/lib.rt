@@ -12,10 +12,12 @@ ghost use Rattle.lset_lock_free.specs.LockFree.{lock_free};
 ghost use Rattle.lset_progress.specs.Progress.{
   CallsEndAlone,
   CallsEndUnhindered,
+  SomeCallCanEnd,
   SomeCeilingNeverEnds,
   SomeThreadGetsOn,
   coarse_steps,
   fine_steps,
+  for_each,
   lazy_steps,
   lock_free_steps,
   optimistic_steps,
@@ -65,10 +67,22 @@ pub fn some_coarse_call_gets_on()
     ensures { SomeThreadGetsOn coarse }
 {}
 
+/// While a call of a CoarseList is pending, there are at most `2N + 3` steps of one thread, of which the last ends a call. (Freedom
+/// from deadlock.)
+pub fn some_coarse_call_can_end()
+    ensures { SomeCallCanEnd coarse coarse_steps }
+{}
+
 /// While a call of a FineList is pending, some thread can make a step that is no failed try of a lock. (Freedom from deadlock:
 /// Herlihy and Shavit's order of the nodes.)
 pub fn some_fine_call_gets_on()
     ensures { SomeThreadGetsOn fine }
+{}
+
+/// While a call of a FineList is pending, there are at most `n(4N + 3) + 7` steps of the n threads, of which the last ends a call.
+/// (Freedom from deadlock.)
+pub fn some_fine_call_can_end()
+    ensures { SomeCallCanEnd fine (for_each fine_steps) }
 {}
 
 /// While a call of an OptimisticList is pending, some thread can make a step that is no failed try of a lock. (Freedom from
@@ -77,10 +91,22 @@ pub fn some_optimistic_call_gets_on()
     ensures { SomeThreadGetsOn optimistic }
 {}
 
+/// While a call of an OptimisticList is pending, there are at most `n(8N + 9) + 7` steps of the n threads, of which the last ends a
+/// call. (Freedom from deadlock.)
+pub fn some_optimistic_call_can_end()
+    ensures { SomeCallCanEnd optimistic (for_each optimistic_steps) }
+{}
+
 /// While a call of a LazyList is pending, some thread can make a step that is no failed try of a lock. (Freedom from deadlock:
 /// Herlihy and Shavit's order of the nodes.)
 pub fn some_lazy_call_gets_on()
     ensures { SomeThreadGetsOn lazy }
+{}
+
+/// While a call of a LazyList is pending, there are at most `n(4N + 15) + 7` steps of the n threads, of which the last ends a call.
+/// (Freedom from deadlock.)
+pub fn some_lazy_call_can_end()
+    ensures { SomeCallCanEnd lazy (for_each lazy_steps) }
 {}
 
 /// The law of `lock_free_calls_end_alone` refuses a LockFreeList whose walk tries to take a marked node out again where that has
