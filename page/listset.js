@@ -3,8 +3,9 @@
 //     node page/listset.js replay [FILE]            node page/listset.js trace [--chain] [FILE]
 //     node page/listset.js report [FILE]            node page/listset.js show [--svg] [--from M] [--to M] [--width N] [FILE]
 //     node page/listset.js check [FILE]             node page/listset.js example [--broken] [NAME]
-//     node page/listset.js draft [FILE]             node page/listset.js gen KIND THREADS QUOTA CALLS KEYS SEED
-//     node page/listset.js faults                   and of replay, trace and show [--lacks NAME]
+//     node page/listset.js judge [FILE]             node page/listset.js gen KIND THREADS QUOTA CALLS KEYS SEED
+//     node page/listset.js draft [FILE]             and of replay, trace and show [--lacks NAME]
+//     node page/listset.js faults
 //     node page/listset.js --words                  the first words of these lines, one a line
 //
 // FILE may be -, the word for the standard input. Output, line about a trouble and exit status are the program's
@@ -18,7 +19,7 @@ const { NO_ENGINE, NOT_RUN, inPage, startedEngine } = require("./in_node.js");
 const LONGEST = 67108864; // bytes of an input; what is longer is not read to its end
 const WRONG = 2; // the status of wrong words, and of a wrong value
 const USAGE =
-  "replay [--lacks NAME] [FILE], report [FILE], check [FILE], trace [--chain] [--lacks NAME] [FILE], " +
+  "replay [--lacks NAME] [FILE], report [FILE], judge [FILE], check [FILE], trace [--chain] [--lacks NAME] [FILE], " +
   "show [--svg] [--from M] [--to M] [--width N] [--lacks NAME] [FILE], draft [FILE], " +
   "example [--broken] [NAME], gen KIND THREADS QUOTA CALLS KEYS SEED or faults";
 
@@ -27,6 +28,7 @@ const USAGE =
 const COMMANDS = {
   replay: { options: ["--lacks"], functions: ["listset_replay"], isOfFile: true },
   report: { functions: ["listset_report"], isOfFile: true },
+  judge: { functions: ["listset_judge"], isOfFile: true },
   check: { functions: ["listset_check"], isOfFile: true },
   show: {
     flag: "--svg",

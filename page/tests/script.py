@@ -19,7 +19,7 @@ WRONG = """
     show a b | show --chain | show --svg --svg | show --svg a b | show --svg=yes | show --from | show --from -5 | show --from --
     show --from --to 9 | show --to 1 --to 2 | show --to=1 --to 2 | show --from=1 a b | show --width
     draft a b | draft --svg | draft --from 1 | gen -1 | gen lazy -2 | gen --chain | gen --from 1
-    report a b | report --svg | faults a | faults - | faults --svg | faults -- a | check --lacks lock | example --lacks lock
+    report a b | report --svg | judge a b | judge --svg | judge --lacks lock | faults a | faults - | faults --svg | faults -- a | check --lacks lock | example --lacks lock
     replay --lacks | trace --lacks | show --lacks --svg | replay --lacks lock --lacks lock | replay --lacks lock a b"""
 # (the words after -- are values, so those of one value are not wrong)
 TAKEN = """
@@ -30,7 +30,7 @@ TAKEN = """
     show --from 3 | show --from=3 --to 9 --width 40 | show - --to 9 --svg | show --from= --to x | show --to=x --from=1
     show --from - . | show --from 0 no-such-file | show --from=9 --to=8 . | show --width 0 | show --width=00 | show --from=-5
     show --from 4294967295 | show --from==3 | draft | draft no-such-file | draft . | draft -- - | faults | faults --
-    report | report no-such-file | report . | report -- - | replay --lacks luck | trace --lacks= --chain | replay --lacks lock
+    report | report no-such-file | report . | report -- - | judge | judge no-such-file | judge . | judge -- - | replay --lacks luck | trace --lacks= --chain | replay --lacks lock
     show --lacks Lock | show --lacks luck --from x | show --from x --lacks lock no-such-file | replay --lacks lock no-such-file
     gen | gen lazy | gen lazy 2 4 | gen lazy 2 4 9 8 1 | gen -- fine -1 | gen coarse 2 4 9 8 1 more - -- | gen skip 2 4 9 8 1
     gen lazy 2 4 9 8 18446744073709551616 | gen lazy 65 4 9 8 1 | gen - 2"""
@@ -121,7 +121,7 @@ def asked(program, names, folder):
     for file in sorted((TOP / "examples" / "schedules" / "lacks").glob("*.schedule")):
         lacks = [str(file), "--lacks", file.stem]
         yield from (([*words, *lacks], b"") for words in (["replay"], ["trace", "--chain"], ["show"], ["show", "--svg"]))
-    for word, files in (("draft", "drafts/*.draft"), ("report", "recorded/*.calls")):
+    for word, files in (("draft", "drafts/*.draft"), ("report", "recorded/*.calls"), ("judge", "recorded/*.calls")):
         texts = [file.read_bytes() for file in sorted(DATA.glob(files))]
         yield from (([word], text) for text in [*texts, *refused(dice, texts)])
     yield (["example"], b"")
