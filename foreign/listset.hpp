@@ -235,7 +235,7 @@ public:
   bool contains(uint32_t key) { return by([&](seat &it) { return it.contains(key); }); }
   std::optional<uint32_t> ceiling(uint32_t key) { return by([&](seat &it) { return it.ceiling(key); }); }
 
-  // Ends the set, which no call uses any more, and gives its keys. If it throws, for want of memory, it may be called again.
+  // Ends the set, which no call uses any more, and gives its keys. If it throws, as memory was refused, it may be called again.
   std::vector<uint32_t> close() {
     for (; places.size() > 1; places.pop_back()) places.front().mine.gather(std::move(places.back().mine));
     return places.front().mine.close();

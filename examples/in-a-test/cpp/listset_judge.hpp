@@ -443,7 +443,7 @@ inline bool is_written(const std::string &path, const std::string &text) {
 inline std::string kept(const std::string &recording, uint64_t seed) {
     const char *folder = std::getenv("TMPDIR");
     std::string path = (folder ? folder : "/tmp") + ("/listset-" + std::to_string(getpid())) + "-" + std::to_string(seed) + ".calls";
-    return is_written(path, recording) ? path : "no file, for want of room";
+    return is_written(path, recording) ? path : "no file, as none could be written";
 }
 
 }  // namespace judging

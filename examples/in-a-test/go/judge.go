@@ -353,7 +353,7 @@ func (it *run) judged(by *judgeFound, seed int64) error {
 func kept(recording string, seed int64) string {
 	path := filepath.Join(os.TempDir(), fmt.Sprintf("listset-%d-%d.calls", os.Getpid(), seed))
 	if os.WriteFile(path, []byte(recording), 0o644) != nil {
-		return "no file, for want of room"
+		return "no file, as none could be written"
 	}
 	return path
 }

@@ -140,7 +140,7 @@ public final class Judge {
             Path file = Path.of(System.getProperty("java.io.tmpdir"), "listset-" + ProcessHandle.current().pid() + "-" + seed + ".calls");
             return Files.writeString(file, recording).toString();
         } catch (IOException full) {
-            return "no file, for want of room";
+            return "no file, as none could be written";
         }
     }
 

@@ -111,7 +111,7 @@ def kept(recording, seed):
     try:
         path.write_text(recording)
     except OSError:
-        return "no file, for want of room"
+        return "no file, as none could be written"
     return path
 
 

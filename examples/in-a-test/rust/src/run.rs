@@ -134,6 +134,6 @@ fn kept(recording: &str, seed: u64) -> String {
     let path = std::env::temp_dir().join(format!("listset-{}-{seed}.calls", std::process::id()));
     match std::fs::write(&path, recording) {
         Ok(()) => path.display().to_string(),
-        Err(_) => "no file, for want of room".to_string(),
+        Err(_) => "no file, as none could be written".to_string(),
     }
 }
