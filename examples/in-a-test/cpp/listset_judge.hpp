@@ -473,22 +473,4 @@ verdict judge(const options &how = {}, Make make = [] { return std::make_unique<
     return all;
 }
 
-// Records one set in so many parts, each of so many calls as the options say, into FOLDER/0000.calls and so on, and gives these names.
-// Between two parts no call is under way, so each opens with the keys that the one before left. Then
-//     listset judge FOLDER/*.calls                                                     judges the whole, of any length;
-//     seq 0 3 | xargs -P 4 -I{} listset judge --keys {}/4 FOLDER/*.calls               does so in four processes, each a part of the keys
-template <class S> std::vector<std::string> record(S &set, const std::string &folder, unsigned parts, const options &how = {}) {
-    judging::check(how);
-    std::vector<std::string> files;
-    for (unsigned part = 0; part < parts; part++) {
-        auto area = judging::area::of(how, uint64_t(how.seed) + part);
-        judging::tried(*area, "a call of the set failed: ", [&] { judging::call_from_threads(set, *area); });
-        if (area->at == judging::THREW) throw no_verdict(area->why);
-        auto number = std::to_string(part);
-        files.push_back(folder + "/" + std::string(number.size() < 4 ? 4 - number.size() : 0, '0') + number + ".calls");
-        if (!judging::is_written(files.back(), judging::run(*area, "").text())) throw no_verdict(files.back() + " cannot be written");
-    }
-    return files;
-}
-
 }  // namespace listset

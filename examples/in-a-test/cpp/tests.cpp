@@ -45,17 +45,6 @@ template <class S> void stops(const char *how, const char *judged, bool own_proc
     expect(open_calls(verdict.recording) > open_calls(verdict.said), how);
 }
 
-// The parts of one set's recording, judged as one by the program.
-void is_recorded_in_parts() {
-    const char *folder = std::getenv("TMPDIR"), *named = std::getenv("LISTSET");
-    std::vector<std::string> words{named ? named : "listset", "judge"};
-    MySet set;
-    for (auto &file : listset::record(set, folder ? folder : "/tmp", 3, {4, 500, 4, 20, 1, 1})) words.push_back(file);
-    auto answer = listset::judging::ran(words, "");
-    std::cout << answer.said << "\n";
-    expect(answer.status == 0 && answer.said == "ok 3 parts, 6000 calls", "a set in parts");
-}
-
 template <class S> void says(const char *words, listset::options how) {
     try {
         listset::judge<S>(how);
