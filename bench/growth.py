@@ -2,6 +2,7 @@
 
 import itertools
 import os
+import random
 import tempfile
 
 from measuring import RUNS, SEED, TIME, built, heading, memory_of, row, seconds_of
@@ -11,11 +12,12 @@ KIND, STEPS = "lazy", "1"
 WINDOW = 100
 ADDS = 16_384  # of a thread
 TURNS = (("add 5", "true", True), ("remove 5", "true", True), ("ceiling 0", "nothing", False), ("contains 5", "false", False))
+JUDGED_THREADS, JUDGED_KEYS = 16, 64
 MOST = 10.5  # times the time for ten times the events: some of the tools sort
 
 
 def growth():
-    """The table of replay, check, trace, show, draft and report. Gives the status: 1 where a time grows by more than it is to."""
+    """The table of replay, check, trace, show, draft, report and judge. Gives the status: 1 where a time grows by more than it is to."""
     maker, tool = built("bench_schedule"), built("listset")
     heading("What", *(f"{n:,}" for n in SIZES), "Growth", "MB")
     with tempfile.TemporaryDirectory() as room:
@@ -30,14 +32,16 @@ def growth():
             "`draft`": {n: (["draft"], texts[n]["draft"]) for n in SIZES},
             "`report`, a quarter ceilings": {n: (["report"], texts[n]["calls"]) for n in SIZES},
             "`report`, ceilings before adds": {n: (["report"], texts[n]["ceilings"]) for n in SIZES},
+            f"`judge`, {JUDGED_THREADS} threads and {JUDGED_KEYS} keys": {n: (["judge"], texts[n]["judged"]) for n in SIZES},
         }
         return 1 if max([grown(what, tool, runs) for what, runs in rows.items()]) > MOST else 0
 
 
 def texts_of(maker, events, room):
     """The files of a schedule of so many events, one a line, of the same as a draft, of a report of so many calls, and of as many
-    recorded calls: threads in turn put 5 in, take it out and ask for it; and one asks while the set is empty, before all the adds."""
-    texts = {it: f"{room}/{events}.{it}" for it in ("schedule", "draft", "report", "calls", "ceilings")}
+    recorded calls: threads in turn put 5 in, take it out and ask for it; one asks while the set is empty, before all the adds; and
+    threads overlap, without points."""
+    texts = {it: f"{room}/{events}.{it}" for it in ("schedule", "draft", "report", "calls", "ceilings", "judged")}
     seconds_of([maker, KIND, str(events), STEPS, SEED], os.devnull, texts["schedule"], 0)
     with open(texts["schedule"]) as schedule, open(texts["draft"], "w") as draft:
         draft.writelines(["listset-draft 2\n", *schedule.readlines()[1:]])
@@ -51,7 +55,24 @@ def texts_of(maker, events, room):
     asked = (f"call 0 ceiling 0 {2 * n + 1} - {2 * n + 2} nothing\n" for n in range(half))
     put_in = (f"call {n // ADDS} add {n} {events + 3 * n + 1} {events + 3 * n + 2} {events + 3 * n + 3} true\n" for n in range(half))
     record(texts["ceilings"], itertools.chain(asked, put_in))
+    record(texts["judged"], overlapping(events))
     return texts
+
+
+def overlapping(calls):
+    """The lines of so many calls of a right set, in threads that draw which begins or ends next, by their ends; then the keys left."""
+    draw, keys, pending, begun, moments = random.Random(int(SEED)), set(), {}, 0, itertools.count(1)
+    while pending or begun < calls:
+        thread, at = draw.randrange(JUDGED_THREADS), next(moments)
+        if thread in pending:
+            yield f"call {thread} {pending[thread][0]} - {at} {pending.pop(thread)[1]}\n"
+        elif begun < calls:
+            word, key = draw.choice(("add", "remove", "contains")), draw.randrange(JUDGED_KEYS)
+            reply = (key in keys) != (word == "add")
+            if word != "contains":
+                keys ^= {key} if reply else set()
+            pending[thread], begun = (f"{word} {key} {at}", "true" if reply else "false"), begun + 1
+    yield from (f"key {key}\n" for key in sorted(keys))
 
 
 def call_in_turn(number):
