@@ -28,6 +28,7 @@ SHOWN = {
                          "History::end"],
         "lset_judge": ["judge", "first_refused", "window_of", "is_judged"],
         "lset_claims": ["claim_of"],
+        "lset_order": ["find_order"],
         "lset_parts": ["Parts::new", "Parts::judge", "Parts::add", "Parts::keys", "Parts::latest", "Parts::is_at_rest"],
     },
     "functions-steps": {

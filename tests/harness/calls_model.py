@@ -22,6 +22,10 @@ class Refused(Exception):
     """A line, counted from 1, and why."""
 
 
+class Lacking(Exception):
+    """The line of the first change that has no point."""
+
+
 # ---- reading
 
 def number(piece, least=0):
@@ -46,10 +50,12 @@ def call_of(pieces):
     return Call(number(thread), name, number(key), number(begin, 1), point, end, reply)
 
 
-def has_its_point(it):
-    if it.point is None:
-        return not (it.name in ("add", "remove") and it.reply == "true")
-    return it.begin < it.point < (it.end or NEVER)
+def lacks_point(it):
+    return it.point is None and it.name in ("add", "remove") and it.reply == "true"
+
+
+def has_point_inside(it):
+    return it.point is None or it.begin < it.point < (it.end or NEVER)
 
 
 def read(text):
@@ -69,7 +75,7 @@ def read(text):
             raise Refused(line, "Opening")
         if section == 1 and not (value.thread < threads and value.begin < (value.end or NEVER)):
             raise Refused(line, "History")
-        if section == 1 and not has_its_point(value):
+        if section == 1 and not has_point_inside(value):
             raise Refused(line, "Point")
         if section < 3:
             found[pieces[0]].append(value)
@@ -126,6 +132,9 @@ def report(text):
     header, found = read(text)
     opening, quota = found["opening"], int(header[2].split()[1])
     look_beside_each_other(found["call"], quota, HEADER + 1 + len(opening))
+    for line, it in enumerate(found["call"], HEADER + 1 + len(opening)):
+        if lacks_point(it):
+            raise Lacking(line)
     calls = sorted(found["call"], key=lambda it: it.begin)
     has_new = opening or any(it.name == "ceiling" or (it.reply or "").startswith(("at-", "nothing")) for it in calls)
     yield f"listset-report {2 if has_new else 1}"
@@ -139,7 +148,7 @@ def report(text):
 
 
 def due(text):
-    """The status, and what is printed on output and on standard error."""
+    """The status, and what is printed on output and on standard error. Of calls that lack a point it raises `Lacking`."""
     try:
         return 0, "".join(f"{line}\n" for line in report(text)), ""
     except Refused as refused:

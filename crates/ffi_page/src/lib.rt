@@ -13,7 +13,6 @@ mod words;
 
 ghost use Rattle.std.specs.Prelude.{true, false, None, Some};
 ghost use Rattle.tool_base.specs.Replaying.{Replays};
-ghost use Rattle.tool_base.specs.Reporting.{Reports};
 ghost use Rattle.tool_base.specs.Checking.{Checks};
 ghost use Rattle.tool_base.specs.Faults.{TellsFaults};
 ghost use Rattle.tool_base.specs.Generating.{Generates};
@@ -21,6 +20,7 @@ ghost use Rattle.tool_draft.specs.Drafting.{Drafts};
 ghost use Rattle.tool_trace.specs.Tracing.{Traces};
 ghost use Rattle.tool_examples.specs.Exampling.{Exampled};
 ghost use Rattle.tool_judge.specs.Judging.{Judges};
+ghost use Rattle.tool_report.specs.Reporting.{Reports};
 ghost use Rattle.tool_broken.specs.BrokenTools as broken;
 ghost use Rattle.ffi_page.specs.Page.{Hands, OfText, MakesBroken, OfWords, ShowsBy, ShowsBrokenBy};
 
@@ -28,11 +28,12 @@ use generating::generated_by;
 use handing::hand;
 use showing::{shown_broken_by, shown_by};
 use std::alloc::Global;
-use tool_base::{checked, faults_told, replayed, reported};
+use tool_base::{checked, faults_told, replayed};
 use tool_broken::{replayed_broken, traced_broken};
 use tool_draft::drafted;
 use tool_examples::{exampled, exampled_by};
 use tool_judge::judge_bytes;
+use tool_report::report_bytes;
 use tool_trace::traced;
 
 /// What `listset replay` prints of the schedule whose text is given: its report, or the line about the first fault of the
@@ -49,8 +50,8 @@ pub extern "C" fn listset_replay(
     hand(alloc, replayed(alloc, text), room, status)
 }
 
-/// What `listset report` prints of the calls whose text is given: their report, or the line about the first fault of the text
-/// or the first line whose call cannot stand beside those above, or about a text that is too long.
+/// What `listset report` prints of the calls whose text is given: their report, or that no order explains them, or the line about the
+/// first fault of the text or the first line whose call cannot stand beside those above, or about a text that is too long.
 #[unsafe(no_mangle)]
 pub extern "C" fn listset_report(
     alloc: Global,
@@ -60,7 +61,7 @@ pub extern "C" fn listset_report(
 ) -> usize
     ensures { Hands (OfText Reports text.now) room.old room.new status.new result }
 {
-    hand(alloc, reported(alloc, text), room, status)
+    hand(alloc, report_bytes(alloc, text), room, status)
 }
 
 /// What `listset judge` prints of the recorded calls whose text is given: `ok N calls` if some order explains them, and `not

@@ -1,12 +1,14 @@
-//! The judge beside a search of all orders, on 100,000 small histories; on runs of the five lists; and where it does not decide.
+//! The judge, and the order that is found, beside a search of all orders, on 100,000 small histories; on runs of the five lists; and where
+//! it does not decide.
 
 use lset_coarse::CoarseList;
 use lset_fine::FineList;
-use lset_history::History;
+use lset_history::{History, check_order};
 use lset_judge::{Refusal, Verdict, Window, is_judged, judge, window_of};
 use lset_lazy::LazyList;
 use lset_lock_free::LockFreeList;
 use lset_optimistic::OptimisticList;
+use lset_order::{Found, find_order};
 use lset_replay::replay;
 use lset_schedule::generate;
 use lset_steps::Machine;
@@ -201,6 +203,32 @@ fn window_size<R: Abort>(
     Ok(window.calls.len())
 }
 
+/// Whether an order of the calls is found, which `check_order` takes, or that there is none. It is always known which.
+fn is_ordered(alloc: Global, history: &History, keys: &[u32]) -> Result<Option<bool>, Fail> {
+    match find_order(alloc, history, keys)? {
+        Found::Order(order) => {
+            check_order(alloc, history, &order, keys)?;
+            Ok(Some(true))
+        }
+        Found::NoOrder(_) => Ok(Some(false)),
+        Found::Unknown => Ok(None),
+    }
+}
+
+#[test]
+fn an_order_of_small_histories_is_found_if_there_is_one(rt: HostRuntime) -> Result<(), Fail> {
+    let alloc = rt.alloc();
+    let mut rng = Pcg32::seed_from_u64(2);
+    for number in 0..HISTORIES {
+        let (history, opening, left) = drawn_history(alloc, &mut rng)?;
+        let keys = keys_of(alloc, left)?;
+        let is_explained = has_order(history.calls(), opening, left);
+        let is_ordered = is_ordered(alloc, &history, &keys)?;
+        assert!(rt; is_ordered == Some(is_explained), "history {number}");
+    }
+    Ok(())
+}
+
 #[test]
 fn the_judge_is_right_of_small_histories(rt: HostRuntime) -> Result<(), Fail> {
     let alloc = rt.alloc();
@@ -241,6 +269,8 @@ fn assert_linearizable<M: Machine, R: Abort>(rt: &R, alloc: Global) -> Result<()
         assert!(rt; is_judged(&report.history), "seed {seed}");
         let verdict = judge(alloc, &report.history, &report.keys)?;
         assert!(rt; verdict == Verdict::Linearizable, "seed {seed}");
+        let is_ordered = is_ordered(alloc, &report.history, &report.keys)?;
+        assert!(rt; is_ordered == Some(true), "seed {seed}");
     }
     Ok(())
 }
@@ -280,5 +310,6 @@ fn calls_that_the_judge_does_not_decide(rt: HostRuntime) -> Result<(), Fail> {
     }
     let history = one_call(alloc, Call::Ceiling(Key(1)), Reply::Nothing)?;
     assert!(rt; judge(alloc, &history, &[5])? == Verdict::Undecided);
+    assert!(rt; is_ordered(alloc, &history, &[5])?.is_none());
     Ok(())
 }

@@ -13,11 +13,11 @@ use Rattle.tool_base.specs.declared.trouble.ValueName.{ValueName}
 use Rattle.tool_base.specs.declared.trouble.Trouble.TheVariants.{CannotRead, Memory, Bad}
 use Rattle.tool_base.specs.Tools.{Made, Ends, AppendsFront}
 use Rattle.tool_base.specs.Replaying.{Replays}
-use Rattle.tool_base.specs.Reporting.{Reports}
 use Rattle.tool_base.specs.Checking.{Checks}
 use Rattle.tool_base.specs.Generating.{Generates}
 use Rattle.tool_base.specs.Faults.{TellsFaults}
 use Rattle.tool_judge.specs.Judging.{Judges}
+use Rattle.tool_report.specs.Reporting.{Reports}
 use Rattle.tool_drawing.specs.declared.picture.Window.{Window}
 use Rattle.tool_show.specs.declared.asking.Form.{Form}
 use Rattle.tool_show.specs.Asking.{asked_of}
