@@ -5,7 +5,7 @@ use lset_coarse::CoarseList;
 use lset_fine::FineList;
 use lset_history::History;
 use lset_judge::{
-    Refusal, Verdict, Window, is_judged, judge, judge_without_quota, overlapped, window_of,
+    Refusal, Verdict, Window, is_judged, judge, judge_without_quota, overlapped, window_of_refusal,
 };
 use lset_lazy::LazyList;
 use lset_lock_free::LockFreeList;
@@ -266,7 +266,7 @@ fn window_size<R: Abort>(
     keys: &[u32],
     refusal: Refusal,
 ) -> Result<usize, Fail> {
-    let window = window_of(alloc, history, keys, refusal)?;
+    let window = window_of_refusal(alloc, history, keys, refusal)?;
     assert!(rt; window.key == refusal.key);
     assert!(rt; is_right(alloc, history, &window)?);
     assert!(rt; is_forced(alloc, history, &window)?);
