@@ -1,10 +1,12 @@
-//! The judge, and the order that is found, beside a search of all orders, on 100,000 small histories; on runs of the five lists; and where
-//! it does not decide.
+//! The judge, and the order that is found, beside a search of all orders, on 100,000 small histories, with what its refusals say and how
+//! many calls overlap a change; on runs of the five lists; and where it does not decide.
 
 use lset_coarse::CoarseList;
 use lset_fine::FineList;
 use lset_history::{History, check_order};
-use lset_judge::{Refusal, Verdict, Window, is_judged, judge, window_of};
+use lset_judge::{
+    Refusal, Verdict, Window, is_judged, judge, judge_without_quota, overlapped, window_of_refusal,
+};
 use lset_lazy::LazyList;
 use lset_lock_free::LockFreeList;
 use lset_optimistic::OptimisticList;
@@ -187,6 +189,76 @@ fn is_right(alloc: Global, history: &History, window: &Window) -> Result<bool, F
     Ok(!there && !not_there)
 }
 
+/// Whether the calls have an order, whichever keys it leaves.
+fn has_some_order(calls: &[CallRecord], opening: usize) -> bool {
+    (0..4).any(|left| has_order(calls, opening, left))
+}
+
+/// What was known of the calls at a moment, of one key or of all: a change that ended later is open, and any other such call unknown.
+fn known_at(
+    alloc: Global,
+    calls: &[CallRecord],
+    key: Option<Key>,
+    moment: u32,
+) -> Result<Vec<CallRecord>, AllocError> {
+    let mut known = Vec::new(alloc);
+    for call in calls {
+        let is_own = key.is_none() || key == Some(call.call.key());
+        let is_change = !matches!(call.call, Call::Contains(_));
+        let ended = match call.ended {
+            Some((end, _)) if end > moment => None,
+            ended => ended,
+        };
+        let is_known = match call.ended {
+            Some((end, reply)) => end <= moment || (is_change && reply == Reply::True),
+            None => is_change,
+        };
+        if is_own && is_known && call.begun <= moment {
+            known.push(CallRecord { ended, ..*call })?;
+        }
+    }
+    Ok(known)
+}
+
+/// Whether a refusal says what is so: by its moment the calls of its key have no order, and before it all calls have one; or the calls of
+/// its key have one, and none that leaves it as it is left.
+fn is_told(
+    alloc: Global,
+    history: &History,
+    opening: usize,
+    left: usize,
+    refusal: Refusal,
+) -> Result<bool, Fail> {
+    let calls = history.calls();
+    let key = Some(refusal.key);
+    if let Some(moment) = refusal.moment {
+        let shown = known_at(alloc, calls, key, moment)?;
+        let before = known_at(alloc, calls, None, moment - 1)?;
+        return Ok(!has_some_order(&shown, opening) && has_some_order(&before, opening));
+    }
+    let own = known_at(alloc, calls, key, u32::MAX)?;
+    let bit = 1usize << (refusal.key.0 % 2);
+    let as_left = (opening & !bit) | (left & bit);
+    Ok(has_some_order(&own, opening) && !has_order(&own, opening, as_left))
+}
+
+/// How many calls overlap a change of their key that another call made.
+fn met(calls: &[CallRecord]) -> u32 {
+    let mut count = 0;
+    for call in calls {
+        let is_met = calls.iter().any(|other| {
+            let is_change = !matches!(other.call, Call::Contains(_))
+                && matches!(other.ended, Some((_, Reply::True)));
+            let is_before = matches!(other.ended, Some((end, _)) if end < call.begun);
+            let is_after = matches!(call.ended, Some((end, _)) if end < other.begun);
+            let is_beside = other.begun != call.begun && !is_before && !is_after;
+            is_beside && is_change && other.call.key() == call.call.key()
+        });
+        count += u32::from(is_met);
+    }
+    count
+}
+
 /// How many calls the window of a refusal has, which is right.
 fn window_size<R: Abort>(
     rt: &R,
@@ -195,9 +267,8 @@ fn window_size<R: Abort>(
     keys: &[u32],
     refusal: Refusal,
 ) -> Result<usize, Fail> {
-    let Some(window) = window_of(alloc, history, keys, refusal)? else {
-        return Ok(99);
-    };
+    let window = window_of_refusal(alloc, history, keys, refusal)?;
+    assert!(rt; window.key == refusal.key);
     assert!(rt; is_right(alloc, history, &window)?);
     assert!(rt; is_forced(alloc, history, &window)?);
     Ok(window.calls.len())
@@ -238,6 +309,10 @@ fn the_judge_is_right_of_small_histories(rt: HostRuntime) -> Result<(), Fail> {
         let (history, opening, left) = drawn_history(alloc, &mut rng)?;
         let keys = keys_of(alloc, left)?;
         let is_explained = has_order(history.calls(), opening, left);
+        assert!(rt;
+            overlapped(alloc, &history)? == met(history.calls()),
+            "history {number}"
+        );
         match judge(alloc, &history, &keys)? {
             Verdict::Linearizable => {
                 assert!(rt; is_explained, "history {number}");
@@ -245,6 +320,10 @@ fn the_judge_is_right_of_small_histories(rt: HostRuntime) -> Result<(), Fail> {
             }
             Verdict::NotLinearizable(refusal) => {
                 assert!(rt; !is_explained, "history {number}");
+                assert!(rt;
+                    is_told(alloc, &history, opening, left, refusal)?,
+                    "history {number}"
+                );
                 let size = window_size(&rt, alloc, &history, &keys, refusal)?;
                 assert!(rt; size <= MOST_CALLS, "history {number}");
                 shown += size;
@@ -310,6 +389,21 @@ fn calls_that_the_judge_does_not_decide(rt: HostRuntime) -> Result<(), Fail> {
     }
     let history = one_call(alloc, Call::Ceiling(Key(1)), Reply::Nothing)?;
     assert!(rt; judge(alloc, &history, &[5])? == Verdict::Undecided);
+    assert!(rt; judge_without_quota(alloc, &history, &[5])? == Verdict::Undecided);
     assert!(rt; is_ordered(alloc, &history, &[5])?.is_none());
+    Ok(())
+}
+
+#[test]
+fn a_set_without_a_quota_takes_any_adds(rt: HostRuntime) -> Result<(), Fail> {
+    let alloc = rt.alloc();
+    let history = one_call(alloc, Call::Add(Key(6)), Reply::True)?;
+    assert!(rt; judge(alloc, &history, &[5, 6])? == Verdict::Undecided);
+    assert!(rt; judge_without_quota(alloc, &history, &[5, 6])? == Verdict::Linearizable);
+    let lost = Refusal {
+        key: Key(6),
+        moment: None,
+    };
+    assert!(rt; judge_without_quota(alloc, &history, &[5])? == Verdict::NotLinearizable(lost));
     Ok(())
 }

@@ -1,16 +1,15 @@
 -- The adds of each thread, counted call by call.
 use Rattle.std.proofs.Common.{◌≡◌, ◌≢◌, ℕ, ◌+◌, ◌<◌, ◌≤◌, ◌^◌, List, [], ◌∷◌, Bool, true, false, inl, inr, refl, sym, ap, ◌∙◌, arith, length, get_or, take}
-use Rattle.std.specs.Prelude.{◌==◌, ◌&&◌, All, IfSome, cond, set}
+use Rattle.std.specs.Prelude.{◌==◌, ◌&&◌, All, cond, set}
 use Rattle.std.proofs.lemmas.List.{get_or-set_same, get_or-set_other, length-take, get_or_default}
 use Rattle.std.proofs.lemmas.List.Elements.{All-head, All-tail}
 use Rattle.std.proofs.lemmas.List.Sums.{sum_by_more, sum_by-cons, count_by-le-length}
-use Rattle.lset_words.specs.declared.Reply.{Reply}
 use Rattle.lset_words.specs.declared.history.CallRecord.{CallRecord}
 use Rattle.lset_words.specs.Words.{Opens, Opening}
 use Rattle.lset_words.specs.History.{IsHistory}
 use Rattle.lset_words.proofs.Numbers.{same_or_not, below_or_not, equal_test, unequal_test}
 use Rattle.lset_history.proofs.Histories.{calls_of}
-use Rattle.lset_judge.specs.Verdict.{may_add, adds_of, is_plain}
+use Rattle.lset_judge.specs.Verdict.{may_add, adds_of}
 
 module _ (xs : List CallRecord) (i : ℕ) (d : CallRecord) (inside : i < length xs) (adds : List ℕ) where
   abbrev x : CallRecord
@@ -50,9 +49,6 @@ pub few_adds : (t i n : ℕ) (xs : List CallRecord) → i < length xs → length
 few_adds t i n xs inside few is =
     let most = count_by-le-length (λ (y : CallRecord). may_add y.call y.ended && y.thread == t) (take i xs) in
     let len = length-take i xs in omega (arith, most, len, is)
-
-abbrev pub AllPlain : List CallRecord → Type 0
-AllPlain calls = All (λ (x : CallRecord). IfSome x.ended (λ (e : ℕ × Reply). is_plain x.call e.1 ≡ true)) calls
 
 -- a thread that the history does not have makes no adds
 no_adds : (t : ℕ) (xs : List CallRecord) → All (λ (x : CallRecord). x.thread ≢ t) xs → adds_of t xs ≡ 0

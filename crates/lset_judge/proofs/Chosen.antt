@@ -28,8 +28,8 @@ use Rattle.lset_judge.proofs.Noting.{quiet_left}
 use Rattle.lset_judge.specs.Events.{rule_explains}
 use Rattle.lset_judge.specs.Marks.{ruled_on, noted_at, AreMarks}
 use Rattle.lset_judge.specs.declared.window.Window.{Window}
-use Rattle.lset_judge.specs.Verdict.{IsUnexplained}
-use Rattle.lset_judge.specs.Window.{AreChosen, calls_numbered, HaveNone, ShowsNone, calls_by, IsForced, IsSameWindow}
+use Rattle.lset_judge.specs.Verdict.{IsUnexplained, calls_by, of_key, with_quota}
+use Rattle.lset_judge.specs.Window.{AreChosen, calls_numbered, HaveNone, ShowsNoneAtAll, IsForcedAtAll, IsSameWindow}
 use Rattle.lset_judge.proofs.Runs.{IsRunOf, known_at, run_judges}
 
 -- ---- one more
@@ -123,17 +123,17 @@ module _ (threads : ℕ) (calls : List CallRecord) (history : IsHistory threads 
 -- A WINDOW SHOWS that no order explains its history, where its calls have none.
 pub shows : (h : HistoryValue) (w : Window) (items : List CallRecord) → IsHistory h.opening.threads h.calls
     → AreChosen h.calls w.calls.items w.key items → (r : Result Bool AllocError)
-    → IfOk r (λ none. IsTrue none → HaveNone items w.key.0 w.there w.left) → IfOk r (λ none. IsTrue none → ShowsNone h w)
+    → IfOk r (λ none. IsTrue none → HaveNone items w.key.0 w.there w.left) → IfOk r (λ none. IsTrue none → ShowsNoneAtAll h w)
 shows h w items history c (Err e) f = f
-shows h w items history c (Ok none) f = λ is. record {
+shows h w items history c (Ok none) f = λ is quota. record {
   known = c.known;
   own = c.own;
   none = λ keys left.
       subst (λ cs. IsUnexplained (record {
-        opening = record { threads = h.opening.threads; quota = h.opening.quota; keys = if w.there then w.key.0 ∷ [] else [] };
+        opening = record { threads = h.opening.threads; quota = quota; keys = if w.there then w.key.0 ∷ [] else [] };
         calls = cs;
       }) keys) c.are
-      (f is h.opening.threads h.opening.quota keys (chosen_history h.calls w.calls.items w.key items c h.opening.threads history) left);
+      (f is h.opening.threads quota keys (chosen_history h.calls w.calls.items w.key items c h.opening.threads history) left);
 }
 
 -- ---- the calls of a key that begin by a moment
@@ -178,16 +178,13 @@ left_forced threads calls history key own marks are opening quota order keys t w
     alike false true e = e
     alike false false e = refl
 
-abbrev Forces : HistoryValue → List Placed → List ℕ → Key → ℕ → Bool → Type 0
-Forces h order keys key moment there = Explains (record {
-  opening = record { threads = h.opening.threads; quota = h.opening.quota; keys = if has_key key.0 h.opening.keys then key.0 ∷ [] else [] };
-  calls = calls_by key.0 moment h.calls;
-}) order keys → has_key key.0 keys ≡ there
+abbrev Forces : HistoryValue → ℕ → List Placed → List ℕ → Key → ℕ → Bool → Type 0
+Forces h quota order keys key moment there = Explains (of_key key.0 moment (with_quota quota h)) order keys → has_key key.0 keys ≡ there
 
-pub forced_same : (h : HistoryValue) (old new : Window) → IsSameWindow old new → IsForced h old → IsForced h new
-forced_same h old new s f order keys =
-    subst (Forces h order keys new.key new.since) (sym s.there) (subst (λ m. Forces h order keys new.key m old.there) (sym s.since)
-    (subst (λ k. Forces h order keys k old.since old.there) (sym s.key) (f order keys)))
+pub forced_same : (h : HistoryValue) (old new : Window) → IsSameWindow old new → IsForcedAtAll h old → IsForcedAtAll h new
+forced_same h old new s f quota order keys =
+    subst (Forces h quota order keys new.key new.since) (sym s.there) (subst (λ m. Forces h quota order keys new.key m old.there) (sym s.since)
+    (subst (λ k. Forces h quota order keys k old.since old.there) (sym s.key) (f quota order keys)))
 
 pub same_bool : (a b : Bool) → beq a b ≡ true → a ≡ b
 same_bool true true e = refl

@@ -24,3 +24,6 @@ pub mod Shifting
 pub mod InMoments
 pub mod KeyParts
 pub mod Chosen
+pub mod Refused
+pub mod Whole
+pub mod Overlapping

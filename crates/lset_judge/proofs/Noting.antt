@@ -1,13 +1,16 @@
 -- The rule needs only the events of a key, each with its moment.
 use Rattle.std.proofs.Common.{◌≡◌, ℕ, zero, suc, ◌+◌, ◌<◌, ◌≤◌, ◌⊎◌, List, [], ◌∷◌, ◌++◌, Bool, true, false, inl, inr, refl, sym, ap, ◌∙◌, arith, subst}
-use Rattle.std.proofs.Common.{length, get_or}
-use Rattle.std.specs.Prelude.{Option, Some, None, is_some, is_none, if◌then◌else◌, All, AllPairs}
+use Rattle.std.proofs.Common.{length, get_or, take, drop, map}
+use Rattle.std.specs.Prelude.{Option, Some, None, is_some, is_none, if◌then◌else◌, All, AllPairs, ◌-◌}
 use Rattle.std.proofs.lemmas.Bool.{cases_order}
+use Rattle.std.proofs.lemmas.List.{get_or-take, length-take-le, get_or_default, map_more, drop_more}
+use Rattle.lset_words.proofs.Numbers.{below_or_not}
 use Rattle.lset_words.specs.SequentialSet.{has_key}
 use Rattle.lset_history.specs.History.{HistoryValue, latest_moment}
 use Rattle.lset_judge.specs.Rule.{Event, leaves, idle, State, found, entered, ruled, settled, open_changes, opened, same}
 use Rattle.lset_judge.specs.Events.{events_on, event_at, rule_explains}
-use Rattle.lset_judge.specs.Marks.{Noted, ruled_on}
+use Rattle.lset_judge.specs.declared.marks.Mark.{Mark}
+use Rattle.lset_judge.specs.Marks.{Noted, ruled_on, no_mark}
 use Rattle.lset_judge.proofs.Leading.{at_once}
 use Rattle.lset_judge.proofs.Ruled.{ruled_none}
 
@@ -119,6 +122,94 @@ notes_judge h keys k xs t =
     ap is_some (noted ev left last last 0 (opened (has_key k h.opening.keys)) xs (omega arith)
     (notes_are ev last 0 xs t.rising (λ i d l. let a = t.right i d l in (omega arith, a.0, a.1)) (λ j _ below. t.all j below)))
 
+-- ---- the first notes of a key, up to a moment, and what comes after them
+
+module _ (ev : ℕ → Event) (left : Bool) (stop rest : ℕ) where
+  abbrev after : List Event
+  after = events_on ev left rest stop
+
+  onward : (o : Option State) (m : ℕ) (vs : List Event) (xs : List Noted)
+      → ((s : State) → ruled m (Some s) vs ≡ ruled stop (ruled_on (Some s) xs) after) → ruled m o vs ≡ ruled stop (ruled_on o xs) after
+  onward None m vs xs h = ruled_none m vs ∙ sym (ap (λ o. ruled stop o after) (on_none xs) ∙ ruled_none stop after)
+  onward (Some s) m vs xs h = h s
+
+  first_noted : (n t m : ℕ) (s : State) (xs : List Noted) → m + n ≡ stop → t ≡ n + rest → AreNoted ev m stop xs
+      → ruled m (Some s) (events_on ev left t m) ≡ ruled stop (ruled_on (Some s) xs) after
+  first_noted zero t m s [] e l a =
+      let at : m ≡ stop = omega (arith, e) in let long : t ≡ rest = omega (arith, l) in
+      ap (λ j. ruled m (Some s) (events_on ev left j m)) long ∙ ap (λ j. ruled j (Some s) (events_on ev left rest j)) at
+  first_noted zero t m s (x ∷ xs) e l a = let low = a.0 in let high = a.1 in absurd (omega (arith, e, low, high))
+  first_noted (suc n) zero m s xs e l a = absurd (omega (arith, l))
+  first_noted (suc n) (suc t) m s [] e l a =
+      let none : ev (suc m) ≡ idle = a m (omega arith) (omega (arith, e)) in
+      ap (λ v. ruled m (Some s) (v ∷ events_on ev left t (suc m))) none
+      ∙ idle_skipped m s (events_on ev left t (suc m))
+      ∙ first_noted n t (suc m) s [] (omega (arith, e)) (omega (arith, l)) (λ j low high. a j (omega (arith, low)) high)
+  first_noted (suc n) (suc t) m s (x ∷ xs) e l a = elim (cases_order m x.0) [
+    | inl same ↦ (
+        let here : ev (suc m) ≡ x.1 = ap (λ j. ev (suc j)) same ∙ a.3 in
+        let later_are : AreNoted ev (suc m) stop xs = subst (λ j. AreNoted ev (suc j) stop xs) (sym same) a.4 in
+        ap (λ v. ruled m (Some s) (v ∷ events_on ev left t (suc m))) here
+        ∙ onward (entered x.1 (found m x.1 s)) (suc m) (events_on ev left t (suc m)) xs
+        (λ u. first_noted n t (suc m) u xs (omega (arith, e)) (omega (arith, l)) later_are)
+        ∙ ap (λ j. ruled stop (ruled_on (entered x.1 (found j x.1 s)) xs) after) same)
+    | inr (inl less) ↦ (
+        let none : ev (suc m) ≡ idle = a.2 m (omega arith) less in
+        ap (λ v. ruled m (Some s) (v ∷ events_on ev left t (suc m))) none
+        ∙ idle_skipped m s (events_on ev left t (suc m))
+        ∙ first_noted n t (suc m) s (x ∷ xs) (omega (arith, e)) (omega (arith, l))
+        (omega (arith, less), a.1, λ j low high. a.2 j (omega (arith, low)) high, a.3, a.4))
+    | inr (inr more) ↦ (let low = a.0 in absurd (omega (arith, low, more)))
+  ]
+
+-- WHERE THE RULE FAILS on the first notes of a key, it fails whatever happens after the last of them.
+module _ (ev : ℕ → Event) (last : ℕ) (xs : List Noted) (tell : NotesTell ev last xs) (i : ℕ) (inside : i < length xs) (m : ℕ)
+    (at : (d : Noted) → suc (get_or xs i d).0 ≡ m) where
+  abbrev first : List Noted
+  first = take (i + 1) xs
+
+  first_long : length first ≡ i + 1
+  first_long = length-take-le (i + 1) xs (omega (arith, inside))
+
+  in_first : (j : ℕ) (d : Noted) → j < length first → get_or first j d ≡ get_or xs j d
+  in_first j d low = let long = first_long in get_or-take (i + 1) xs j d (omega (arith, long, low))
+
+  up_to : (j : ℕ) (d : Noted) → j < length first → suc (get_or xs j d).0 ≤ m
+  up_to j d low = let long = first_long in let here = at d in elim (below_or_not j i) [
+    | inl less ↦ (let up = tell.rising j i d less inside in omega (arith, up, here))
+    | inr high ↦ (let e : j ≡ i = omega (arith, high, low, long) in
+        let f = ap (λ n. (get_or xs n d).0) e in omega (arith, f, here))
+  ]
+
+  pub fails_by : (s : State) → ruled_on (Some s) first ≡ None → (other : ℕ → Event) (left : Bool) → ((j : ℕ) → j ≤ m → other j ≡ ev j)
+      → ruled 0 (Some s) (events_on other left last 0) ≡ None
+  fails_by s none other left same =
+      let d : Noted = (0, idle) in
+      let here = at d in let most = (tell.right i d inside).0 in
+      let noted : AreNoted other 0 m first = notes_are other m 0 first
+      (λ a b c low high. let long = first_long in
+      let up = tell.rising a b c low (omega (arith, high, long, inside)) in
+      let p = ap (λ (x : Noted). x.0) (in_first a c (omega (arith, low, high))) in
+      let q = ap (λ (x : Noted). x.0) (in_first b c high) in omega (arith, up, p, q))
+      (λ a c low. let up = up_to a c low in let long = first_long in
+      let own = tell.right a c (omega (arith, low, long, inside)) in
+      subst (λ (x : Noted). (0 ≤ x.0) × (x.0 < m) × (other (suc x.0) ≡ x.1)) (sym (in_first a c low))
+      (omega arith, omega (arith, up), same (suc (get_or xs a c).0) up ∙ own.1))
+      (λ j from below. elim (tell.all j (omega (arith, below, here, most))) [
+        | inl e ↦ inl (same (suc j) (omega (arith, below)) ∙ e)
+        | inr f ↦ (let low = f.1 in let there = f.2 d in let long = first_long in elim (below_or_not i f.0) [
+          | inl past ↦ absurd (let up = tell.rising i f.0 d past low in omega (arith, up, there, here, below))
+          | inr high ↦ inr (
+            f.0,
+            omega (arith, high, long),
+            λ c. ap (λ (x : Noted). x.0)
+                (in_first f.0 c (omega (arith, high, long)) ∙ get_or_default xs f.0 c d low) ∙ there,
+          )
+        ])
+      ]) in
+      first_noted other left m (last - m) m last 0 s first (omega arith) (omega (arith, here, most)) noted
+      ∙ ap (λ o. ruled m o (events_on other left (last - m) m)) none ∙ ruled_none m (events_on other left (last - m) m)
+
 -- ---- one list of notes after another
 
 pub on_both : (o : Option State) (xs ys : List Noted) → ruled_on o (xs ++ ys) ≡ ruled_on (ruled_on o xs) ys
@@ -126,6 +217,23 @@ on_both None [] ys = refl
 on_both None (x ∷ xs) ys = sym (on_none ys)
 on_both (Some s) [] ys = refl
 on_both (Some s) (x ∷ xs) ys = on_both (entered x.1 (found x.0 x.1 s)) xs ys
+
+-- ONE MORE MARK of a walk
+module _ (f : Mark → Noted) (first s : State) (run : List Mark) (i : ℕ) (low : i < length run)
+    (so_far : ruled_on (Some first) (map f (take i run)) ≡ Some s) (v : Event) (before : ℕ) (o : Option State)
+    (event : v ≡ (f (get_or run i no_mark)).1) (moment : before ≡ (f (get_or run i no_mark)).0) (met : entered v (found before v s) ≡ o) where
+  abbrev x : Noted
+  x = f (get_or run i no_mark)
+
+  now : entered x.1 (found x.0 x.1 s) ≡ o
+  now = ap (λ w. entered w (found x.0 w s)) (sym event) ∙ ap (λ n. entered v (found n v s)) (sym moment) ∙ met
+
+  pub walked_more : ruled_on (Some first) (map f (take (i + 1) run)) ≡ ruled_on o []
+  walked_more = ap (ruled_on (Some first)) (map_more f run i no_mark low) ∙ on_both (Some first) (map f (take i run)) (x ∷ [])
+      ∙ ap (λ p. ruled_on p (x ∷ [])) so_far ∙ ap (λ p. ruled_on p []) now
+
+  pub walks_on : ruled_on (Some s) (map f (drop i run)) ≡ ruled_on o (map f (drop (i + 1) run))
+  walks_on = ap (λ ms. ruled_on (Some s) (map f ms)) (drop_more run i no_mark low) ∙ ap (λ p. ruled_on p (map f (drop (i + 1) run))) now
 
 -- A WALK over the first that fails there, or goes on to how the key is left
 module _ (there there' : Bool) (s t : State) (xs xs' : List Noted) (failed : Option ℕ) (is : s ≡ opened there) (same_there : there ≡ there')

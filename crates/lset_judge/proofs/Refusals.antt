@@ -14,10 +14,8 @@ use Rattle.lset_judge.specs.declared.marks.Mark.{Mark}
 use Rattle.lset_judge.specs.declared.verdict.Refusal.{Refusal}
 use Rattle.lset_judge.specs.Rule.{same, opened, leaves}
 use Rattle.lset_judge.specs.Events.{rule_explains, RulePasses}
-use Rattle.lset_judge.specs.Marks.{AreMarks, has_mark, no_mark, IsRunEnd, IsOneOf, ruled_on, noted_at}
-use Rattle.lset_judge.specs.Verdict.{IsUnexplained}
-use Rattle.lset_judge.proofs.Deciding.{unexplained}
-use Rattle.lset_judge.proofs.Runs.{IsRunOf, run_at, run_judges, unmarked}
+use Rattle.lset_judge.specs.Marks.{AreMarks, has_mark, no_mark, IsRunEnd, IsOneOf, ruled_on, noted_at, FailsAt, FailsBy, Refuses}
+use Rattle.lset_judge.proofs.Runs.{IsRunOf, run_at, run_judges, run_fails, unmarked}
 
 -- ---- marks by keys
 
@@ -70,12 +68,25 @@ module _ (calls : List CallRecord) (marks : List Mark) (are : AreMarks calls mar
 
 module _ (h : HistoryValue) (keys : List ℕ) where
   abbrev pub Fails : Refusal → Type 0
-  Fails r = rule_explains h keys r.key.0 ≡ false
+  Fails r = Refuses h keys r
 
   pub found_tells : (k : ℕ) (found : Option Refusal) → is_none found ≡ rule_explains h keys k → IfSome found (λ (r : Refusal). r.key.0 ≡ k)
-      → MatchOption found (rule_explains h keys k ≡ true) Fails
-  found_tells k None e s = sym e
-  found_tells k (Some r) e s = ap (rule_explains h keys) s ∙ sym e
+      → IfSome found (λ (r : Refusal). IfSome r.moment (FailsBy h k)) → MatchOption found (rule_explains h keys k ≡ true) Fails
+  found_tells k None e s f = sym e
+  found_tells k (Some r) e s f = record {
+    rule = ap (rule_explains h keys) s ∙ sym e;
+    by = subst (λ j. IfSome r.moment (FailsBy h j)) (sym s) f;
+  }
+
+  -- what holds of the moments of refusals
+  each_by : {P Q : ℕ → Type 0} (found : Option Refusal) → ((m : ℕ) → P m → Q m) → IfSome found (λ (r : Refusal). IfSome r.moment P)
+      → IfSome found (λ (r : Refusal). IfSome r.moment Q)
+  each_by None more f = tt
+  each_by {P} {Q} (Some r) more f = by r.moment f
+    where
+      by : (o : Option ℕ) → IfSome o P → IfSome o Q
+      by None f = tt
+      by (Some m) f = more m f
 
   pub one_of_both : (A B : Type 0) (a b c : Option Refusal) → IsOneOf a b c → MatchOption a A Fails → MatchOption b B Fails
       → MatchOption c (A × B) Fails
@@ -126,18 +137,26 @@ module _ (h : HistoryValue) (keys : List ℕ) where
           (map (noted_at latest h.calls) (slice_range marks start end)
           ++ (latest, leaves (has_key (get_or (slice_range marks start end) 0 no_mark).key keys)) ∷ []))
           → IfSome found (λ (r : Refusal). r.key.0 ≡ (get_or (slice_range marks start end) 0 no_mark).key)
+          → IfSome found (λ (r : Refusal). IfSome r.moment
+          (FailsAt (opened (has_key (get_or (slice_range marks start end) 0 no_mark).key h.opening.keys)) latest h.calls (slice_range marks start end)))
           → MatchOption result ((i : ℕ) → i < end → rule_explains h keys (get_or marks i no_mark).key ≡ true) Fails
-      so_far latest is first found result one before judged own =
+      so_far latest is first found result one before judged own at =
           let k : ℕ = (get_or marks start no_mark).key in
           let zero : start + 0 ≡ start = omega arith in
           let some = run.some in
           let here : (get_or (slice_range marks start end) 0 no_mark).key ≡ k =
           ap (λ (m : Mark). m.key) (run_at marks start end 0 no_mark (omega (arith, some)) ∙ ap (λ n. get_or marks n no_mark) zero) in
-          let by_rule = run_judges h keys history marks are k start end (is_run h.calls marks are start end run apart) in
+          let of_key = is_run h.calls marks are start end run apart in
+          let by_rule = run_judges h keys history marks are k start end of_key in
+          let ms : List Mark = slice_range marks start end in
+          let fails : IfSome found (λ (r : Refusal). IfSome r.moment (FailsBy h k)) =
+          each_by found (λ m f. run_fails h keys history marks are k start end of_key m
+          (subst (λ n. FailsAt (opened (has_key k h.opening.keys)) n h.calls ms m) is f))
+          (subst (λ j. IfSome found (λ (r : Refusal). IfSome r.moment (FailsAt (opened (has_key j h.opening.keys)) latest h.calls ms))) here at) in
           let same = λ (j n : ℕ). is_some (ruled_on (Some (opened (has_key j h.opening.keys)))
           (map (noted_at n h.calls) (slice_range marks start end) ++ (n, leaves (has_key j keys)) ∷ [])) in
           let told : is_none found ≡ rule_explains h keys k = judged ∙ ap (λ j. same j latest) here ∙ ap (same k) is ∙ sym by_rule in
-          let now = found_tells k found told (subst (λ j. IfSome found (λ (r : Refusal). r.key.0 ≡ j)) here own) in
+          let now = found_tells k found told (subst (λ j. IfSome found (λ (r : Refusal). r.key.0 ≡ j)) here own) fails in
           weaker (((i : ℕ) → i < start → rule_explains h keys (get_or marks i no_mark).key ≡ true) × (rule_explains h keys k ≡ true))
           ((i : ℕ) → i < end → rule_explains h keys (get_or marks i no_mark).key ≡ true) result
           (λ both i low. elim (below_or_not i start) [
@@ -165,12 +184,15 @@ alike_unmarked opening keys marks lost new k none = by (has_key k keys) (has_key
 abbrev pub Unmarked : List ℕ → List ℕ → List Mark → Option Refusal → Type 0
 Unmarked opening keys marks found = MatchOption found
     ((k : ℕ) → has_mark k marks ≡ false → has_key k keys ≡ has_key k opening)
-    (λ (r : Refusal). (has_mark r.key.0 marks ≡ false) × (has_key r.key.0 keys ≢ has_key r.key.0 opening))
+    (λ (r : Refusal). (has_mark r.key.0 marks ≡ false) × (has_key r.key.0 keys ≢ has_key r.key.0 opening) × (r.moment ≡ None))
 
 module _ (h : HistoryValue) (keys : List ℕ) (history : IsHistory h.opening.threads h.calls) (marks : List Mark) (are : AreMarks h.calls marks) where
-  pub found_refutes : (found : Option Refusal) → Unmarked h.opening.keys keys marks found → IfSome found (λ (r : Refusal). IsUnexplained h keys)
-  found_refutes None u = tt
-  found_refutes (Some r) u = unexplained h keys history r.key.0 (not_left h keys history marks are r.key.0 u.0 u.1)
+  pub found_refuses : (found : Option Refusal) → Unmarked h.opening.keys keys marks found → IfSome found (Refuses h keys)
+  found_refuses None u = tt
+  found_refuses (Some r) u = record {
+    rule = not_left h keys history marks are r.key.0 u.0 u.1;
+    by = subst (λ o. IfSome o (FailsBy h r.key.0)) (sym u.2) tt;
+  }
 
   pub none_passes : (marked found : Option Refusal) → marked ≡ None → found ≡ None
       → MatchOption marked ((k : ℕ) → has_mark k marks ≡ true → rule_explains h keys k ≡ true) (Fails h keys)

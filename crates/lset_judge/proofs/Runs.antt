@@ -1,8 +1,8 @@
 -- The rule on the marks of one key judges the key.
 use Rattle.std.proofs.Common.{◌≡◌, ℕ, suc, ◌+◌, ◌-◌, ◌<◌, ◌≤◌, ◌⊎◌, List, [], ◌∷◌, ◌++◌, Bool, true, false, inl, inr, refl, sym, ap, ◌∙◌, arith, subst}
-use Rattle.std.proofs.Common.{length, get_or, map, drop}
+use Rattle.std.proofs.Common.{length, get_or, map, drop, take}
 use Rattle.std.specs.Prelude.{Some, is_some, IfSome, slice_range, ◌==◌}
-use Rattle.std.proofs.lemmas.List.{length-map, get_or-map, get_or_default, length-take, length-drop, get_or-take, get_or-drop}
+use Rattle.std.proofs.lemmas.List.{length-map, get_or-map, get_or_default, length-take, length-drop, get_or-take, get_or-drop, take-map}
 use Rattle.std.proofs.lemmas.List.Folds.{list_any_at}
 use Rattle.std.proofs.lemmas.Bool.{true≢false}
 use Rattle.lset_words.specs.declared.Reply.{Reply}
@@ -16,10 +16,10 @@ use Rattle.lset_history.proofs.Histories.{calls_of, pairs_of}
 use Rattle.lset_judge.specs.declared.marks.Mark.{Mark}
 use Rattle.lset_judge.specs.Rule.{Event, idle, leaves, opened, same}
 use Rattle.lset_judge.specs.Events.{Kind, changes, sees, nothing, begin_event, end_event, event_in, event_at, rule_explains}
-use Rattle.lset_judge.specs.Marks.{Noted, ruled_on, noted_at, marks_of, AreMarks, no_mark, has_mark}
+use Rattle.lset_judge.specs.Marks.{Noted, ruled_on, noted_at, marks_of, AreMarks, no_mark, has_mark, FailsAt, FailsBy}
 use Rattle.lset_judge.proofs.EventLemmas.{kind, until, begun_below, end_below, Begins, Told, of_nothing, of_begin, of_end, told, begins_at, ends_there}
 use Rattle.lset_judge.proofs.MarkLemmas.{IsMoment, at_begin, at_end, mark_tells, begin_marked, end_marked, in_contains, contains_in}
-use Rattle.lset_judge.proofs.Noting.{NotesTell, notes_judge}
+use Rattle.lset_judge.proofs.Noting.{NotesTell, notes_judge, fails_by}
 use Rattle.lset_judge.proofs.Placing.{In}
 
 module _ (threads : ℕ) (calls : List CallRecord) (history : IsHistory threads calls) where
@@ -170,6 +170,21 @@ module _ (h : HistoryValue) (keys : List ℕ) (history : IsHistory h.opening.thr
   pub run_judges : rule_explains h keys k
       ≡ is_some (ruled_on (Some (opened (has_key k h.opening.keys))) (notes ++ (last_of, leaves (has_key k keys)) ∷ []))
   run_judges = notes_judge h keys k notes tell
+
+  -- where the rule fails at a mark, it fails by its moment
+  pub run_fails : (moment : ℕ) → FailsAt (opened (has_key k h.opening.keys)) last_of h.calls (slice_range marks start end) moment → FailsBy h k moment
+  run_fails moment f =
+      let ms : List Mark = slice_range marks start end in let inside = f.inside in
+      let note : Mark → Noted = noted_at last_of h.calls in
+      let long = length-map ms note in
+      let b = run_length marks start end run.low run.inside in let c = run.inside in
+      let own = run.own (start + f.place) no_mark (omega arith) (omega (arith, b, inside)) in
+      let some = (right_at h.opening.threads h.calls history marks are (start + f.place) no_mark k (omega (arith, b, c, inside)) own).2 in
+      let there = f.there in
+      let same = ap (λ (m : Mark). m.moment) (run_at marks start end f.place no_mark (omega (arith, b, inside))) in
+      fails_by (event_at last_of k h.calls) last_of notes tell f.place (omega (arith, long, inside)) moment
+      (λ d. let at = ap (λ (x : Noted). x.0) (note_at f.place d (omega (arith, b, inside))) in omega (arith, at, some, same, there))
+      (opened (has_key k h.opening.keys)) (ap (ruled_on (Some (opened (has_key k h.opening.keys)))) (take-map note (f.place + 1) ms) ∙ f.fails)
 
 -- A KEY WITHOUT MARKS is to be left as it was at first
 pub unmarked : (h : HistoryValue) (keys : List ℕ) → IsHistory h.opening.threads h.calls → (marks : List Mark) → AreMarks h.calls marks → (k : ℕ)

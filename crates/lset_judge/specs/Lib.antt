@@ -5,3 +5,4 @@ pub mod Marks
 pub mod Code
 pub mod Locality
 pub mod Window
+pub mod Overlap

@@ -1,15 +1,17 @@
 -- The marks of calls: the moments at which something may happen of a key, and the rule on the marks of one key.
 use Rattle.std.specs.Prelude.{◌≡◌, ◌≢◌, ℕ, suc, ◌-◌, ◌==◌, ◌<◌, ◌≤◌, ◌⊎◌, Bool, List, [], ◌∷◌, ◌++◌, length, Option, Some, None, All, AllPairs}
-use Rattle.std.specs.Prelude.{Contains, slice_index_or}
+use Rattle.std.specs.Prelude.{Contains, slice_index_or, ◌+◌, false, map, take, IfSome}
 use Rattle.std.specs.List.{list_any}
 use Rattle.lset_words.specs.declared.Reply.{Reply}
 use Rattle.lset_words.specs.declared.history.CallRecord.{CallRecord}
 use Rattle.lset_words.specs.Words.{key_of}
+use Rattle.lset_words.specs.SequentialSet.{has_key}
 use Rattle.lset_words.specs.History.{call_numbered}
+use Rattle.lset_history.specs.History.{HistoryValue, latest_moment}
 use Rattle.lset_judge.specs.declared.marks.Mark.{Mark}
 use Rattle.lset_judge.specs.declared.verdict.Refusal.{Refusal}
-use Rattle.lset_judge.specs.Rule.{Event, State, found, entered}
-use Rattle.lset_judge.specs.Events.{Kind, changes, sees, nothing, kind_if, event_in}
+use Rattle.lset_judge.specs.Rule.{Event, State, found, entered, ruled, opened}
+use Rattle.lset_judge.specs.Events.{Kind, changes, sees, nothing, kind_if, event_in, event_at, events_on, rule_explains}
 
 -- ---- the marks
 
@@ -66,6 +68,24 @@ noted_at latest calls m = (m.moment - 1, event_in latest (call_numbered calls m.
 
 abbrev pub no_mark : Mark
 no_mark = record { key = 0; moment = 0; call = 0 }
+
+-- the rule fails at the mark of a moment
+pub record FailsAt (state : State) (latest : ℕ) (calls : List CallRecord) (run : List Mark) (moment : ℕ) : Type 0 where
+  pub place : ℕ
+  pub inside : place < length run
+  pub there : (slice_index_or run place no_mark).moment ≡ moment
+  pub fails : ruled_on (Some state) (map (noted_at latest calls) (take (place + 1) run)) ≡ None
+
+-- the rule fails on a key by a moment, whatever happens after it
+abbrev pub FailsBy : HistoryValue → ℕ → ℕ → Type 0
+FailsBy h key moment = (other : ℕ → Event) (left : Bool)
+    → ((m : ℕ) → m ≤ moment → other m ≡ event_at (latest_moment h.calls) key h.calls m)
+    → ruled 0 (Some (opened (has_key key h.opening.keys))) (events_on other left (latest_moment h.calls) 0) ≡ None
+
+-- the rule fails on the key of a refusal, and by its moment, if it has one
+pub record Refuses (h : HistoryValue) (keys : List ℕ) (r : Refusal) : Type 0 where
+  pub rule : rule_explains h keys r.key.0 ≡ false
+  pub by : IfSome r.moment (FailsBy h r.key.0)
 
 -- the marks from one place to before another are of one key, and the next one is of another key
 pub record IsRunEnd (marks : List Mark) (start end : ℕ) : Type 0 where

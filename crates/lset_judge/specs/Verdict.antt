@@ -1,13 +1,17 @@
 -- WHAT THE JUDGE SAYS of a history of calls and the keys left, and which histories it decides.
-use Rattle.std.specs.Prelude.{◌≡◌, ℕ, ◌≤◌, ◌==◌, ◌&&◌, Bool, true, false, List, Option, Some, None, All, IfSome, count_by}
+use Rattle.std.specs.Prelude.{◌≡◌, ℕ, ◌≤◌, ◌==◌, ◌&&◌, nat_le, if◌then◌else◌, Bool, true, false, List, [], ◌∷◌, filter, length}
+use Rattle.std.specs.Prelude.{Option, Some, None, All, IfSome, count_by}
 use Rattle.lset_words.specs.declared.Call.{Call}
 use Rattle.lset_words.specs.declared.Call.TheVariants.{Add, Remove, Contains, Ceiling}
 use Rattle.lset_words.specs.declared.Reply.{Reply}
 use Rattle.lset_words.specs.declared.Reply.TheVariants.{True, False, Full, At, Nothing}
 use Rattle.lset_words.specs.declared.history.CallRecord.{CallRecord}
 use Rattle.lset_words.specs.declared.history.Placed.{Placed}
-use Rattle.lset_history.specs.History.{HistoryValue}
+use Rattle.lset_words.specs.Words.{key_of}
+use Rattle.lset_words.specs.SequentialSet.{has_key}
+use Rattle.lset_history.specs.History.{HistoryValue, latest_moment}
 use Rattle.lset_history.specs.Faults.{Explains}
+use Rattle.lset_judge.specs.declared.verdict.Refusal.{Refusal}
 use Rattle.lset_judge.specs.declared.verdict.Verdict.{Verdict}
 use Rattle.lset_judge.specs.declared.verdict.Verdict.TheVariants.{Linearizable, NotLinearizable, Undecided}
 
@@ -56,11 +60,51 @@ may_add (Ceiling k) ended = false
 abbrev pub adds_of : ℕ → List CallRecord → ℕ
 adds_of thread calls = count_by (λ (x : CallRecord). may_add x.call x.ended && x.thread == thread) calls
 
+-- each call that ended answered true or false, and none of them is a ceiling
+abbrev pub IsPlain : List CallRecord → Type 0
+IsPlain calls = All (λ (x : CallRecord). IfSome x.ended (λ (e : ℕ × Reply). is_plain x.call e.1 ≡ true)) calls
+
 -- THE JUDGE DECIDES a history if each call that ended answered true or false, and none of them is a ceiling, and if each thread has
 -- quota for its adds that put their keys in, or may
 pub record IsJudged (h : HistoryValue) : Type 0 where
-  pub plain : All (λ (x : CallRecord). IfSome x.ended (λ (e : ℕ × Reply). is_plain x.call e.1 ≡ true)) h.calls
+  pub plain : IsPlain h.calls
   pub room : (thread : ℕ) → adds_of thread h.calls ≤ h.opening.quota
+
+-- a history under another quota
+abbrev pub with_quota : ℕ → HistoryValue → HistoryValue
+with_quota quota h = record {
+  opening = record { threads = h.opening.threads; quota = quota; keys = h.opening.keys };
+  calls = h.calls;
+}
+
+-- ---- WHAT A REFUSAL SAYS
+
+-- the calls of a key that begin by a moment, each with its end and its reply
+abbrev pub calls_by : ℕ → ℕ → List CallRecord → List CallRecord
+calls_by key moment calls = filter (λ (x : CallRecord). (key_of x.call).0 == key && nat_le x.begun moment) calls
+
+-- these calls alone, of a set that opens with the key, or without it, as the history does
+abbrev pub of_key : ℕ → ℕ → HistoryValue → HistoryValue
+of_key key moment h = record {
+  opening = record {
+    threads = h.opening.threads;
+    quota = h.opening.quota;
+    keys = if has_key key h.opening.keys then key ∷ [] else [];
+  };
+  calls = calls_by key moment h.calls;
+}
+
+-- under any quota, no order explains the calls of the key that begin by the moment, whichever keys it leaves; without a moment, none
+-- explains all calls of the key and leaves the key as it is left
+abbrev pub IsRefusedBy : HistoryValue → List ℕ → ℕ → Option ℕ → Type 0
+IsRefusedBy h keys key (Some moment) = (quota : ℕ) (left : List ℕ) → IsUnexplained (of_key key moment (with_quota quota h)) left
+IsRefusedBy h keys key None = (quota : ℕ) (left : List ℕ) → has_key key left ≡ has_key key keys
+    → IsUnexplained (of_key key (latest_moment h.calls) (with_quota quota h)) left
+
+abbrev pub IsRefused : HistoryValue → List ℕ → Refusal → Type 0
+IsRefused h keys refusal = IsRefusedBy h keys refusal.key.0 refusal.moment
+
+-- ---- WHAT A VERDICT SAYS
 
 -- a verdict says that some order explains the calls and leaves the keys, that none does, or that this is not a history that the judge
 -- decides
@@ -68,3 +112,14 @@ abbrev pub IsVerdict : HistoryValue → List ℕ → Verdict → Type 0
 IsVerdict h keys Linearizable = IsExplained h keys
 IsVerdict h keys (NotLinearizable refusal) = IsUnexplained h keys
 IsVerdict h keys Undecided = IsJudged h → ⊥
+
+-- a history of a set without a quota: each thread has room for all calls
+abbrev pub without_quota : HistoryValue → HistoryValue
+without_quota h = with_quota (length h.calls) h
+
+-- a verdict without a quota says the same of a set that has none; its refusals hold under any quota, and it decides each history of which the
+-- ended calls answered true or false, and none is a ceiling
+abbrev pub IsVerdictWithoutQuota : HistoryValue → List ℕ → Verdict → Type 0
+IsVerdictWithoutQuota h keys Linearizable = IsExplained (without_quota h) keys
+IsVerdictWithoutQuota h keys (NotLinearizable refusal) = ((quota : ℕ) → IsUnexplained (with_quota quota h) keys) × IsRefused h keys refusal
+IsVerdictWithoutQuota h keys Undecided = IsPlain h.calls → ⊥

@@ -1,6 +1,8 @@
 -- A FEW CALLS OF ONE KEY that no order explains, from a state of the key.
-use Rattle.std.specs.Prelude.{◌≡◌, ℕ, ◌<◌, ◌==◌, ◌&&◌, nat_le, if◌then◌else◌, Bool, List, [], ◌∷◌, map, filter, length, All, AllPairs}
-use Rattle.std.specs.Prelude.{Option, IfSome}
+use Rattle.std.specs.Prelude.{◌≡◌, ℕ, ◌<◌, ◌==◌, ◌&&◌, nat_lt, if◌then◌else◌, Bool, true, false, List, [], ◌∷◌, map, length, All, AllPairs}
+use Rattle.std.specs.Prelude.{Option, Some, None, IfSome}
+use Rattle.lset_words.specs.declared.Call.{Call}
+use Rattle.lset_words.specs.declared.Call.TheVariants.{Add, Remove, Contains, Ceiling}
 use Rattle.lset_words.specs.declared.Key.{Key}
 use Rattle.lset_words.specs.declared.history.CallRecord.{CallRecord}
 use Rattle.lset_words.specs.declared.history.Placed.{Placed}
@@ -9,8 +11,9 @@ use Rattle.lset_words.specs.SequentialSet.{has_key}
 use Rattle.lset_words.specs.History.{IsHistory, call_numbered}
 use Rattle.lset_history.specs.History.{HistoryValue}
 use Rattle.lset_history.specs.Faults.{Explains}
+use Rattle.lset_judge.specs.declared.verdict.Refusal.{Refusal}
 use Rattle.lset_judge.specs.declared.window.Window.{Window}
-use Rattle.lset_judge.specs.Verdict.{IsUnexplained}
+use Rattle.lset_judge.specs.Verdict.{IsUnexplained, is_true_or_open, with_quota, of_key}
 
 -- the calls with these numbers
 abbrev pub calls_numbered : List CallRecord → List ℕ → List CallRecord
@@ -34,24 +37,44 @@ pub record ShowsNone (h : HistoryValue) (w : Window) : Type 0 where
   pub own : All (λ (n : ℕ). key_of (call_numbered h.calls n).call ≡ w.key) w.calls.items
   pub none : (keys : List ℕ) → IfSome w.left (λ left. has_key w.key.0 keys ≡ left) → IsUnexplained (alone h w) keys
 
--- the calls of a key that begin by a moment
-abbrev pub calls_by : ℕ → ℕ → List CallRecord → List CallRecord
-calls_by key moment calls = filter (λ (x : CallRecord). (key_of x.call).0 == key && nat_le x.begun moment) calls
-
--- those of the window's key up to its moment, alone, of a set that opens with the key, or without it, as the history does
-abbrev pub so_far : HistoryValue → Window → HistoryValue
-so_far h w = record {
-  opening = record {
-    threads = h.opening.threads;
-    quota = h.opening.quota;
-    keys = if has_key w.key.0 h.opening.keys then w.key.0 ∷ [] else [];
-  };
-  calls = calls_by w.key.0 w.since h.calls;
-}
-
 -- each order of the calls of the key that begin by the window's moment leaves the key there, or not, as the window has it
 abbrev pub IsForced : HistoryValue → Window → Type 0
-IsForced h w = (order : List Placed) (keys : List ℕ) → Explains (so_far h w) order keys → has_key w.key.0 keys ≡ w.there
+IsForced h w = (order : List Placed) (keys : List ℕ) → Explains (of_key w.key.0 w.since h) order keys → has_key w.key.0 keys ≡ w.there
+
+-- an add or a remove
+abbrev pub may_change : Call → Bool
+may_change (Add k) = true
+may_change (Remove k) = true
+may_change (Contains k) = false
+may_change (Ceiling k) = false
+
+-- a call of the key that begins after a moment, and changes the key, or may: it answered true, or is open
+abbrev pub changes_after : ℕ → ℕ → CallRecord → Bool
+changes_after key moment x = (key_of x.call).0 == key && nat_lt moment x.begun && may_change x.call && is_true_or_open x.ended
+
+-- if it has no calls, none after its moment changes its key
+abbrev pub IsWhole : HistoryValue → Window → Type 0
+IsWhole h w = w.calls.items ≡ [] → All (λ (x : CallRecord). changes_after w.key.0 w.since x ≡ false) h.calls
+
+-- how the key of a refusal is left, if that is what has no order
+abbrev pub left_by : List ℕ → ℕ → Option ℕ → Option Bool
+left_by keys key (Some moment) = None
+left_by keys key None = Some (has_key key keys)
+
+-- under any quota
+abbrev pub ShowsNoneAtAll : HistoryValue → Window → Type 0
+ShowsNoneAtAll h w = (quota : ℕ) → ShowsNone (with_quota quota h) w
+
+abbrev pub IsForcedAtAll : HistoryValue → Window → Type 0
+IsForcedAtAll h w = (quota : ℕ) → IsForced (with_quota quota h) w
+
+-- the window of a refusal has its key, and how the key is left, if that is what has no order; and what it shows holds under any quota
+pub record IsWindowOf (h : HistoryValue) (keys : List ℕ) (refusal : Refusal) (w : Window) : Type 0 where
+  pub key_is : w.key ≡ refusal.key
+  pub left_is : w.left ≡ left_by keys refusal.key.0 refusal.moment
+  pub shows : ShowsNoneAtAll h w
+  pub forced : IsForcedAtAll h w
+  pub whole : IfSome w.left (λ left. IsWhole h w)
 
 -- ---- what the functions on the way say
 
@@ -60,6 +83,11 @@ pub record AreChosen (calls : List CallRecord) (numbers : List ℕ) (key : Key) 
   pub known : All (λ (n : ℕ). n < length calls) numbers
   pub own : All (λ (n : ℕ). key_of (call_numbered calls n).call ≡ key) numbers
   pub rising : AllPairs (λ (m n : ℕ). m < n) numbers
+
+-- the moment of a refusal, or the latest one
+abbrev pub moment_or : ℕ → Option ℕ → ℕ
+moment_or latest None = latest
+moment_or latest (Some moment) = moment
 
 -- no order explains these calls of a key alone
 abbrev pub HaveNone : List CallRecord → ℕ → Bool → Option Bool → Type 0
@@ -82,3 +110,4 @@ pub record IsSameWindow (old new : Window) : Type 0 where
   pub key : new.key ≡ old.key
   pub since : new.since ≡ old.since
   pub there : new.there ≡ old.there
+  pub left : new.left ≡ old.left

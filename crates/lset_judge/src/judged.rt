@@ -1,12 +1,12 @@
 //! Which histories the judge decides.
 
 ghost use Rattle.std.specs.Prelude.{slice_index, length, ◌≡◌, ◌≤◌, ◌<◌, ◌^◌, ℕ, IsTrue, ◌↔◌, All, IfSome, true};
-ghost use Rattle.lset_judge.specs.Verdict.{is_truth, is_plain, is_true_or_open, may_add, adds_of, IsJudged};
+ghost use Rattle.lset_judge.specs.Verdict.{is_truth, is_plain, is_true_or_open, may_add, adds_of, IsPlain, IsJudged};
 
 use lset_history::History;
 use lset_words::{Call, CallRecord, MOST_THREADS, Reply};
 
-fn is_plain(call: Call, reply: Reply) -> bool
+fn is_answer(call: Call, reply: Reply) -> bool
     ensures { result ≡ is_plain call reply }
 {
     match (call, reply) {
@@ -23,7 +23,7 @@ fn ends_plain(call_record: &CallRecord) -> bool
     ensures { IsTrue result ↔ IfSome call_record.now.ended (λ e. is_plain call_record.now.call e.1 ≡ true) }
 {
     match call_record.ended {
-        Some((_, reply)) => is_plain(call_record.call, reply),
+        Some((_, reply)) => is_answer(call_record.call, reply),
         None => true,
     }
 }
@@ -38,7 +38,6 @@ fn may_add(call_record: &CallRecord) -> bool
     }
 }
 
-/// Whether each ended call answered true or false, and none of them is a `ceiling`.
 fn all_plain(calls: &[CallRecord]) -> bool
     ensures { IsTrue result ↔ All (λ x. IfSome x.ended (λ e. is_plain x.call e.1 ≡ true)) calls.now }
 {
@@ -74,10 +73,18 @@ fn has_room(history: &History) -> bool
     are_within(&counted_adds(history.calls()), quota)
 }
 
+/// Whether each call of a history that has ended answered true or false, and none of them is a `ceiling`: the judge decides it, if each
+/// thread has quota for its adds. It takes no memory.
+pub fn is_plain(history: &History) -> bool
+    ensures { IsTrue result ↔ IsPlain history.now.calls }
+{
+    all_plain(history.calls())
+}
+
 /// Whether the judge decides a history, so that `judge` does not answer `Undecided`: if each call that has ended answered true or false,
 /// and none is a `ceiling`; and if each thread has quota for all its `add`s that answered true or have not ended. It takes no memory.
 pub fn is_judged(history: &History) -> bool
     ensures { IsTrue result ↔ IsJudged history.now }
 {
-    all_plain(history.calls()) && has_room(history)
+    is_plain(history) && has_room(history)
 }

@@ -7,9 +7,9 @@ ghost use Rattle.lset_words.specs.History.{IsHistory};
 ghost use Rattle.lset_history.specs.History.{latest_moment};
 ghost use Rattle.lset_judge.specs.Rule.{leaves, opened};
 ghost use Rattle.lset_judge.specs.Events.{rule_explains};
-ghost use Rattle.lset_judge.specs.Marks.{ruled_on, noted_at, AreMarks, has_mark, no_mark, IsOneOf};
+ghost use Rattle.lset_judge.specs.Marks.{ruled_on, noted_at, AreMarks, has_mark, no_mark, IsOneOf, FailsAt, Refuses};
 ghost use Rattle.lset_judge.specs.Code.{state_of};
-ghost use Rattle.lset_judge.specs.Verdict.{IsJudged, IsExplained, IsUnexplained};
+ghost use Rattle.lset_judge.specs.Verdict.{IsJudged, IsExplained, IsUnexplained, IsRefused, with_quota};
 
 use crate::Refusal;
 use crate::event::{Event, event_of};
@@ -28,8 +28,9 @@ pub(crate) fn walk(
     run: &[Mark],
 ) -> Result<Option<u32>, AllocError>
     requires known { All (λ m. m.call < length calls.now) run.now }
-    ensures { IfOk result (λ failed. ruled_on (Some (state_of state.old)) (map (noted_at latest calls.now) run.now)
+    ensures walked { IfOk result (λ failed. ruled_on (Some (state_of state.old)) (map (noted_at latest calls.now) run.now)
         ≡ (if is_none failed then Some (state_of state.new) else None)) }
+    ensures failed { IfOk result (λ failed. IfSome failed (FailsAt (state_of state.old) latest calls.now run.now)) }
 {
     for mark in run {
         let event = event_of(&calls[mark.call as usize], mark.moment, latest);
@@ -56,6 +57,8 @@ fn judge_run(
         ≡ is_some (ruled_on (Some (opened (has_key key history.now.opening.keys)))
         (map (noted_at latest history.now.calls) run.now ++ (latest, leaves (has_key key keys.now)) ∷ []))) }
     ensures key { IfOk result (λ refused. IfSome refused (λ refusal. refusal.key.0 ≡ (slice_index_or run.now 0 no_mark).key)) }
+    ensures at { let key = (slice_index_or run.now 0 no_mark).key in IfOk result (λ refused. IfSome refused (λ refusal. IfSome refusal.moment
+        (FailsAt (opened (has_key key history.now.opening.keys)) latest history.now.calls run.now))) }
 {
     let key = run[0].key;
     let mut state = KeyState::opened(alloc, is_among(history.opening(), key));
@@ -121,7 +124,7 @@ fn first_of_runs(
     requires marks { AreMarks history.now.calls marks.now }
     ensures { IfOk result (λ refused. MatchOption refused
         ((k : ℕ) → has_mark k marks.now ≡ true → rule_explains history.now keys.now k ≡ true)
-        (λ refusal. rule_explains history.now keys.now refusal.key.0 ≡ false)) }
+        (Refuses history.now keys.now)) }
 {
     let calls = history.calls();
     let latest = latest_moment(calls);
@@ -143,7 +146,8 @@ fn first_unmarked(opening: &[u32], keys: &[u32], marks: &[Mark]) -> Option<Refus
     requires sorted { IsNonDecreasingBy (λ m. m.key) marks.now }
     ensures { MatchOption result
         ((k : ℕ) → has_mark k marks.now ≡ false → has_key k keys.now ≡ has_key k opening.now)
-        (λ refusal. (has_mark refusal.key.0 marks.now ≡ false) × (has_key refusal.key.0 keys.now ≢ has_key refusal.key.0 opening.now)) }
+        (λ refusal. (has_mark refusal.key.0 marks.now ≡ false) × (has_key refusal.key.0 keys.now ≢ has_key refusal.key.0 opening.now)
+        × (refusal.moment ≡ None)) }
 {
     let key = match lost_key(opening, keys, marks) {
         Some(key) => key,
@@ -155,8 +159,9 @@ fn first_unmarked(opening: &[u32], keys: &[u32], marks: &[Mark]) -> Option<Refus
     })
 }
 
-/// Why no order explains the history and leaves the keys: the first moment up to which the calls of a key have no order, in a history
-/// with `ceiling` and `full` too. If there is none and the judge decides the history (`is_judged`), some order explains it.
+/// Why no order explains the history and leaves the keys: a key, and the moment up to which its calls have no order, the first that the
+/// rule finds; in a history with `ceiling` and `full` too, and under any quota. If there is none and the judge decides the history
+/// (`is_judged`), under its own quota or another, some order explains it.
 ///
 /// `keys` are the keys left; they rise. It sorts the moments of the calls once, and goes over them once: n log n steps for n calls.
 pub fn first_refused(
@@ -167,6 +172,11 @@ pub fn first_refused(
     requires { IsStrictlyIncreasing keys.now }
     ensures refused { IfOk result (λ refused. IfSome refused (λ _. IsUnexplained history.now keys.now)) }
     ensures passed { IfOk result (λ refused. refused ≡ None → IsJudged history.now → IsExplained history.now keys.now) }
+    ensures told { IfOk result (λ refused. IfSome refused (IsRefused history.now keys.now)) }
+    ensures refused_at_all { IfOk result (λ refused. IfSome refused
+        (λ _. (quota : ℕ) → IsUnexplained (with_quota quota history.now) keys.now)) }
+    ensures passed_at_all { IfOk result (λ refused. refused ≡ None
+        → (quota : ℕ) → IsJudged (with_quota quota history.now) → IsExplained (with_quota quota history.now) keys.now) }
 {
     let marks = marks_of(alloc, history.calls())?;
     match first_of_runs(alloc, history, keys, &marks)? {

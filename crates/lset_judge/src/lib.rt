@@ -14,14 +14,16 @@ mod judged;
 mod judging;
 mod keys;
 mod marks;
+mod overlap;
 mod rule;
 mod verdict;
 mod window;
 
-pub use judged::is_judged;
+pub use judged::{is_judged, is_plain};
 pub use judging::first_refused;
-pub use verdict::{Refusal, Verdict, judge};
-pub use window::{Window, window_of};
+pub use overlap::overlapped;
+pub use verdict::{Refusal, Verdict, judge, judge_without_quota};
+pub use window::{Window, window_of, window_of_refusal};
 
 /// Locality: put each key of a recording into one of several parts, and into each part the calls, the opening keys and the keys left
 /// of its keys. Some order explains the recording exactly if some order explains each part. So if `judge` says of each part that it

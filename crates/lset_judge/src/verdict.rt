@@ -2,9 +2,9 @@
 
 ghost use Rattle.std.specs.Prelude.{IfOk};
 ghost use Rattle.std.specs.List.Sorted.{IsStrictlyIncreasing};
-ghost use Rattle.lset_judge.specs.Verdict.{IsVerdict};
+ghost use Rattle.lset_judge.specs.Verdict.{IsVerdict, IsVerdictWithoutQuota};
 
-use crate::{first_refused, is_judged};
+use crate::{first_refused, is_judged, is_plain};
 use lset_history::History;
 use lset_words::Key;
 use std::alloc::{AllocError, Global};
@@ -14,7 +14,8 @@ use std::alloc::{AllocError, Global};
 pub struct Refusal {
     /// The key whose calls have no order.
     pub key: Key,
-    /// The moment up to which they have none; `None` if they have one, and none that leaves the key as it is left.
+    /// The moment: the calls of the key that begin by then, with all their replies, have no order, whichever keys it leaves. `None` if
+    /// no order of all calls of the key leaves it as it is left.
     pub moment: Option<u32>,
 }
 
@@ -33,7 +34,7 @@ pub enum Verdict {
 /// if one does, and `NotLinearizable` exactly if none does, for each history that the judge decides (`is_judged`). Of any other it says
 /// `NotLinearizable` only if none does, and else `Undecided`.
 ///
-/// `keys` are the keys left; they rise. It fails only for want of memory, and takes some 12 bytes for each begin and end of a call.
+/// `keys` are the keys left; they rise. It fails only if memory is refused, and takes some 12 bytes for each begin and end of a call.
 /// (Linearizability is Herlihy and Wing's; that it is told in n log n steps for n calls of a set, this project's own.)
 pub fn judge(alloc: Global, history: &History, keys: &[u32]) -> Result<Verdict, AllocError>
     requires { IsStrictlyIncreasing keys.now }
@@ -42,6 +43,26 @@ pub fn judge(alloc: Global, history: &History, keys: &[u32]) -> Result<Verdict, 
     match first_refused(alloc, history, keys)? {
         Some(refusal) => Ok(Verdict::NotLinearizable(refusal)),
         None if is_judged(history) => Ok(Verdict::Linearizable),
+        None => Ok(Verdict::Undecided),
+    }
+}
+
+/// As `judge`, of a set without a quota: it decides each history of which the ended calls answered true or false, and none is a
+/// `ceiling` (`is_plain`), however many adds a thread makes. Of any other it says `NotLinearizable` only if no order explains it under
+/// any quota, and else `Undecided`.
+///
+/// `keys` are the keys left; they rise. It fails only if memory is refused, and takes as much as `judge`.
+pub fn judge_without_quota(
+    alloc: Global,
+    history: &History,
+    keys: &[u32],
+) -> Result<Verdict, AllocError>
+    requires { IsStrictlyIncreasing keys.now }
+    ensures { IfOk result (IsVerdictWithoutQuota history.now keys.now) }
+{
+    match first_refused(alloc, history, keys)? {
+        Some(refusal) => Ok(Verdict::NotLinearizable(refusal)),
+        None if is_plain(history) => Ok(Verdict::Linearizable),
         None => Ok(Verdict::Undecided),
     }
 }

@@ -1,10 +1,27 @@
 //! The few calls that show why no order explains a history.
 
-ghost use Rattle.std.specs.Prelude.{◌≡◌, ◌<◌, ◌^◌, ℕ, All, IfOk, IfSome, OnOk, IsTrue, length};
+ghost use Rattle.std.specs.Prelude.{◌≡◌, ◌↔◌, ◌<◌, ◌^◌, ℕ, All, IfOk, IfSome, OnOk, IsTrue, false, length, []};
 ghost use Rattle.std.specs.List.Sorted.{IsStrictlyIncreasing};
 ghost use Rattle.lset_words.specs.Words.{key_of};
 ghost use Rattle.lset_words.specs.History.{IsHistory};
-ghost use Rattle.lset_judge.specs.Window.{AreChosen, HaveNone, ShowsNone, calls_by, LeaveIt, IsForced, IsSameWindow};
+ghost use Rattle.lset_judge.specs.Verdict.{calls_by, is_true_or_open, IsRefused};
+ghost use Rattle.lset_judge.specs.Window.{
+  AreChosen,
+  HaveNone,
+  ShowsNone,
+  ShowsNoneAtAll,
+  LeaveIt,
+  IsForced,
+  IsForcedAtAll,
+  IsSameWindow,
+  IsWhole,
+  IsWindowOf,
+  calls_numbered,
+  changes_after,
+  left_by,
+  may_change,
+  moment_or,
+};
 
 use crate::Refusal;
 use crate::event::{Event, Kind, event_of, kind_of};
@@ -13,13 +30,13 @@ use crate::keys::is_among;
 use crate::marks::{Mark, latest_moment, marks_of};
 use crate::rule::KeyState;
 use lset_history::History;
-use lset_words::{CallRecord, Key};
+use lset_words::{Call, CallRecord, Key, Reply};
 use std::alloc::{AllocError, Global};
 
 /// How many calls are looked at, at most, to find superfluous ones.
 const MOST_TRIED: u64 = 1 << 22;
 
-/// How many windows are tried: the last one begins as the set opens.
+/// How many windows are tried, before the one that begins as the set opens.
 const MOST_WINDOWS: u32 = 32;
 
 /// A few calls of one key that no order explains, from a moment at which no change of the key is pending.
@@ -87,7 +104,7 @@ fn have_none(
 
 /// Whether a window shows that no order explains a history.
 fn shows_none(alloc: Global, history: &History, window: &Window) -> Result<bool, AllocError>
-    ensures { IfOk result (λ shows. IsTrue shows → ShowsNone history.now window.now) }
+    ensures { IfOk result (λ shows. IsTrue shows → ShowsNoneAtAll history.now window.now) }
 {
     let calls = history.calls();
     match chosen(alloc, calls, &window.calls, window.key)? {
@@ -143,7 +160,7 @@ fn left_by(
 
 /// Whether each order of the calls before a window leaves its key as the window has it.
 fn is_forced(alloc: Global, history: &History, window: &Window) -> Result<bool, AllocError>
-    ensures { IfOk result (λ forced. IsTrue forced → IsForced history.now window.now) }
+    ensures { IfOk result (λ forced. IsTrue forced → IsForcedAtAll history.now window.now) }
 {
     let opening = is_among(history.opening(), window.key.0);
     let before = calls_by(alloc, history.calls(), window.key, window.since)?;
@@ -242,8 +259,8 @@ fn without_looks(
 
 /// Leaves out calls that change nothing, where the others still have no order.
 fn shorten(alloc: Global, history: &History, window: &mut Window) -> Result<(), AllocError>
-    requires { ShowsNone history.now window.old }
-    ensures shows { OnOk result (ShowsNone history.now window.new) }
+    requires { ShowsNoneAtAll history.now window.old }
+    ensures shows { OnOk result (ShowsNoneAtAll history.now window.new) }
     ensures same { OnOk result (IsSameWindow window.old window.new) }
 {
     let mut budget = MOST_TRIED;
@@ -268,20 +285,72 @@ fn shorten(alloc: Global, history: &History, window: &mut Window) -> Result<(), 
     Ok(())
 }
 
-/// The calls that show why no order explains a history and leaves the keys, as `refusal` of `first_refused` has it: calls of its key, from
-/// the last moment at which no change of the key was pending, without those that change nothing and are not needed. These calls alone, from
-/// that state of the key, have no order; mostly they are two to four.
-///
-/// None if the refusal is not one of this history and these keys. It fails only for want of memory.
-pub fn window_of(
+fn may_change(call: Call) -> bool
+    ensures { result ≡ may_change call }
+{
+    matches!(call, Call::Add(_) | Call::Remove(_))
+}
+
+fn is_true_or_open(ended: Option<(u32, Reply)>) -> bool
+    ensures { result ≡ is_true_or_open ended }
+{
+    match ended {
+        None | Some((_, Reply::True)) => true,
+        Some((_, Reply::False | Reply::Full | Reply::At(_) | Reply::Nothing)) => false,
+    }
+}
+
+/// Whether a call of the key begins after a moment, and changes the key, or may.
+fn changes_after(key: Key, moment: u32, call_record: &CallRecord) -> bool
+    ensures { result ≡ changes_after key.0 moment call_record.now }
+{
+    call_record.call.key().0 == key.0
+        && moment < call_record.begun
+        && may_change(call_record.call)
+        && is_true_or_open(call_record.ended)
+}
+
+/// Whether no call changes the key after a moment.
+fn none_changes(calls: &[CallRecord], key: Key, moment: u32) -> bool
+    ensures { IsTrue result ↔ All (λ x. changes_after key.0 moment x ≡ false) calls.now }
+{
+    calls
+        .iter()
+        .all(|call_record| !changes_after(key, moment, call_record))
+}
+
+/// Whether a window has some call, or no call changes its key after its moment.
+fn is_whole(calls: &[CallRecord], window: &Window) -> bool
+    ensures { IsTrue result → window.now.calls.items ≡ []
+        → All (λ x. changes_after window.now.key.0 window.now.since x ≡ false) calls.now }
+{
+    if window.calls.is_empty() {
+        none_changes(calls, window.key, window.since)
+    } else {
+        true
+    }
+}
+
+/// How the key of a refusal is left, if that is what has no order.
+fn left_as(keys: &[u32], refusal: Refusal) -> Option<bool>
+    requires { IsStrictlyIncreasing keys.now }
+    ensures { result ≡ left_by keys.now refusal.key.0 refusal.moment }
+{
+    match refusal.moment {
+        Some(_) => None,
+        None => Some(is_among(keys, refusal.key.0)),
+    }
+}
+
+/// A window of few calls, if one is found: from the last moment at which no change of the key was pending, or else from an earlier one.
+fn short_window(
     alloc: Global,
     history: &History,
     keys: &[u32],
     refusal: Refusal,
 ) -> Result<Option<Window>, AllocError>
     requires { IsStrictlyIncreasing keys.now }
-    ensures shows { IfOk result (λ window. IfSome window (ShowsNone history.now)) }
-    ensures forced { IfOk result (λ window. IfSome window (IsForced history.now)) }
+    ensures { IfOk result (λ window. IfSome window (IsWindowOf history.now keys.now refusal)) }
 {
     let calls = history.calls();
     let key = refusal.key;
@@ -292,10 +361,7 @@ pub fn window_of(
     };
     let marks = marks_of(alloc, &own)?;
     let opening = is_among(history.opening(), key.0);
-    let left = match refusal.moment {
-        Some(_) => None,
-        None => Some(is_among(keys, key.0)),
-    };
+    let left = left_as(keys, refusal);
     let mut before = begin_of(&own, end);
     for tries in 0..MOST_WINDOWS {
         let (since, there) = last_quiet(alloc, &own, &marks, opening, before)?;
@@ -308,10 +374,106 @@ pub fn window_of(
         };
         if shows_none(alloc, history, &window)? && is_forced(alloc, history, &window)? {
             shorten(alloc, history, &mut window)?;
-            return Ok(Some(window));
+            if is_whole(calls, &window) {
+                return Ok(Some(window));
+            }
+            return Ok(None);
         }
         // A call that began before the window may be needed: the next one begins earlier, twice as far back each time.
         before = since.saturating_sub((1 << tries) - 1);
     }
     Ok(None)
+}
+
+/// The numbers of a key's calls that begin by a moment.
+fn numbers_by(
+    alloc: Global,
+    calls: &[CallRecord],
+    key: Key,
+    moment: u32,
+) -> Result<Vec<u32>, AllocError>
+    requires { length calls.now < 2 ^ 32 }
+    ensures known { IfOk result (λ found. All (λ n. n < length calls.now) found.items) }
+    ensures are { IfOk result (λ found. calls_numbered calls.now found.items ≡ calls_by key.0 moment calls.now) }
+{
+    let mut found = Vec::new(alloc);
+    for (number, call_record) in calls.iter().enumerate() {
+        if call_record.call.key().0 == key.0 && call_record.begun <= moment {
+            found.push(number as u32)?;
+        }
+    }
+    Ok(found)
+}
+
+fn moment_or(latest: u32, moment: Option<u32>) -> u32
+    ensures { result ≡ moment_or latest moment }
+{
+    match moment {
+        Some(moment) => moment,
+        None => latest,
+    }
+}
+
+/// All calls of a refusal's key up to its moment, from the opening on.
+fn whole_window(
+    alloc: Global,
+    history: &History,
+    keys: &[u32],
+    refusal: Refusal,
+) -> Result<Window, AllocError>
+    requires rising { IsStrictlyIncreasing keys.now }
+    requires refused { IsRefused history.now keys.now refusal }
+    ensures { IfOk result (IsWindowOf history.now keys.now refusal) }
+{
+    let calls = history.calls();
+    let there = is_among(history.opening(), refusal.key.0);
+    let left = left_as(keys, refusal);
+    let moment = moment_or(latest_moment(calls), refusal.moment);
+    let numbers = numbers_by(alloc, calls, refusal.key, moment)?;
+    Ok(Window {
+        key: refusal.key,
+        since: 0,
+        there,
+        left,
+        calls: numbers,
+    })
+}
+
+/// The calls that show why no order explains a history and leaves the keys, as a refusal of `first_refused` or `judge_without_quota` has
+/// it: calls of its key, from a moment at which each order of the calls before leaves the key there, or each not there. These calls alone,
+/// from that state of the key, have no order, or none that leaves it as it is left. Mostly they are two to four: they begin as no change of
+/// the key was pending, and those that change nothing and are not needed are left out. If there is none, no later call changes the key.
+///
+/// `keys` are the keys left, and `refusal` is the answer on this history and these keys. It fails only if memory is refused.
+pub fn window_of_refusal(
+    alloc: Global,
+    history: &History,
+    keys: &[u32],
+    refusal: Refusal,
+) -> Result<Window, AllocError>
+    requires rising { IsStrictlyIncreasing keys.now }
+    requires refused { IsRefused history.now keys.now refusal }
+    ensures { IfOk result (IsWindowOf history.now keys.now refusal) }
+{
+    match short_window(alloc, history, keys, refusal)? {
+        Some(window) => Ok(window),
+        None => whole_window(alloc, history, keys, refusal),
+    }
+}
+
+/// As `window_of_refusal`, of any refusal: the window if a short one is found. It fails only if memory is refused.
+pub fn window_of(
+    alloc: Global,
+    history: &History,
+    keys: &[u32],
+    refusal: Refusal,
+) -> Result<Option<Window>, AllocError>
+    requires { IsStrictlyIncreasing keys.now }
+    ensures shows { IfOk result (λ window. IfSome window (ShowsNone history.now)) }
+    ensures forced { IfOk result (λ window. IfSome window (IsForced history.now)) }
+{
+    match short_window(alloc, history, keys, refusal)? {
+        Some(window) => Ok(Some(window)),
+        None => Ok(None),
+    }
 }

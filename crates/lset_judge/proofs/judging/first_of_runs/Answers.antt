@@ -14,7 +14,8 @@ loop-start-preserved c =
       judged = so_far h keys c.calls-calls.ensures.history marks c.requires.marks c.loop-start.start c.run_end-end.result run c.loop-start.invariant.apart
           c.latest_moment-latest.result
           (c.latest_moment-latest.ensures ∙ ap latest_moment c.calls-calls.ensures.value) c.loop-start.first c.in_ok-found.found c.earlier-first.result
-          c.earlier-first.ensures c.loop-start.invariant.judged c.in_ok-found.ensures.judged c.in_ok-found.ensures.key;
+          c.earlier-first.ensures c.loop-start.invariant.judged c.in_ok-found.ensures.judged c.in_ok-found.ensures.key
+          c.in_ok-found.ensures.at;
     }
 
 pub returns : goal.returns

@@ -1,8 +1,7 @@
-use Rattle.std.proofs.Common.{◌≡◌, ℕ, ◌<◌, ◌≤◌, ◌-◌, true, false, length, get_or}
+use Rattle.std.proofs.Common.{◌≡◌, ℕ, ◌<◌, ◌≤◌, ◌-◌, true, length, get_or}
 use Rattle.std.specs.Prelude.{MatchOption}
-use Rattle.lset_judge.specs.declared.verdict.Refusal.{Refusal}
 use Rattle.lset_judge.specs.Events.{rule_explains}
-use Rattle.lset_judge.specs.Marks.{no_mark}
+use Rattle.lset_judge.specs.Marks.{no_mark, Refuses}
 use Rattle.lset_judge.proofs.judging.first_of_runs.Given as goal
 
 abbrev pub invariant-loop-start : goal.invariant-loop-start
@@ -11,7 +10,7 @@ invariant-loop-start l = record {
   apart : (i j : ℕ) → i < l.start → l.start ≤ j → j < length l.marks → (get_or l.marks i no_mark).key < (get_or l.marks j no_mark).key;
   judged : MatchOption l.first
       ((i : ℕ) → i < l.start → rule_explains l.history l.keys (get_or l.marks i no_mark).key ≡ true)
-      (λ (r : Refusal). rule_explains l.history l.keys r.key.0 ≡ false);
+      (Refuses l.history l.keys);
 }
 
 abbrev pub decreases-loop-start : goal.decreases-loop-start

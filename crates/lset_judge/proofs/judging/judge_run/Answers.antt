@@ -1,6 +1,8 @@
-use Rattle.std.proofs.Common.{◌∙◌, ap, sym, map}
+use Rattle.std.proofs.Common.{◌∙◌, ap, sym, subst, map}
+use Rattle.std.specs.Prelude.{IfSome}
 use Rattle.lset_words.specs.SequentialSet.{has_key}
-use Rattle.lset_judge.specs.Marks.{noted_at}
+use Rattle.lset_judge.specs.Marks.{noted_at, FailsAt}
+use Rattle.lset_judge.specs.Rule.{opened}
 use Rattle.lset_judge.specs.Code.{state_of}
 use Rattle.lset_judge.proofs.Noting.{fails_there, goes_on_to}
 use Rattle.lset_judge.proofs.judging.judge_run.Goals as goal
@@ -10,7 +12,7 @@ returns-in-Some-clause-judged c =
     fails_there c.is_among.result _ (state_of c.opened-state.result) (state_of c.walk.new.state)
     (map (noted_at c.args.latest c.calls.result.now) c.args.run.now) _ c.in_ok-moment.field-0 c.opened-state.ensures
     (c.is_among.ensures ∙ ap (has_key _) c.opening.ensures.value)
-    (ap (λ calls. map (noted_at c.args.latest calls) c.args.run.now) c.calls.ensures.value) c.in_ok-moment.ensures
+    (ap (λ calls. map (noted_at c.args.latest calls) c.args.run.now) c.calls.ensures.value) c.in_ok-moment.ensures.walked
     c.in-Some.moment _ c.in-Some.is
 
 pub returns-then-settle-clause-judged : goal.returns-then-settle-clause-judged
@@ -19,7 +21,7 @@ returns-then-settle-clause-judged c =
     goes_on_to c.is_among.result _ (state_of c.opened-state.result) (state_of c.walk.new.state)
     (map (noted_at c.args.latest c.calls.result.now) c.args.run.now) _ c.in_ok-moment.field-0 c.opened-state.ensures
     (c.is_among.ensures ∙ ap (has_key _) c.opening.ensures.value)
-    (ap (λ calls. map (noted_at c.args.latest calls) c.args.run.now) c.calls.ensures.value) c.in_ok-moment.ensures
+    (ap (λ calls. map (noted_at c.args.latest calls) c.args.run.now) c.calls.ensures.value) c.in_ok-moment.ensures.walked
     c.settle.result c.is_among-in-None.result _ (state_of c.settle.new.self) c.from.result c.args.latest c.in-None.is c.is_among-in-None.ensures c.from.ensures
     c.settle.ensures
 
@@ -29,6 +31,15 @@ returns-clause-judged c =
     goes_on_to c.is_among.result _ (state_of c.opened-state.result) (state_of c.walk.new.state)
     (map (noted_at c.args.latest c.calls.result.now) c.args.run.now) _ c.in_ok-moment.field-0 c.opened-state.ensures
     (c.is_among.ensures ∙ ap (has_key _) c.opening.ensures.value)
-    (ap (λ calls. map (noted_at c.args.latest calls) c.args.run.now) c.calls.ensures.value) c.in_ok-moment.ensures
+    (ap (λ calls. map (noted_at c.args.latest calls) c.args.run.now) c.calls.ensures.value) c.in_ok-moment.ensures.walked
     c.settle.result c.is_among-in-None.result _ (state_of c.settle.new.self) c.from.result c.args.latest c.in-None.is c.is_among-in-None.ensures c.from.ensures
     c.settle.ensures
+
+pub returns-in-Some-clause-at : goal.returns-in-Some-clause-at
+returns-in-Some-clause-at c =
+    let there : _ = c.is_among.ensures ∙ ap (has_key _) c.opening.ensures.value in
+    subst (λ b. FailsAt (opened b) c.args.latest c.args.history.now.calls c.args.run.now c.in-Some.moment) there
+    (subst (λ s. FailsAt s c.args.latest c.args.history.now.calls c.args.run.now c.in-Some.moment) c.opened-state.ensures
+    (subst (λ calls. FailsAt (state_of c.opened-state.result) c.args.latest calls c.args.run.now c.in-Some.moment) c.calls.ensures.value
+    (subst (λ o. IfSome o (FailsAt (state_of c.opened-state.result) c.args.latest c.calls.result.now c.args.run.now)) c.in-Some.is
+    c.in_ok-moment.ensures.failed)))

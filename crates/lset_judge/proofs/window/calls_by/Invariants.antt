@@ -1,5 +1,5 @@
 use Rattle.std.proofs.Common.{◌≡◌, take}
-use Rattle.lset_judge.specs.Window.{calls_by}
+use Rattle.lset_judge.specs.Verdict.{calls_by}
 use Rattle.lset_judge.proofs.window.calls_by.Given as goal
 
 abbrev pub invariant-loop-call_record : goal.invariant-loop-call_record

@@ -18,7 +18,7 @@ returns-in-Some c = λ _ threads quota keys history left.
     (map (noted_at c.latest_moment-latest.result calls) c.deref.result.now) (map (noted_at (latest_moment calls) calls) marks) c.in_ok-walk.field-0
     c.opened-state.ensures refl
     (ap (λ n. map (noted_at n calls) c.deref.result.now) latest ∙ ap (map (noted_at (latest_moment calls) calls)) c.deref.ensures.value)
-    c.in_ok-walk.ensures c.in-Some.field-0 _ c.in-Some.is))
+    c.in_ok-walk.ensures.walked c.in-Some.field-0 _ c.in-Some.is))
 
 pub returns-in-Some-left : goal.returns-in-Some-left
 returns-in-Some-left c = λ not_settled threads quota keys history left.
@@ -29,7 +29,7 @@ returns-in-Some-left c = λ not_settled threads quota keys history left.
     (map (noted_at c.latest_moment-latest.result calls) c.deref.result.now) (map (noted_at (latest_moment calls) calls) marks) c.in_ok-walk.field-0
     c.opened-state.ensures refl
     (ap (λ n. map (noted_at n calls) c.deref.result.now) latest ∙ ap (map (noted_at (latest_moment calls) calls)) c.deref.ensures.value)
-    c.in_ok-walk.ensures c.settle.result c.in-Some-left.left _ (state_of c.settle.new.self) c.from.result (latest_moment calls) c.in-None.is
+    c.in_ok-walk.ensures.walked c.settle.result c.in-Some-left.left _ (state_of c.settle.new.self) c.from.result (latest_moment calls) c.in-None.is
     (sym (subst (λ o. IfSome o (λ l. has_key c.args.key.0 keys ≡ l)) c.in-Some-left.is left)) (c.from.ensures ∙ latest) c.settle.ensures)
     ∙ is_not c.settle.result not_settled)
   where

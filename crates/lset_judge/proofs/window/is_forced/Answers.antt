@@ -4,7 +4,8 @@ use Rattle.lset_words.specs.declared.history.CallRecord.{CallRecord}
 use Rattle.lset_words.specs.SequentialSet.{has_key}
 use Rattle.lset_words.specs.Words.{key_of}
 use Rattle.lset_words.specs.History.{IsHistory}
-use Rattle.lset_judge.specs.Window.{calls_by, LeaveIt}
+use Rattle.lset_judge.specs.Verdict.{calls_by}
+use Rattle.lset_judge.specs.Window.{LeaveIt}
 use Rattle.lset_judge.proofs.Chosen.{by_history, by_own, by_few, same_bool}
 use Rattle.lset_judge.proofs.window.is_forced.Goals as goal
 
@@ -29,12 +30,12 @@ left_by-requires-clause-few c =
     omega (arith, same, few, all, calls)
 
 pub returns-in-Some : goal.returns-in-Some
-returns-in-Some c = λ equal order keys e.
+returns-in-Some c = λ equal quota order keys e.
     let h = c.args.history.now in let w = c.args.window.now in
     let is = c.deref.ensures.value ∙ c.in_ok-before.ensures ∙ ap (calls_by w.key.0 w.since) c.calls.ensures.value in
     let opens = c.is_among-opening.ensures ∙ ap (has_key w.key.0) c.opening.ensures.value in
     let left = subst (λ o. IfSome o (LeaveIt c.deref.result.now w.key.0 c.is_among-opening.result)) c.in-Some.is c.in_ok-there.ensures in
     let all = subst (λ cs. LeaveIt cs w.key.0 (has_key w.key.0 h.opening.keys) c.in-Some.there) is
     (subst (λ b. LeaveIt c.deref.result.now w.key.0 b c.in-Some.there) opens left) in
-    all h.opening.threads h.opening.quota order keys
+    all h.opening.threads quota order keys
     (by_history h.opening.threads w.key.0 w.since h.calls c.calls.ensures.history) e ∙ same_bool c.in-Some.there w.there equal

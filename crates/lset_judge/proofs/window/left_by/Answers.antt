@@ -15,5 +15,5 @@ returns-then-is_quiet c = λ threads quota order keys history e.
     (sym (ap (λ s. ruled_on (Some s) (map (noted_at (latest_moment calls) calls) marks)) c.opened-state.ensures)
     ∙ sym (ap (ruled_on (Some (state_of c.opened-state.result)))
     (ap (λ n. map (noted_at n calls) c.deref.result.now) latest ∙ ap (map (noted_at (latest_moment calls) calls)) c.deref.ensures.value))
-    ∙ c.in_ok-walk.ensures ∙ ap (λ o. if is_none o then Some t else None) c.in-None.is)
+    ∙ c.in_ok-walk.ensures.walked ∙ ap (λ o. if is_none o then Some t else None) c.in-None.is)
     quiet.0 quiet.1 e ∙ sym c.is_there.ensures
