@@ -46,8 +46,8 @@ is_true Full = false
 is_true (At k) = false
 is_true Nothing = false
 
--- A CALL CHANGES THE SET at its point where it is an add or a remove that has answered true, or that is open. Any other call changes
--- nothing, and its point is not used.
+-- A CALL CHANGES THE SET at its point, if it has one and is an add or a remove that answered true or is open. Any other call changes
+-- nothing; its point has to be a moment of its own all the same.
 abbrev pub changed_by : Call → Option ℕ → Option (ℕ × Reply) → Option ℕ
 changed_by call point None = if may_change call then point else None
 changed_by call point (Some end) = if may_change call && is_true end.1 then point else None

@@ -1,10 +1,11 @@
-ghost use Rattle.std.specs.Prelude.{◌≡◌, ℕ, length, map, All, IfOk, IfErr};
+ghost use Rattle.std.specs.Prelude.{◌≡◌, ℕ, length, map, All, OnOk, IfOk, IfErr};
 ghost use Rattle.std.specs.List.Sorted.{IsNonDecreasingBy, IsPermutation};
 ghost use Rattle.lset_words.specs.Log.{record_of};
 ghost use Rattle.lset_report.specs.Report as report;
 ghost use Rattle.lset_calls.specs.Calls.{AreCalls, view, traced};
-ghost use Rattle.lset_calls.specs.Clashes.{IsRefusal};
+ghost use Rattle.lset_calls.specs.Clashes.{IsRefusal, IsRefusedAt};
 ghost use Rattle.lset_calls.specs.Histories.{IsHistoryOf};
+ghost use Rattle.lset_calls.specs.Moments.{Nowhere};
 ghost use Rattle.lset_calls.specs.Reports.{IsUpTo, IsPlacedUpTo, contents, counts, IsReportOf};
 ghost use Rattle.lset_calls.specs.Sorted.{AreInTurn};
 
@@ -18,13 +19,14 @@ use lset_report::Report;
 use lset_words::{CallRecord, Placed};
 use std::alloc::{AllocError, Global};
 
-fn by_beginning(alloc: Global, calls: &[TimedCall]) -> Result<Vec<TimedCall>, AllocError>
-    ensures same { IfOk result (λ v. IsPermutation calls.now v.items) }
-    ensures sorted { IfOk result (λ v. IsNonDecreasingBy (λ x. x.begun) v.items) }
+/// Sorts calls by their begins, in place.
+fn by_beginning(calls: Vec<TimedCall>) -> Vec<TimedCall>
+    ensures same { IsPermutation calls.items result.items }
+    ensures sorted { IsNonDecreasingBy (λ x. x.begun) result.items }
 {
-    let mut sorted = Vec::from_slice(alloc, calls)?;
-    sorted.sort_by_key(|made| made.begun)?;
-    Ok(sorted)
+    let mut sorted = calls;
+    sorted.sort_unstable_by_key(|made| made.begun);
+    sorted
 }
 
 fn records_of(alloc: Global, calls: &[TimedCall]) -> Result<Vec<CallRecord>, AllocError>
@@ -54,6 +56,19 @@ fn order_of(alloc: Global, calls: &Calls, sorted: &[TimedCall]) -> Result<Vec<Pl
     in_order(alloc, sorted, &places)
 }
 
+/// Whether each call can stand beside those of the lines above.
+fn have_history(alloc: Global, calls: &Calls) -> Result<(), ClashFault>
+    requires { AreCalls (view calls.now) }
+    ensures accepted { OnOk result (Nowhere (IsRefusedAt (view calls.now)) (length calls.now.calls.items)) }
+    ensures refused { IfErr result (IsRefusal (view calls.now)) }
+{
+    let moments = moments_in_turn(alloc, calls)?;
+    match refusal(calls, &moments) {
+        Some(fault) => Err(fault),
+        None => Ok(()),
+    }
+}
+
 /// What was recorded of a set, without points: the history of its calls, and the keys that were left, as the text has them.
 #[derive(Drop)]
 pub struct Recording {
@@ -74,11 +89,8 @@ pub fn recording_of(alloc: Global, calls: Calls) -> Result<Recording, ClashFault
     // Else the first line that is refused, and why, or want of memory.
     ensures refused { IfErr result (IsRefusal (view calls)) }
 {
-    let moments = moments_in_turn(alloc, &calls)?;
-    if let Some(fault) = refusal(&calls, &moments) {
-        return Err(fault);
-    }
-    let sorted = by_beginning(alloc, &calls.calls)?;
+    have_history(alloc, &calls)?;
+    let sorted = by_beginning(calls.calls);
     let records = records_of(alloc, &sorted)?;
     Ok(Recording {
         history: History::from_calls(calls.threads, calls.quota, calls.opening, records),
@@ -102,11 +114,8 @@ pub fn report_of(alloc: Global, calls: Calls) -> Result<Report, ClashFault>
     // Else the first line that is refused, and why, or want of memory.
     ensures refused { IfErr result (IsRefusal (view calls)) }
 {
-    let moments = moments_in_turn(alloc, &calls)?;
-    if let Some(fault) = refusal(&calls, &moments) {
-        return Err(fault);
-    }
-    let sorted = by_beginning(alloc, &calls.calls)?;
+    have_history(alloc, &calls)?;
+    let sorted = by_beginning(Vec::from_slice(alloc, &calls.calls)?);
     let order = order_of(alloc, &calls, &sorted)?;
     let records = records_of(alloc, &sorted)?;
     Ok(Report {

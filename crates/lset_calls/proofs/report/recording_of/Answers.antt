@@ -13,25 +13,25 @@ use Rattle.lset_calls.proofs.report.recording_of.Goals as goal
 
 pub from_calls-requires-clause-history : goal.from_calls-requires-clause-history
 from_calls-requires-clause-history c =
-    let xs = c.in_ok-sorted.sorted.items in
+    let xs = c.by_beginning-sorted.result.items in
     let turn : AreInTurn (view c.args.calls) xs = record {
-      same = subst (λ (ys : List TimedCall). IsPermutation ys xs) c.deref-2.ensures.value c.in_ok-sorted.ensures.same;
-      rising = c.in_ok-sorted.ensures.sorted;
-      accepted = c.in_default.ensures;
+      same = c.by_beginning-sorted.ensures.same;
+      rising = c.by_beginning-sorted.ensures.sorted;
+      accepted = c.in_ok-have_history.ensures.accepted;
     } in
     subst (λ (rs : List CallRecord). IsHistory c.args.calls.threads rs)
-    (sym (c.in_ok-records.ensures ∙ ap (λ (ys : List TimedCall). map (λ x. record_of (traced x)) ys) c.deref-3.ensures.value))
+    (sym (c.in_ok-records.ensures ∙ ap (λ (ys : List TimedCall). map (λ x. record_of (traced x)) ys) c.deref.ensures.value))
     (is_history (view c.args.calls) xs c.requires turn)
 
 pub returns-clause-told : goal.returns-clause-told
 returns-clause-told c =
-    let xs = c.in_ok-sorted.sorted.items in
+    let xs = c.by_beginning-sorted.result.items in
     let turn : AreInTurn (view c.args.calls) xs = record {
-      same = subst (λ (ys : List TimedCall). IsPermutation ys xs) c.deref-2.ensures.value c.in_ok-sorted.ensures.same;
-      rising = c.in_ok-sorted.ensures.sorted;
-      accepted = c.in_default.ensures;
+      same = c.by_beginning-sorted.ensures.same;
+      rising = c.by_beginning-sorted.ensures.sorted;
+      accepted = c.in_ok-have_history.ensures.accepted;
     } in
     let is = c.from_calls.ensures in
     recorded (view c.args.calls) xs c.requires turn c.from_calls.result (ap (λ (h : HistoryValue). h.opening) is)
     (ap (λ (h : HistoryValue). h.calls) is ∙ c.in_ok-records.ensures
-    ∙ ap (λ (ys : List TimedCall). map (λ x. record_of (traced x)) ys) c.deref-3.ensures.value)
+    ∙ ap (λ (ys : List TimedCall). map (λ x. record_of (traced x)) ys) c.deref.ensures.value)

@@ -22,23 +22,23 @@ use Rattle.lset_calls.proofs.report.report_of.Goals as goal
 
 pub from_calls-requires-clause-history : goal.from_calls-requires-clause-history
 from_calls-requires-clause-history c =
-    let xs = c.in_ok-sorted.sorted.items in
+    let xs = c.by_beginning-sorted.result.items in
     let turn : AreInTurn (view c.args.calls) xs = record {
-      same = subst (λ (ys : List TimedCall). IsPermutation ys xs) c.deref-2.ensures.value c.in_ok-sorted.ensures.same;
-      rising = c.in_ok-sorted.ensures.sorted;
-      accepted = c.in_default.ensures;
+      same = subst (λ (ys : List TimedCall). IsPermutation ys xs) (c.in_ok-from_slice.ensures.items ∙ c.deref.ensures.value) c.by_beginning-sorted.ensures.same;
+      rising = c.by_beginning-sorted.ensures.sorted;
+      accepted = c.in_ok-have_history.ensures.accepted;
     } in
     subst (λ (rs : List CallRecord). IsHistory c.args.calls.threads rs)
-    (sym (c.in_ok-records.ensures ∙ ap (λ (ys : List TimedCall). map (λ x. record_of (traced x)) ys) c.deref-4.ensures.value))
+    (sym (c.in_ok-records.ensures ∙ ap (λ (ys : List TimedCall). map (λ x. record_of (traced x)) ys) c.deref-3.ensures.value))
     (is_history (view c.args.calls) xs c.requires turn)
 
 pub returns-clause-told : goal.returns-clause-told
 returns-clause-told c =
-    let xs = c.in_ok-sorted.sorted.items in
+    let xs = c.by_beginning-sorted.result.items in
     let turn : AreInTurn (view c.args.calls) xs = record {
-      same = subst (λ (ys : List TimedCall). IsPermutation ys xs) c.deref-2.ensures.value c.in_ok-sorted.ensures.same;
-      rising = c.in_ok-sorted.ensures.sorted;
-      accepted = c.in_default.ensures;
+      same = subst (λ (ys : List TimedCall). IsPermutation ys xs) (c.in_ok-from_slice.ensures.items ∙ c.deref.ensures.value) c.by_beginning-sorted.ensures.same;
+      rising = c.by_beginning-sorted.ensures.sorted;
+      accepted = c.in_ok-have_history.ensures.accepted;
     } in
     let keys = c.args.calls.opening.items in
     let version = c.least_version.result in
@@ -48,21 +48,21 @@ returns-clause-told c =
     } in
     let is : c.from_calls.result ≡ history = c.from_calls.ensures in
     let opening : HasOpening version keys =
-    subst (λ (ks : List ℕ). HasOpening version ks) c.deref-5.ensures.value c.least_version.ensures.words.0 in
+    subst (λ (ks : List ℕ). HasOpening version ks) c.deref-4.ensures.value c.least_version.ensures.words.0 in
     let words : HasWordsIn version history.calls c.in_ok-order.order.items =
-    subst (λ (rs : List CallRecord). HasWordsIn version rs c.in_ok-order.order.items) c.deref-6.ensures.value
-    (subst (λ (ps : List Placed). HasWordsIn version c.deref-6.result.now ps) c.deref-7.ensures.value
+    subst (λ (rs : List CallRecord). HasWordsIn version rs c.in_ok-order.order.items) c.deref-5.ensures.value
+    (subst (λ (ps : List Placed). HasWordsIn version c.deref-5.result.now ps) c.deref-6.ensures.value
     c.least_version.ensures.words.1) in
     let left = c.args.calls.keys.items in
     let room : length left ≤ most_keys version =
-    subst (λ (ks : List ℕ). length ks ≤ most_keys version) c.deref-8.ensures.value c.least_version.ensures.room in
+    subst (λ (ks : List ℕ). length ks ≤ most_keys version) c.deref-7.ensures.value c.least_version.ensures.room in
     let least : HasOpening One keys → HasWordsIn One history.calls c.in_ok-order.order.items → length left ≤ MOST_KEYS
     → version ≡ One =
     λ o w k. c.least_version.ensures.least
-    (subst (λ (ks : List ℕ). HasOpening One ks) (sym c.deref-5.ensures.value) o)
-    (subst (λ (rs : List CallRecord). HasWordsIn One rs c.deref-7.result.now) (sym c.deref-6.ensures.value)
-    (subst (λ (ps : List Placed). HasWordsIn One history.calls ps) (sym c.deref-7.ensures.value) w))
-    (subst (λ (ks : List ℕ). length ks ≤ MOST_KEYS) (sym c.deref-8.ensures.value) k) in
+    (subst (λ (ks : List ℕ). HasOpening One ks) (sym c.deref-4.ensures.value) o)
+    (subst (λ (rs : List CallRecord). HasWordsIn One rs c.deref-6.result.now) (sym c.deref-5.ensures.value)
+    (subst (λ (ps : List Placed). HasWordsIn One history.calls ps) (sym c.deref-6.ensures.value) w))
+    (subst (λ (ks : List ℕ). length ks ≤ MOST_KEYS) (sym c.deref-7.ensures.value) k) in
     let R : HistoryValue → ReportValue = λ h. record {
       version = version;
       kind = c.args.calls.kind;
@@ -77,8 +77,8 @@ returns-clause-told c =
     }) in
     reported (view c.args.calls) xs c.requires turn (R c.from_calls.result) has refl (ap (λ (h : HistoryValue). h.opening) is) refl
     (ap (λ (h : HistoryValue). h.calls) is ∙ c.in_ok-records.ensures
-    ∙ ap (λ (ys : List TimedCall). map (λ x. record_of (traced x)) ys) c.deref-4.ensures.value)
+    ∙ ap (λ (ys : List TimedCall). map (λ x. record_of (traced x)) ys) c.deref-3.ensures.value)
     (subst (λ (ys : List TimedCall). (last : ℕ) → All (IsUpTo last) (map traced ys)
     → IsPlacedUpTo last c.args.calls.quota (map traced ys) (contents keys (map traced ys)) (counts (map traced ys))
     c.in_ok-order.order.items)
-    c.deref-3.ensures.value c.in_ok-order.ensures)
+    c.deref-2.ensures.value c.in_ok-order.ensures)
