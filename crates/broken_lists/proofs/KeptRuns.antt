@@ -1,6 +1,6 @@
 -- From event to event of a run: what is kept, what is told, and how it ends.
 use Rattle.std.proofs.Common.{◌≡◌, ℕ, suc, ◌<◌, ◌≤◌, List, length, refl, sym, subst, ap, ◌∙◌, arith}
-use Rattle.std.specs.Prelude.{All, IfSome, Ok, Err}
+use Rattle.std.specs.Prelude.{All, Bool, Ok, Err}
 use Rattle.lset_words.specs.Words.{Opening}
 use Rattle.lset_text.specs.declared.words.Version.TheVariants.{Two}
 use Rattle.lset_history.specs.Changes.{moments_of}
@@ -25,7 +25,9 @@ use Rattle.lset_replay.proofs.Ranks.{stand_upto_later}
 use Rattle.broken_lists.specs.declared.world.BrokenStepError.{BrokenStepError}
 use Rattle.broken_lists.specs.Keeping.{kept_after}
 use Rattle.broken_lists.specs.BrokenRuns.{EndsAt, EndsFor, RunsAs, TellsEvent, kept_of}
-use Rattle.broken_lists.specs.Meeting.{keys_met, met}
+use Rattle.broken_lists.specs.Meeting.{KeepsMet, NotesMet, keys_met}
+use Rattle.broken_lists.proofs.MetKept.{told_met}
+use Rattle.lset_steps.specs.declared.world.ChainKey.{ChainKey}
 use Rattle.broken_lists.proofs.KeptLaws.{few_kept, later_kept}
 
 module _ (T : Table) (op : Opening) (events : List LineEvent) (k : ℕ) (w : WorldState) (r : Recorder)
@@ -43,9 +45,10 @@ module _ (T : Table) (op : Opening) (events : List LineEvent) (k : ℕ) (w : Wor
   module _ (next : LineEvent) (comes : ComesNext events k next) where
     pub told_more : (w' : WorldState) (r' : Recorder) (x : TracedEvent) → MadeEvent kept_after T next (suc k) w r x w' r'
         → StandUpTo k r.places.items → (StandUpTo (suc k) r.places.items → StandUpTo (suc k) r'.places.items)
-        → IfSome x.chain (λ c. c.items ≡ met w'.state.words)
-        → HasKept kept_after T op events (suc k) w' r' × StandUpTo (suc k) r'.places.items × TellsEvent T op events k x
-    told_more w' r' x made stood inside chain =
+        → (chains : Bool) (kept kept' : List ChainKey) → KeepsMet chains w.state.words kept → NotesMet chains w'.state.words kept x.chain kept'
+        → HasKept kept_after T op events (suc k) w' r' × StandUpTo (suc k) r'.places.items × TellsEvent T op events chains k x
+        × KeepsMet chains w'.state.words kept'
+    told_more w' r' x made stood inside chains kept kept' keeps notes =
         let stands : StandUpTo (suc k) r'.places.items =
         inside (stand_upto_later k (suc k) r.places.items stood (omega arith)) in (
           followed kept_after T op events k w r h next.event comes.event_is w' r' (told T w.state next.event) made.enabled
@@ -62,8 +65,9 @@ module _ (T : Table) (op : Opening) (events : List LineEvent) (k : ℕ) (w : Wor
             stood = stood;
             made = made;
             stands = stands;
-            chain = chain;
+            chain = (told_met chains w.state.words w'.state.words kept kept' x.chain keeps notes).1;
           },
+          (told_met chains w.state.words w'.state.words kept kept' x.chain keeps notes).0,
         )
 
     -- an event at which the run ends
@@ -81,13 +85,15 @@ module _ (T : Table) (op : Opening) (events : List LineEvent) (k : ℕ) (w : Wor
     }
 
 -- THE END of a run
-module _ (P : List TracedEvent → Type 0) (T : Table) (p : Plan) (op : Opening) (events : List LineEvent) (k : ℕ)
-    (op_is : op ≡ opening_in p) (events_are : events ≡ events_of p) (heard : IsHeard P (TellsEvent T op events) k) where
-  heard_there : IsHeard P (TellsEvent T (opening_in p) (events_of p)) k
-  heard_there = subst (λ es. IsHeard P (TellsEvent T (opening_in p) es) k) events_are
-      (subst (λ o. IsHeard P (TellsEvent T o events) k) op_is heard)
+module _ (P : List TracedEvent → Type 0) (T : Table) (p : Plan) (op : Opening) (events : List LineEvent) (told chains : Bool) (k : ℕ)
+    (op_is : op ≡ opening_in p) (events_are : events ≡ events_of p) (told_is : told ≡ chains)
+    (heard : IsHeard P (TellsEvent T op events told) k) where
+  heard_there : IsHeard P (TellsEvent T (opening_in p) (events_of p) chains) k
+  heard_there = subst (λ b. IsHeard P (TellsEvent T (opening_in p) (events_of p) b) k) told_is
+      (subst (λ es. IsHeard P (TellsEvent T (opening_in p) es told) k) events_are
+      (subst (λ o. IsHeard P (TellsEvent T o events told) k) op_is heard))
 
-  pub ends_early : (end : ℕ × BrokenStepError) → EndsAt T op events k end.0 end.1 → RunsAs P T p (Err end)
+  pub ends_early : (end : ℕ × BrokenStepError) → EndsAt T op events k end.0 end.1 → RunsAs P T p chains (Err end)
   ends_early end at = record {
     events = k;
     heard = heard_there;
@@ -98,7 +104,7 @@ module _ (P : List TracedEvent → Type 0) (T : Table) (p : Plan) (op : Opening)
   pub reports : (w : WorldState) (r : Recorder) → k ≡ length events → HasKept kept_after T op events k w r → (report : Report)
       → (view report).version ≡ Two → (view report).kind ≡ p.kind → (view report).history ≡ r.history
       → (view report).order ≡ blocks_upto r.places.items k → (view report).keys ≡ keys_met w.state.words
-      → RunsAs P T p (Ok report)
+      → RunsAs P T p chains (Ok report)
   reports w r all kept report version kind history order keys =
       let e : HasKept kept_after T (opening_in p) (events_of p) k w r =
       subst (λ es. HasKept kept_after T (opening_in p) es k w r) events_are

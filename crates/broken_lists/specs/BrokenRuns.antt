@@ -1,7 +1,8 @@
 -- THE RUN OF A BROKEN LIST: what is told of its events, and its report. Nothing is promised of what the run does.
-use Rattle.std.specs.Prelude.{◌≡◌, ◌⊎◌, ℕ, suc, ◌<◌, List, length, Result, Ok, Err, IfSome, MatchResult}
+use Rattle.std.specs.Prelude.{◌≡◌, ◌⊎◌, ℕ, suc, ◌<◌, Bool, List, length, Result, Ok, Err, MatchResult}
 use Rattle.lset_words.specs.Words.{Opening}
 use Rattle.lset_steps.specs.declared.Event.{Event}
+use Rattle.lset_steps.specs.declared.world.ChainKey.{ChainKey}
 use Rattle.lset_steps.specs.Steps.{Table, Run, Enabled, event_at, log_of, state_at, told}
 use Rattle.lset_steps.specs.Worlds.{WorldState}
 use Rattle.lset_schedule.specs.Plan.{Plan, opening_in}
@@ -22,7 +23,7 @@ use Rattle.broken_lists.specs.declared.world.BrokenStepError.{BrokenStepError}
 use Rattle.broken_lists.specs.declared.world.BrokenStepError.TheVariants as fault
 use Rattle.broken_lists.specs.BrokenSteps.{IsRefusedFor}
 use Rattle.broken_lists.specs.Keeping.{CanKeep, kept_after}
-use Rattle.broken_lists.specs.Meeting.{keys_met, met}
+use Rattle.broken_lists.specs.Meeting.{keys_met, TellsMet, NotesMet}
 
 -- what is kept after the first k events of a run
 abbrev pub kept_of : Table → Opening → List LineEvent → ℕ → Trace
@@ -33,15 +34,15 @@ abbrev pub EndsFor : Table → Opening → WorldState → Trace → ℕ → Even
 EndsFor T op w s moment e cause = IsRefusedFor T w e cause
     ⊎ ((cause ≡ fault.Lost) × Enabled w.state e × (CanKeep op moment (entry_told e (told T w.state e)) s → ⊥))
 
--- What comes of an event: it is made and told, also the chain, where that is told, and no call stands after it; or it is not, for
--- this cause.
-abbrev pub MakesEvent : Table → LineEvent → ℕ → WorldState → Recorder → Result TracedEvent BrokenStepError → WorldState → Recorder → Type 0
-MakesEvent T next moment w r result w' r' = MatchResult result (λ x. MadeEvent kept_after T next moment w r x w' r'
-    × (StandUpTo moment r.places.items → StandUpTo moment r'.places.items) × IfSome x.chain (λ c. c.items ≡ met w'.state.words))
+-- What comes of an event: it is made and told, with the chain, and no call stands after it; or it is not, for this cause.
+abbrev pub MakesEvent : Table → LineEvent → ℕ → WorldState → Recorder → Bool → List ChainKey → Result TracedEvent BrokenStepError → WorldState
+    → Recorder → List ChainKey → Type 0
+MakesEvent T next moment w r chains kept result w' r' kept' = MatchResult result (λ x. MadeEvent kept_after T next moment w r x w' r'
+    × (StandUpTo moment r.places.items → StandUpTo moment r'.places.items) × NotesMet chains w'.state.words kept x.chain kept')
     (λ cause. EndsFor T r.history.opening w (trace_of r) moment next.event cause)
 
 -- Event k of a run, counted from 0, is told.
-pub record TellsEvent (T : Table) (op : Opening) (events : List LineEvent) (k : ℕ) (x : TracedEvent) : Type 0 where
+pub record TellsEvent (T : Table) (op : Opening) (events : List LineEvent) (chains : Bool) (k : ℕ) (x : TracedEvent) : Type 0 where
   pub next : LineEvent
   pub comes : ComesNext events k next
   pub w : WorldState
@@ -52,7 +53,7 @@ pub record TellsEvent (T : Table) (op : Opening) (events : List LineEvent) (k : 
   pub stood : StandUpTo k r.places.items
   pub made : MadeEvent kept_after T next (suc k) w r x w' r'
   pub stands : StandUpTo (suc k) r'.places.items
-  pub chain : IfSome x.chain (λ c. c.items ≡ met w'.state.words)
+  pub chain : TellsMet chains w.state.words w'.state.words x.chain
 
 -- event k is the one at which the run ends
 pub record EndsAt (T : Table) (op : Opening) (events : List LineEvent) (k line : ℕ) (cause : BrokenStepError) : Type 0 where
@@ -79,8 +80,9 @@ abbrev pub EndsRun : Table → Plan → ℕ → Result Report (ℕ × BrokenStep
 EndsRun T p k (Ok r) = IsReportOfRun T p k (view r)
 EndsRun T p k (Err end) = EndsAt T (opening_in p) (events_of p) k end.0 end.1
 
--- THE RUN of a schedule: its events, told up to its end
-pub record RunsAs (HasHeard : List TracedEvent → Type 0) (T : Table) (p : Plan) (ending : Result Report (ℕ × BrokenStepError)) : Type 0 where
+-- THE RUN of a schedule: its events, told up to its end, with their chains or without
+pub record RunsAs (HasHeard : List TracedEvent → Type 0) (T : Table) (p : Plan) (chains : Bool) (ending : Result Report (ℕ × BrokenStepError))
+    : Type 0 where
   pub events : ℕ
-  pub heard : IsHeard HasHeard (TellsEvent T (opening_in p) (events_of p)) events
+  pub heard : IsHeard HasHeard (TellsEvent T (opening_in p) (events_of p) chains) events
   pub ends : EndsRun T p events ending

@@ -5,6 +5,9 @@ use Rattle.std.specs.BTreeSet.{insert_key}
 use Rattle.std.specs.Ordering.{nat_cmp}
 use Rattle.lset_steps.specs.declared.world.ChainKey.{ChainKey}
 use Rattle.lset_steps.specs.Chain.{node_key, node_link}
+use Rattle.lset_replay.specs.Tracing.{TellsDifference}
+use Rattle.std.specs.Prelude.{Vec}
+use Rattle.std.specs.declared.alloc.Global.{Global}
 use Rattle.broken_lists.specs.declared.meeting.Met.{Met}
 
 -- the key of a node, and whether it is marked
@@ -29,6 +32,21 @@ met_from ws (suc left) node =
 -- WHAT A WALK FROM THE HEAD MEETS, up to as many nodes as there are
 abbrev pub met : List ℕ → List ChainKey
 met ws = met_from ws (length ws / 3) (node_link ws 0 / 2)
+
+-- WHAT IS TOLD of it after an event: what it meets then, exactly if that is another than before; and nothing if chains are not asked for
+abbrev pub TellsMet : Bool → List ℕ → List ℕ → Option (Vec ChainKey Global) → Type 0
+TellsMet false before later chain = chain ≡ None
+TellsMet true before later chain = TellsDifference (met before) (met later) chain
+
+-- if chains are asked for, what it meets is kept,
+abbrev pub KeepsMet : Bool → List ℕ → List ChainKey → Type 0
+KeepsMet false ws kept = Unit {0}
+KeepsMet true ws kept = kept ≡ met ws
+
+-- and told where it is another than was kept
+abbrev pub NotesMet : Bool → List ℕ → List ChainKey → Option (Vec ChainKey Global) → List ChainKey → Type 0
+NotesMet false ws before chain later = chain ≡ None
+NotesMet true ws before chain later = (later ≡ met ws) × TellsDifference before later chain
 
 -- a key without a mark, put among rising keys
 abbrev pub put_key : ChainKey → List ℕ → List ℕ

@@ -1,4 +1,4 @@
-ghost use Rattle.std.specs.Prelude.{◌≡◌, ℕ, ◌<◌, ◌^◌, All, IfOk, IfSome, Some, [], length};
+ghost use Rattle.std.specs.Prelude.{◌≡◌, ℕ, ◌<◌, ◌^◌, ◌↔◌, All, IfOk, IsTrue, Some, [], false, length};
 ghost use Rattle.lset_words.specs.Words.{Opens, sizes};
 ghost use Rattle.lset_history.specs.Changes.{moments_of};
 ghost use Rattle.lset_steps.specs.Steps.{local_of, opening};
@@ -8,12 +8,12 @@ ghost use Rattle.lset_replay.specs.Blocks.{StandUpTo};
 ghost use Rattle.lset_replay.specs.Events.{IsInLimits};
 ghost use Rattle.lset_replay.specs.Follows.{HasKept};
 ghost use Rattle.lset_replay.specs.Trace.{no_trace, trace_of};
-ghost use Rattle.lset_replay.specs.Tracer.{deed_ahead};
+ghost use Rattle.lset_replay.specs.Tracer.{deed_ahead, writes_node};
 ghost use Rattle.broken_lists.specs.BrokenSteps.{CanMake};
 ghost use Rattle.broken_lists.specs.Keeping.{kept_after};
 ghost use Rattle.broken_lists.specs.BrokenLists.{table_of};
 ghost use Rattle.broken_lists.specs.BrokenRuns.{EndsAt, MakesEvent, RunsAs, TellsEvent};
-ghost use Rattle.broken_lists.specs.Meeting.{met};
+ghost use Rattle.broken_lists.specs.Meeting.{KeepsMet, NotesMet, met};
 
 use crate::keeping::{Unkept, follow};
 use crate::lists::{BrokenList, Task, on_broken};
@@ -32,6 +32,12 @@ use std::alloc::{AllocError, Global};
 
 /// How the run of a schedule ended: with the report of all its events, or at the event of a line.
 pub type BrokenRun = Result<Report, (u64, BrokenStepError)>;
+
+fn is_same_chain(before: &[ChainKey], later: &[ChainKey]) -> bool
+    ensures { IsTrue result ↔ (before.now ≡ later.now) }
+{
+    before == later
+}
 
 /// A run under way: the world, what is kept of its events, and the chain that was told last.
 #[derive(Drop)]
@@ -64,15 +70,18 @@ impl<M: BrokenMachine> Running<M> {
 
     /// The chain after a deed, where chains are asked for and it is another than the one told last, in whose place it then comes.
     fn changed_chain(&mut self, deed: Deed) -> Result<Option<Vec<ChainKey>>, AllocError>
-        ensures chain { IfOk result (λ chain. IfSome chain (λ c. c.items ≡ met self.old.world.state.words)) }
+        requires { writes_node deed ≡ false → KeepsMet self.old.chains self.old.world.state.words self.old.chain.items }
+        ensures chain { IfOk result (λ chain. NotesMet self.old.chains self.old.world.state.words self.old.chain.items chain
+            self.new.chain.items) }
         ensures world { self.new.world ≡ self.old.world }
         ensures recorder { self.new.recorder ≡ self.old.recorder }
+        ensures chains { self.new.chains ≡ self.old.chains }
     {
         if !self.chains || !writes_node(deed) {
             return Ok(None);
         }
         let chain = chain_met(self.alloc, self.world.words())?;
-        if chain.as_slice() == self.chain.as_slice() {
+        if is_same_chain(&self.chain, &chain) {
             return Ok(None);
         }
         self.chain = chain.iter().copied().collect(self.alloc)?;
@@ -88,8 +97,10 @@ impl<M: BrokenMachine> Running<M> {
         requires counted { 0 < moment }
         requires few { length self.old.recorder.places.items < 2 ^ 32 }
         requires later { (j : ℕ) → All (λ m. m < moment) (moments_of self.old.recorder.changes j) }
-        ensures { IfOk result (λ made. MakesEvent M.table next moment self.old.world self.old.recorder made self.new.world
-            self.new.recorder) }
+        requires kept { KeepsMet self.old.chains self.old.world.state.words self.old.chain.items }
+        ensures made { IfOk result (λ made. MakesEvent M.table next moment self.old.world self.old.recorder self.old.chains
+            self.old.chain.items made self.new.world self.new.recorder self.new.chain.items) }
+        ensures chains { self.new.chains ≡ self.old.chains }
     {
         let thread = thread_of(next.event);
         let ahead = self.look(next.event);
@@ -124,9 +135,10 @@ impl<M: BrokenMachine> Runner for Running<M> {
     type Fault = BrokenStepError;
 
     ghost has_made = { λ first events k now. HasKept kept_after M.table first.recorder.history.opening events k now.world
-        now.recorder × StandUpTo k now.recorder.places.items };
+        now.recorder × StandUpTo k now.recorder.places.items × (now.chains ≡ first.chains)
+        × KeepsMet now.chains now.world.state.words now.chain.items };
 
-    ghost tells = { λ first events k told. TellsEvent M.table first.recorder.history.opening events k told };
+    ghost tells = { λ first events k told. TellsEvent M.table first.recorder.history.opening events first.chains k told };
 
     ghost stops = { λ first events k end. EndsAt M.table first.recorder.history.opening events k end.0 end.1 };
 
@@ -152,6 +164,8 @@ fn start_of<M: BrokenMachine>(
     }) }
     ensures trace { IfOk result (λ r. trace_of r.recorder ≡ no_trace (opening_in (view schedule.now))) }
     ensures opening { IfOk result (λ r. r.recorder.history.opening ≡ opening_in (view schedule.now)) }
+    ensures chains { IfOk result (λ r. r.chains ≡ chains) }
+    ensures kept { IfOk result (λ r. r.chain.items ≡ met r.world.state.words) }
 {
     let keys = schedule.opening.as_slice();
     let Ok(layout) = layout_opening(schedule.threads, schedule.quota, keys.len() as u32) else {
@@ -178,7 +192,7 @@ fn run_on<M: BrokenMachine, L: Listener + Drop>(
 ) -> Result<(L, BrokenRun), AllocError>
     requires schedule { IsInLimits (view schedule.now) }
     requires silence { L.has_heard listener [] listener }
-    ensures { IfOk result (λ r. RunsAs (λ events. L.has_heard listener events r.0) M.table (view schedule.now) r.1) }
+    ensures { IfOk result (λ r. RunsAs (λ events. L.has_heard listener events r.0) M.table (view schedule.now) chains r.1) }
 {
     let mut listener = listener;
     let mut running = start_of::<M>(alloc, schedule, chains)?;
@@ -220,7 +234,7 @@ impl<L: Listener + Drop> Task for Runs<'_, L> {
     ghost may = { λ task. IsInLimits (view task.schedule.now) × L.has_heard task.listener [] task.listener };
 
     ghost done = { λ task table result. IfOk result (λ r. RunsAs (λ events. L.has_heard task.listener events r.0) table
-        (view task.schedule.now) r.1) };
+        (view task.schedule.now) task.chains r.1) };
 
     fn run<M: BrokenMachine>(self) -> Result<(L, BrokenRun), AllocError> {
         run_on::<M, L>(self.alloc, self.schedule, self.chains, self.listener)
@@ -245,7 +259,7 @@ pub fn run_broken<L: Listener + Drop>(
 ) -> Result<(L, BrokenRun), AllocError>
     requires schedule { IsInLimits (view schedule.now) }
     requires silence { L.has_heard listener [] listener }
-    ensures { IfOk result (λ r. RunsAs (λ events. L.has_heard listener events r.0) (table_of broken) (view schedule.now) r.1) }
+    ensures { IfOk result (λ r. RunsAs (λ events. L.has_heard listener events r.0) (table_of broken) (view schedule.now) chains r.1) }
 {
     let task = Runs {
         alloc,

@@ -1,5 +1,5 @@
 -- What `replay`, `trace` and `show` make of an input by a broken list.
-use Rattle.std.specs.Prelude.{◌≡◌, ◌≢◌, ℕ, ◌⊎◌, ⊤, List, Result, Ok, Err}
+use Rattle.std.specs.Prelude.{◌≡◌, ◌≢◌, ℕ, ◌⊎◌, ⊤, Bool, List, Result, Ok, Err}
 use Rattle.lset_schedule.specs.declared.fault.Cause.TheVariants as schedule
 use Rattle.lset_schedule.specs.declared.fault.ScheduleFault.{ScheduleFault}
 use Rattle.lset_schedule.specs.Plan.{Plan, IsSchedule, opening_in, schedule_text}
@@ -100,8 +100,9 @@ status_of (Err end) = 1
 pub record IsTraced (l : BrokenList) (bytes : List ℕ) (status : ℕ) : Type 0 where
   pub plan : Plan
   pub schedule : IsScheduleOf l bytes plan
+  pub chains : Bool
   pub ending : Result Report (ℕ × BrokenStepError)
-  pub runs : RunsAs (λ traced. ⊤) (table_of l) plan ending
+  pub runs : RunsAs (λ traced. ⊤) (table_of l) plan chains ending
   pub status_is : status ≡ status_of ending
 
 abbrev pub Traces : BrokenList → List ℕ → Made → Type 0

@@ -15,6 +15,7 @@ use Rattle.broken_lists.specs.Keeping.{kept_after}
 use Rattle.broken_lists.specs.Meeting.{met, put_met}
 use Rattle.broken_lists.proofs.KeptRuns.{ends_early, few_of, reports}
 use Rattle.broken_lists.proofs.KeptTraces.{stand_none}
+use Rattle.broken_lists.proofs.MetKept.{keeps}
 use Rattle.broken_lists.proofs.running.run_on.Goals as goal
 
 pub run_lines-requires-clause-start : goal.run_lines-requires-clause-start
@@ -26,6 +27,8 @@ run_lines-requires-clause-start g c =
           (at_first kept_after g.M.BrokenMachine.table (opening_in (view c.args.schedule.now)) events now.world now.recorder
           c.requires.schedule.opens start.world start.trace start.opening),
       stand_none (opening_in (view c.args.schedule.now)) now.recorder start.trace,
+      refl,
+      keeps now.chains now.world.state.words now.chain.items start.kept,
     )
 
 pub in_order-requires-clause-few : goal.in_order-requires-clause-few
@@ -58,9 +61,10 @@ returns-in-Some g c =
     let runs = rw c.in-Some.is at c.in_ok-end.ensures in
     ends_early (λ traced. g.L.Listener.has_heard c.args.listener traced c.run_lines.new.listener) g.M.BrokenMachine.table
     (view c.args.schedule.now) c.in_ok-running.running.recorder.history.opening
-    (events_from c.first_event_line-first.result c.deref.result.now) runs.made c.in_ok-running.ensures.opening
+    (events_from c.first_event_line-first.result c.deref.result.now) c.in_ok-running.running.chains c.args.chains runs.made
+    c.in_ok-running.ensures.opening
     (same_events c.first_event_line-first.result _ c.deref.result.now _ c.first_event_line-first.ensures c.deref.ensures.value)
-    runs.heard c.in-Some.end runs.ends
+    c.in_ok-running.ensures.chains runs.heard c.in-Some.end runs.ends
 
 pub returns : goal.returns
 returns g c =
@@ -68,9 +72,10 @@ returns g c =
     let runs = rw c.in_default.is at c.in_ok-end.ensures in
     reports (λ traced. g.L.Listener.has_heard c.args.listener traced c.run_lines.new.listener) g.M.BrokenMachine.table
     (view c.args.schedule.now) c.in_ok-running.running.recorder.history.opening
-    (events_from c.first_event_line-first.result c.deref.result.now) runs.made c.in_ok-running.ensures.opening
+    (events_from c.first_event_line-first.result c.deref.result.now) c.in_ok-running.running.chains c.args.chains runs.made
+    c.in_ok-running.ensures.opening
     (same_events c.first_event_line-first.result _ c.deref.result.now _ c.first_event_line-first.ensures c.deref.ensures.value)
-    runs.heard now.world now.recorder runs.ends.0 runs.ends.1.0 _ refl refl refl
+    c.in_ok-running.ensures.chains runs.heard now.world now.recorder runs.ends.0 runs.ends.1.0 _ refl refl refl
     (c.in_ok-ordered.ensures.order runs.made
     (subst (λ (xs : List (Option Linearized)). StandUpTo runs.made xs) (sym c.deref-2.ensures.value) runs.ends.1.1)
     ∙ ap (λ (xs : List (Option Linearized)). blocks_upto xs runs.made) c.deref-2.ensures.value)
