@@ -72,8 +72,9 @@ fn shown(
     }
 }
 
-/// The answer on a history that no order explains.
-fn refused(
+/// The answer on a history that no order explains, where `judge` gave the refusal: the key, how far its calls have no order, and mostly
+/// a few calls that show it; status 1. `left` are the keys left. Only memory may be refused.
+pub fn refused_answer(
     alloc: Global,
     history: &History,
     left: &[u32],
@@ -108,7 +109,7 @@ fn decide(alloc: Global, calls: Calls) -> Result<Decision, Trouble>
             text: ok_text(alloc, count)?,
             status: 0,
         })),
-        Verdict::NotLinearizable(refusal) => Ok(Decision::Answered(refused(
+        Verdict::NotLinearizable(refusal) => Ok(Decision::Answered(refused_answer(
             alloc, &history, &left, refusal,
         )?)),
         Verdict::Undecided => Ok(Decision::ByPoints(left, count)),

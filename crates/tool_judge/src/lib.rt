@@ -9,6 +9,7 @@ mod keys;
 mod texts;
 mod windows;
 
-pub use judging::{judge_bytes, tool_judge};
+pub use judging::{judge_bytes, refused_answer, tool_judge};
+pub use keys::keys_of;
 pub use texts::reason_text;
 pub use windows::window_text;

@@ -1,0 +1,113 @@
+-- The files of a recording are gone over.
+use Rattle.std.proofs.Common.{◌≡◌, ℕ, ◌+◌, ◌<◌, ◌≤◌, zero, suc, add-one, map, drop, get_or, drop-cons, true, List, [], ◌∷◌, ◌++◌, length, length-append, Option, Some, None, Ok, Err, refl, sym, subst, ap, ◌∙◌, arith, inl, inr}
+use Rattle.std.specs.Prelude.{◌⊎◌, IfSome, Result}
+use Rattle.lset_words.specs.declared.history.Placed.{Placed}
+use Rattle.lset_parts.specs.Parts.{Part, ExplainsWithoutQuota, whole_calls, keys_left}
+use Rattle.lset_parts.specs.Kept.{KeptParts, IsKeptOf}
+use Rattle.lset_parts.proofs.Whole.{explains_whole}
+use Rattle.lset_parts.proofs.Kept.{none_kept}
+use Rattle.tool_base.specs.declared.trouble.Trouble.{Trouble}
+use Rattle.tool_base.specs.declared.trouble.Trouble.TheVariants.{CannotRead}
+use Rattle.tool_parts.specs.declared.key_part.KeyPart.{KeyPart}
+use Rattle.tool_parts.specs.declared.kept.Finding.{Finding}
+use Rattle.tool_parts.specs.declared.kept.Kept.{Kept}
+use Rattle.tool_parts.specs.Parting.{IsPartOf, IsKept, IsKeptBy, IsFinding, JudgesFile, StopsAt, FindsAt, GoesOver, FilesMade, IsWholeExplained}
+use Rattle.tool_parts.specs.Parting.{AllExplained, IsTrouble}
+
+-- behind some parts, what the rest makes is made of all
+pub record Goes (asked : Option KeyPart) (parts : ℕ) (IsFile : Option (List ℕ) → Type 0) (all rest : List (List ℕ)) (index : ℕ) (kept : Kept)
+    : Type 0 where
+  pub ps : List Part
+  pub kept_is : IsKept ps kept
+  pub count : length ps ≡ index
+  pub goes : (made : FilesMade) → GoesOver asked parts IsFile rest ps made → GoesOver asked parts IsFile all [] made
+
+-- before the first file
+pub at_first : (asked : Option KeyPart) (parts : ℕ) (IsFile : Option (List ℕ) → Type 0) (all : List (List ℕ)) (kept : Kept) → IsKept [] kept
+    → Goes asked parts IsFile all all 0 kept
+at_first asked parts IsFile all kept is = record { ps = []; kept_is = is; count = refl; goes = λ made over. over }
+
+pub with_rest : (asked : Option KeyPart) (parts : ℕ) (IsFile : Option (List ℕ) → Type 0) (all rest other : List (List ℕ)) (index : ℕ) (kept : Kept)
+    → rest ≡ other → Goes asked parts IsFile all rest index kept → Goes asked parts IsFile all other index kept
+with_rest asked parts IsFile all rest other index kept e g = subst (λ (r : List (List ℕ)). Goes asked parts IsFile all r index kept) e g
+
+-- behind the last file
+pub ended : (asked : Option KeyPart) (parts : ℕ) (IsFile : Option (List ℕ) → Type 0) (all rest : List (List ℕ)) (index : ℕ) (kept : Kept)
+    (made : FilesMade) → Goes asked parts IsFile all rest index kept → rest ≡ []
+    → ((ps : List Part) → IsKept ps kept → AllExplained parts ps made) → GoesOver asked parts IsFile all [] made
+ended asked parts IsFile all rest index kept made g none says =
+    let last = with_rest asked parts IsFile all rest [] index kept none g in last.goes made (says last.ps last.kept_is)
+
+-- the paths from a place on
+pub rest_next : {X : Type 0} (f : X → List ℕ) (xs : List X) (i : ℕ) (x : X) → i < length xs → x ≡ get_or xs i x
+    → map f (drop i xs) ≡ f x ∷ map f (drop (i + 1) xs)
+rest_next f xs i x l is = rw add-one (ap (map f) (drop-cons xs i x l) ∙ ap (λ y. f y ∷ map f (drop (suc i) xs)) (sym is))
+
+pub rest_none : {X : Type 0} (f : X → List ℕ) (xs : List X) (i : ℕ) → length xs ≤ i → map f (drop i xs) ≡ []
+rest_none f [] zero l = refl
+rest_none f [] (suc i) l = refl
+rest_none f (x ∷ xs) zero l = absurd (omega arith)
+rest_none f (x ∷ xs) (suc i) l = rest_none f xs i (omega arith)
+
+module _ (asked : Option KeyPart) (parts : ℕ) (IsFile : Option (List ℕ) → Type 0) (all rest : List (List ℕ)) (path : List ℕ) (index : ℕ) where
+  -- at a file that ends it by a trouble
+  pub stopped : (old new : Kept) (t : Trouble) (made : FilesMade) → Goes asked parts IsFile all (path ∷ rest) index old
+      → JudgesFile asked IsFile old new (Err t) → StopsAt (index + 1) parts path t made → GoesOver asked parts IsFile all [] made
+  stopped old new t made g judged stops =
+      g.goes made (inl (t, cause judged, subst (λ (n : ℕ). StopsAt (n + 1) parts path t made) (sym g.count) stops))
+    where
+      cause : JudgesFile asked IsFile old new (Err t)
+          → (t ≡ CannotRead) ⊎ ((held : Option (List ℕ)) × IsFile held × IfSome held (λ (bytes : List ℕ). IsTrouble bytes t))
+      cause (inl e) = inl cc
+      cause (inr h) = inr h
+
+  -- at a part with a finding
+  pub found : (old new : Kept) (f : Finding) (made : FilesMade) → Goes asked parts IsFile all (path ∷ rest) index old
+      → JudgesFile asked IsFile old new (Ok (Some f)) → FindsAt (index + 1) parts path f made → GoesOver asked parts IsFile all [] made
+  found old new f made g (inl e) finds = absurd cc
+  found old new f made g (inr (held, file, (bytes, known, taken, (p, told, is)))) finds =
+      g.goes made (inr (
+        held,
+        file,
+        bytes,
+        known,
+        p,
+        told,
+        inl (f, is g.ps g.kept_is, subst (λ (n : ℕ). FindsAt (n + 1) parts path f made) (sym g.count) finds),
+      ))
+
+  -- past a part that is added
+  pub went_on : (old new : Kept) → Goes asked parts IsFile all (path ∷ rest) index old → JudgesFile asked IsFile old new (Ok None)
+      → Goes asked parts IsFile all rest (index + 1) new
+  went_on old new g (inl e) = absurd cc
+  went_on old new g (inr (held, file, (bytes, known, taken, (p, told, whole, adds)))) = record {
+    ps = g.ps ++ p ∷ [];
+    kept_is = adds g.ps g.kept_is;
+    count = (let before : length g.ps ≡ index = g.count in omega (arith, length-append g.ps (p ∷ [])));
+    goes = λ made over. g.goes made (inr (held, file, bytes, known, p, told, inr (whole, over)));
+  }
+
+-- the parts that are kept, at the end
+pub whole_explained : (ps : List Part) (kept : Option KeptParts) → IsKeptBy ps kept → IsWholeExplained ps
+whole_explained ps (Some kept) (opening, a) =
+    let whole = explains_whole opening ps a.parts in
+    record {
+      opening = opening;
+      kept = kept;
+      kept_is = a;
+      order = whole.0;
+      explains = subst (λ (left : List ℕ). ExplainsWithoutQuota opening (whole_calls ps) whole.0 left) (sym a.keys_are) whole.1;
+    }
+whole_explained ps None none = subst IsWholeExplained (sym none) no_part
+  where
+    no_part : IsWholeExplained []
+    no_part =
+        let a = none_kept [] (λ k l. absurd (omega arith)) in
+        let whole = explains_whole [] [] a.parts in
+        record {
+          opening = [];
+          kept = record { keys = []; began = 0; latest = 0; at_rest = true };
+          kept_is = a;
+          order = whole.0;
+          explains = whole.1;
+        }

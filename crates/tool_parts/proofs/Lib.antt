@@ -1,0 +1,5 @@
+mod Asking
+mod Differences
+mod Adding
+mod Telling
+mod Going

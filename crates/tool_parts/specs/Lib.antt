@@ -1,0 +1,3 @@
+pub mod KeyParts
+pub mod Findings
+pub mod Parting
