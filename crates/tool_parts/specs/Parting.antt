@@ -1,4 +1,4 @@
--- What `judge` makes of a recording in parts: of some of its keys, and of several files.
+-- What is made of a recording in parts: of some of its keys, and of several files.
 use Rattle.std.specs.Prelude.{◌≡◌, ℕ, ◌+◌, ◌≤◌, ◌^◌, ◌⊎◌, List, [], ◌∷◌, ◌++◌, length, Option, Some, None, option_map, IfSome, Result, Ok, Err}
 use Rattle.std.specs.Io.KnownBytes.{Keeps}
 use Rattle.std.specs.List.Sorted.{IsStrictlyIncreasing}
@@ -112,7 +112,7 @@ JudgesInput asked input old new (Ok found) =
     (bytes : List ℕ) × IfSome input (λ (known : List ℕ). bytes ≡ known) × IsTaken bytes × JudgesText asked bytes old new found
 JudgesInput asked input old new (Err t) = IfSome input (λ (bytes : List ℕ). IsTrouble bytes t)
 
--- ---- BY KEY: what `judge --keys` makes of an input
+-- ---- BY KEY: what is made of an input and the words for the keys
 
 -- some order explains the calls of the keys that are asked for, and leaves those keys; or none does; or it is not decided
 abbrev pub IsAnswerOnKeys : HistoryValue → Part → AnswerValue → Type 0
@@ -132,7 +132,7 @@ JudgesAsked (Some asked) input made = IfSome input (λ (bytes : List ℕ). Judge
 abbrev pub JudgesKeys : List ℕ → Option (List ℕ) → Made → Type 0
 JudgesKeys text input made = JudgesAsked (key_part_of text) input made
 
--- ---- IN FILES: what `judge` makes of several files
+-- ---- IN FILES: what is made of several files
 
 -- a line on standard error, and the exit status
 pub record LineValue : Type 0 where
@@ -205,7 +205,7 @@ abbrev pub JudgesFiles : Option (Option KeyPart) → List (List ℕ) → (Option
 JudgesFiles None paths IsFile made = (made ≡ Err bad_keys) ⊎ (made ≡ no_memory)
 JudgesFiles (Some asked) paths IsFile made = GoesOver asked (length paths) IsFile paths [] made
 
--- HOW `judge` OF SEVERAL FILES ENDS: an answer is written on the output, as that of any tool, or else one line on the other, and the
+-- HOW IT ENDS: an answer is written on the output, as that of any tool, or else one line on the other, and the
 -- output stays as it is
 abbrev pub Ended : Option (List ℕ) → Option (List ℕ) → Option (List ℕ) → Option (List ℕ) → ℕ → FilesMade → Type 0
 Ended output_old output_new faults_old faults_new status (Ok answer) =

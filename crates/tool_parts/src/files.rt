@@ -1,4 +1,4 @@
-//! `judge` of several files, each a part of one recording.
+//! Several files, each a part of one recording, judged in turn.
 
 ghost use Rattle.std.specs.Prelude.{◌≡◌, ◌⊎◌, ◌<◌, [], List, length, map, string_bytes, IfSome};
 ghost use Rattle.std.specs.Option.{option_copied};

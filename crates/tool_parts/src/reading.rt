@@ -1,4 +1,4 @@
-//! What a text tells of a part, and `judge --keys` of one input.
+//! What a text tells of a part, and one input judged by some of its keys.
 
 ghost use Rattle.std.specs.Prelude.{◌≡◌, ◌⊎◌, ◌<◌, IfOk, IfErr, IfSome};
 ghost use Rattle.std.specs.List.Sorted.{IsStrictlyIncreasing};
