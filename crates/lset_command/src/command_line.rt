@@ -5,7 +5,7 @@ ghost use Rattle.clap.specs.Walk.{first_of, texts};
 ghost use Rattle.clap.specs.declared.Command.TheViews.{out-Command};
 ghost use Rattle.clap.specs.declared.error.kind.ErrorKind.TheVariants.{OutOfMemory};
 ghost use Rattle.lset_command.specs.CommandLine.{choice_in, choice_of, command_named, file_app, file_of, first_value, path_of, six_values, serve_app};
-ghost use Rattle.lset_command.specs.CommandLine.{example_app, flag_rule, gen_app, option_rule, run_app, show_app, trace_app};
+ghost use Rattle.lset_command.specs.CommandLine.{example_app, files_app, files_rule, flag_rule, gen_app, judge_app, option_rule, parts_of, run_app, several, show_app, trace_app};
 ghost use Rattle.lset_command.specs.CommandLine.{MakesWithArg, MakesWithSubcommand, MakesWithValue, is_on, is_option, listset, replay_app, options_in, options_of, rule_past_the_last, values_by, values_in};
 
 use clap::error::ErrorKind;
@@ -66,6 +66,8 @@ pub struct Options {
     pub broken: bool,
     /// The name of the broken list by which `replay`, `show` and `trace` run the schedule.
     pub lacks: Option<String>,
+    /// The keys whose calls `judge` judges.
+    pub keys: Option<String>,
 }
 
 /// A command, with its values in order as they are written, its flags and its options.
@@ -111,6 +113,36 @@ impl Words {
         let word = self.file()?;
         if word == "-" { None } else { Some(word) }
     }
+
+    /// The paths of the files of `judge`, if they are several: the parts of one recording, in order. There `-` is a path too.
+    pub fn parts(&self) -> Option<&[String]>
+        ensures { option_map (λ paths. map string_bytes paths.now) result ≡ parts_of (choice_in self.now) }
+    {
+        match self.command {
+            Command::Judge => self.several_values(),
+            Command::Replay
+            | Command::Report
+            | Command::Check
+            | Command::Show
+            | Command::Trace
+            | Command::Draft
+            | Command::Example
+            | Command::Gen
+            | Command::Run
+            | Command::Serve
+            | Command::Faults => None,
+        }
+    }
+
+    fn several_values(&self) -> Option<&[String]>
+        ensures { option_map (λ paths. map string_bytes paths.now) result ≡ several (map string_bytes self.now.values.items) }
+    {
+        if self.values.len() > 1 {
+            Some(&self.values)
+        } else {
+            None
+        }
+    }
 }
 
 // A value that may be left out, as far as `clap` is concerned.
@@ -153,6 +185,14 @@ fn lacks_option<'a>(alloc: Global) -> Arg<'a>
         "NAME",
         "Runs the list that lacks a check: lock (coarse), second-lock, hand-over-hand (fine), second-walk, same-node (optimistic), marks-in-validation, mark-in-contains, mark-in-ceiling (lazy), mark, mark-in-add, mark-in-remove, mark-at-key, new-slot, last-slot (lock-free)",
     )
+}
+
+// Any number of files, also none.
+fn files<'a>(alloc: Global, help: &'a str) -> Arg<'a>
+    ensures rule { rule_of result ≡ files_rule }
+    ensures local { result.global ≡ false }
+{
+    Arg::new(alloc, "FILE").num_args(..).help(help)
 }
 
 // Any number of values past the last, of which help says nothing.
@@ -441,16 +481,33 @@ fn replay_command<'a>(alloc: Global) -> Result<clap::Command<'a>, AllocError>
     and_arg(command, lacks_option(alloc))
 }
 
-fn judge_command<'a>(alloc: Global) -> Result<clap::Command<'a>, AllocError>
-    ensures app { IfOk result (λ c. app_of c ≡ file_app (codes "judge")) }
+fn judge_files<'a>(alloc: Global) -> Result<clap::Command<'a>, AllocError>
+    ensures app { IfOk result (λ c. app_of c ≡ files_app (codes "judge")) }
     ensures local { IfOk result (λ c. (out-Command c).has_globals ≡ false) }
 {
-    file_command(
-        alloc,
-        "judge",
-        "Judges recorded calls of a set: whether any order explains their replies and leaves the keys",
-        "The calls; standard input where it is - or left out",
-        "Begins and ends decide; points are asked for with a reply ceiling or full alone. Status 0 for ok, 1 for not linearizable.\n\nExample: listset judge a.calls",
+    clap::Command::new(alloc, "judge")
+        .about(
+            "Judges recorded calls of a set: whether any order explains their replies and leaves the keys",
+        )
+        .after_help(
+            "Begins and ends decide; points are asked for with a reply ceiling or full alone. Several files are parts of one recording: each opens with the keys that the one before left, and has a clock of its own. Status 0 for ok, 1 for not linearizable.\n\nExample: listset judge a.calls",
+        )
+        .arg(files(alloc, "The calls; standard input where it is - or left out"))
+}
+
+fn judge_command<'a>(alloc: Global) -> Result<clap::Command<'a>, AllocError>
+    ensures app { IfOk result (λ c. app_of c ≡ judge_app) }
+    ensures local { IfOk result (λ c. (out-Command c).has_globals ≡ false) }
+{
+    let command = judge_files(alloc);
+    and_arg(
+        command,
+        value_option(
+            alloc,
+            "keys",
+            "KEYS",
+            "Judges the calls of the keys whose remainder by N is I alone: I/N, as 0/4, with I below N. If it says ok for each I below N, the whole is ok",
+        ),
     )
 }
 
@@ -525,6 +582,7 @@ fn is_option(name: &str) -> bool
         || name == "chain"
         || name == "broken"
         || name == "lacks"
+        || name == "keys"
 }
 
 // Adds the texts that `found` has by the name, if it is that of values. There may be none.
@@ -594,6 +652,7 @@ fn options_of(alloc: Global, found: &ArgMatches<'_>) -> Result<Options, AllocErr
         chain: is_on(found, "chain"),
         broken: is_on(found, "broken"),
         lacks: option_text(alloc, found, "lacks")?,
+        keys: option_text(alloc, found, "keys")?,
     })
 }
 
@@ -609,6 +668,7 @@ fn no_options() -> Options
         chain: false,
         broken: false,
         lacks: None,
+        keys: None,
     }
 }
 

@@ -5,7 +5,7 @@ use Rattle.clap.specs.Words.{Text, fault_of, kind_of, subcommand_of, HasKind}
 use Rattle.clap.specs.declared.error.Error.{Error}
 use Rattle.clap.specs.declared.error.kind.ErrorKind.{ErrorKind}
 use Rattle.clap.specs.declared.error.kind.ErrorKind.TheVariants.{OutOfMemory, DisplayHelp, DisplayVersion}
-use Rattle.lset_command.specs.CommandLine.{Choice, OptionValues, choice_of, file_by, listset, path_of}
+use Rattle.lset_command.specs.CommandLine.{Choice, OptionValues, choice_of, file_by, listset, parts_of, path_of}
 use Rattle.lset_command.specs.declared.command_line.Command.{Command}
 use Rattle.lset_command.specs.declared.command_line.Command.TheVariants.{Replay, Judge, Report, Check, Show, Trace, Draft, Example}
 use Rattle.lset_command.specs.declared.command_line.Command.TheVariants.{Gen, Run, Serve, Faults}
@@ -18,6 +18,7 @@ use Rattle.tool_base.specs.Generating.{Generates}
 use Rattle.tool_base.specs.Faults.{TellsFaults}
 use Rattle.tool_judge.specs.Judging.{Judges}
 use Rattle.tool_report.specs.Reporting.{Reports}
+use Rattle.tool_parts.specs.Parting.{EndsFiles, JudgesFiles, JudgesKeys, keys_of_words}
 use Rattle.tool_drawing.specs.declared.picture.Window.{Window}
 use Rattle.tool_show.specs.declared.asking.Form.{Form}
 use Rattle.tool_show.specs.Asking.{asked_of}
@@ -47,6 +48,14 @@ TracesFor (Some name) input made = broken.ByName (λ l m. IfSome input (λ bytes
 abbrev pub TracesBy : OptionValues → Option (List ℕ) → Made → Type 0
 TracesBy options input made = TracesFor options.lacks input made
 
+-- what `judge` makes of its input: of all calls, or of those of the keys that an option asks for
+abbrev pub JudgesFor : Option Text → Option (List ℕ) → Made → Type 0
+JudgesFor None input made = IfSome input (λ bytes. Judges bytes made)
+JudgesFor (Some keys) input made = JudgesKeys keys input made
+
+abbrev pub JudgesBy : OptionValues → Option (List ℕ) → Made → Type 0
+JudgesBy options input made = JudgesFor options.keys input made
+
 abbrev pub ShowsFor : Option Text → Window → Option (List ℕ) → Made → Type 0
 ShowsFor None window input made = IfSome input (λ bytes. Shows window bytes made)
 ShowsFor (Some name) window input made = broken.ByName (λ l m. IfSome input (λ bytes. broken.Shows window l bytes m)) name made
@@ -69,7 +78,7 @@ ServesBy (Some word) values input old first made = serve.ServesWith (serve.serve
 -- the old to the first: `serve` writes the line that names its port, the others write nothing.
 abbrev pub DoesBy : Command → List Text → OptionValues → Option (List ℕ) → Option (List ℕ) → Option (List ℕ) → Made → Type 0
 DoesBy Replay values options input old first made = (first ≡ old) × ReplaysBy options input made
-DoesBy Judge values options input old first made = (first ≡ old) × IfSome input (λ bytes. Judges bytes made)
+DoesBy Judge values options input old first made = (first ≡ old) × JudgesBy options input made
 DoesBy Report values options input old first made = (first ≡ old) × IfSome input (λ bytes. Reports bytes made)
 DoesBy Check values options input old first made = (first ≡ old) × IfSome input (λ bytes. Checks bytes made)
 DoesBy Show values options input old first made = (first ≡ old) × ShowsBy options input made
@@ -102,6 +111,14 @@ abbrev pub CommandEnds : (Option (List ℕ) → Option (List ℕ) → Made → T
 CommandEnds IsMade output_old output_new faults_old faults_new status =
     (first : Option (List ℕ)) × Ends (IsMade output_old first) first output_new faults_old faults_new status
 
+-- HOW A COMMAND THAT IS TAKEN ENDS: `judge` of several files as these say, each other command by what it makes
+abbrev pub TakenEnds : Option (List Text) → Choice → (Option (List ℕ) → Type 0) → Option (List ℕ) → Option (List ℕ) → Option (List ℕ)
+    → Option (List ℕ) → Option (List ℕ) → ℕ → Type 0
+TakenEnds None choice IsFile input output_old output_new faults_old faults_new status =
+    CommandEnds (DoesOnInput choice IsFile input) output_old output_new faults_old faults_new status
+TakenEnds (Some paths) choice IsFile input output_old output_new faults_old faults_new status =
+    EndsFiles (JudgesFiles (keys_of_words choice.options.keys) paths IsFile) output_old output_new faults_old faults_new status
+
 -- ---- words that are not taken
 
 -- the words ask for help, or for the version
@@ -132,7 +149,7 @@ Declines kind output_old output_new faults_old faults_new status =
 abbrev pub Runs : List Text → (Option (List ℕ) → Type 0) → Option (List ℕ) → Option (List ℕ) → Option (List ℕ) → Option (List ℕ) →
     Option (List ℕ) → ℕ → Type 0
 Runs words IsFile input output_old output_new faults_old faults_new status =
-    ((fault_of listset words ≡ []) × CommandEnds (DoesOnInput (choice_of (subcommand_of listset words)) IsFile input) output_old
-    output_new faults_old faults_new status)
+    ((fault_of listset words ≡ []) × TakenEnds (parts_of (choice_of (subcommand_of listset words))) (choice_of (subcommand_of listset words))
+    IsFile input output_old output_new faults_old faults_new status)
     ⊎ ((error : Error) × HasKind (fault_of listset words) error × Declines (kind_of error) output_old output_new faults_old
     faults_new status)

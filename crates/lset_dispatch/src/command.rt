@@ -2,7 +2,7 @@ ghost use Rattle.std.specs.Prelude.{◌≡◌, option_map, string_bytes};
 ghost use Rattle.std.specs.Option.{option_copied};
 ghost use Rattle.lset_command.specs.CommandLine.{choice_in, options_of};
 ghost use Rattle.tool_base.specs.Tools.{Ends};
-ghost use Rattle.lset_dispatch.specs.Dispatch.{CommandEnds, Does, ReplaysBy, ShowsBy, TracesBy};
+ghost use Rattle.lset_dispatch.specs.Dispatch.{CommandEnds, Does, JudgesBy, ReplaysBy, ShowsBy, TracesBy};
 
 use lset_command::{Command, Options, Words};
 use std::alloc::Global;
@@ -16,13 +16,14 @@ use tool_broken::{tool_replay_broken, tool_show_broken, tool_trace_broken};
 use tool_draft::tool_draft;
 use tool_examples::tool_example;
 use tool_judge::tool_judge;
+use tool_parts::tool_judge_keys;
 use tool_report::tool_report;
 use tool_run::tool_run;
 use tool_serve::{tool_serve, tool_serve_with};
 use tool_show::{read_asked, tool_show};
 use tool_trace::tool_trace;
 
-fn text_of(option: &Option<String>) -> Option<&str>
+pub(crate) fn text_of(option: &Option<String>) -> Option<&str>
     ensures { option_copied result ≡ option_map string_bytes option.now }
 {
     Some(option.as_ref()?.as_str())
@@ -68,6 +69,23 @@ fn replay<R: Read, W: Write, F: Write>(
     }
 }
 
+/// Judges the input, or the part of it whose keys the options ask for, and gives the exit status.
+fn judge<R: Read, W: Write, F: Write>(
+    alloc: Global,
+    options: &Options,
+    input: &mut R,
+    output: &mut W,
+    faults: &mut F,
+) -> u8
+    ensures { Ends (JudgesBy (options_of options.now) (R.remaining input.old))
+        (W.contents output.old) (W.contents output.new) (F.contents faults.old) (F.contents faults.new) result }
+{
+    match text_of(&options.keys) {
+        None => tool_judge(alloc, input, output, faults),
+        Some(keys) => tool_judge_keys(alloc, keys, input, output, faults),
+    }
+}
+
 /// Traces the input, by the list that the options say lacks a check, if they do, and gives the exit status.
 fn trace<R: Read, W: Write, F: Write>(
     alloc: Global,
@@ -100,7 +118,7 @@ pub fn run_command<
     let options = &words.options;
     match words.command {
         Command::Replay => replay(alloc, options, input, output, faults),
-        Command::Judge => tool_judge(alloc, input, output, faults),
+        Command::Judge => judge(alloc, options, input, output, faults),
         Command::Report => tool_report(alloc, input, output, faults),
         Command::Check => tool_check(alloc, input, output, faults),
         Command::Show => show(alloc, options, input, output, faults),

@@ -1,10 +1,10 @@
 ghost use Rattle.std.specs.Prelude.{◌≡◌, IfOk};
 ghost use Rattle.clap.specs.Words.{FailsBy, fault_of, kind_of, subcommand_of};
 ghost use Rattle.clap.specs.Walk.{texts};
-ghost use Rattle.lset_command.specs.CommandLine.{choice_in, choice_of, listset};
-ghost use Rattle.lset_dispatch.specs.Dispatch.{CommandEnds, Declines, DoesOnInput, Runs};
+ghost use Rattle.lset_command.specs.CommandLine.{choice_in, choice_of, listset, parts_of};
+ghost use Rattle.lset_dispatch.specs.Dispatch.{CommandEnds, Declines, DoesOnInput, Runs, TakenEnds};
 
-use crate::command::run_command;
+use crate::command::{run_command, text_of};
 use clap::Error;
 use lset_command::{Words, is_out_of_memory, words_given};
 use std::alloc::Global;
@@ -16,6 +16,7 @@ use std::sync::Wait;
 use std::thread::Threads;
 use std::time::Clock;
 use tool_base::{Answer, FAULTS, Trouble, deliver, put};
+use tool_parts::tool_judge_parts;
 
 /// Ends a run whose words are not taken: writes the help or the version that was asked for on `output`, status 0, or what
 /// is wrong with the words on `faults`, status 2. Where memory was refused, before or now, it writes the line about that on
@@ -45,7 +46,7 @@ pub fn decline<W: Write, F: Write>(
 }
 
 /// Does the command of the words on the file of the path that they name, or on the input where they name none.
-fn run_taken<
+fn run_on_file<
     H: Files + Net<Listener = TcpListener, Stream = TcpStream> + Threads + Wait + Clock + Sync,
     R: Read,
     W: Write,
@@ -63,6 +64,26 @@ fn run_taken<
     }
 }
 
+/// Does the command of the words: that of `judge` of several files on these, each other one as `run_on_file` does.
+fn run_taken<
+    H: Files + Net<Listener = TcpListener, Stream = TcpStream> + Threads + Wait + Clock + Sync,
+    R: Read,
+    W: Write,
+    F: Write,
+>(rt: &H, alloc: Global, words: &Words, input: &mut R, output: &mut W, faults: &mut F) -> u8
+    ensures { TakenEnds (parts_of (choice_in words.now)) (choice_in words.now)
+        (λ bytes. (file : H.File) × (bytes ≡ H.File.remaining file)) (R.remaining input.old)
+        (W.contents output.old) (W.contents output.new) (F.contents faults.old) (F.contents faults.new) result }
+{
+    match words.parts() {
+        None => run_on_file(rt, alloc, words, input, output, faults),
+        Some(paths) => {
+            let keys = text_of(&words.options.keys);
+            tool_judge_parts(rt, alloc, keys, paths, output, faults)
+        }
+    }
+}
+
 /// Reads the words that stand after the program's name, as `words_given` does, with the help on `faults` that `faults` prints.
 ///
 /// The error has the text for the user: the help or the version, where words ask for it (`exit_code` 0), or what is
@@ -75,7 +96,8 @@ pub fn tool_words(alloc: Global, words: &[&str]) -> Result<Words, Error>
 }
 
 /// Runs the program on the words that stand after its name: does the command that they ask for, on the file that they
-/// name among the files of `rt`, on `input` where they name none or `-`, or on their values, or ends as `decline` does.
+/// name among the files of `rt`, on the several files of `judge`, on `input` where they name none or `-`, or on their values, or
+/// ends as `decline` does.
 /// Gives the exit status. `serve` opens with the keys of its file or, at `-`, of `input`, and reads nothing without a word
 /// for one. `run` and `serve` start threads on `rt` and wait for them, and `serve` listens there.
 pub fn run_words<

@@ -13,7 +13,7 @@ returns-in-Replay g c =
 
 pub returns-in-Judge : goal.returns-in-Judge
 returns-in-Judge g c =
-    at_command _ _ _ _ _ _ Judge _ _ _ _ c.in-Judge.is refl (at_once _ _ _ _ _ _ c.tool_judge.ensures)
+    at_command _ _ _ _ _ _ Judge _ _ _ _ c.in-Judge.is refl (at_once _ _ _ _ _ _ c.judge.ensures)
 
 pub returns-in-Report : goal.returns-in-Report
 returns-in-Report g c =

@@ -1,18 +1,10 @@
-use Rattle.std.proofs.Common.{Err, refl}
 use Rattle.lset_command.specs.CommandLine.{choice_in}
-use Rattle.tool_base.specs.declared.trouble.Trouble.TheVariants.{CannotRead}
-use Rattle.lset_dispatch.proofs.Endings.{ends_with, not_opened, on_file, on_input}
+use Rattle.lset_dispatch.proofs.Endings.{not_several, on_files}
 use Rattle.lset_dispatch.proofs.dispatching.run_taken.Goals as goal
 
-pub returns-in_default : goal.returns-in_default
-returns-in_default g c = on_input _ _ _ _ _ _ _ (choice_in c.args.words.now) c.in_default.ensures c.run_command.ensures
+pub returns-in-None : goal.returns-in-None
+returns-in-None g c = not_several _ _ _ _ _ _ _ (choice_in c.args.words.now) _ c.in-None.ensures c.run_on_file.ensures
 
-pub returns-in-Ok : goal.returns-in-Ok
-returns-in-Ok g c = on_file _ _ _ _ _ _ _ _ (choice_in c.args.words.now) _ c.in-Some.ensures (_, refl) c.run_command-in-Ok.ensures
-
-pub returns-in-Err : goal.returns-in-Err
-returns-in-Err g c = (
-  _,
-  ends_with _ _ _ _ _ _ (Err CannotRead) (not_opened _ _ _ (choice_in c.args.words.now) _ c.in-Some.ensures)
-      c.deliver.ensures,
-)
+pub returns-in-Some : goal.returns-in-Some
+returns-in-Some g c =
+    on_files _ _ _ _ _ _ _ (choice_in c.args.words.now) _ _ _ c.text_of-keys.ensures c.in-Some.ensures c.tool_judge_parts.ensures
