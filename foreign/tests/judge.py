@@ -56,9 +56,11 @@ def judges_recorded_calls():
     calls = "listset-calls 2\nlist lock-free\nthreads 2\nquota 4\ncall 0 add 5 1 3 6 true\ncall 1 contains 5 2 - 4 true\nkey 5\nend\n"
     listset.check(listset.report(calls))
     assert wrong(listset.check, listset.report(calls.replace("key 5\n", ""))) == (1, "WrongSet")
-    assert wrong(listset.report, calls.replace("1 3 6", "1 - 6")) == (1, "Point")
+    without_point = calls.replace("1 3 6", "1 - 6")
+    listset.check(listset.report(without_point))
+    assert wrong(listset.report, without_point.replace("key 5", "call 1 ceiling 4 7 - 8 at-5\nkey 5")) == (1, "Point")
     said = listset.judge_text(calls)
-    assert said == listset.judge_text(calls.replace("1 3 6", "1 - 6").encode()) and said.startswith("ok 2 calls\n"), said
+    assert said == listset.judge_text(without_point.encode()) and said.startswith("ok 2 calls\n"), said
     try:
         listset.judge_text(calls.replace("key 5\n", ""))
         raise AssertionError("a key is left out")

@@ -19,7 +19,7 @@ WRONG = """
     show a b | show --chain | show --svg --svg | show --svg a b | show --svg=yes | show --from | show --from -5 | show --from --
     show --from --to 9 | show --to 1 --to 2 | show --to=1 --to 2 | show --from=1 a b | show --width
     draft a b | draft --svg | draft --from 1 | gen -1 | gen lazy -2 | gen --chain | gen --from 1
-    report a b | report --svg | judge a b | judge --svg | judge --lacks lock | faults a | faults - | faults --svg | faults -- a | check --lacks lock | example --lacks lock
+    report a b | report --svg | judge --keys | judge --svg | judge --lacks lock | faults a | faults - | faults --svg | faults -- a | check --lacks lock | example --lacks lock
     replay --lacks | trace --lacks | show --lacks --svg | replay --lacks lock --lacks lock | replay --lacks lock a b"""
 # (the words after -- are values, so those of one value are not wrong)
 TAKEN = """

@@ -140,7 +140,7 @@ fn each_read_fails_in_turn(rt: HostRuntime) -> Result<(), Fail> {
 
 #[test]
 fn each_write_on_the_output_fails_in_turn(rt: HostRuntime) -> Result<(), Fail> {
-    assert!(rt; each_way_fails(&rt, rt.alloc(), Device::Output, &WRITES)? == 7_982);
+    assert!(rt; each_way_fails(&rt, rt.alloc(), Device::Output, &WRITES)? == 8_035);
     Ok(())
 }
 

@@ -74,6 +74,8 @@ thread 0  [add 5-true]
 
 order
 keys  5
+
+another order explains this report
 ";
 
 /// The trace of the schedule with the chains.

@@ -68,8 +68,11 @@ fn recorded_calls_are_judged() {
     assert_eq!(check(report(CALLS).unwrap()), Ok(()));
     let without_key = report(CALLS.replace("key 5\n", "")).unwrap();
     assert_eq!(check(without_key).unwrap_err().to_string(), "refused WrongSet");
-    assert_eq!(report(CALLS.replace("1 3 6", "1 - 6")).unwrap_err().status, 1);
-    assert!(judge_text(CALLS.replace("1 3 6", "1 - 6")).unwrap().starts_with("ok 2 calls\n"));
+    let without_point = CALLS.replace("1 3 6", "1 - 6");
+    assert_eq!(check(report(&without_point).unwrap()), Ok(()));
+    let with_ceiling = without_point.replace("key 5", "call 1 ceiling 4 7 - 8 at-5\nkey 5");
+    assert_eq!(report(with_ceiling).unwrap_err().status, 1);
+    assert!(judge_text(without_point).unwrap().starts_with("ok 2 calls\n"));
     let refused = judge_text(CALLS.replace("key 5\n", "")).unwrap_err();
     assert!(refused.status == 1 && refused.text.starts_with("not linearizable\n"), "{refused}");
 }
