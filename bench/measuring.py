@@ -6,7 +6,8 @@ import subprocess
 import sys
 import tempfile
 
-import benches
+import build_benches
+import toolchain
 
 BENCH = os.path.dirname(os.path.realpath(__file__))
 TOP = os.path.dirname(BENCH)
@@ -17,10 +18,11 @@ CALLS, SEED = "10000", "1"
 
 def built(name):
     """The program of this name, which is proved and built where it is missing."""
-    if name in benches.NAMES:
-        return benches.program_of(name)
+    if name in build_benches.NAMES:
+        return build_benches.program_of(name)
     program = f"{TOP}/crates/{name}/out/{name}"
     if not os.path.exists(program):
+        toolchain.folder()
         print(f"bench: proving and building {name}, once", file=sys.stderr)
         subprocess.run(["rt", "run"], cwd=f"{TOP}/crates/{name}", stdin=subprocess.DEVNULL, stdout=sys.stderr)
     return program
@@ -66,13 +68,6 @@ def kinds(tool):
     """The words for the lists, as the help of gen has them."""
     told = subprocess.run([tool, "help", "gen"], stdout=subprocess.PIPE, text=True, check=True).stdout
     return re.split(r", | or ", re.search(r"The list: (.*)", told)[1])
-
-
-def compiled(source, room):
-    """The program of a Rust file of bench/, built by rustc."""
-    program = f"{room}/{source.removesuffix('.rs')}"
-    subprocess.run(["rustc", "--edition", "2021", "-O", f"{BENCH}/{source}", "-o", program], check=True)
-    return program
 
 
 def heading(*columns):

@@ -10,7 +10,8 @@ import sys
 import tempfile
 import time
 
-from measuring import built, compiled, heading, kinds, row
+from build_benches import by_rustc
+from measuring import built, heading, kinds, row
 
 ROUNDS = 5
 CLIENTS = (1, 8)
@@ -98,7 +99,7 @@ def server():
     heading("Server", *(it for many, at_once in loads for it in (f"{many} client{'s'[:many > 1]}, {at_once} at once", "p99")))
     cells = {name: [] for name in servers}
     with tempfile.TemporaryDirectory() as room:
-        load = compiled("load.rs", room)
+        load = by_rustc("load.rs", room)
         for many, at_once in loads:
             rounds = [{name: loaded(load, *way, many, at_once) for name, way in servers.items()} for _ in range(ROUNDS)]
             for name in servers:

@@ -7,7 +7,8 @@ import subprocess
 import sys
 import tempfile
 
-from measuring import BENCH, CALLS, RUNS, SEED, built, compiled, heading, kinds, row, seconds_of
+from build_benches import by_rustc
+from measuring import BENCH, CALLS, RUNS, SEED, built, heading, kinds, row, seconds_of
 
 THREADS = (1, 4)
 QUOTA, KEYS = "5000", "1000"
@@ -22,7 +23,7 @@ def threads():
     tool = built("listset")
     heading("List", *(cell for many in THREADS for cell in (named(many), "by hand", "ratio")))
     with tempfile.TemporaryDirectory() as room:
-        peer = compiled("peer.rs", room)
+        peer = by_rustc("peer.rs", room)
         for kind in kinds(tool):
             cells = []
             for many in THREADS:
@@ -41,7 +42,7 @@ def calls():
     heads = (f"`{call}`" + f", {named(many)}" * (call == "add") for many in THREADS for call in kind_names)
     heading("List", *heads, "interpreter, 1 thread")
     with tempfile.TemporaryDirectory() as room:
-        peer = compiled("peer.rs", room)
+        peer = by_rustc("peer.rs", room)
         for kind in kinds(tool):
             ratios = []
             for many in THREADS:
@@ -91,7 +92,7 @@ def sizes():
 
 def programs_of(room):
     """Of each set the words of the program that times rounds of its calls, but for their numbers."""
-    timer, tool, peer = built("bench_calls"), built("listset"), compiled("peer.rs", room)
+    timer, tool, peer = built("bench_calls"), built("listset"), by_rustc("peer.rs", room)
     sets = {}
     for kind in kinds(tool):
         sets |= {kind: [timer, kind, "whole"], f"{kind}, by hand": [peer, "whole", kind]}

@@ -76,9 +76,9 @@ size_t listset_trace_with_chains(const char *schedule, size_t length, char *room
 /* The schedule of a draft. */
 size_t listset_draft(const char *draft, size_t length, char *room, size_t size, uint8_t *status);
 
-/* The picture of a schedule or a report, as text and as an SVG. The options are the words for --from, --to and --width, in this
-   order, with a zero byte between two: `=` and a number, or nothing, as "=2\0\0=60" with the length 7. Words may be missing at the
-   end. */
+/* The picture of a schedule, a report or recorded calls, as text and as an SVG. The options are the words for --from, --to and
+   --width, in this order, with a zero byte between two: `=` and a number, or nothing, as "=2\0\0=60" with the length 7. Words may be
+   missing at the end. */
 size_t listset_show(const char *text, size_t length, const char *options, size_t options_length, char *room, size_t size,
                     uint8_t *status);
 size_t listset_show_svg(const char *text, size_t length, const char *options, size_t options_length, char *room, size_t size,

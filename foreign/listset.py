@@ -118,7 +118,7 @@ def draft(text):
 
 
 def show(text, as_svg=False, *, first=None, last=None, width=None):
-    """The picture of a schedule or a report, from the moment `first` to the moment `last`."""
+    """The picture of a schedule, a report or recorded calls, from the moment `first` to the moment `last`."""
     options = _words("" if it is None else f"={it}" for it in (first, last, width))
     return _asked("show_svg" if as_svg else "show", text, options)
 

@@ -24,7 +24,7 @@ import sys
 HERE = pathlib.Path(__file__).resolve().parent
 TOP = HERE.parent
 sys.path.insert(0, str(TOP / "build"))
-from sources import Source  # noqa: E402
+from rattle_sources import Source  # noqa: E402
 
 CRATES = TOP / "crates"
 KINDS = {"gate": HERE / "gate", "planted": HERE / "planted"}

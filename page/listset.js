@@ -9,8 +9,8 @@
 //     node page/listset.js --words                  the first words of these lines, one a line
 //
 // FILE may be -, the word for the standard input. Output, line about a trouble and exit status are the program's
-// (docs/TEXTS.md), but that wrong words are one line. Where node does not run the module, it says so and ends with status 70,
-// before it reads anything.
+// (docs/TEXTS.md), but that wrong words are one line. If node does not run the module, or the words are of `judge` in parts, which
+// the program has alone, it says so and ends with status 70, before it reads anything.
 "use strict";
 
 const fs = require("fs");
@@ -28,7 +28,7 @@ const USAGE =
 const COMMANDS = {
   replay: { options: ["--lacks"], functions: ["listset_replay"], isOfFile: true },
   report: { functions: ["listset_report"], isOfFile: true },
-  judge: { functions: ["listset_judge"], isOfFile: true },
+  judge: { options: ["--keys"], functions: ["listset_judge"], isOfFile: true, most: Infinity },
   check: { functions: ["listset_check"], isOfFile: true },
   show: {
     flag: "--svg",
@@ -45,6 +45,9 @@ const COMMANDS = {
 
 class WrongWords extends Error {}
 
+// What the program has, and the engine has not.
+class OfTheProgram extends Error {}
+
 // What the words ask for: the command, whether its flag is on, the texts of its options by their names without hyphens, and its
 // values, which a word -- may stand before.
 function asked([name = "replay", ...words]) {
@@ -54,6 +57,8 @@ function asked([name = "replay", ...words]) {
   found.values.push(...words.slice(1));
   const { values, most = 1 } = found;
   if (values.length > most) throw new WrongWords(`${name} does not take ${JSON.stringify(values[most])}`);
+  const isInParts = name === "judge" && (values.length > 1 || found.texts.keys !== undefined);
+  if (isInParts) throw new OfTheProgram("in node judge takes one file and no --keys; the program, which ./listset builds, takes both");
   return found;
 }
 
@@ -171,5 +176,5 @@ async function main(given) {
 main(process.argv.slice(2)).catch((fault) => {
   const isWrong = fault instanceof WrongWords;
   process.stderr.write(`listset: ${fault.message}${isWrong ? `; the words are ${USAGE}` : ""}\n`);
-  process.exitCode = isWrong ? WRONG : 1;
+  process.exitCode = isWrong ? WRONG : fault instanceof OfTheProgram ? NO_ENGINE : 1;
 });

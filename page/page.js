@@ -111,7 +111,7 @@ const CLASSICS = {
   },
   "snip": {
     "question": "Thread 0 has marked the node of 5 and stops there. Thread 1 wants to put in 7 behind it. Does it have to wait?",
-    "turnsOn": "No: thread 1 takes the marked node out itself. The exchange of thread 0 fails then, and it answers true all the same, since its mark stands.",
+    "turnsOn": "No: thread 1 takes the marked node out itself. The exchange of thread 0 fails then, and thread 0 still answers true, since its mark stands.",
     "without": "An add that ignores the mark links 7 in behind the node of 5, and goes out with it (mark-in-add). Without marks no add could know (mark).",
     "turns": [17, 23],
     "lacks": ["mark-in-add", "mark"]
@@ -571,9 +571,10 @@ const colourOf = (thread) => `thread-${thread % 8}`;
 const chipOf = (thread) => tag("span", { class: `chip ${colourOf(thread)}` }, `t${thread}`);
 const keyText = (key) => String(key).replace("-inf", "−∞").replace("+inf", "+∞");
 const said = (value) => (value.endsWith("*") ? `${value.slice(0, -1)}, marked` : keyText(value));
+const counted = (count, word) => `${count} ${word}${count === 1 ? "" : "s"}`;
 const callText = (call) => `${call.operation}(${call.key})`;
 const openReply = "true"; // an open call that stands in the order has changed the set
-return { escaped, tag, label, title, colourOf, chipOf, keyText, said, callText, openReply };
+return { escaped, tag, label, title, colourOf, chipOf, keyText, said, counted, callText, openReply };
 })();
 
 // run/trace.js
@@ -1300,7 +1301,7 @@ const page = {
   view: null, // lecture, list or history, if only that is shown
 };
 
-const listeners = { shown: [], taken: [], ran: [], kept: [] };
+const listeners = { shown: [], taken: [], ran: [], kept: [], recorded: [] };
 const on = (what, ...deeds) => listeners[what].push(...deeds);
 
 function announce(what, ...given) {
@@ -1474,12 +1475,15 @@ const BREAK_LEVELS = {
       "Stop t0 just before it writes pred.next. Let t1 do its whole add. Then let t0 end.",
     ],
     lacks: "It goes on although another thread has the lock.",
-    others: ["It gives the lock back before it writes the link.", "It writes the link of pred before that of its own node."],
+    others: {
+      "It releases the lock before it writes the link.": "it releases the lock only after that",
+      "It writes the link of pred before that of its own node.": "it writes the link of its own node first",
+    },
     shortest: [20, 2],
   },
   "mark-in-remove": {
     grade: 0,
-    story: "Two threads take out one key. One of them should be told that it came too late.",
+    story: "Two threads take out one key. One of them should answer that it came too late.",
     hints: [
       "Two removes of the same key, 3.",
       "Let both threads find the node of 3 before either of them marks it.",
@@ -1611,7 +1615,7 @@ const BREAK_LEVELS = {
 
 const LACKS_IN_WORDS = {
   "second-lock": "A remove locks pred alone, and not the node that it takes out.",
-  "hand-over-hand": "A walk gives one lock back before it has the next.",
+  "hand-over-hand": "A walk releases one lock before it has the next.",
   "second-walk": "After the locks it does not walk again: pred may be out of the list.",
   "same-node": "The second walk looks for the key of pred, and not for the node itself.",
   "marks-in-validation": "The validation does not look at the marks.",
@@ -2363,7 +2367,8 @@ class Engine {
   }
 
   static async start() {
-    return new Engine(await WebAssembly.compile(await engineBytes()));
+    const bytes = await engineBytes();
+    return new Engine(await WebAssembly.compile(bytes));
   }
 
   ask(name, ...texts) {
@@ -2539,10 +2544,11 @@ return { MANY_EVENTS, LONG_TEXT, askLong, runLong, stopLong, cancelLong };
 const $page_play = (() => {
 const { CLASSICS } = $made_classics;
 const { byId } = $page_dom;
-const { goTo, page } = $page_now;
+const { goTo, page, tell } = $page_now;
 const SPEEDS = { slow: 1600, medium: 700, fast: 200 }; // milliseconds of one event
 let playing = null;
 let playsTo = Infinity; // the event at which it stops by itself
+let says = { before: "", there: "" }; // and what is said until there, and there
 
 const wantsLessMotion = () => matchMedia("(prefers-reduced-motion: reduce)").matches;
 
@@ -2558,8 +2564,8 @@ function stopPlay() {
   showPlay();
 }
 
-function startPlay(last = Infinity) {
-  playsTo = last;
+function startPlay(last = Infinity, said = { before: "", there: "" }) {
+  [playsTo, says] = [last, said];
   if (page.trace.total === 0) return;
   if (page.count === page.trace.total) goTo(0);
   playing = setInterval(playOn, SPEEDS[byId("speed").value]);
@@ -2568,6 +2574,7 @@ function startPlay(last = Infinity) {
 
 function playOn() {
   goTo(page.count + 1);
+  tell(page.count === playsTo ? says.there : says.before);
   if (page.count === page.trace.total || page.count === playsTo) stopPlay();
 }
 
@@ -2789,6 +2796,7 @@ const { contentsIn } = $run_state;
 const HISTORY_LEFT = 50;
 const HISTORY_RIGHT = 16;
 const LEAST_STEP = 7; // pixels of one event
+const BEHIND = 7; // pixels of a label behind the end of its bar, and so behind the line of the event
 
 function windowOf(total, count, room) {
   const most = Math.max(30, Math.floor(room / LEAST_STEP));
@@ -2859,11 +2867,14 @@ function drawBarText(call, scale, left, right, y) {
   const wide = 8 * text.length;
   const point = call.at === null || !isShown(call, scale) ? -99 : scale.x(call.at) - left;
   const start = point > wide + 14 || point < -8 ? 6 : point + 13;
-  const room = scale.now < (call.ended ?? Infinity) ? scale.edge - left : right - left;
-  if (room <= wide + start) return drawShortText(call, scale, left, room, y, isTold);
+  const isCut = scale.now < (call.ended ?? Infinity);
+  const isInside = right - left > wide + start;
+  if (!isInside && !(isCut && scale.edge - right > wide + BEHIND)) {
+    return drawShortText(call, scale, left, (isCut ? scale.edge : right) - left, y, isTold);
+  }
   const done = call.ended !== null && call.ended <= scale.count;
   const reply = isTold ? tag("tspan", { class: done ? "reply" : "reply later" }, ` ${call.reply}`) : "";
-  return tag("text", { x: left + start, y: y + 5 }, callText(call), reply);
+  return tag("text", { x: isInside ? left + start : right + BEHIND, y: y + 5 }, callText(call), reply);
 }
 
 const SHORT = {
@@ -2918,7 +2929,7 @@ function drawCalls(trace, scale) {
   const begun = shown.filter((call) => call.begun <= scale.count);
   const words = begun.length === 0 ? "no call has begun" : begun.slice(-20).map((call) => callInWords(call, scale.now)).join("; ");
   const frame = { width, height, role: "img", "aria-label": `the history of the calls: ${words}` };
-  return tag("svg", frame, ...lanes, ...bars, ...points, drawCursor(scale, height));
+  return tag("svg", frame, ...lanes, drawCursor(scale, height), ...bars, ...points);
 }
 
 function drawContent(part, scale) {
@@ -2951,8 +2962,8 @@ function drawContents(trace, scale) {
   const now = told.findLast((part) => part.from <= Math.max(scale.count, scale.first));
   const x = Math.min(Math.max(scale.x(scale.count), HISTORY_LEFT + 12), scale.width - 44);
   const number = scale.count > 0 ? label({ class: "number", x, y: 42 }, `event ${scale.count}`) : "";
-  const name = label({ class: "name", x: 6, y: 17 }, trace.lacks === null ? "set" : "told");
-  const what = trace.lacks === null ? "the set" : "what the calls tell of the set";
+  const name = label({ class: "name", x: 6, y: 17 }, "set");
+  const what = trace.lacks === null ? "the set" : "the set by the points of the calls";
   const words = `${what} after event ${scale.count}: {${now.keys.slice(0, 40).join(", ")}}`;
   const frame = { width: scale.width, height: 50, role: "img", "aria-label": words };
   return tag("svg", frame, name, ...parts, drawCursor(scale, 24), number, drawWindow(scale, trace.total, x));
@@ -2985,10 +2996,13 @@ const { callText, colourOf, keyText, label, said, tag, title } = $run_markup;
 const { ownerIn } = $run_sentences;
 const { isWritten, keyNumber, linkTarget, ownerOf } = $run_state;
 const { NODE_REGISTERS } = $run_trace;
-const NODE_WIDTH = 94;
+const WIDE = { node: 94, gap: 48, least: 420, scale: 0.8 };
+const COMPACT = { node: 76, gap: 32, least: 340, scale: 0.65 };
+const NARROW = 480; // pixels
+const shapeFor = (room) => (room < NARROW ? COMPACT : WIDE);
+
 const NODE_HEIGHT = 54;
 const LINK_WIDTH = 24;
-const GAP = 48;
 const LEAST_GAP = 12; // between nodes that are not in the chain
 const FOLD_WIDTH = 84;
 const TOP = 58;
@@ -3034,16 +3048,16 @@ function foldedChain(chain, important) {
   return items.flatMap((item) => (item.folded?.length === 1 ? [{ name: item.folded[0] }] : [item]));
 }
 
-function placesOfChain(items) {
+function placesOfChain(items, shape) {
   const places = {};
   let x = 16;
   for (const item of items) {
     item.x = x;
-    const width = item.folded ? FOLD_WIDTH : NODE_WIDTH;
-    for (const name of item.folded ?? [item.name]) places[name] = { x, y: TOP, width, folded: !!item.folded };
-    x += width + GAP;
+    const width = item.folded ? FOLD_WIDTH : shape.node;
+    for (const name of item.folded ?? [item.name]) places[name] = { x, y: TOP, width, gap: shape.gap, folded: !!item.folded };
+    x += width + shape.gap;
   }
-  return { places, width: x - GAP + 16 };
+  return { places, width: x - shape.gap + 16 };
 }
 
 function nodesAside(state, chain, important) {
@@ -3055,18 +3069,19 @@ function nodesAside(state, chain, important) {
 }
 
 function placeAside(state, chain, shown, places, y) {
+  const { width, gap } = places.head;
   const taken = [];
   const byKey = [...shown].sort((one, other) => keyNumber(state.nodes[one].key) - keyNumber(state.nodes[other].key));
   for (const name of byKey) {
     const key = keyNumber(state.nodes[name].key);
     const before = chain.filter((other) => keyNumber(state.nodes[other].key) < key);
     const place = places[before[before.length - 1] ?? "head"];
-    let x = place.x + (place.width + GAP) / 2;
-    while (taken.some((other) => Math.abs(other - x) < NODE_WIDTH + LEAST_GAP)) x += NODE_WIDTH + 16;
-    places[name] = { x, y, width: NODE_WIDTH, aside: true, lane: taken.length % 3 };
+    let x = place.x + (place.width + gap) / 2;
+    while (taken.some((other) => Math.abs(other - x) < width + LEAST_GAP)) x += width + 16;
+    places[name] = { x, y, width, gap, aside: true, lane: taken.length % 3 };
     taken.push(x);
   }
-  return taken.length === 0 ? 0 : Math.max(...taken) + NODE_WIDTH + 16;
+  return taken.length === 0 ? 0 : Math.max(...taken) + width + 16;
 }
 
 function kindOf(state, name, place) {
@@ -3079,31 +3094,35 @@ function nodeInWords(node, name, kind) {
   return `${name}: key ${keyText(node.key)}, link ${said(node.link)}, lock ${node.lock}${where}`;
 }
 
+const KEY_FRAME = { class: "read", height: NODE_HEIGHT - 4, rx: 4 };
+
 function drawNode(state, name, place, event) {
   const node = state.nodes[name];
-  const { x, y } = place;
+  const { x, y, width } = place;
   const kind = kindOf(state, name, place);
   const isMarked = node.link.endsWith("*");
   const [hot, field] = event?.word?.split(".") ?? [];
-  const size = { x, y, width: NODE_WIDTH, height: NODE_HEIGHT, rx: 5 };
+  const isRead = hot === name && field === "key";
+  const size = { x, y, width, height: NODE_HEIGHT, rx: 5 };
   const box = isMarked ? { ...size, class: "box marked", style: "fill:url(#hatch)" } : { ...size, class: "box" };
-  const side = x + NODE_WIDTH - LINK_WIDTH;
+  const side = x + width - LINK_WIDTH;
   return tag(
     "g",
     { class: `node ${kind}`, "data-part": `node ${name}`, "data-x": x, "data-y": y },
     title(nodeInWords(node, name, kind)),
-    hot === name ? drawHot(x, y) : "",
+    hot === name ? drawHot(place) : "",
     tag("rect", box),
+    isRead ? tag("rect", { ...KEY_FRAME, x: x + 2, y: y + 2, width: width - LINK_WIDTH - 3 }) : "",
     tag("line", { class: "side", x1: side, x2: side, y1: y, y2: y + NODE_HEIGHT }),
-    drawKey(node, (x + side) / 2, y + 34, hot === name && field === "key"),
+    drawKey(node, (x + side) / 2, y + 34, isRead),
     label({ class: "name", x: x + 2, y: y - 10 }, name),
     isMarked ? label({ class: "cross", x: side + LINK_WIDTH / 2, y: y + 34 }, "✗") : "",
-    node.lock === "free" ? "" : drawLock(node.lock, x + NODE_WIDTH - 38, y - 28),
+    node.lock === "free" ? "" : drawLock(node.lock, x + width - 38, y - 28),
   );
 }
 
-const drawHot = (x, y) =>
-  tag("rect", { "data-hot": x, class: "hot", x: x - 6, y: y - 6, width: NODE_WIDTH + 12, height: NODE_HEIGHT + 12, rx: 9 });
+const drawHot = ({ x, y, width }) =>
+  tag("rect", { "data-hot": x, class: "hot", x: x - 6, y: y - 6, width: width + 12, height: NODE_HEIGHT + 12, rx: 9 });
 
 function drawKey(node, x, y, isTouched) {
   const text = keyText(node.key);
@@ -3143,7 +3162,7 @@ function drawLink(state, name, places, event) {
   if (!to || from.folded || name === "tail" || (target === "head" && !reached)) return "";
   const kind = event?.word === `${name}.link` ? "hot" : from.aside ? "out" : "in";
   const isMarked = link.endsWith("*");
-  const x = from.x + NODE_WIDTH - (isMarked ? 1 : LINK_WIDTH / 2);
+  const x = from.x + from.width - (isMarked ? 1 : LINK_WIDTH / 2);
   const y = from.y + NODE_HEIGHT / 2;
   return tag(
     "g",
@@ -3156,7 +3175,7 @@ function drawLink(state, name, places, event) {
 
 function pathOf(from, to, x1, y1) {
   if (from.aside && !to.aside) return pathUp(from, to, x1, y1);
-  const isNext = to.x > from.x && to.x - from.x < 2 * (NODE_WIDTH + LEAST_GAP);
+  const isNext = to.x > from.x && to.x - from.x < 2 * (from.width + LEAST_GAP);
   if (from.aside && !isNext) return pathOver(from, to, x1, y1);
   return `M${x1} ${y1} L${to.x - 3} ${to.y + NODE_HEIGHT / 2}`;
 }
@@ -3171,24 +3190,24 @@ function bent(start, ...turns) {
 }
 
 function pathUp(from, to, x1, y1) {
-  const beside = from.x + NODE_WIDTH + 8;
+  const beside = from.x + from.width + 8;
   const under = from.y - 34 - 6 * from.lane;
-  const gap = to.x - 32 + 7 * from.lane;
+  const gap = to.x - (2 * to.gap) / 3 + ((7 * to.gap) / 48) * from.lane;
   const y2 = to.y + NODE_HEIGHT - (to.folded ? 14 : 7) - 6 * from.lane;
   return bent([x1, y1], beside, under, gap, y2, to.x - 3);
 }
 
 function pathOver(from, to, x1, y1) {
-  return bent([x1, y1], from.x + NODE_WIDTH + 8, from.y - 34 - 6 * from.lane, to.x + 48, to.y - 3);
+  return bent([x1, y1], from.x + from.width + 8, from.y - 34 - 6 * from.lane, to.x + to.width - 46, to.y - 3);
 }
 
-function roomsUnder(state, items, shown) {
+function roomsUnder(state, items, shown, shape) {
   const risen = new Set(shown.map((name) => linkTarget(state.nodes[name].link)));
   const rooms = {};
   items.forEach(({ name }, index) => {
     const next = items[index + 1];
     const isCrossed = next !== undefined && (next.folded ?? [next.name]).some((other) => risen.has(other));
-    rooms[name] = NODE_WIDTH + (isCrossed ? 0 : GAP - 6);
+    rooms[name] = shape.node + (isCrossed ? 0 : shape.gap - 6);
   });
   return rooms;
 }
@@ -3216,7 +3235,7 @@ function pointerLabels(pointers, places, rooms) {
   for (const { thread, at } of pointers) {
     for (const name in at) {
       if (!places[name] || places[name].folded) continue;
-      for (const text of labelTexts(thread, at[name], rooms[name] ?? NODE_WIDTH)) add(thread, name, text);
+      for (const text of labelTexts(thread, at[name], rooms[name] ?? places[name].width)) add(thread, name, text);
     }
   }
   return labels;
@@ -3250,14 +3269,14 @@ const DEFINITIONS = tag(
   ...["in", "out", "hot"].map(drawTip),
 );
 
-function arranged(state, event) {
+function arranged(state, event, shape = WIDE) {
   const chain = state.chain();
   const pointers = pointersOf(state, event);
   const important = importantNodes(state, event, pointers);
   const items = foldedChain(chain, important);
-  const { places, width } = placesOfChain(items);
+  const { places, width } = placesOfChain(items, shape);
   const { shown, more } = nodesAside(state, chain, important);
-  const rooms = roomsUnder(state, items, shown);
+  const rooms = roomsUnder(state, items, shown, shape);
   const lanesUnder = (labels, row) => Math.max(0, ...labels.filter((own) => own.row === row).map((own) => own.lane + 1));
   const below = TOP + NODE_HEIGHT + 18 * lanesUnder(pointerLabels(pointers, places, rooms), TOP) + 62;
   const right = placeAside(state, chain, shown, places, below);
@@ -3265,12 +3284,13 @@ function arranged(state, event) {
   const bottom = shown.length > 0 ? below : TOP;
   const names = [...items.filter((item) => item.name).map((item) => item.name), ...shown];
   const height = bottom + NODE_HEIGHT + 18 * lanesUnder(labels, bottom) + 14;
-  const wide = Math.max(width, right, 420, ...labels.map((own) => own.right));
+  const wide = Math.max(width, right, shape.least, ...labels.map((own) => own.right));
   return { chain, items, places, labels, names, more, width: wide, height };
 }
 
 function drawList(state, event, room, most = Infinity, least = { width: 0, height: 0 }, own = "") {
-  const { chain, items, places, labels, names, more, width: wide, height: high } = arranged(state, event);
+  const shape = shapeFor(room);
+  const { chain, items, places, labels, names, more, width: wide, height: high } = arranged(state, event, shape);
   const width = Math.max(wide, least.width);
   const whole = Math.max(high, least.height);
   const above = state.trace.kind === "coarse" ? -4 : TOP - LOCK_HEIGHT; // the list's own lock stands there
@@ -3279,7 +3299,7 @@ function drawList(state, event, room, most = Infinity, least = { width: 0, heigh
   const nodes = names.map((name) => drawNode(state, name, places[name], event));
   const links = names.map((name) => drawLink(state, name, places, event));
   const pointers = labels.map((own) => drawPointer(own, places));
-  const scale = Math.max(0.8, Math.min(1.6, (room - 4) / width, most / height));
+  const scale = Math.max(shape.scale, Math.min(1.6, (room - 4) / width, most / height));
   const frame = {
     width: width * scale,
     height: height * scale,
@@ -3317,7 +3337,7 @@ function threadInWords(state, held, thread, locks) {
   const has = own === undefined ? "" : `; t${thread} has ${own.join(" and ")}`;
   return `t${thread} ${callText(held.call)} at row ${held.pc}${at === "" ? "" : `: ${at}`}${has}`;
 }
-return { NODE_WIDTH, SIGN_WIDTH, arranged, drawList };
+return { shapeFor, SIGN_WIDTH, arranged, drawList };
 })();
 
 // made/code.js
@@ -3988,7 +4008,8 @@ const $draw_room = (() => {
 const MOST_LOOKED_AT = 300; // events; of a longer run the room grows as it is shown
 const LEAST = { width: 500, height: 170, atWork: 260 }; // at work a node may come to stand below the chain
 
-const known = { trace: null, kind: "", threads: 0, total: 0, width: 0, height: 0, isOwn: false };
+const known = { trace: null, kind: "", threads: 0, total: 0, width: 0, height: 0, isOwn: false, goesOn: false };
+const drawn = { wide: 0, height: 0 }; // the highest picture that was drawn in a page so wide
 
 function roomOf(trace, sizeAt, now, wide, isAtWork) {
   if (known.trace !== trace) {
@@ -3996,20 +4017,26 @@ function roomOf(trace, sizeAt, now, wide, isAtWork) {
     const kept = isLonger ? known : { width: Math.min(LEAST.width, wide), height: isAtWork ? LEAST.atWork : LEAST.height };
     const { kind, threads, total } = trace;
     const from = isLonger ? Math.min(known.total, total) : 0; // the room of what is before is known
-    Object.assign(known, { trace, kind, threads, total, width: kept.width, height: kept.height, isOwn: true });
+    Object.assign(known, { trace, kind, threads, total, width: kept.width, height: kept.height, isOwn: true, goesOn: isLonger });
     if (total <= MOST_LOOKED_AT) for (let count = from; count <= total; count++) grow(sizeAt(count));
-  }
+  } else known.goesOn = true; // another event of the same run
   grow(now);
   return known;
 }
 
 const forgetRoom = () => Object.assign(known, { trace: null, isOwn: false });
 
+function keptHeight(height, wide) {
+  const isKept = drawn.wide === wide && known.goesOn;
+  Object.assign(drawn, { wide, height: isKept ? Math.max(drawn.height, height) : height });
+  return drawn.height;
+}
+
 function grow({ width, height }) {
   known.width = Math.max(known.width, width);
   known.height = Math.max(known.height, height);
 }
-return { roomOf, forgetRoom };
+return { roomOf, forgetRoom, keptHeight };
 })();
 
 // draw/table.js
@@ -4126,12 +4153,20 @@ function setProgress(id, done, total) {
   byId(id).setAttribute("aria-label", `${done} of ${total}`);
 }
 
+function slideZoom(width, height) {
+  if (width <= 560) return 1;
+  return Math.max(0.75, Math.min(3, width / 1280, height / 720));
+}
+
+const fitSlide = () => document.body.style.setProperty("--slide", slideZoom(innerWidth, innerHeight));
+
 function setView(view) {
   page.view = view;
+  fitSlide();
   document.body.classList.remove("view", "lecture", "list", "history");
   if (view !== null) document.body.classList.add("view", view);
 }
-return { where, isAtMap, isAtWork, goToPlace, leaveMap, showStage, setProgress, setView };
+return { where, isAtMap, isAtWork, goToPlace, leaveMap, showStage, setProgress, slideZoom, fitSlide, setView };
 })();
 
 // page/view.js
@@ -4139,40 +4174,44 @@ const $page_view = (() => {
 const { LISTS } = $made_rows;
 const { glide } = $draw_glide;
 const { drawCalls, drawContents, drawOrder, scaleOf } = $draw_history;
-const { arranged, drawList, NODE_WIDTH } = $draw_list;
+const { arranged, drawList, shapeFor } = $draw_list;
 const { drawListing } = $draw_listing;
-const { roomOf } = $draw_room;
+const { forgetRoom, keptHeight, roomOf } = $draw_room;
 const { drawTable } = $draw_table;
 const { drawThreads, MOST_ROWS } = $draw_threads;
 const { byId, setAble } = $page_dom;
 const { hiddenOutcomes, isJudging, page } = $page_now;
-const { isAtWork } = $page_places;
+const { isAtWork, slideZoom } = $page_places;
 const { momentAt, sentenceOf } = $run_sentences;
 const LINE_HEIGHT = 21;
 
 function showRun(moment) {
-  showList(moment);
-  scrollToTouched();
+  const [wide, historyWide] = [byId("list").clientWidth, byId("history").clientWidth];
+  showList(moment, wide);
+  scrollToTouched(wide);
   showThreads(moment.event);
   showTable(moment);
   showListing(moment);
-  if (!isJudging()) showHistory(moment.event);
+  if (!isJudging()) showHistory(moment.event, historyWide);
   scrollToLine(moment.event);
 }
 
-const glided = { trace: null, count: 0 };
+const glided = { trace: null, count: 0, shape: null };
 
-function showList({ state, event }) {
+function showList({ state, event }, wide) {
   const { trace, count } = page;
-  const wide = byId("list").clientWidth;
   if (wide === 0) return; // it is not there: a map is shown, or the history alone
-  const sizeAt = (number) => arranged(state, momentAt(state, number).event);
-  const room = roomOf(trace, sizeAt, arranged(state, event), wide, isAtWork());
+  const shape = shapeFor(wide);
+  if (glided.shape !== shape) forgetRoom(); // the page is as narrow as a phone now, or no longer
+  const sizeAt = (number) => arranged(state, momentAt(state, number).event, shape);
+  const room = roomOf(trace, sizeAt, arranged(state, event, shape), wide, isAtWork());
   state.moveTo(count);
   const isNear = glided.trace === trace && Math.abs(glided.count - count) === 1 && byId("speed").value !== "fast";
-  Object.assign(glided, { trace, count });
+  Object.assign(glided, { trace, count, shape });
   const draw = () => (byId("list").innerHTML = drawList(state, event, wide, listHeight(), room));
   glide(byId("list"), draw, isNear);
+  const isKept = isAtWork() && page.view === null;
+  byId("list").style.minHeight = isKept ? `${keptHeight(Number(byId("list").firstElementChild.getAttribute("height")), wide)}px` : "";
 }
 
 const MOST_MEASURED = 300; // events of a run whose sentences are measured
@@ -4232,37 +4271,46 @@ function showListing(moment) {
   if (y < box.scrollTop + 40 || y > box.scrollTop + box.clientHeight - 80) box.scrollTop = y - box.clientHeight / 2;
 }
 
-function showHistory(event) {
+const ALL_LANES = 400; // pixels: a history that is no higher does not scroll
+
+function showHistory(event, wide) {
   const { trace, count, hides } = page;
-  const scale = scaleOf(trace, count, Math.max(300, byId("history").clientWidth), hides);
+  const scale = scaleOf(trace, count, Math.max(300, wide), hides);
   byId("calls").innerHTML = drawCalls(trace, scale);
   byId("contents").innerHTML = drawContents(trace, scale);
   byId("order").innerHTML = drawOrder(trace, count, hides);
   page.scale = scale;
   const box = byId("calls");
-  if (event === null || box.scrollHeight <= box.clientHeight) return;
+  if (event === null || scale.height <= ALL_LANES || box.scrollHeight <= box.clientHeight) return;
   const y = scale.y(event.thread);
   if (y < box.scrollTop + 20 || y > box.scrollTop + box.clientHeight - 20) box.scrollTop = y - box.clientHeight / 2;
 }
 
 function listHeight() {
-  if (page.view === "list" || page.view === "history" || innerWidth <= 940) return Infinity;
-  if (page.view === "lecture") return Math.max(200, innerHeight / 1.5 - 294 - byId("bar").clientHeight - byId("question-box").clientHeight);
+  if (page.view === "list" || page.view === "history" || innerWidth <= 560) return Infinity;
+  if (page.view === "lecture") return slideHeight();
   const isAtWork = byId("moves-box").parentElement.id === "moves-wide";
-  const below = isJudging() ? 430 : byId("bar").clientHeight + 76 + 42 * Math.min(page.trace.threads, 6) + (isAtWork ? 0 : 30);
+  const below = isJudging() ? 430 : byId("bar").clientHeight + 96 + 42 * Math.min(page.trace.threads, 6) + (isAtWork ? 0 : 30);
   return Math.max(isJudging() ? 190 : 260, innerHeight - byId("list").getBoundingClientRect().top - scrollY - below);
 }
 
-function scrollToTouched() {
+function slideHeight() {
+  const threads = Math.min(page.trace.threads, 6);
+  const below = isJudging() ? 214 + 54 * threads : 66 + 42 * threads;
+  const others = ["task", "said", "bar"].reduce((sum, name) => sum + byId(name).clientHeight, 0);
+  return Math.max(150, innerHeight / slideZoom(innerWidth, innerHeight) - others - below - 54);
+}
+
+function scrollToTouched(wide) {
   const box = byId("list");
   const touched = box.querySelector("[data-hot]");
-  if (touched === null) return;
   const drawn = box.firstElementChild;
-  const x = (Number(touched.dataset.hot) + NODE_WIDTH / 2) * (drawn.clientWidth / drawn.viewBox.baseVal.width);
+  if (touched === null || Number(drawn.getAttribute("width")) <= wide) return;
+  const x = (touched.x.baseVal.value + touched.width.baseVal.value / 2) * (drawn.clientWidth / drawn.viewBox.baseVal.width);
   if (x < box.scrollLeft + 60 || x > box.scrollLeft + box.clientWidth - 60) box.scrollLeft = x - box.clientWidth / 2;
 }
 
-const editor = { isSeen: true };
+const editor = { isSeen: false };
 
 function watchEditor() {
   const look = ([{ isIntersecting }]) => {
@@ -4550,14 +4598,21 @@ const LESSON_WORDS = {
 };
 const WORDS = Object.keys(LESSON_WORDS);
 
+function withoutIndent(text) {
+  const lines = text.replace(/^\ufeff/, "").split("\n").map((line) => line.replaceAll("\t", "  ").trimEnd());
+  const first = lines.findIndex((line) => line !== "");
+  const indents = lines.filter((line, index) => index > first && line !== "").map((line) => line.search(/\S/));
+  const most = Math.min(...indents);
+  return lines.map((line, index) => (index === first ? line.trimStart() : line.slice(Math.min(most, line.search(/\S|$/)))));
+}
+
 class CourseReader {
   constructor(text) {
     this.faults = [];
     this.name = "";
     this.lessons = [];
     this.block = null; // the part to which lines belong that begin with two spaces
-    const given = text.replace(/^\ufeff/, "").split("\n");
-    const lines = given.map((line, index) => ({ line: line.replaceAll("\t", "  ").trimEnd(), number: index + 1 }));
+    const lines = withoutIndent(text).map((line, index) => ({ line, number: index + 1 }));
     const [title, ...rest] = lines.filter(({ line }) => line !== "" && !line.startsWith("#"));
     if (title?.line !== COURSE_TITLE) return this.fault(title?.number ?? 1, `"${COURSE_TITLE}" is due here`);
     rest.forEach(({ line, number }) => this.take(line, number));
@@ -5104,7 +5159,10 @@ function textOfParts(parts) {
   const title = `listset-schedule ${parts.version ?? neededVersion(lines)}`;
   return [title, `list ${parts.list}`, `threads ${parts.threads}`, `quota ${parts.quota}`, ...lines, ""].join("\n");
 }
-return { LONGEST_ADDRESS, AddressFault, addressOf, longLine, exampleAddress, readAddress };
+
+const warningOf = (link) =>
+  link.startsWith("file:") ? " Others cannot open it, since it leads to a file on this computer: copy it from a page on a web server." : "";
+return { LONGEST_ADDRESS, AddressFault, addressOf, longLine, exampleAddress, readAddress, warningOf };
 })();
 
 // activities/break_map.js
@@ -5127,6 +5185,11 @@ const numberOf = (name) => ORDER.indexOf(name) + 1;
 const addressOfLevel = (name) => `#break=${numberOf(name)}`;
 const wordOf = (name) => BREAK_LEVELS[name].lacks ?? LACKS_IN_WORDS[name];
 
+function whyWrong(name, word) {
+  const why = BREAK_LEVELS[name].others?.[word] ?? "that is not so in this list";
+  return `No: ${why}. Look for the line of the code at which this list does something else.`;
+}
+
 function titleOfLevel(name) {
   const grade = GRADES[BREAK_LEVELS[name].grade];
   return grade === undefined ? "To think about" : `Level ${numberOf(name)} of ${counted.length} · ${grade}`;
@@ -5146,7 +5209,7 @@ function drawBreakMap() {
   const group = (title, names) => `<h2>${title}</h2>${tag("ol", { class: "cards" }, ...names.map(card))}`;
   const groups = GRADES.map((title, grade) => group(title, ORDER.filter((name) => BREAK_LEVELS[name].grade === grade)));
   const rest = group("To think about", ORDER.filter((name) => !counted.includes(name)));
-  byId("map-break").innerHTML = `<h1>Break a list</h1><p class="lead">Each of these lists lacks one check of the whole one. Move the threads
+  byId("map-break").innerHTML = `<h1>Break a list</h1><p class="lead">Each of these lists lacks one check that the whole list makes. Move the threads
     until no order of the calls explains what they answered. Then say what is missing.</p>${groups.join("")}${rest}`;
 }
 
@@ -5170,7 +5233,7 @@ function showTaskOfBreak() {
   const to = (index) => (ORDER[index] === undefined ? null : addressOfLevel(ORDER[index]));
   return { before: to(at - 1), all: ["#break", "All levels"], next: to(at + 1) };
 }
-return { ORDER, numberOf, addressOfLevel, wordOf, titleOfLevel, drawBreakMap, fillBreaks, openLevel, showTaskOfBreak };
+return { ORDER, numberOf, addressOfLevel, wordOf, whyWrong, titleOfLevel, drawBreakMap, fillBreaks, openLevel, showTaskOfBreak };
 })();
 
 // draw/judged.js
@@ -5182,6 +5245,7 @@ const JUDGE_LEFT = 50;
 const JUDGE_RIGHT = 20;
 const JUDGE_LANE = 54;
 const SLOT_WIDTH = 60; // of the words of a point
+const SIGN = 7.8; // pixels of a letter above a bar
 
 function judgeScale({ last, threads }, width) {
   const step = (width - JUDGE_LEFT - JUDGE_RIGHT) / last;
@@ -5197,19 +5261,49 @@ function judgeScale({ last, threads }, width) {
 
 const momentInWords = (at) => (Number.isInteger(at) ? `at ${at}` : `after ${Math.floor(at)}`);
 
-function drawJudgedLane(scale, thread) {
-  const y = scale.y(thread);
+function drawJudgedLane(scale, place, thread = place) {
+  const y = scale.y(place);
   const badge = tag("rect", { x: 2, y: y - 10, width: 38, height: 20, rx: 4 }) + label({ x: 21, y: y + 5 }, `t${thread}`);
   const lane = { class: "lane", x1: JUDGE_LEFT - 6, x2: scale.width - JUDGE_RIGHT, y1: y, y2: y };
   return tag("line", lane) + tag("g", { class: `badge ${colourOf(thread)}` }, badge);
 }
 
-function drawJudgedCall(call, { answer, exercise, verdict, scale }) {
+const leftOf = (call, scale) => scale.x(call.begun) - scale.step / 2;
+
+function placedLabel(call, reply, { left, right, next, taken }) {
+  const short = SHORT[call.operation](call.key);
+  const texts = [`${callText(call)} ${reply}`, `${short} ${SHORT_REPLY[reply] ?? reply}`, short];
+  for (const text of texts.slice(SIGN * texts[0].length > right - left ? 1 : 0)) {
+    const wide = SIGN * text.length;
+    if (left + 2 + wide <= next) return { text, x: left + 2 };
+    if (right - wide >= taken) return { text, x: right - wide };
+  }
+  return { text: short, x: left + 2 };
+}
+
+function labelsOf(calls, { answer, exercise, scale }) {
+  const labels = new Map();
+  const taken = {};
+  for (const call of calls) {
+    const next = calls.find((other) => other.thread === call.thread && other.begun > call.begun);
+    const left = leftOf(call, scale);
+    const right = scale.x(lastMoment(exercise, call)) + scale.step / 2;
+    const free = { left, right, next: next === undefined ? scale.width : leftOf(next, scale), taken: taken[call.thread] ?? 0 };
+    const placed = placedLabel(call, saidOf(call, answer), free);
+    taken[call.thread] = placed.x + SIGN * placed.text.length;
+    labels.set(call.id, placed);
+  }
+  return labels;
+}
+
+const saidOf = (call, answer) => (call.ended === null ? "(open)" : (answer.replyOf(call) ?? "?"));
+
+function drawJudgedCall(call, { answer, exercise, verdict, scale }, { text, x }) {
   const y = scale.y(call.thread);
-  const left = scale.x(call.begun) - scale.step / 2;
+  const left = leftOf(call, scale);
   const right = scale.x(lastMoment(exercise, call)) + scale.step / 2;
   const point = answer.points.get(call.id);
-  const reply = call.ended === null ? "(open)" : (answer.replyOf(call) ?? "?");
+  const reply = saidOf(call, answer);
   const isClash = verdict?.clash === call.id;
   const where = point === undefined ? "not placed yet" : momentInWords(point.at);
   const slider = {
@@ -5223,11 +5317,32 @@ function drawJudgedCall(call, { answer, exercise, verdict, scale }) {
     "aria-valuetext": `${where}${isClash ? ", and clashes there" : ""}`,
     class: `bar own ${colourOf(call.thread)}${isClash ? " clash" : ""}${call.ended === null ? " open" : ""}`,
   };
-  const bar = tag("rect", { x: left, y: y - 15, width: Math.max(right - left, 12), height: 30, rx: 4 });
-  const isNarrow = 8 * (callText(call).length + reply.length + 1) > right - left;
-  const text = isNarrow ? `${SHORT[call.operation](call.key)} ${SHORT_REPLY[reply] ?? reply}` : `${callText(call)} ${reply}`;
-  const name = label({ class: "call", x: left + 2, y: y - 19 }, text);
-  return tag("g", slider, bar, name, point === undefined ? "" : drawOwnPoint(call, point.at, y, scale));
+  const bar = drawJudgedBar(left, right, y, { text, x });
+  return tag("g", slider, bar, point === undefined ? "" : drawOwnPoint(call, point.at, y, scale));
+}
+
+const drawJudgedBar = (left, right, y, { text, x }) =>
+  tag("rect", { x: left, y: y - 15, width: Math.max(right - left, 12), height: 30, rx: 4 }) +
+  label({ class: "call", x, y: y - 19 }, text);
+
+function drawRecorded(calls, width) {
+  const inOrder = (numbers) => [...new Set(numbers)].sort((one, other) => one - other);
+  const threads = inOrder(calls.map(({ thread }) => thread));
+  const moments = inOrder(calls.flatMap(({ begun, ended }) => (ended === null ? [begun] : [begun, ended])));
+  const momentOf = (at) => (at === null ? null : moments.indexOf(at) + 1);
+  const placed = calls.map((call) => ({ ...call, begun: momentOf(call.begun), ended: momentOf(call.ended) }));
+  const exercise = { calls: placed, last: moments.length + 1 };
+  const scale = judgeScale({ last: exercise.last, threads: threads.length }, width);
+  const answer = { replyOf: ({ reply }) => reply };
+  const labels = labelsOf(placed, { answer, exercise, scale });
+  const bars = placed.map((call) => {
+    const right = scale.x(lastMoment(exercise, call)) + scale.step / 2;
+    const bar = drawJudgedBar(leftOf(call, scale), right, scale.y(threads.indexOf(call.thread)), labels.get(call.id));
+    return tag("g", { class: `bar own still ${colourOf(call.thread)}${call.ended === null ? " open" : ""}` }, bar);
+  });
+  const lanes = threads.map((thread, at) => drawJudgedLane(scale, at, thread));
+  const frame = { width: scale.width, height: scale.height, role: "img", "aria-label": calls.map(nameOfCall).join(", ") };
+  return tag("svg", frame, ...lanes, ...bars);
 }
 
 function drawOwnPoint(call, at, y, scale) {
@@ -5244,7 +5359,8 @@ function drawJudged(judged) {
   const at = exercise.level === "claim" ? moment : judged.count;
   const line = { class: "cursor", x1: scale.x(at), x2: scale.x(at), y1: 0, y2: scale.height };
   const frame = { width: scale.width, height: scale.height, role: "group", "aria-label": "the calls, each with a point to place" };
-  const calls = exercise.calls.map((call) => drawJudgedCall(call, judged));
+  const labels = labelsOf(exercise.calls, judged);
+  const calls = exercise.calls.map((call) => drawJudgedCall(call, judged, labels.get(call.id)));
   return tag("svg", frame, ...lanes, at === 0 ? "" : tag("line", line), ...calls);
 }
 
@@ -5267,7 +5383,7 @@ function momentOfReport({ calls, last }, moment) {
   const names = open.map((call) => `${callText(call)} of ${chipOf(call.thread)}`);
   return `Moment ${moment}: a step. ${names.length === 0 ? "No call is open." : `Open: ${names.join(", ")}.`}`;
 }
-return { judgeScale, drawJudged, drawOwnOrder, momentOfReport };
+return { judgeScale, drawRecorded, drawJudged, drawOwnOrder, momentOfReport };
 })();
 
 // activities/judging.js
@@ -5365,6 +5481,7 @@ class Judging {
     if (this.verdict.isRight && this.exercise.isWhole) this.keep();
     this.answer.isNone = false;
     this.draw();
+    judgePart("verdict").scrollIntoView({ block: "nearest" });
   }
 
   keep() {
@@ -5477,7 +5594,7 @@ return { JUDGED, judging, drawJudging, endJudging, beginJudging, listenToJudging
 // activities/break_level.js
 const $activities_break_level = (() => {
 const { CLASSICS, LACKING } = $made_classics;
-const { addressOfLevel, fillBreaks, numberOf, openLevel, ORDER, titleOfLevel, wordOf } = $activities_break_map;
+const { addressOfLevel, fillBreaks, numberOf, openLevel, ORDER, titleOfLevel, whyWrong, wordOf } = $activities_break_map;
 const { brokenLines, isNamed, isShownBreak, keepBrokenLine, keepNamed, noteShown } = $activities_broken_kept;
 const { beginJudging } = $activities_judging;
 const { BREAK_LEVELS, GRADES } = $data_levels;
@@ -5604,7 +5721,7 @@ function drawWin({ lacks, total, calls }) {
   const { shortest } = BREAK_LEVELS[lacks];
   const own = `${total} events, ${calls.length} ${calls.length === 1 ? "call" : "calls"}`;
   const isShorter = shortest !== null && total < shortest[0];
-  const best = shortest === null ? "" : isShorter ? `Shorter than the known one, of ${shortest[0]}.` : `The known one has ${shortest[0]}.`;
+  const best = shortest === null ? "" : isShorter ? `That is shorter than the shortest one known, of ${shortest[0]} events.` : `The shortest one known has ${shortest[0]} events.`;
   byId("break-count").innerHTML = `You did it with <b>${own}</b>. ${best}`;
   const next = ORDER[ORDER.indexOf(lacks) + 1];
   byId("break-next").hidden = next === undefined;
@@ -5615,7 +5732,7 @@ function drawWin({ lacks, total, calls }) {
 
 function drawAsk(name) {
   const kin = ORDER.filter((other) => LACKING[other] === LACKING[name]);
-  const words = [...new Set([...kin.map(wordOf), ...(BREAK_LEVELS[name].others ?? [])])].sort();
+  const words = [...new Set([...kin.map(wordOf), ...Object.keys(BREAK_LEVELS[name].others ?? {})])].sort();
   const isTold = isNamed(name);
   const button = (word) => {
     const kind = isTold ? "right" : level.wrong.has(word) ? "wrong" : "";
@@ -5632,7 +5749,7 @@ function answerAsk(word) {
   if (word === wordOf(name)) keepNamed(name);
   else level.wrong.add(word);
   drawBreaking(page.trace, page.verdict);
-  if (!isNamed(name)) byId("break-told").textContent = "No, it does that. Look for the line of the code at which it does something else.";
+  if (!isNamed(name)) byId("break-told").textContent = whyWrong(name, word);
 }
 
 
@@ -5656,6 +5773,7 @@ function listenToBreaking() {
   byId("break-hint").onclick = () => {
     level.hints = Math.min(level.hints + 1, BREAK_LEVELS[page.lacks].hints.length);
     drawLevel(page.trace, page.verdict);
+    byId("break-hints").scrollIntoView({ block: "nearest" });
   };
 }
 return { showBreaking, listenToBreaking };
@@ -5761,8 +5879,9 @@ function drawMoves(state, isAble) {
 
 function buttonOf(text, deed, title, onclick) {
   const button = document.createElement("button");
-  Object.assign(button, { textContent: text, title, onclick });
-  button.setAttribute("aria-label", `${text}, thread ${title.match(/\d+/)[0]}`);
+  Object.assign(button, { title, onclick });
+  button.innerHTML = text.replace(/\[(.*)\]/, '<span class="roomy">$1</span>');
+  button.setAttribute("aria-label", `${button.textContent}, thread ${title.match(/\d+/)[0]}`);
   button.dataset.deed = deed;
   return button;
 }
@@ -5787,13 +5906,13 @@ function stepControls(state, thread) {
   next.textContent = `next: ${rows[held.pc]?.step ?? ""}`;
   const untilRow = document.createElement("span");
   const goUntil = () => stepsToRow(thread, Number(row.value));
-  untilRow.append(buttonOf("until row", "until", `thread ${thread} until it stands at this row (the keys r ${thread})`, goUntil), row);
+  untilRow.append(buttonOf("until[ row]", "until", `thread ${thread} until it stands at this row (the keys r ${thread})`, goUntil), row);
   const call = document.createElement("span");
   Object.assign(call, { className: "call", textContent: callText(held.call) });
   return [
     call,
-    buttonOf("one step", "one", `go ${thread} 1 (the key ${thread})`, () => oneStep(thread)),
-    buttonOf("to its end", "end", `thread ${thread} to the end of its call (the keys e ${thread})`, () => stepsToEnd(thread)),
+    buttonOf("[one ]step", "one", `go ${thread} 1 (the key ${thread})`, () => oneStep(thread)),
+    buttonOf("to [its ]end", "end", `thread ${thread} to the end of its call (the keys e ${thread})`, () => stepsToEnd(thread)),
     untilRow,
     next,
   ];
@@ -5902,7 +6021,7 @@ const $page_visit = (() => {
 const { keepWork } = $page_kept;
 const { page, tell } = $page_now;
 const { isAtMap, where } = $page_places;
-const { addressOf, exampleAddress } = $run_address;
+const { addressOf, exampleAddress, warningOf } = $run_address;
 const { escaped } = $run_markup;
 const MOMENT = 400; // milliseconds: the bar follows once nothing has moved for so long, since browsers refuse quick changes of it
 const visit = { timer: 0, text: null, isRead: false, naming: (address) => address };
@@ -5944,12 +6063,15 @@ function setAddress() {
   }
 }
 
+const linkTo = (address) => location.href.replace(/#.*$/, "") + address;
+
 async function copyLink() {
   const address = page.isRun ? ownAddress() : null;
   if (address === null) return tell("This schedule has no link: it is refused, or too long for an address. Save it as a file.");
-  const link = location.href.replace(/#.*$/, "") + address;
-  tell(`Copy this link: <code>${escaped(link)}</code>`);
-  if (await copied(link)) tell(`The link is copied: <code>${escaped(link)}</code>`);
+  const link = linkTo(address);
+  const shown = `<code>${escaped(link)}</code>${warningOf(link)}`;
+  tell(`Copy this link: ${shown}`);
+  if (await copied(link)) tell(`The link is copied: ${shown}`);
 }
 
 async function copied(text) {
@@ -5960,7 +6082,7 @@ async function copied(text) {
     return false;
   }
 }
-return { visit, ownAddress, keepSoon, keepNow, keepAddressOf, copyLink, copied };
+return { visit, ownAddress, keepSoon, keepNow, keepAddressOf, linkTo, copyLink, copied };
 })();
 
 // run/sides.js
@@ -6063,8 +6185,8 @@ const { byId, redraw } = $page_dom;
 const { toggleLecture } = $page_keys;
 const { askNow, page } = $page_now;
 const { goToPlace, where } = $page_places;
-const { copied, keepAddressOf } = $page_visit;
-const { addressOf, readAddress } = $run_address;
+const { copied, keepAddressOf, linkTo } = $page_visit;
+const { addressOf, readAddress, warningOf } = $run_address;
 const { chipOf, escaped, tag } = $run_markup;
 const { momentAt, sentenceOf } = $run_sentences;
 const { ProgramFault, programText, readProgram, Sides } = $run_sides;
@@ -6191,9 +6313,9 @@ function openSides({ sides, calls, turns = "", quota = "4", opening = "" }) {
 }
 
 async function copySides() {
-  const link = location.href.replace(/#.*$/, "") + addressOfSides();
+  const link = linkTo(addressOfSides());
   const isCopied = await copied(link);
-  sidesPart("told").innerHTML = `${isCopied ? "The link is copied" : "Copy this link"}: <code>${escaped(link)}</code>`;
+  sidesPart("told").innerHTML = `${isCopied ? "The link is copied" : "Copy this link"}: <code>${escaped(link)}</code>${warningOf(link)}`;
 }
 
 function listenToSides() {
@@ -6294,7 +6416,7 @@ const BOOK = [
   "  1 steps in A: tries in vain a lock of 2",
   "  say That of thread 0 tries the lock in vain while thread 2 has it.",
   "  1 steps in A: tries in vain a lock of 1",
-  "  say It does so while thread 1 has it, too.",
+  "  say That of thread 0 tries the lock in vain while thread 1 has it, too.",
   "  call B: takes effect after C",
   "  call A: takes effect after B",
   "  say That of thread 2 takes effect first, that of thread 0 last.",
@@ -6641,9 +6763,10 @@ const BOOK = [
   "  Let an add of thread 0 fail three times to link its node in, and let thread 1 end three calls while",
   "  it is open.",
   "teaches",
-  "  Lock-free: infinitely often some call ends. Each failed exchange of this add is owed to another",
-  "  thread, which has changed the link. Wait-free would say that every call ends after finitely many of",
-  "  its own steps. An add of this list is not: others may change the link before each of its exchanges.",
+  "  Lock-free: of so many steps of add and remove, by whichever threads, one ends its call. This is",
+  "  proved here, with the number (Read, the tables, Progress). Each failed exchange of this add is owed",
+  "  to another thread, which has changed the link. Wait-free would say that every call ends after",
+  "  finitely many of its own steps. An add of this list is not: others may change the link each time.",
   "hint",
   "  Each time thread 0 is about to exchange the link of pred (row 7), let thread 1 change that link",
   "  first.",
@@ -6756,6 +6879,7 @@ return { learning, KeptLessons };
 
 // activities/learn_map.js
 const $activities_learn_map = (() => {
+const { BOOK_NAME } = $made_book;
 const { LISTS } = $made_rows;
 const { learning } = $activities_kept_lessons;
 const { byId } = $page_dom;
@@ -6781,10 +6905,18 @@ function drawLearnMap() {
     tag("h1", {}, escaped(course.name)),
     tag("p", { class: "lead" }, lead),
     progressOf(course),
-    tag("p", { class: "line" }, linkToNext(course)),
+    tag("p", { class: "line" }, linkToNext(course), course.name === BOOK_NAME ? "" : BACK),
     tag("ol", { class: "cards" }, ...course.lessons.map(cardOf)),
   ];
   box.querySelector(".drawn").innerHTML = parts.join("");
+  if (course.name !== BOOK_NAME) byId("lesson-book").onclick = takeBook;
+}
+
+const BACK = tag("button", { id: "lesson-book" }, "Back to the twelve lessons of the book");
+
+function takeBook() {
+  panel().takeBook();
+  drawLearnMap();
 }
 
 function progressOf(course) {
@@ -6827,8 +6959,8 @@ function drawStrip() {
 }
 
 function openLesson(name, text, event) {
-  const lesson = panel().course.lessons.find((one) => one.name === name);
-  if (lesson === undefined) throw new AddressFault(`this course has no lesson "${name}"`);
+  const lesson = panel().lessonNamed(name);
+  if (lesson === undefined) throw new AddressFault(`no course that is kept here has a lesson "${name}"`);
   panel().choose(lesson);
   if (text !== null) openText(text, event, panel().ownWorkOf(text) ?? works.newName(panel().workName()), "", lesson.lacks);
   else if (panel().ownWork() !== null) openWork(panel().ownWork());
@@ -7137,7 +7269,7 @@ const { byId } = $page_dom;
 const { chooseExample } = $page_example;
 const { works } = $page_kept;
 const { askLong, LONG_TEXT } = $page_long_run;
-const { askNow, NO_ENGINE, page, show, takeScheduleOfTrace, takeTrace, tellFault } = $page_now;
+const { announce, askNow, NO_ENGINE, page, show, takeScheduleOfTrace, takeTrace, tellFault } = $page_now;
 const { keepBefore, openText, takeName } = $page_work;
 const { askList } = $run_broken;
 const { faultOfTrace } = $run_check_trace;
@@ -7156,6 +7288,7 @@ function saveText(name, text) {
 
 function kindOfFile(text) {
   if (text.startsWith("listset-trace")) return "trace";
+  if (text.startsWith("listset-calls")) return "calls";
   return text.startsWith("listset-report") ? "report" : "schedule";
 }
 
@@ -7174,8 +7307,10 @@ function comparedTrace(engine, trace) {
 async function openFile(file) {
   const text = new TextDecoder().decode(new Uint8Array(await file.arrayBuffer()));
   const kind = kindOfFile(text);
+  const isJudged = kind === "report" || kind === "calls";
+  if (isJudged && page.engine === null) return tellFault(page.faultLine, "", NO_ENGINE, !page.isRun);
+  if (kind === "calls") return announce("recorded", text);
   if (kind === "report") {
-    if (page.engine === null) return tellFault(page.faultLine, "", NO_ENGINE, !page.isRun);
     await openReportBox();
     return showReport(text, `The report in ${file.name}:`);
   }
@@ -7269,13 +7404,14 @@ const { triedCourse } = $course_lesson;
 const { saveText } = $page_files;
 const { askNow, page } = $page_now;
 const { goToPlace } = $page_places;
-const { copied } = $page_visit;
-const { AddressFault } = $run_address;
+const { copied, linkTo } = $page_visit;
+const { AddressFault, warningOf } = $run_address;
+const { counted } = $run_markup;
 function takeCourseText(panel, text) {
   const course = triedCourse(askNow, text);
   const { faults, name, lessons } = course;
   const lines = faults.map(({ line, fault }) => `line ${line}: ${fault}`);
-  lessonPart("faults").textContent = lines.length > 0 ? lines.join("\n") : `${name}: ${lessons.length} lessons, all good.`;
+  lessonPart("faults").textContent = lines.length > 0 ? lines.join("\n") : `${name}: ${counted(lessons.length, "lesson")}, all good.`;
   if (faults.length > 0) return false;
   panel.takeCourse(course);
   drawLearnMap();
@@ -7304,13 +7440,13 @@ async function copyCourseLink(panel) {
   const address = await courseAddress(panel.course.text);
   const tooLong = "This course is too long for a link: save it, and hand out the file.";
   if (address === null) return (lessonPart("faults").textContent = tooLong);
-  const link = location.href.replace(/#.*$/, "") + address;
+  const link = linkTo(address);
   const box = lessonPart("link-text");
   box.value = link;
   box.hidden = false;
   box.select();
   const isCopied = await copied(link);
-  lessonPart("faults").textContent = `${isCopied ? "The link is copied" : "Copy the link below"}: it opens "${panel.course.name}".`;
+  lessonPart("faults").textContent = `${isCopied ? "The link is copied" : "Copy the link below"}: it opens "${panel.course.name}".${warningOf(link)}`;
 }
 
 function listenToCourses(panel) {
@@ -7494,7 +7630,7 @@ const { isText, keepWork, keptUnder, works } = $page_kept;
 const { askNow, on, page } = $page_now;
 const { copied } = $page_visit;
 const { forgetBefore, openText, openWork } = $page_work;
-const { escaped, tag } = $run_markup;
+const { counted, escaped, tag } = $run_markup;
 const { eventsAsked, scheduleOfTrace } = $run_schedule_text;
 class LessonsOnPage {
   constructor() {
@@ -7536,6 +7672,22 @@ class LessonsOnPage {
     lessonPart("course").replaceChildren(...names.map((name) => new Option(name, name)));
     lessonPart("course").value = course.name;
     this.choose(course.lessons.find(({ name }) => name === this.own.chosen) ?? course.lessons[0]);
+  }
+
+  takeBook() {
+    this.takeCourse(triedCourse(askNow, BOOK));
+  }
+
+  lessonNamed(name) {
+    const find = ({ lessons }) => lessons.find((lesson) => lesson.name === name);
+    if (find(this.course) !== undefined) return find(this.course);
+    for (const text of [BOOK, ...this.kept.courses.values()]) {
+      const course = triedCourse(askNow, text);
+      if (course.faults.length > 0 || find(course) === undefined) continue;
+      this.takeCourse(course);
+      return find(course);
+    }
+    return undefined;
   }
 
   choose(lesson) {
@@ -7696,8 +7848,8 @@ class LessonsOnPage {
     box.hidden = false;
     box.focus();
     box.select();
-    const solved = `${solutions.length} solution${solutions.length === 1 ? "" : "s"}`;
-    const count = `${solved}, ${orders.length} judged orders and ${broken.length} broken lists`;
+    const more = `${counted(orders.length, "judged order")} and ${counted(broken.length, "broken list")}`;
+    const count = `${counted(solutions.length, "solution")}, ${more}`;
     const isCopied = await copied(box.value);
     lessonPart("told").textContent = isCopied ? `The text with ${count} is copied.` : `Copy this text: it has ${count}.`;
   }
@@ -7723,6 +7875,162 @@ function verdictText({ isSolved, isShown, reason, conditions }, isStart) {
   return isStart || conditions.length === 0 ? "A solution shows all of this:" : "Not solved yet: Check tells what is missing.";
 }
 return { startLessons };
+})();
+
+// run/recorded.js
+const $run_recorded = (() => {
+const { nameOfCall } = $run_judged;
+const RECORDED_EXAMPLE = `listset-calls 2
+list lock-free
+threads 3
+quota 16384
+opening 8
+call 0 add 5 1 - 4 true
+call 1 add 5 2 - 3 true
+call 2 remove 8 5 - 6 true
+key 5
+end
+`;
+
+const CAUSES_OF_CALLS = {
+  NotEnded: "the text is to end with the line end",
+  Header: 'line 1 is to be "listset-calls 2"',
+  Kind: 'line 2 is to be "list" and one of coarse, fine, optimistic, lazy, lock-free',
+  Threads: 'line 3 is to be "threads" and a number from 1 to 64',
+  Quota: 'line 4 is to be "quota" and a number from 0 to 16384, no less than the adds of a thread that answered true',
+  Line: 'a line is to be "call T CALL K BEGIN POINT END REPLY", with - for what there is not; above all calls "opening K", below them "key K"',
+  Number: "a moment is no number from 1 to 4294967295, or another number is none up to 4294967295",
+  TooMany: "there are more opening keys, calls or keys than are read",
+  Opening: "an opening key is to be above the one before",
+  History: "there is no such thread, or it has two calls at a time, or a moment stands twice, or a call ends before it begins",
+  Point: "a point is to lie between the begin and the end; with a ceiling or a full, each add and remove that answered true wants one",
+};
+
+const AS_LEFT = /^no order explains the calls of key (\d+) and leaves it as it was left$/;
+
+function callOfLine(line, id) {
+  const [, thread, operation, key, begun, , ended, reply] = line.split(" ");
+  const isOpen = ended === "-";
+  return {
+    id,
+    thread: Number(thread),
+    operation,
+    key: Number(key),
+    begun: Number(begun),
+    ended: isOpen ? null : Number(ended),
+    reply: isOpen ? null : reply,
+  };
+}
+
+function callsOf(lines) {
+  const named = lines.filter((line) => line.startsWith("call ")).map(callOfLine);
+  return named.sort((one, other) => one.begun - other.begun).map((call, id) => ({ ...call, id }));
+}
+
+const sentence = (line) => `${line[0].toUpperCase()}${line.slice(1)}${line.endsWith(":") ? "" : "."}`;
+
+function reasonsIn([why, state, alone]) {
+  const key = AS_LEFT.exec(why)?.[1];
+  const left = key === undefined ? "" : ` Its last call left it otherwise than the keys of the text say.`;
+  return [sentence(why) + left, sentence(state), sentence(alone)];
+}
+
+function verdictOnCalls(text) {
+  const said = (kind, says, reasons = [], calls = []) => ({ kind, says, reasons, calls });
+  const [first, ...lines] = text.trimEnd().split("\n");
+  const count = /^ok (\d+) calls$/.exec(first)?.[1];
+  if (count !== undefined) {
+    const calls = count === "1" ? "this one call" : `these ${Number(count).toLocaleString("en")} calls`;
+    return said("ok", `Linearizable: an order explains ${calls} and leaves the keys. It says nothing of other runs.`, lines.map(sentence));
+  }
+  if (first === "not linearizable") {
+    return said("none", "Not linearizable: no order at all explains these calls.", reasonsIn(lines), callsOf(lines));
+  }
+  if (first.startsWith("refused ")) {
+    const why = "The set has a bug, or a point stands in the wrong place.";
+    return said("none", "No order has the changes at the points that the text gives.", [`${first}.`, why]);
+  }
+  const cause = /^listset: line \d+: (\w+)$/.exec(first)?.[1];
+  return said("fault", cause in CAUSES_OF_CALLS ? `${first}: ${CAUSES_OF_CALLS[cause]}.` : first);
+}
+
+const withNewline = (text) => (text === "" || text.endsWith("\n") ? text : `${text}\n`);
+
+const recordedInWords = (call) =>
+  call.ended === null
+    ? `${nameOfCall(call)}, begun at ${call.begun}, has not answered`
+    : `${nameOfCall(call)} answers ${call.reply}, from ${call.begun} to ${call.ended}`;
+return { RECORDED_EXAMPLE, verdictOnCalls, withNewline, recordedInWords };
+})();
+
+// activities/recorded.js
+const $activities_recorded = (() => {
+const { drawRecorded } = $draw_judged;
+const { byId } = $page_dom;
+const { askLong, LONG_TEXT } = $page_long_run;
+const { tag } = $run_markup;
+const { RECORDED_EXAMPLE, recordedInWords, verdictOnCalls, withNewline } = $run_recorded;
+const MOST_DRAWN = 40; // calls that are drawn as bars
+const recorded = { text: "", isOpen: false }; // what stands in the box when another activity is shown
+const recordedPart = (name) => byId(`recorded-${name}`);
+
+const PARTS = `<p class="lead">What judges a set in a test, in <code>examples/in-a-test</code>, writes each call with its begin and its
+    end, and keeps a run that fails. Paste the text, or open the file: the proved <code>judge</code> says whether any order explains the calls.</p>
+  <textarea id="recorded-text" rows="7" spellcheck="false" autocapitalize="off" wrap="off" aria-label="recorded calls"
+    placeholder="listset-calls 2"></textarea>
+  <p class="line"><button id="recorded-judge">Judge these calls</button>
+    <label class="button">Open a file<input type="file" id="recorded-file"></label>
+    <button id="recorded-example">An example</button></p>
+  <p id="recorded-verdict" role="status"></p><ul id="recorded-reasons"></ul><div id="recorded-picture"></div><ol id="recorded-calls"></ol>`;
+
+const drawRecordedBox = () =>
+  tag("details", { id: "recorded-box", class: "card", ...(recorded.isOpen ? { open: "" } : {}) },
+    tag("summary", {}, "<h2>Calls recorded from your set</h2>"), PARTS);
+
+function showVerdict({ kind, says, reasons, calls }) {
+  recordedPart("verdict").className = kind;
+  recordedPart("verdict").textContent = says;
+  recordedPart("reasons").innerHTML = reasons.map((reason) => tag("li", {}, reason)).join("");
+  const isDrawn = calls.length > 0 && calls.length <= MOST_DRAWN;
+  const width = Math.max(300, recordedPart("reasons").clientWidth);
+  recordedPart("picture").innerHTML = isDrawn ? drawRecorded(calls, Math.min(width, 900)) : "";
+  recordedPart("calls").innerHTML = calls.map((call) => tag("li", {}, recordedInWords(call))).join("");
+}
+
+const nothing = { kind: "", says: "", reasons: [], calls: [] };
+
+async function judgeCalls() {
+  const text = withNewline(recordedPart("text").value);
+  recorded.text = text;
+  if (text === "") return showVerdict({ ...nothing, kind: "fault", says: "Paste the text of recorded calls first, or open a file." });
+  showVerdict({ ...nothing, says: text.length < LONG_TEXT ? "" : "The judge looks at the calls." });
+  const { text: said } = await askLong("listset_judge", text);
+  if (withNewline(recordedPart("text").value) === text) showVerdict(verdictOnCalls(said));
+}
+
+function showRecorded(text) {
+  recordedPart("box").open = true;
+  recordedPart("text").value = text;
+  judgeCalls();
+}
+
+function listenToRecorded() {
+  const box = recordedPart("text");
+  box.value = recorded.text;
+  box.oninput = () => {
+    recorded.text = box.value;
+    showVerdict(nothing);
+  };
+  recordedPart("box").ontoggle = () => (recorded.isOpen = recordedPart("box").open);
+  recordedPart("judge").onclick = judgeCalls;
+  recordedPart("example").onclick = () => showRecorded(RECORDED_EXAMPLE);
+  recordedPart("file").onchange = async () => {
+    const text = await recordedPart("file").files[0].text();
+    recordedPart("file").value = "";
+    showRecorded(text);
+  };
+}
+return { drawRecordedBox, showRecorded, listenToRecorded };
 })();
 
 // data/book_code.js
@@ -7897,7 +8205,15 @@ const { escaped, tag } = $run_markup;
 const { anotherSeed, partsOfSeed, scheduleOfSeed, seedOf } = $run_seed;
 const seeds = { shown: null };
 
-const FIRST = { example: "marked-in-chain", from: 15, to: 20 };
+const FIRST = {
+  example: "marked-in-chain",
+  from: 15,
+  to: 20,
+  says: {
+    before: "It plays up to event 20, at which the question arises.",
+    there: "The play stops here, since the question is about this moment. It is your turn: press Step, or go another way.",
+  },
+};
 
 const kindsOfExamples = () => {
   const kinds = {};
@@ -7986,6 +8302,7 @@ return { FIRST, questionsByList, seedForm, listenToSeedForm, drawWatchMap, openS
 // activities/judge_map.js
 const $activities_judge_map = (() => {
 const { JUDGED } = $activities_judging;
+const { drawRecordedBox, listenToRecorded } = $activities_recorded;
 const { listenToSeedForm, questionsByList, seedForm } = $activities_watch;
 const { byId } = $page_dom;
 const { keptUnder } = $page_kept;
@@ -7994,9 +8311,10 @@ function drawJudgeMap() {
   const isDone = (example) => judged.some((run) => run.startsWith(`${example} `));
   byId("map-judge").innerHTML = `<h1>Judge a run yourself</h1><p class="lead">You see a run without its replies. Say what each call
     answers, and put a point where it takes effect. The proved <code>check</code> judges your order: any order that explains the run
-    is right.</p><h2>A run of its own for everyone</h2>${seedForm("judge-seed", "Judge a run")}<h2>Or one that turns on something</h2>
+    is right.</p><h2>A run by its number</h2>${seedForm("judge-seed", "Judge a run")}${drawRecordedBox()}<h2>Or one that turns on something</h2>
     ${questionsByList("&judge", isDone)}`;
   listenToSeedForm("judge-seed", "&judge");
+  listenToRecorded();
 }
 return { drawJudgeMap };
 })();
@@ -8009,6 +8327,7 @@ const PAGES = [
   ["how-it-works.html", "How it works", "The five lists, from one lock to none, each with the runs that show why."],
   ["classic.html", "The examples", "Eighteen runs with their question, what they turn on, and what goes wrong without it."],
   ["tables.html", "The tables", "Each list row by row: what a step reads, writes, and where it goes on."],
+  ["tables.html#progress", "Progress: blocking, lock-free, wait-free", "Which calls of each list may have to wait, and within how many steps a call ends."],
 ];
 const TERMS = {
   event: "One step of one thread: it reads or writes one word, or begins a call.",
@@ -8042,14 +8361,14 @@ function drawReadMap() {
   copy.innerHTML = box.innerHTML.replace(/<summary>.*?<\/summary>/, "");
   byId("map-read").append(copy);
 }
-return { drawReadMap };
+return { PAGES, drawReadMap };
 })();
 
 // draw/code_column.js
 const $draw_code_column = (() => {
 const { LISTS } = $made_rows;
 const { BOOK_CODE, IDEAS } = $data_book_code;
-const { chipOf, escaped, tag } = $run_markup;
+const { chipOf, colourOf, escaped, tag } = $run_markup;
 const KEYWORDS = /\b(while|if|else|return|loop|until|unlock|lock|find|validate|CAS|mark|new|add|remove|contains|ceiling)\b/g;
 
 function linesFor(kind, operations) {
@@ -8058,6 +8377,16 @@ function linesFor(kind, operations) {
 }
 
 const operationsOf = (trace) => [...new Set(trace.calls.map(({ operation }) => operation))];
+
+const LETTERS = 7; // that stand left of a line, the edge of a chip for one more each
+
+function drawWho(threads) {
+  const numbers = threads.map(String);
+  const cut = numbers.map((_, at) => [...numbers.slice(0, -1 - at), `+${at + 1}`]);
+  const lettersOf = (texts) => texts.reduce((sum, text) => sum + text.length + 1, 0);
+  const texts = [numbers.map((number) => `t${number}`), numbers, ...cut].find((form) => lettersOf(form) <= LETTERS);
+  return texts.map((text, at) => tag("span", { class: text.startsWith("+") ? "chip" : `chip ${colourOf(threads[at])}` }, text)).join("");
+}
 
 function drawLine(line, number, { made, next }) {
   const { text, rows = [] } = line;
@@ -8071,7 +8400,7 @@ function drawLine(line, number, { made, next }) {
   return tag(
     "li",
     { class: kind.filter((word) => word !== "").join(" "), ...(rows.length > 0 ? { title: `row ${rows.join(", ")} of the table` } : {}) },
-    tag("span", { class: "who", "aria-hidden": "true" }, threads.slice(0, 3).map(chipOf).join("")),
+    tag("span", { class: "who", "aria-hidden": "true" }, drawWho(threads)),
     tag("code", { style: `padding-left:${depth * 0.45}em` }, words, told),
   );
 }
@@ -8089,7 +8418,7 @@ function drawCode({ trace, state, event, before }) {
   const head = tag("div", { class: "code-head" }, tag("h2", {}, LISTS[kind].name), tag("p", {}, IDEAS[kind]));
   return `${head}${lacks}${tag("ol", { class: "book-code", "aria-label": `the algorithm of ${LISTS[kind].name}` }, ...items)}${own}`;
 }
-return { drawCode };
+return { drawWho, drawCode };
 })();
 
 // page/save_picture.js
@@ -8186,7 +8515,15 @@ function skipToRun() {
   document.querySelector(first[where.screen])?.focus();
 }
 
+function bringList() {
+  const { top } = byId("said").getBoundingClientRect();
+  const isSeen = top >= 0 && byId("list").getBoundingClientRect().bottom <= byId("dock").getBoundingClientRect().top;
+  if (innerWidth <= PHONE && !isSeen) scrollTo(0, scrollY + top - 8);
+}
+const PHONE = 560; // pixels, as in the style sheets
+
 function listenToBar() {
+  byId("dock").addEventListener("click", bringList);
   byId("first").onclick = () => goByHand(0);
   byId("back").onclick = () => goByHand(page.count - 1);
   byId("next").onclick = () => goByHand(page.count + 1);
@@ -8274,6 +8611,7 @@ const { beginJudging } = $activities_judging;
 const { learning } = $activities_kept_lessons;
 const { drawLearnMap, drawStrip, openLesson, showTaskOfLearn } = $activities_learn_map;
 const { drawReadMap } = $activities_read;
+const { showRecorded } = $activities_recorded;
 const { drawWatchMap, FIRST, openSeed, seedAddress, showTaskOfWatch } = $activities_watch;
 const { drawCode } = $draw_code_column;
 const { placeMoves } = $page_controls;
@@ -8354,6 +8692,12 @@ function openSidesOfAddress(sides) {
   return openCompare(sides);
 }
 
+function openRecorded(text) {
+  history.pushState(null, "", "#judge");
+  showMap("judge");
+  showRecorded(text);
+}
+
 function leaveMapOfRuns() {
   if (!isAtMap()) return;
   drawWatchMap(true);
@@ -8410,7 +8754,8 @@ function firstVisit() {
   pickExample(FIRST.example, isMoved ? page.count : FIRST.from);
   if (isMoved) return;
   if (isTold || wantsLessMotion()) goTo(FIRST.to);
-  else startPlay(FIRST.to);
+  else startPlay(FIRST.to, FIRST.says);
+  if (!isTold) tell(page.count === FIRST.to ? FIRST.says.there : FIRST.says.before);
 }
 
 async function openFirst() {
@@ -8423,7 +8768,7 @@ async function openFirst() {
   if (!isNamed && last !== undefined && page.engine !== null) openWork(last);
   else if (!isNamed) firstVisit();
   else bringBack();
-  if (!isNamed) tell(said);
+  if (!isNamed && said !== "") tell(said);
   forgetBefore();
 }
 
@@ -8464,7 +8809,7 @@ function addressHere(address) {
   const own = page.lacks === null && page.example === "" ? (seedAddress(page.count) ?? address) : address;
   return own === null || !isJudging() ? own : `${own}&judge`;
 }
-return { openVisited, followAddress, showBeforehand, openFirst, showPlace, addressHere };
+return { openRecorded, openVisited, followAddress, showBeforehand, openFirst, showPlace, addressHere };
 })();
 
 // main.js
@@ -8475,7 +8820,7 @@ const { drawCompare, listenToSides, pressForSides, showSides } = $activities_com
 const { drawJudging, endJudging, listenToJudging } = $activities_judging;
 const { drawStrip } = $activities_learn_map;
 const { startLessons } = $activities_lessons;
-const { addressHere, followAddress, openFirst, showBeforehand, showPlace } = $activities_open;
+const { addressHere, followAddress, openFirst, openRecorded, showBeforehand, showPlace } = $activities_open;
 const { drawReadMap } = $activities_read;
 const { drawWatchMap } = $activities_watch;
 const { Engine } = $engine_engine;
@@ -8487,6 +8832,7 @@ const { keysOf, pressKey } = $page_keys;
 const { fillWorks, showQuestion } = $page_menu;
 const { drawMovesNow } = $page_moves;
 const { on, page, show, takeTrace } = $page_now;
+const { fitSlide } = $page_places;
 const { showBar, showMarks, showRun } = $page_view;
 const { keepNow, keepSoon, visit } = $page_visit;
 const { showHeader } = $page_work;
@@ -8507,16 +8853,18 @@ function listen() {
   visit.naming = addressHere;
   document.addEventListener("click", stopUnable, true);
   document.addEventListener("keydown", pressKey);
+  window.addEventListener("resize", fitSlide);
   window.addEventListener("resize", show);
   window.addEventListener("popstate", followAddress);
   window.addEventListener("pagehide", keepNow);
 }
 
 function connect() {
-  on("shown", showBar, showQuestion, showBreaking, showRun, drawJudging, drawMovesNow, showMarks, keepSoon, showPlace, showSides);
+  on("shown", showBar, showQuestion, showBreaking, drawJudging, drawMovesNow, showPlace, showRun, showMarks, keepSoon, showSides);
   on("taken", endJudging, showHeader);
   on("ran", showMarks, keepSoon, refreshReport);
   on("kept", fillWorks);
+  on("recorded", openRecorded);
 }
 
 function tellNoEngine(cause) {
@@ -8547,6 +8895,7 @@ function fillMaps() {
 }
 
 async function startPage() {
+  document.body.dataset.ready = "begun";
   connect();
   listen();
   if (!showBeforehand()) takeTrace(new Trace(EMPTY_TRACE), 0, "");
@@ -8563,5 +8912,5 @@ if (typeof document !== "undefined") startPage(); // in node there is none
 return {  };
 })();
 
-return Object.assign({}, $made_classics, $made_rows, $page_dom, $run_faults, $run_markup, $run_trace, $run_judged, $run_schedule_text, $run_state, $run_sentences, $page_now, $page_kept, $activities_broken_kept, $data_levels, $made_traces, $page_example, $engine_engine, $engine_worker, $page_long_run, $page_play, $run_broken, $page_run_text, $draw_glide, $draw_history, $draw_list, $made_code, $draw_listing, $draw_room, $draw_table, $draw_threads, $page_places, $page_view, $run_moments, $course_goal_words, $course_course_text, $run_draft, $course_lesson, $page_work, $page_menu, $run_address, $activities_break_map, $draw_judged, $activities_judging, $activities_break_level, $page_steps, $page_moves, $page_keys, $page_visit, $run_sides, $activities_compare, $made_book, $activities_kept_lessons, $activities_learn_map, $course_course_link, $run_check_trace, $page_files, $activities_courses, $course_hand_in, $activities_lessons, $data_book_code, $run_seed, $activities_watch, $activities_judge_map, $activities_read, $draw_code_column, $page_save_picture, $page_controls, $activities_open);
+return Object.assign({}, $made_classics, $made_rows, $page_dom, $run_faults, $run_markup, $run_trace, $run_judged, $run_schedule_text, $run_state, $run_sentences, $page_now, $page_kept, $activities_broken_kept, $data_levels, $made_traces, $page_example, $engine_engine, $engine_worker, $page_long_run, $page_play, $run_broken, $page_run_text, $draw_glide, $draw_history, $draw_list, $made_code, $draw_listing, $draw_room, $draw_table, $draw_threads, $page_places, $page_view, $run_moments, $course_goal_words, $course_course_text, $run_draft, $course_lesson, $page_work, $page_menu, $run_address, $activities_break_map, $draw_judged, $activities_judging, $activities_break_level, $page_steps, $page_moves, $page_keys, $page_visit, $run_sides, $activities_compare, $made_book, $activities_kept_lessons, $activities_learn_map, $course_course_link, $run_check_trace, $page_files, $activities_courses, $course_hand_in, $activities_lessons, $run_recorded, $activities_recorded, $data_book_code, $run_seed, $activities_watch, $activities_judge_map, $activities_read, $draw_code_column, $page_save_picture, $page_controls, $activities_open);
 })();

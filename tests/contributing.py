@@ -11,7 +11,7 @@ from harness.cases import TOP, Wrong, cases, once
 SECONDS = 600
 COMMAND = re.compile(r"`(rt \w[^`]*|git grep [^`]*|(?:\./gate|\./listset|(?:build|docs/make|mutants|page|tests)/\w+)(?: [^`]+)?)`")
 # what stands in the page for what a reader has
-GIVEN = {"FUNCTION": "half", "WORDS": "example", "PAGE": "words", "the text": "out of memory"}
+GIVEN = {"FUNCTION": "half", "WORDS": "example", "PAGE": "words", "--list NAME": "--list transcripts", "the text": "out of memory"}
 SMALL = """//! A small crate.
 #![tactic(auto)]
 

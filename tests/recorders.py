@@ -1,22 +1,22 @@
-"""What examples/recorders has beside its templates, which its own `run` tries.
+"""What examples/recorders has for calls with points.
 
-`tell` has to name what is wrong with each of a few small reports. The word `report` has to print of texts at random what a plain model
-makes of them. `tell` and `run` have to end what they start: with a program that does not end, and where they are ended themselves.
-Every wait is bounded.
+`tell_refused` has to name what is wrong with each of a few small reports, and to end what it starts: a program that does not end, also
+if it is ended itself. exact.rs has to be right in a few runs, and refused within 20 without marks. The word `report` has to print of
+texts at random what a plain model makes of them. Every wait is bounded.
 """
 
 import collections
 import signal
 import subprocess
 
-from harness import calls_model
-from harness.cases import SECONDS, TOP, comes, left_of, same, test
+from harness import recorded_calls_model
+from harness.cases import SECONDS, TOP, comes, left_of, needs, same, test
 
 HERE = TOP / "examples" / "recorders"
 TEXTS = 500
 RIGHT, BUG, UNCERTAIN, RECORDER, TROUBLE = range(5)
 
-# The calls, the rest of a report (its opening keys first), what `check` says of it, and the verdict of `tell`.
+# The calls, the rest of a report (its opening keys first), what `check` says of it, and the verdict of `tell_refused`.
 Recorded = collections.namedtuple("Recorded", "name calls rest said status")
 ADD, SEEN, UNSEEN = "call 0 0 add 5 1 3 true", "call 1 1 contains 5 4 6 true", "call 1 1 contains 5 4 6 false"
 REMOVE, CEILING = "call 0 0 remove 5 1 3 true", "call 1 1 ceiling 4 4 6 nothing"
@@ -61,28 +61,28 @@ def report_of(recorded, room):
 
 
 @test
-def tell_names_what_is_wrong(case):
+def tell_refused_names_what_is_wrong(case):
     for it in RECORDED:
-        done = ran(HERE / "tell", report_of(it, case.room), case.program)
+        done = ran(HERE / "tell_refused", report_of(it, case.room), case.program)
         same((done.stdout.splitlines()[:1], done.returncode), ([it.said], it.status), it.name)
 
 
 @test
-def tell_counts_the_calls_that_overlap_a_change_of_their_key(case):
+def tell_refused_counts_the_calls_that_overlap_a_change_of_their_key(case):
     beside, far = "call 1 1 contains 5 2 6 true", "call 1 1 contains 7 2 6 false"
     late, within = "call 1 1 contains 5 4 6 true", "call 1 1 contains 5 2 3 true"
     for call, place, many in ((beside, "true", 1), (far, "false", 0), (late, "true", 0), (within, "true", 1)):
         end = 4 if call == within else 3
         report = Recorded("ok", [f"call 0 0 add 5 1 {end} true", call], f"place 0 true, place 1 {place}, key 5", "ok", RIGHT)
-        same(ran(HERE / "tell", report_of(report, case.room), case.program).stdout, f"ok\n{many} of 2 calls overlap a change of their key\n", call)
+        same(ran(HERE / "tell_refused", report_of(report, case.room), case.program).stdout, f"ok\n{many} of 2 calls overlap a change of their key\n", call)
 
 
 @test
-def tell_prints_five_counts_at_most(case):
+def tell_refused_prints_five_counts_at_most(case):
     for many, told in ((5, []), (8, ["3 more keys of which the counts do not fit"])):
         lost = Recorded("many lost", [f"call {i} 0 add {i} {2 * i + 1} {2 * i + 2} true" for i in range(many)],
                     ", ".join(f"place {i} true" for i in range(many)), "refused WrongSet", BUG)
-        lines = ran(HERE / "tell", report_of(lost, case.room), case.program).stdout.splitlines()
+        lines = ran(HERE / "tell_refused", report_of(lost, case.room), case.program).stdout.splitlines()
         same([line.split(":")[0] for line in lines[1:6]], [f"key {i}" for i in range(5)], "the keys that are told")
         same(lines[6:-1], told, "what follows the counts")
 
@@ -102,11 +102,11 @@ def due_by_order(case, line, done):
 @test
 def report_is_that_of_a_plain_model(case):
     for seed in range(TEXTS):
-        (case.room / "calls").write_text(text := calls_model.random_text(seed))
+        (case.room / "calls").write_text(text := recorded_calls_model.random_text(seed))
         done = ran(case.program, "report", case.room / "calls")
         try:
-            due = calls_model.due(text)
-        except calls_model.Lacking as lacking:
+            due = recorded_calls_model.due(text)
+        except recorded_calls_model.Lacking as lacking:
             due = due_by_order(case, *lacking.args, done)
         same((done.returncode, done.stdout, done.stderr), due, f"seed {seed}")
 
@@ -126,27 +126,55 @@ def hanging(room):
     return program
 
 
-def words_of(name, program, seconds):
-    report = [HERE / "late-ticket.report", program, seconds]
-    return [str(it) for it in ([HERE / "tell", *report] if name == "tell" else [HERE / "run", "--program", program, "--seconds", seconds])]
+def words_of(program, seconds):
+    return [str(it) for it in (HERE / "tell_refused", HERE / "late-ticket.report", program, seconds)]
 
 
 @test
 def what_hangs_is_ended_with_all_it_started(case):
-    for name, status in (("tell", TROUBLE), ("run", 1)):
-        done = ran(*words_of(name, hanging(case.room), 1))
-        same(done.returncode, status, f"the status of {name}")
-        comes(lambda: not left_of(case.room), f"the end of all that {name} started")
+    same(ran(*words_of(hanging(case.room), 1)).returncode, TROUBLE, "the status")
+    comes(lambda: not left_of(case.room), "the end of all that was started")
 
 
 @test
 def what_is_ended_ends_all_it_started(case):
-    for name in ("tell", "run"):
-        for number in (signal.SIGTERM, signal.SIGINT):
-            (case.room / "there").unlink(missing_ok=True)
-            how = {"stdin": subprocess.DEVNULL, "stdout": subprocess.DEVNULL, "stderr": subprocess.DEVNULL}
-            process = subprocess.Popen(words_of(name, hanging(case.room), SECONDS), **how)
-            comes((case.room / "there").exists, f"the case.program of {name}")
-            process.send_signal(number)
-            process.wait(SECONDS)
-            comes(lambda: not left_of(case.room), f"the end of all that {name} started, by signal {number}")
+    for number in (signal.SIGTERM, signal.SIGINT):
+        (case.room / "there").unlink(missing_ok=True)
+        how = {"stdin": subprocess.DEVNULL, "stdout": subprocess.DEVNULL, "stderr": subprocess.DEVNULL}
+        process = subprocess.Popen(words_of(hanging(case.room), SECONDS), **how)
+        comes((case.room / "there").exists, "the program")
+        process.send_signal(number)
+        process.wait(SECONDS)
+        comes(lambda: not left_of(case.room), f"the end of all that was started, by signal {number}")
+
+
+def built(room):
+    """exact.rs, as a program."""
+    done = ran("rustc", "--edition", "2021", "-O", HERE / "exact.rs", "-o", room / "exact")
+    same(done.returncode, 0, f"the status of rustc, which says {done.stderr}")
+    return room / "exact"
+
+
+def is_refused(case, exact, seed, wrong=""):
+    """Whether a run of exact.rs is refused, by its points."""
+    calls, report = case.room / "calls", case.room / "report"
+    calls.write_text(ran("env", f"WRONG={wrong}", exact, 8, 2000, 16, seed).stdout)
+    reported = ran(case.program, "report", calls)
+    if wrong and reported.stderr.endswith(": Point\n"):
+        return True
+    same(reported.stderr, "", "what report says")
+    report.write_text(reported.stdout)
+    said = ran(case.program, "check", report).stdout
+    same(said.split()[0], "ok" if said == "ok\n" else "refused", "what check says")
+    return said != "ok\n"
+
+
+@needs("rustc")
+@test
+def exact_is_right_and_without_marks_refused(case):
+    exact = built(case.room)
+    for words in ("", "8 1 1", "65 1 1 1", "0 1 1 1", "8 1 0 1", "8 x 1 1", "8 1 1 1 1"):
+        done = ran(exact, *words.split())
+        same((done.returncode, done.stdout, done.stderr.count("\n")), (2, "", 1), f"what is said of the words {words!r}")
+    same([it for it in range(1, 4) if is_refused(case, exact, it)], [], "the runs that are refused")
+    same(any(is_refused(case, exact, it, "no-mark") for it in range(1, 21)), True, "whether one of 20 runs without marks is refused")

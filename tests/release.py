@@ -15,11 +15,11 @@ from foreign import ran, well
 from harness.cases import TOP, UNPROVED, each, given, lacking, needs, once, same, test
 
 sys.path.insert(0, str(TOP / "build"))
-import origin  # noqa: E402
+import version_stamp  # noqa: E402
 
 SCHEDULES = TOP / "examples" / "schedules"
 NAMES = ["snip", "opens-with-keys", "read-in-anothers-step", "two-removers"]
-MAKERS = ["release", "verdict.py", "origin.py", "packages.py", "manual.py", "kit.py"]
+MAKERS = ["release", "gate_verdict.py", "version_stamp.py", "packages.py", "man_page_and_completions.py", "processes.py", "crates_txt.py", "toolchain.py"]
 ROOT = os.environ.get("LISTSET_ROOT")  # a folder with a Debian in it, of debootstrap
 # no folder of the Rattle toolchain
 PATH = os.pathsep.join(it for it in os.environ["PATH"].split(os.pathsep) if not (pathlib.Path(it) / "rt").exists())
@@ -61,11 +61,11 @@ listset = { path = "@CRATE@" }
 
 
 def proof():
-    return origin.NOT_PROVED if pathlib.Path(given.program or "").resolve() == UNPROVED.resolve() else origin.PROVED
+    return version_stamp.NOT_PROVED if pathlib.Path(given.program or "").resolve() == UNPROVED.resolve() else version_stamp.PROVED
 
 
 def words_of_trial():
-    return [TOP / "build" / "release", *(["--unproved"] if proof() == origin.NOT_PROVED else []), "--trial"]
+    return [TOP / "build" / "release", *(["--unproved"] if proof() == version_stamp.NOT_PROVED else []), "--trial"]
 
 
 def dist(room):
@@ -89,7 +89,7 @@ def unpacked(pattern, folder):
     """The folder of a package that is a .tar.gz."""
     with tarfile.open(package(pattern)) as archive:
         archive.extractall(folder)
-    return folder / f"listset-{origin.version()}"
+    return folder / f"listset-{version_stamp.version()}"
 
 
 def replays(program, enter, **how):
@@ -102,7 +102,7 @@ def replays(program, enter, **how):
 def told_of_broken(program):
     """What a judge says of itself and of a broken report, as the programs here print it."""
     done = ran([program, "check", SCHEDULES / "snip.broken.report"])
-    return f"{origin.told(proof())}{(done.stdout + done.stderr).strip()} {done.returncode}\n"
+    return f"{version_stamp.told(proof())}{(done.stdout + done.stderr).strip()} {done.returncode}\n"
 
 
 @test
@@ -112,7 +112,7 @@ def the_same_bytes_come_twice(case):
     for file in first.iterdir():
         same((again / file.name).read_bytes() == file.read_bytes(), True, f"{file.name} has the same bytes")
     well("sha256sum", "--check", "--strict", "SHA256SUMS", cwd=first)
-    told = origin.told(proof())
+    told = version_stamp.told(proof())
     same((first / "PROVENANCE").read_text()[: len(told)], told, "PROVENANCE")
 
 
@@ -186,7 +186,7 @@ def the_program_is_alone_in_its_root(case):
     if os.geteuid():
         raise unittest.SkipTest("only root may chroot")
     enter = [shutil.which("chroot"), top, "/bin/listset"]
-    same(well(*enter, "--version", "--long", env={}), origin.told(proof()), "--version --long")
+    same(well(*enter, "--version", "--long", env={}), version_stamp.told(proof()), "--version --long")
     replays(case.program, enter, env={})
     same(well(*enter, "run", "lock-free", 4, 1000, 1000, 50, 7, env={}).splitlines()[0], "calls 4000", "the calls of four threads")
     how = {"stdin": subprocess.DEVNULL, "stdout": subprocess.PIPE, "text": True, "env": {}}
@@ -225,8 +225,8 @@ def the_deb_is_installed(case):
     file, top = package("*.deb"), case.room / "deb"
     well("dpkg-deb", "--extract", file, top)
     control = well("dpkg-deb", "--field", file)
-    same(f"Version: {origin.version()}\n" in control and "No licence is given" in control, True, f"its control: {control}")
-    same(well(top / "usr/bin/listset", "--version", "--long", env=BARE), origin.told(proof()), "--version --long")
+    same(f"Version: {version_stamp.version()}\n" in control and "No licence is given" in control, True, f"its control: {control}")
+    same(well(top / "usr/bin/listset", "--version", "--long", env=BARE), version_stamp.told(proof()), "--version --long")
     if ROOT is None:
         return
     shutil.copy(file, pathlib.Path(ROOT) / "root")
@@ -244,7 +244,7 @@ def the_wheel_is_installed(case):
     well(sys.executable, "-m", "pip", "install", "--no-index", "--no-deps", "--quiet", "--target", top, file, env=BARE)
     how = {"env": {**BARE, "PYTHONPATH": str(top)}}
     same(well(sys.executable, "-B", "-c", OF_PYTHON, SCHEDULES / "snip.broken.report", **how), told_of_broken(case.program), "the judge")
-    said, proved = well(sys.executable, "-B", "-c", OF_FORM, **how), origin.told(proof()).splitlines()[3]
+    said, proved = well(sys.executable, "-B", "-c", OF_FORM, **how), version_stamp.told(proof()).splitlines()[3]
     same((said[:14], said.rpartition("; ")[2]), ("ok: 200 calls,", f"judge: liblistset, {proved}\n"), "the judge in a test")
 
 

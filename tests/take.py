@@ -109,6 +109,17 @@ def a_crate_that_was_not_taken_stays(two):
     same(at.read_text(), "// mine\n", "the crate")
 
 
+@test
+def what_a_killed_run_left_is_cleared_away(two):
+    # (it ended between the old folder and the new one)
+    left = two.there / ".taking-999999999-x"
+    left.mkdir()
+    (two.there / "crates/lset_words").rename(left / "old")
+    same(two.take(), ["took: crate lset_words"], "what is told")
+    two.are_alike()
+    same(sorted(it.name for it in two.there.glob(".*")), [], "what is left")
+
+
 @when_named
 @test
 def is_proved(two):

@@ -81,7 +81,7 @@ export const CLASSICS = {
   },
   "snip": {
     "question": "Thread 0 has marked the node of 5 and stops there. Thread 1 wants to put in 7 behind it. Does it have to wait?",
-    "turnsOn": "No: thread 1 takes the marked node out itself. The exchange of thread 0 fails then, and it answers true all the same, since its mark stands.",
+    "turnsOn": "No: thread 1 takes the marked node out itself. The exchange of thread 0 fails then, and thread 0 still answers true, since its mark stands.",
     "without": "An add that ignores the mark links 7 in behind the node of 5, and goes out with it (mark-in-add). Without marks no add could know (mark).",
     "turns": [17, 23],
     "lacks": ["mark-in-add", "mark"]

@@ -6,7 +6,7 @@ import { drawCompare, listenToSides, pressForSides, showSides } from "./activiti
 import { drawJudging, endJudging, listenToJudging } from "./activities/judging.js";
 import { drawStrip } from "./activities/learn_map.js";
 import { startLessons } from "./activities/lessons.js";
-import { addressHere, followAddress, openFirst, showBeforehand, showPlace } from "./activities/open.js";
+import { addressHere, followAddress, openFirst, openRecorded, showBeforehand, showPlace } from "./activities/open.js";
 import { drawReadMap } from "./activities/read.js";
 import { drawWatchMap } from "./activities/watch.js";
 import { Engine } from "./engine/engine.js";
@@ -18,6 +18,7 @@ import { keysOf, pressKey } from "./page/keys.js";
 import { fillWorks, showQuestion } from "./page/menu.js";
 import { drawMovesNow } from "./page/moves.js";
 import { on, page, show, takeTrace } from "./page/now.js";
+import { fitSlide } from "./page/places.js";
 import { showBar, showMarks, showRun } from "./page/view.js";
 import { keepNow, keepSoon, visit } from "./page/visit.js";
 import { showHeader } from "./page/work.js";
@@ -39,17 +40,19 @@ function listen() {
   visit.naming = addressHere;
   document.addEventListener("click", stopUnable, true);
   document.addEventListener("keydown", pressKey);
+  window.addEventListener("resize", fitSlide);
   window.addEventListener("resize", show);
   window.addEventListener("popstate", followAddress);
   window.addEventListener("pagehide", keepNow);
 }
 
-// Who is told of what, in this order.
+// Who is told of what, in this order: what stands above the list first, since the list takes what room that leaves.
 function connect() {
-  on("shown", showBar, showQuestion, showBreaking, showRun, drawJudging, drawMovesNow, showMarks, keepSoon, showPlace, showSides);
+  on("shown", showBar, showQuestion, showBreaking, drawJudging, drawMovesNow, showPlace, showRun, showMarks, keepSoon, showSides);
   on("taken", endJudging, showHeader);
   on("ran", showMarks, keepSoon, refreshReport);
   on("kept", fillWorks);
+  on("recorded", openRecorded);
 }
 
 // What needs the engine is not there; the page says so, and why.
@@ -81,6 +84,7 @@ function fillMaps() {
 }
 
 async function startPage() {
+  document.body.dataset.ready = "begun";
   connect();
   listen();
   if (!showBeforehand()) takeTrace(new Trace(EMPTY_TRACE), 0, "");

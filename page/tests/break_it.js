@@ -170,6 +170,17 @@ function checkLesson(ask) {
   check("a goal is due of a whole list", faultOf(LESSON.replace(/^lacks .*\n/m, "")).fault.includes('lacks "goal"'));
 }
 
+// A wrong answer to what a list lacks is contradicted, and never reads as agreement.
+function checkWhy() {
+  const [levels, whyWrong, wordOf] = ["BREAK_LEVELS", "whyWrong", "wordOf"].map(inPage);
+  for (const name of Object.keys(levels)) {
+    const wrong = [...Object.keys(levels[name].others ?? {}), ...Object.keys(levels).map(wordOf)].filter((word) => word !== wordOf(name));
+    for (const word of wrong) check(`${name}: ${whyWrong(name, word)}`, /^No: (it \w+ |that is not so)/.test(whyWrong(name, word)));
+  }
+  const early = whyWrong("lock", "It releases the lock before it writes the link.");
+  check(`level 1: ${early}`, early.startsWith("No: it releases the lock only after that. "));
+}
+
 async function main() {
   const engine = await startedEngine();
   const ask = (name, ...texts) => engine.ask(name, ...texts);
@@ -185,6 +196,7 @@ async function main() {
   checkDrafts(ask);
   checkHandedIn(ask);
   checkLesson(ask);
+  checkWhy();
   console.log(JSON.stringify(result));
 }
 

@@ -1,4 +1,4 @@
-// The contrasts of the colours of page.css: of texts on the grounds on which they stand, and of edges that are to be seen.
+// The contrasts of the colours of style/page.css: of texts on the grounds on which they stand, and of edges that are to be seen.
 "use strict";
 
 const TEXT = 4.5;

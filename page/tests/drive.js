@@ -306,6 +306,7 @@ async function resize(width, height) {
 
 async function driveNarrow() {
   driveHeight();
+  await driveInSight();
   await driveLessonByKeyboard();
   await driveJudging();
   await driveWork();

@@ -44,6 +44,7 @@ async function driveJudging() {
   math.random = random;
   driveEnds();
   driveOwnRun();
+  await driveRecorded();
 }
 
 // Before the reader has said anything, nothing of it is told at any event.
@@ -127,6 +128,34 @@ function driveEnds() {
   press("0");
   beginCall(0, "add", 9);
   check("another run ends it", part("judge").getClientRects().length === 0);
+}
+
+// Recorded calls that are pasted, and those of a file, are decided by the judge: an example, with its reason and its calls as bars.
+async function driveRecorded() {
+  frame.contentWindow.location.hash = "#judge";
+  await until(() => part("recorded-box") !== null && isSeen("recorded-box"));
+  part("recorded-box").open = true;
+  part("recorded-judge").click();
+  check("nothing was pasted", textOf("recorded-verdict").startsWith("Paste the text"));
+  part("recorded-example").click();
+  await until(() => textOf("recorded-verdict").startsWith("Not linearizable"));
+  check(`two adds of one key: ${textOf("recorded-verdict")}`, part("recorded-verdict").className === "none");
+  check(`why: ${textOf("recorded-reasons")}`, textOf("recorded-reasons").startsWith("No order explains the calls of key 5 up to moment 4."));
+  check("its calls as bars", part("recorded-picture").querySelectorAll(".bar").length === 2 && part("recorded-calls").children.length === 2);
+  part("recorded-text").value = inPage("RECORDED_EXAMPLE").replace("call 1 add 5 2 - 3 true\n", "").trimEnd();
+  part("recorded-text").oninput();
+  check("what was changed is not judged yet", textOf("recorded-verdict") === "" && part("recorded-picture").innerHTML === "");
+  part("recorded-judge").click();
+  await until(() => textOf("recorded-verdict").startsWith("Linearizable"));
+  check("one add alone is right", part("recorded-verdict").className === "ok");
+  frame.contentWindow.location.hash = "#watch";
+  await until(() => !isSeen("map-judge"));
+  frame.contentWindow.opened = fileOf("own.calls", inPage("RECORDED_EXAMPLE"));
+  await inPage("openFile(opened)");
+  await until(() => isSeen("recorded-box") && textOf("recorded-verdict").startsWith("Not linearizable"));
+  check(`a file opens there: ${hashOf()}`, hashOf() === "#judge" && part("recorded-text").value === inPage("RECORDED_EXAMPLE"));
+  part("recorded-box").open = false;
+  pick("snip");
 }
 
 // A schedule of one's own is judged too, and one that is too long is not.

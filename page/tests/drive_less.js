@@ -59,7 +59,10 @@ async function driveLess() {
   frame.contentWindow.location.hash = "#sides=coarse.lazy&quota=4&calls=0.add.5&turns=0.1";
   await sleep(200);
   check("and one of two lists", textOf("told") === "the address names two lists side by side, which cannot be run here");
-  frame.contentWindow.opened = new frame.contentWindow.File([inPage("page.trace.text")], "own.trace");
+  frame.contentWindow.opened = fileOf("own.calls", inPage("RECORDED_EXAMPLE"));
+  await inPage("openFile(opened)");
+  check(`recorded calls are not judged: ${textOf("fault")}`, textOf("fault").startsWith("The engine is not here"));
+  frame.contentWindow.opened = fileOf("own.trace", inPage("page.trace.text"));
   await inPage("openFile(opened)");
   check("a trace can be opened", textOf("source") === "a trace from a file; its grammar was checked");
 }

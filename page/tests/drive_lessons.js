@@ -146,7 +146,7 @@ async function driveHandIn() {
   lessonPart("student").onchange();
   lessonPart("hand-in").click();
   await until(() => lessonText("told") !== "");
-  const isTold = /12 solutions, \d+ judged orders and \d+ broken lists/.test(lessonText("told"));
+  const isTold = /12 solutions, \d+ judged orders? and \d+ broken lists?/.test(lessonText("told"));
   check(`it tells how many are handed in: ${lessonText("told")}`, isTold);
   const [read] = inPage(`textsIn(${JSON.stringify(lessonPart("text").value)}).map(readHandIn)`);
   const names = read.solutions.map(({ line }) => line.split(" ")[0]).filter((name) => name !== "judge");
@@ -238,7 +238,7 @@ async function driveWriting() {
   lessonPart("try").click();
   check(
     `a good one is taken: ${lessonText("faults")}`,
-    lessonText("faults") === "Mine: 1 lessons, all good." && lessonNames().join() === "first",
+    lessonText("faults") === "Mine: 1 lesson, all good." && lessonNames().join() === "first",
   );
   lessonPart("link").click();
   await until(() => lessonText("faults").includes("it opens"));
@@ -270,7 +270,15 @@ async function driveCourses() {
   );
   await reloadWithKept();
   check("the course is there after a reload", lessonText("title").startsWith("First things") && solvedLessons() === 1);
-  typeChoice(lessonPart("course"), inPage("BOOK_NAME"));
+  frame.contentWindow.location.hash = "#learn=marked-in-chain";
+  await until(() => lessonText("title").startsWith("Marked"));
+  check("the address of a lesson of the book opens it from a teacher's course", lessonNames().length === 12);
+  frame.contentWindow.location.hash = "#learn=first";
+  await until(() => lessonText("title").startsWith("First things"));
+  check("and that of the teacher's lesson opens it from the book", lessonNames().join() === "first");
+  frame.contentWindow.location.hash = "#learn";
+  await until(() => part("lesson-book") !== null && isSeen("lesson-book"));
+  part("lesson-book").click();
   check("the book's lessons again", lessonNames().length === 12);
   await driveBadCourses(link);
 }

@@ -23,6 +23,19 @@ function driveOneScreen() {
   check(`below the screen: ${below.slice(0, 5)}`, below.length === 0);
 }
 
+// In each activity the controls stand where they stood when the run was opened.
+async function driveSteady() {
+  const topOf = () => Math.round(part("bar").getBoundingClientRect().top + frame.contentWindow.scrollY);
+  const places = ["#seed=lazy.2.5.2.17", "#learn=one-lock", "#break=1", "#example=snip&judge", "#example=marked-in-chain"];
+  for (const hash of places) {
+    await showView("#watch", "event ");
+    await showView(hash, "event ");
+    const before = topOf();
+    goToEvent(1);
+    check(`${hash}: the controls stay at ${before}: ${topOf()}`, topOf() === before && before > 0);
+  }
+}
+
 async function showView(hash, where) {
   frame.contentWindow.location.hash = hash;
   await until(() => textOf("where").startsWith(where));
@@ -39,6 +52,7 @@ async function driveViews() {
   check("and back", textOf("where").startsWith("event 20 "));
   const { contentDocument: document, contentWindow: window } = frame;
   check("the title of the window", document.title === "read-in-anothers-step, event 20: LazyList");
+  check("one slide", document.documentElement.scrollHeight <= window.innerHeight || frame.clientWidth <= 560);
   if (frame.clientWidth >= 1920) driveSlide(document, window);
   await sleep(KEEPS);
   check("the view stays in the address", hashOf().endsWith("&view=lecture"));
@@ -51,12 +65,12 @@ async function driveViews() {
   drivePicture();
   driveHiding();
   if (frame.clientWidth === 1300) driveOneScreen();
+  if (frame.clientWidth === 1300) await driveSteady();
   await driveListing();
 }
 
-// At 1920 x 1080 a lecture is one slide, and its labels are large: a text of 18 pixels is 20 high, with what goes below its line.
+// At 1920 x 1080 the labels of a lecture are large: a text of 18 pixels is 20 high, with what goes below its line.
 function driveSlide(document, window) {
-  check("one slide", document.documentElement.scrollHeight <= window.innerHeight);
   const labels = [...document.querySelectorAll("#list text, #history text")];
   // (WebKit measures before the zoom of a lecture)
   const isBefore = document.body.getBoundingClientRect().width < window.innerWidth * 0.9;
@@ -175,6 +189,24 @@ async function driveMillion() {
   check("and the one before", textOf("where") === "event 999993 of 999994");
   part("undo").click();
   check("undo leads back", textOf("where").endsWith(" of 23"));
+}
+
+// On a phone a move brings the picture into sight above the controls, and a chain of five nodes is seen whole.
+async function driveInSight() {
+  await showPlaceOf("#learn=one-lock", "event 3 ");
+  frame.contentWindow.scrollTo(0, 0);
+  part("moves").querySelector("button").click();
+  const [said, list, dock] = ["said", "list", "dock"].map((id) => part(id).getBoundingClientRect());
+  check(`the picture is in sight: ${said.top} to ${list.bottom}, ${dock.top}`, said.top >= 0 && list.bottom <= dock.top);
+  await showPlaceOf("#break=1", "event 0 ");
+  const box = part("list");
+  check(`the chain of a level is seen whole: ${box.scrollWidth} of ${box.clientWidth}`, box.scrollWidth <= box.clientWidth);
+}
+
+async function showPlaceOf(hash, where) {
+  frame.contentWindow.location.hash = hash;
+  await until(() => textOf("where").startsWith(where) && hashOf().startsWith(hash));
+  await sleep(100);
 }
 
 // On a narrow screen the page is no taller than this before a fold is opened.

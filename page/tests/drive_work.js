@@ -213,15 +213,17 @@ async function drivePlay() {
   part("speed").value = "fast";
   part("play").click();
   check("it plays", textOf("play") === "Pause");
-  await sleep(900);
+  const begun = performance.now();
+  await until(() => inPage("page.count") >= 2);
   const at = inPage("page.count");
-  check(`it goes on by itself, to ${at}`, at >= 2 && at <= 6);
+  const most = (performance.now() - begun) / 200 + 1; // an event in 200 milliseconds; on a busy machine less
+  check(`it goes on by itself, to ${at} of ${most}`, at >= 2 && at <= most);
   press("p");
   await sleep(500);
   check("it pauses", inPage("page.count") === at && textOf("play") === "Play");
   goToEvent(22);
   part("play").click();
-  await sleep(700);
+  await until(() => textOf("play") === "Play");
   check("it ends at the end", textOf("where") === "event 23 of 23" && textOf("play") === "Play");
   check("there are three speeds", part("speed").options.length === 3);
 }
@@ -269,7 +271,9 @@ async function driveLabels() {
   check(`who has what: ${locked}`, locked.includes("t1 has head.lock and n6.lock"));
   part("link").click();
   await sleep(300);
-  check(`a link: ${told()}`, /^(Copy this link|The link is copied): .*#example=marked-in-chain&event=23$/.test(told()));
+  check(`a link: ${told()}`, /^(Copy this link|The link is copied): .*#example=marked-in-chain&event=23($| Others)/.test(told()));
+  const isFile = frame.contentWindow.location.protocol === "file:";
+  check("others cannot open one to a file", told().includes("Others cannot open it") === isFile);
 }
 
 function drivePlaces() {
@@ -290,7 +294,8 @@ function drivePlaces() {
 function driveFingers() {
   const controls = [...frame.contentDocument.querySelectorAll("button, select, summary, input:not([type=file]), .button")];
   const shown = controls.filter((control) => control.getClientRects().length > 0);
-  const sizes = (control) => [control.getBoundingClientRect().height, control.getBoundingClientRect().width];
+  const touched = (control) => (control.type === "checkbox" ? control.labels[0] : control).getBoundingClientRect();
+  const sizes = (control) => [touched(control).height, touched(control).width];
   const small = shown.filter((control) => Math.min(...sizes(control)) < 44);
   const names = small.map((control) => control.id || control.textContent).join();
   check(`${shown.length} controls are large enough for a finger, but for: ${names}`, small.length === 0 && shown.length > 20);

@@ -107,6 +107,68 @@ function checkOpenCalls(ask) {
   check("put in", judgedAs(4, "0-true,1-false").isRight === false);
 }
 
+// No label of a bar is written over the one behind it, on a wide page and on a phone, whatever has been said; of runs by a number too.
+function checkLabels(ask, schedules) {
+  const [drawJudged, judgeScale] = ["drawJudged", "judgeScale"].map(inPage);
+  const judgedAt = (exercise, answer, width) => ({ exercise, answer, scale: judgeScale(exercise, width), moment: 0, count: 0 });
+  let words = 0;
+  for (const schedule of schedules) {
+    const report = ask("listset_replay", schedule).text;
+    for (const [level, width] of [["points", 342], ["replies", 342], ["points", 820]]) {
+      const exercise = exerciseOf(report, level);
+      const drawing = drawJudged(judgedAt(exercise, new OwnAnswer(exercise), width));
+      const labels = [...drawing.matchAll(/<text class="call" x="([^"]*)" y="([^"]*)">([^<]*)</g)];
+      const ends = {};
+      const over = labels.filter(([, x, y, text]) => {
+        const isOver = Number(x) < (ends[y] ?? 0);
+        ends[y] = Number(x) + 7 * text.length;
+        return isOver;
+      });
+      words += labels.filter(([, , , text]) => text.includes("(")).length;
+      check(`labels over others in ${width} pixels: ${over.map((label) => label[3])} of ${schedule}`, over.length === 0);
+    }
+  }
+  check("most labels are in words", words > 100);
+}
+
+// The chips left of a line are at most seven letters and edges; all threads are told, by their numbers or how many more.
+function checkChips() {
+  const drawn = (threads) => inPage("drawWho")(threads).replace(/<[^>]*>/g, " ").trim().replace(/ +/g, " ");
+  const due = [[[], ""], [[3], "t3"], [[0, 1], "t0 t1"], [[0, 1, 2], "0 1 2"], [[0, 1, 2, 3], "0 1 +2"], [[10, 11], "10 11"]];
+  due.push([[10, 11, 12], "10 +2"], [Array.from({ length: 64 }, (_, thread) => thread), "0 +63"]);
+  for (const [threads, text] of due) check(`the chips of ${threads}: ${drawn(threads)}`, drawn(threads) === text);
+}
+
+// Recorded calls are decided by the judge, without points: each text with what is said of it.
+function checkRecorded(ask) {
+  const head = "listset-calls 2\nlist lazy\nthreads 3\nquota 4\n";
+  const [verdictOnCalls, withNewline] = ["verdictOnCalls", "withNewline"].map(inPage);
+  const said = (text) => verdictOnCalls(ask("listset_judge", withNewline(text)).text);
+  const both = said(inPage("RECORDED_EXAMPLE"));
+  check(`two adds of one key: ${both.says}`, both.kind === "none" && both.says.startsWith("Not linearizable: no order at all"));
+  const reasons = "No order explains the calls of key 5 up to moment 4. Key 5 is not there at moment 0. These calls alone have no order:";
+  check(`why: ${both.reasons}`, both.reasons.join(" ") === reasons && both.calls.map(({ thread }) => thread).join() === "0,1");
+  const drawn = inPage("drawRecorded")(both.calls, 600);
+  check("its calls as bars", drawn.split("<rect ").length - 1 === 4 && drawn.includes(">add(5) true<"));
+  const open = said(`${head}call 0 add 5 1 - - -\ncall 1 contains 5 2 - 3 true\nend`);
+  check(`an open call: ${open.reasons}`, open.kind === "none" && open.calls[0].ended === null && open.reasons[0].includes("otherwise than"));
+  const wanted = {
+    "call 0 add 5 1 - 4 true\ncall 1 contains 5 2 - 3 false\nkey 5\nend": "ok Linearizable: an order explains these 2 calls",
+    "call 0 contains 5 1 - 2 false\nend": "ok Linearizable: an order explains this one call",
+    "key 5\nend": "none Not linearizable: no order at all",
+    "call 0 add 5 1 2 3 true\ncall 1 ceiling 4 4 - 5 at-7\nkey 5\nend": "none No order has the changes at the points",
+    "call 0 add 5 1 - 3 true\ncall 1 ceiling 4 4 - 5 at-5\nkey 5\nend": "fault listset: line 5: Point: a point is to lie",
+    "call 0 add 5 1 - 6\nend": "fault listset: line 5: Line: a line is to be",
+    "call 3 add 5 1 - 6 true\nend": "fault listset: line 5: History: there is no such thread",
+    "call 0 add 5 1 - 6 true\n": "fault listset: line 6: NotEnded: the text is to end",
+  };
+  for (const lines in wanted) {
+    const { kind, says } = said(head + lines);
+    check(`${lines}: ${kind} ${says}`, `${kind} ${says}`.startsWith(wanted[lines]));
+  }
+  check("another title", said("listset-report 2\n").says.startsWith('listset: line 1: Header: line 1 is to be "listset-calls 2"'));
+}
+
 // Two lists: each turn makes a step in both, and one that has answered waits.
 function checkSides(ask) {
   const [Sides, readProgram, programText] = ["Sides", "readProgram", "programText"].map(inPage);
@@ -142,13 +204,21 @@ function checkSides(ask) {
 async function main() {
   const engine = await startedEngine();
   const ask = (name, text) => engine.ask(name, text);
+  const schedules = [];
   for (const name of ask("listset_examples", "").text.trimEnd().split("\n").map((line) => line.split(" ")[0])) {
     const schedule = ask("listset_example", name).text;
     const report = ask("listset_replay", schedule).text;
     checkLevels(ask, name, report);
     checkClaims(ask, name, report);
     checkHidden(ask, name, schedule);
+    schedules.push(schedule);
   }
+  for (const kind of ["coarse", "fine", "optimistic", "lazy", "lock-free"]) {
+    for (let number = 1; number <= 12; number++) schedules.push(inPage("scheduleOfSeed")(ask, inPage("seedOf")(kind, number)));
+  }
+  checkLabels(ask, schedules);
+  checkChips();
+  checkRecorded(ask);
   checkByHand(ask);
   checkOpenCalls(ask);
   checkSides(ask);

@@ -213,12 +213,30 @@ function checkTrials(ask) {
   check("CRLF, a mark of order and tabs are no fault", triedCourse(ask, other).faults.length === 0);
 }
 
-// The course that page/README.md shows is one.
+// The course that page/README.md shows is one, also with the spaces that stand before its lines there; and its goal asks for what its
+// question asks.
 function checkReadme(ask) {
   const readme = fs.readFileSync(path.join(__dirname, "..", "README.md"), "utf8");
-  const text = readme.slice(readme.indexOf("    listset-course 1")).split("\n\n")[0].replace(/^ {4}/gm, "");
-  const { lessons, faults } = triedCourse(ask, `${text}\n`);
-  check(`the course of README.md: ${JSON.stringify(faults)}`, lessons.length === 1 && faults.length === 0);
+  const indented = `${readme.slice(readme.indexOf("    listset-course 1")).split("\n\n")[0]}\n`;
+  const text = indented.replace(/^ {4}/gm, "");
+  for (const given of [text, indented, indented.trimStart(), indented.replaceAll("    ", "\t\t")]) {
+    const { lessons, faults } = triedCourse(ask, given);
+    check(`the course of README.md: ${JSON.stringify(faults)}`, lessons.length === 1 && faults.length === 0);
+  }
+  const [asked, begun, removed] = ["begin 0 contains 5", "begin 1 remove 5", "begin 1 remove 5,go 1 out"];
+  const answers = [
+    [`${asked},${removed},go 0 out`, true],
+    [`${removed},${asked},${removed},go 0 out`, false], // 5 was not in the set when the contains began
+    [`${begun},${asked},go 1 out,go 0 out`, false],
+    [`${asked},${removed},go 0 1`, false],
+    [`${removed},${asked},begin 1 add 5,go 1 out,${removed},go 0 out`, false],
+  ];
+  for (const [lines, isSolved] of answers) {
+    const answer = `answer\n${lines.split(",").map((line) => `  ${line}\n`).join("")}`;
+    const { faults } = triedCourse(ask, text.replace("goal\n", `${answer}goal\n`));
+    const isRefused = faults[0]?.fault.includes("its answer does not solve it") === true;
+    check(`README's lesson, ${lines}: ${JSON.stringify(faults)}`, isSolved ? faults.length === 0 : isRefused);
+  }
 }
 
 async function checkLinks(ask) {

@@ -1,4 +1,4 @@
-// node page/tests/lowering.js CASES: whether modules that page/lower.py has made do what those do of which it made them, by the same
+// node page/tests/lowering.js CASES: whether modules that page/tools/lower_wasm.py has made do what those do of which it made them, by the same
 // calls; or, of those that a slip has made, that they do not. CASES is a file of tests/lowering.py.
 "use strict";
 

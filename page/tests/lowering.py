@@ -1,4 +1,4 @@
-"""Tries page/lower.py: what it makes of a small module with each instruction that it knows does what that module does, what it does
+"""Tries page/tools/lower_wasm.py: what it makes of a small module with each instruction that it knows does what that module does, what it does
 not know is refused, and a slip in it is noticed."""
 
 import base64
@@ -6,15 +6,15 @@ import json
 import pathlib
 import types
 
-import lower
-from lower import F32, F64, FLOATS, GLOBAL_SET, I32, I64, LOADS, STORED, NotLowered, leb
+import lower_wasm
+from lower_wasm import F32, F64, GLOBAL_SET, I32, I64, LOADS, STORED, leb
 
 LOADED = dict(zip(LOADS, [I32, I64, F32, F64, *[I32] * 4, *[I64] * 6]))
 GIVEN = {I32: -2_023_406_815, I64: "-8690466096661279487n", F32: 1.5, F64: -0.1}
 LOCAL, NOP, END, EMPTY, CALL, IF, BRANCH_IF, DROP = 0x20, 0x01, 0x0B, 0x40, 0x10, 0x04, 0x0D, 0x1A
 ADD, SUB = 0x7C, 0x7D  # of 64-bit numbers
 PAGE, PLACES = 65536, ["0n", "40n", "65000n", "65511n", "65512n", "65535n", "65536n", "4294967295n", "-1n", "-16n"]
-# An edit of lower.py, with which it has to refuse the small module, or to make one that does not validate or does something else.
+# An edit of lower_wasm.py, with which it has to refuse the small module, or to make one that does not validate or does something else.
 SLIPS = [
     ("return CUT + bytes([word]) + self.place()", "return bytes([word]) + self.place()"),
     ("return leb(alignment) + leb(offset)", "return leb(alignment) + leb(0)"),
@@ -115,7 +115,7 @@ def runs():
     yield [["deep", "3n"], ["deep", "15n"]]
     yield [["deep", "16n"]]
     # (the memory as large as it may be; a stack that has run over by more than the place above it)
-    yield [["grow", f"{lower.MOST_PAGES - 1}n"], ["deep", "6000n"], ["load 29", "4278190040n"]]
+    yield [["grow", f"{lower_wasm.MOST_PAGES - 1}n"], ["deep", "6000n"], ["load 29", "4278190040n"]]
 
 
 def unknown():
@@ -135,7 +135,7 @@ def unknown():
     found |= {f"data: {name}": module([one], data=it) for name, it in data.items()}
     sections = {0: [b"name"], 2: [b"\1e\1f\0\0"], 4: [b"\x70\0\1"], 8: [b""], 9: [b"\0\x41\0\x0b\1\0"], 12: [b""], 13: [b"\0\0"]}
     found |= {f"section {kind}": module([one], more=[(kind, items)]) for kind, items in sections.items()}
-    found |= {f"no section {kind}": module([one], more=[(kind, [])]) for kind in lower.SECTIONS}
+    found |= {f"no section {kind}": module([one], more=[(kind, [])]) for kind in lower_wasm.SECTIONS}
     found["section twice"] = module([one]) + section(7)
     found["two memories"] = module([one], more=[(5, [b"\4\1", b"\4\1"])])
     found["two data"] = module([one], more=[(11, [b"\0\x42\0\x0b\1x"] * 2)])
@@ -145,10 +145,10 @@ def unknown():
 
 
 def of_slip(old, new):
-    """lower.py with an edit."""
-    text = pathlib.Path(lower.__file__).read_text()
+    """lower_wasm.py with an edit."""
+    text = pathlib.Path(lower_wasm.__file__).read_text()
     if text.count(old) != 1:
-        raise ValueError(f"lower.py has {old!r} {text.count(old)} times")
+        raise ValueError(f"lower_wasm.py has {old!r} {text.count(old)} times")
     made = types.ModuleType("slip")
     exec(text.replace(old, new), made.__dict__)
     return made
@@ -177,12 +177,12 @@ def tried(folder, in_node):
         cases.append({"name": name, "wide": encoded(whole), "narrow": encoded(made), "runs": [*runs()], "isSame": is_same})
 
     for name, given in unknown().items():
-        count(f"{name} is refused", outcome(lower, given) is None)
+        count(f"{name} is refused", outcome(lower_wasm, given) is None)
     for end in range(len(whole)):
-        count(f"its first {end} bytes are refused", outcome(lower, whole[:end]) is None)
-    changed = [outcome(lower, whole[:at] + bytes([whole[at] ^ 0x2A]) + whole[at + 1 :]) for at in range(len(whole))]
+        count(f"its first {end} bytes are refused", outcome(lower_wasm, whole[:end]) is None)
+    changed = [outcome(lower_wasm, whole[:at] + bytes([whole[at] ^ 0x2A]) + whole[at + 1 :]) for at in range(len(whole))]
     count("a wrong byte is refused or lowered", not any(isinstance(it, str) for it in changed))
-    case("as it is", lower.lowered(whole), True)
+    case("as it is", lower_wasm.lowered(whole), True)
     for old, new in SLIPS:
         made = outcome(of_slip(old, new), whole)
         if made is None:

@@ -111,6 +111,48 @@ function checkDocs(engine) {
   }
 }
 
+// Each page that Read leads to is there, with the heading that its link names; one of them is the table of progress.
+function checkRead() {
+  const links = inPage("PAGES").map(([href]) => href);
+  check("Read leads to the table of progress", links.includes("tables.html#progress"));
+  const text = fs.readFileSync(path.join(folder, "index.html"), "utf8");
+  for (const link of [...links, ...Array.from(text.matchAll(/href="(\w[\w-]*\.html#[^"]+)"/g), ([, href]) => href)]) {
+    const [file, heading] = link.split("#");
+    const there = path.join(folder, file);
+    const isThere = fs.existsSync(there) && (heading === undefined || fs.readFileSync(there, "utf8").includes(` id="${heading}"`));
+    check(`Read, Compare: ${link} leads nowhere`, isThere);
+  }
+}
+
+function checkWords() {
+  const [counted, warningOf] = ["counted", "warningOf"].map(inPage);
+  check("one lesson, two lessons", [0, 1, 2].map((count) => counted(count, "lesson")).join() === "0 lessons,1 lesson,2 lessons");
+  const said = ["file:///page/index.html#break=1", "http://127.0.0.1/index.html", "https://file.example/"].map(warningOf);
+  check(`of a file it is said that others cannot open it: ${said}`, said[0].includes("Others cannot open it") && said[1] + said[2] === "");
+}
+
+// A slide is laid out for 1280 x 720, whatever the window of a projector is; and a chain that grows moves nothing below its picture.
+function checkRoom() {
+  const [slideZoom, keptHeight, roomOf, forgetRoom] = ["slideZoom", "keptHeight", "roomOf", "forgetRoom"].map(inPage);
+  for (const [width, height] of [[1280, 720], [1366, 768], [1440, 900], [1600, 900], [1920, 1080], [2560, 1440]]) {
+    const zoom = slideZoom(width, height);
+    const [wide, high] = [width / zoom, height / zoom];
+    check(`a slide at ${width} x ${height}: ${wide} x ${high}`, wide > 1279.9 && high > 719.9 && Math.min(wide - 1280, high - 720) < 0.1);
+  }
+  check("on a phone a slide is no smaller than the rest", slideZoom(390, 844) === 1);
+  const trace = (total) => ({ kind: "lazy", threads: 2, total });
+  const size = { width: 600, height: 200 };
+  const grown = (run) => roomOf(run, () => size, size, 800, true);
+  forgetRoom();
+  grown(trace(3));
+  const heights = [[300, 800], [260, 800], [310, 800], [280, 800]].map((given) => (grown(trace(4)), keptHeight(...given)));
+  check(`the picture of a run that goes on keeps its room: ${heights}`, heights.join() === "300,300,310,310");
+  check("not in another width", keptHeight(250, 700) === 250);
+  forgetRoom();
+  grown(trace(3));
+  check("nor does another run", keptHeight(240, 700) === 240);
+}
+
 // A trace that goes on where another one ends is the one that is read from its start; so is the state.
 function checkGoingOn(engine, texts) {
   for (const schedule of texts) {
@@ -213,22 +255,26 @@ function checkTraces(engine, names) {
   }
 }
 
-// No arrow crosses the label of a register or a node, at any event of an example and of a run in which nodes come and go.
+// No arrow crosses the label of a register or a node, at any event of an example and of a run in which nodes come and go, on a wide
+// page and on a phone.
 function checkArrows(engine, texts) {
   let labels = 0;
-  for (const text of texts) {
+  for (const [text, room] of texts.flatMap((text) => [[text, 860], [text, 354]])) {
     const trace = traceOf(engine, text);
     const state = new (inPage("State"))(trace);
     const crossed = trace.events().flatMap((event, index) => {
       state.moveTo(index + 1);
-      const drawing = inPage("drawList")(state, event, 860);
+      const drawing = inPage("drawList")(state, event, room);
       labels += drawing.split('class="pointer').length - 1;
       const found = [...crossedLabels(drawing), ...crossedNodes(drawing)];
       return found.map((what) => `${what} at event ${index + 1}`);
     });
-    check(`arrows cross labels or nodes (${crossed.slice(0, 5)}) of ${text.slice(0, 200)}`, crossed.length === 0);
+    check(`arrows cross labels or nodes in ${room} pixels (${crossed.slice(0, 5)}) of ${text.slice(0, 200)}`, crossed.length === 0);
   }
-  check("labels were drawn", labels > 1000);
+  check("labels were drawn", labels > 2000);
+  const five = traceOf(engine, "listset-schedule 2\nlist lazy\nthreads 2\nquota 4\nopening 3\nopening 5\nopening 7\n");
+  const wide = Number(/^<svg width="([^"]*)"/.exec(inPage("drawList")(new (inPage("State"))(five), null, 354))[1]);
+  check(`a chain of five nodes is seen whole on a phone: ${wide}`, wide > 300 && wide <= 354);
   const drawn = '<path d="M0 0 L200 0" marker-end="x"></path><text class="pointer thread-0" x="50" y="5">▲ t0 curr</text>';
   check("an arrow over a label is seen", crossedLabels(drawn).join() === "▲ t0 curr");
   const nodeAt = (x) => `<rect x="${x}" y="-20" width="90" height="40" rx="5" class="box"></rect><text class="key">${x}</text>`;
@@ -290,7 +336,7 @@ function wrongLine(trace, event, held, met) {
 
 // Every colour of a text on every ground on which it stands, in light and in dark, and the edges of the controls.
 function checkColours() {
-  const sheet = ["page.css", "drawings.css"].map((name) => fs.readFileSync(path.join(folder, name), "utf8")).join("");
+  const sheet = ["page.css", "drawings.css"].map((name) => fs.readFileSync(path.join(folder, "style", name), "utf8")).join("");
   const contrasts = contrastsOf(sheet);
   check("colours were found", contrasts.length > 60);
   for (const { name, contrast, least } of contrasts) check(`${name}: a contrast of ${contrast.toFixed(2)}`, contrast >= least);
@@ -324,6 +370,9 @@ async function main() {
   checkGoingOn(engine, texts);
   checkSeeds(engine);
   checkDocs(engine);
+  checkRead();
+  checkWords();
+  checkRoom();
   const crowds = crowded(engine);
   checkArrows(engine, [...texts, ...crowds]);
   checkListing(engine, [...texts, ...crowds]);

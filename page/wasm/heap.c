@@ -3,7 +3,7 @@
 //
 // Blocks have 2^k bytes, k from 5 to 32; the 16 bytes before what is handed out hold k. A freed block goes to the list of its
 // size. A new one is cut from the end of the memory, which grows by whole pages; where it cannot grow, memory is refused. It ends
-// below 4 GiB (../lower.py).
+// below 4 GiB (../lower_wasm.py).
 typedef unsigned long long u64;
 typedef struct { u64 ok; char *block; } Tried;
 

@@ -21,7 +21,7 @@ NEEDS = dict(it.split(": ", 1) for it in (TOP / "build/needs.txt").read_text().s
 
 # What the run is asked: its `program`, other forms of it (`beside`), whether a tenth will do (`few`), whether tests are named; and its
 # `room` for files.
-given = types.SimpleNamespace(program=None, beside=[], few=False, is_named=False, room=None)
+given = types.SimpleNamespace(program=None, beside=[], few=False, is_named=False, room=None, is_ending=False)
 _made, _lock = {}, threading.Lock()
 
 
@@ -152,6 +152,14 @@ def comes(condition, what):
         if time.monotonic() > end:
             raise Wrong(f"{what} does not come")
         time.sleep(0.02)
+
+
+def is_running(process):
+    """Whether a process is there, and not only its end untold."""
+    try:
+        return pathlib.Path(f"/proc/{process}/stat").read_text().rpartition(")")[2].split()[0] != "Z"
+    except OSError:
+        return False
 
 
 def left_of(room):

@@ -21,8 +21,8 @@ use crate::machine::BrokenMachine;
 use crate::meeting::{chain_met, keys_of};
 use crate::world::{BrokenStepError, BrokenWorld};
 use lset_replay::{
-    Deed, LineEvent, Listener, Recorder, Runner, TracedEvent, call_end, in_order, open_number,
-    run_lines, thread_of, writes_node,
+    Deed, LineEvent, Listener, Recorder, Runner, TracedEvent, call_end, in_order, is_same_chain,
+    open_number, run_lines, thread_of, writes_node,
 };
 use lset_report::Report;
 use lset_schedule::{Schedule, Version};
@@ -32,12 +32,6 @@ use std::alloc::{AllocError, Global};
 
 /// How the run of a schedule ended: with the report of all its events, or at the event of a line.
 pub type BrokenRun = Result<Report, (u64, BrokenStepError)>;
-
-fn is_same_chain(before: &[ChainKey], later: &[ChainKey]) -> bool
-    ensures { IsTrue result ↔ (before.now ≡ later.now) }
-{
-    before == later
-}
 
 /// A run under way: the world, what is kept of its events, and the chain that was told last.
 #[derive(Drop)]

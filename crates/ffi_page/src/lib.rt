@@ -120,9 +120,9 @@ pub extern "C" fn listset_trace_with_chains(
     hand(alloc, traced(alloc, text, true), room, status)
 }
 
-/// What `listset show` prints of the schedule or the report whose text is given: its picture, with status 1 where it tells why
-/// the order of a report is refused, or which event of a schedule is, up to which that is drawn; or the line about the first fault
-/// of the text, or about one that is too long. The options are the words for `--from`, `--to` and `--width`, in this order, with
+/// What `listset show` prints of the schedule, the report or the recorded calls whose text is given: its picture, with status 1 where it
+/// tells why the order of a report is refused or that no order explains the calls, or which event of a schedule is refused, up to which that
+/// is drawn; or the line about the first fault of the text, or about one that is too long. The options are the words for `--from`, `--to` and `--width`, in this order, with
 /// a zero byte between two: a `=` and the option's text, or nothing where it is not given; and where words are missing at the end,
 /// their options are not given. A wrong option is told as `listset: bad FROM` (or `TO`, `WIDTH`), with status 2.
 #[unsafe(no_mangle)]

@@ -5,7 +5,8 @@ use lset_coarse::CoarseList;
 use lset_fine::FineList;
 use lset_history::{History, check_order};
 use lset_judge::{
-    Refusal, Verdict, Window, is_judged, judge, judge_without_quota, overlapped, window_of_refusal,
+    LAST_MOMENT, Refusal, Stream, StreamCall, StreamFault, StreamRefusal, StreamVerdict, Verdict,
+    Window, is_judged, judge, judge_cut_off, judge_without_quota, overlapped, window_of_refusal,
 };
 use lset_lazy::LazyList;
 use lset_lock_free::LockFreeList;
@@ -221,7 +222,7 @@ fn known_at(
 }
 
 /// Whether a refusal says what is so: by its moment the calls of its key have no order, and before it all calls have one; or the calls of
-/// its key have one, and none that leaves it as it is left.
+/// all calls have one, and those of its key none that leaves it as it is left.
 fn is_told(
     alloc: Global,
     history: &History,
@@ -239,7 +240,7 @@ fn is_told(
     let own = known_at(alloc, calls, key, u32::MAX)?;
     let bit = 1usize << (refusal.key.0 % 2);
     let as_left = (opening & !bit) | (left & bit);
-    Ok(has_some_order(&own, opening) && !has_order(&own, opening, as_left))
+    Ok(has_some_order(calls, opening) && !has_order(&own, opening, as_left))
 }
 
 /// How many calls overlap a change of their key that another call made.
@@ -259,6 +260,28 @@ fn met(calls: &[CallRecord]) -> u32 {
     count
 }
 
+/// Whether the calls of a window begin after its moment, in turn, and each change of its key that has begun by then has ended.
+fn is_apart(history: &History, window: &Window) -> bool {
+    let calls = history.calls();
+    let mut next = 0;
+    for number in &window.calls {
+        let index = *number as usize;
+        if index < next || calls[index].begun <= window.since {
+            return false;
+        }
+        next = index + 1;
+    }
+    calls.iter().all(|call| {
+        let has_ended = matches!(call.ended, Some((end, _)) if end <= window.since);
+        let is_change = match call.ended {
+            Some((_, reply)) => reply == Reply::True,
+            None => true,
+        };
+        let is_look = matches!(call.call, Call::Contains(_)) || !is_change;
+        has_ended || is_look || call.call.key() != window.key || call.begun > window.since
+    })
+}
+
 /// How many calls the window of a refusal has, which is right.
 fn window_size<R: Abort>(
     rt: &R,
@@ -271,6 +294,7 @@ fn window_size<R: Abort>(
     assert!(rt; window.key == refusal.key);
     assert!(rt; is_right(alloc, history, &window)?);
     assert!(rt; is_forced(alloc, history, &window)?);
+    assert!(rt; is_apart(history, &window));
     Ok(window.calls.len())
 }
 
@@ -300,6 +324,36 @@ fn an_order_of_small_histories_is_found_if_there_is_one(rt: HostRuntime) -> Resu
     Ok(())
 }
 
+/// The calls of a history one after another.
+fn streamed(alloc: Global, history: &History) -> Result<Stream, Fail> {
+    let mut stream = Stream::new(alloc, history.opening())?;
+    for made in history.calls() {
+        stream.add(StreamCall {
+            thread: made.thread,
+            call: made.call,
+            begun: u64::from(made.begun),
+            ended: made.ended.map(|(end, reply)| (u64::from(end), reply)),
+        })?;
+    }
+    Ok(stream)
+}
+
+/// Whether a stream of the calls has the verdicts: with the keys left, and if it is cut off.
+fn is_streamed(
+    alloc: Global,
+    history: &History,
+    keys: &[u32],
+    is_explained: bool,
+    has_some: bool,
+) -> Result<bool, Fail> {
+    let closed = streamed(alloc, history)?.close(keys)?;
+    let cut_off = streamed(alloc, history)?.close_cut_off()?;
+    Ok(
+        (closed == StreamVerdict::Linearizable) == is_explained
+            && (cut_off == StreamVerdict::Linearizable) == has_some,
+    )
+}
+
 #[test]
 fn the_judge_is_right_of_small_histories(rt: HostRuntime) -> Result<(), Fail> {
     let alloc = rt.alloc();
@@ -312,6 +366,15 @@ fn the_judge_is_right_of_small_histories(rt: HostRuntime) -> Result<(), Fail> {
         assert!(rt;
             overlapped(alloc, &history)? == met(history.calls()),
             "history {number}"
+        );
+        let has_some = has_some_order(history.calls(), opening);
+        assert!(rt;
+            (judge_cut_off(alloc, &history)? == Verdict::Linearizable) == has_some,
+            "history {number}, cut off"
+        );
+        assert!(rt;
+            is_streamed(alloc, &history, &keys, is_explained, has_some)?,
+            "history {number}, as a stream"
         );
         match judge(alloc, &history, &keys)? {
             Verdict::Linearizable => {
@@ -405,5 +468,78 @@ fn a_set_without_a_quota_takes_any_adds(rt: HostRuntime) -> Result<(), Fail> {
         moment: None,
     };
     assert!(rt; judge_without_quota(alloc, &history, &[5])? == Verdict::NotLinearizable(lost));
+    Ok(())
+}
+
+/// An `add` of key 6 by thread 9, from moment 5 on.
+fn later_add(ended: Option<(u64, Reply)>) -> StreamCall {
+    StreamCall {
+        thread: 9,
+        call: Call::Add(Key(6)),
+        begun: 5,
+        ended,
+    }
+}
+
+#[test]
+fn calls_that_cannot_come_next_in_a_stream(rt: HostRuntime) -> Result<(), Fail> {
+    let alloc = rt.alloc();
+    let mut stream = Stream::new(alloc, &[])?;
+    let first = StreamCall {
+        begun: 2,
+        thread: u32::MAX,
+        ..later_add(Some((7, Reply::True)))
+    };
+    stream.add(first)?;
+    let ended = later_add(Some((6, Reply::False)));
+    let others = [
+        (StreamCall { begun: 2, ..ended }, StreamFault::Early),
+        (
+            later_add(Some((LAST_MOMENT + 1, Reply::True))),
+            StreamFault::Early,
+        ),
+        (later_add(Some((5, Reply::True))), StreamFault::Ends),
+        (later_add(Some((6, Reply::Full))), StreamFault::NotPlain),
+        (later_add(Some((7, Reply::False))), StreamFault::Taken),
+        (
+            StreamCall {
+                begun: 7,
+                ..later_add(None)
+            },
+            StreamFault::Taken,
+        ),
+        (
+            StreamCall {
+                thread: u32::MAX,
+                ..ended
+            },
+            StreamFault::Busy,
+        ),
+    ];
+    for (call, fault) in others {
+        assert!(rt; stream.add(call) == Err(fault), "{fault}");
+    }
+    stream.add(ended)?;
+    assert!(rt; stream.close(&[6])? == StreamVerdict::Linearizable);
+    Ok(())
+}
+
+#[test]
+fn what_a_stream_says_of_calls_without_an_order(rt: HostRuntime) -> Result<(), Fail> {
+    let alloc = rt.alloc();
+    let mut stream = Stream::new(alloc, &[6])?;
+    stream.add(later_add(Some((LAST_MOMENT, Reply::True))))?;
+    let taken = StreamRefusal {
+        key: Key(6),
+        moment: Some(LAST_MOMENT),
+    };
+    assert!(rt; stream.close_cut_off()? == StreamVerdict::NotLinearizable(taken));
+    let mut stream = Stream::new(alloc, &[6])?;
+    stream.add(later_add(None))?;
+    let lost = StreamRefusal {
+        key: Key(6),
+        moment: None,
+    };
+    assert!(rt; stream.close(&[])? == StreamVerdict::NotLinearizable(lost));
     Ok(())
 }

@@ -6,7 +6,6 @@ use lset_history::{
 };
 use lset_lazy::LazyList;
 use lset_optimistic::laws::{optimistic_replies_fit, validated_walk};
-use lset_replay::traces_tell_reports;
 use lset_schedule::schedules_read_back;
 use lset_steps::OpenReads;
 use lset_steps::laws::{
@@ -43,7 +42,6 @@ fn kept_by_others() {
     logs_tell_histories();
     placement_is_one_order();
     fits_are_replies();
-    traces_tell_reports::<LazyList>();
     schedules_read_back();
     headers_read_back();
     numbers_read_back();

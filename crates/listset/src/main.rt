@@ -10,7 +10,7 @@ use std::process::ExitCode;
 use tool_base::{Trouble, deliver, put};
 
 // The commit of the sources, and whether they are proved, where the program was built by what knows that: it puts words of these
-// lengths here (build/origin.py).
+// lengths here (build/version_stamp.py).
 const BUILT: &str = "commit 0000000000000000000000000000000000000000\nproof unknown\n";
 
 /// The words after the program's name.

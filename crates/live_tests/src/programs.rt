@@ -2,7 +2,7 @@ ghost use Rattle.std.specs.Prelude.{◌≡◌, ◌<◌, ◌^◌, IsTrue, All, le
 
 use crate::balance::Balance;
 use crate::opened::{add, two_seats};
-use crate::waiting::Meeting;
+use crate::waiting::{Meeting, comes};
 use lset_lazy::LazyList;
 use lset_live::{LiveSet, Running, Seat, open};
 use lset_schedule::programs;
@@ -11,7 +11,7 @@ use lset_work::{Always, Gate, Outcome, WorkCause, WorkFault, work};
 use std::alloc::Global;
 use std::process::Abort;
 use std::sync::Wait;
-use std::sync::atomic::{AtomicU32, Ordering};
+use std::sync::atomic::{AtomicBool, AtomicU32, Ordering};
 use std::thread::Threads;
 use std::time::Clock;
 
@@ -232,6 +232,76 @@ fn meet<M: Running + Send + Sync, R: Threads + Wait + Abort + Sync + Clock>(rt: 
 #[test]
 fn two_workers_meet(rt: HostRuntime) {
     at_each_list!(meet, rt);
+}
+
+/// Holds the call of seat 0 until seat 1 has made two calls, and those until the call of seat 0 is asked for.
+#[derive(Drop)]
+struct Turns<'a, R> {
+    rt: &'a R,
+    is_asked: AtomicBool,
+    has_added: AtomicBool,
+}
+
+impl<'a, R: Clock> Gate for Turns<'a, R> {
+    fn pass(&self, seat: u32, call: u32) -> bool {
+        match (seat, call) {
+            (0, _) => {
+                self.is_asked.store(true, Ordering::SeqCst);
+                comes(self.rt, &self.has_added)
+            }
+            (_, 0) => comes(self.rt, &self.is_asked),
+            (_, 2) => {
+                self.has_added.store(true, Ordering::SeqCst);
+                true
+            }
+            _ => true,
+        }
+    }
+}
+
+/// A gate asked after a call would let that of seat 0 look before seat 1 adds.
+#[test]
+fn a_gate_is_asked_before_each_call(rt: HostRuntime) {
+    let turns = Turns {
+        rt: &rt,
+        is_asked: AtomicBool::new(false),
+        has_added: AtomicBool::new(false),
+    };
+    let look = Call::Contains(Key(5));
+    let changes = [Call::Contains(Key(9)), Call::Add(Key(5)), look];
+    let programs = pair(&rt, rt.alloc(), &[look], &changes);
+    let (set, seats) = two_in_a_row::<LazyList, HostRuntime>(&rt, rt.alloc());
+    let outcome = worked(&rt, rt.alloc(), set, seats, programs, &turns);
+    let second: &[Reply] = &[Reply::False, Reply::True, Reply::True];
+    assert!(rt; are_as_wanted(&outcome, &[&[Reply::True], second], &[5]));
+}
+
+/// Three seats, of which two have a program of 200 calls.
+fn ends_one_of_three<R: Threads + Wait + Abort + Sync>(rt: &R, alloc: Global, shut: &Shut) {
+    let look = [Call::Contains(Key(5)); 200];
+    let mut programs = pair(rt, alloc, &[], &look);
+    let third = Vec::from_slice(alloc, &look).expect(rt, "room");
+    programs.push(third).expect(rt, "room");
+    let (set, seats) = open::<LazyList>(alloc, 3, 4).expect(rt, "not opened");
+    match tried(rt, alloc, set, seats, programs, shut) {
+        Ok(_) => panic!(rt; "not refused"),
+        Err(fault) => assert!(rt; fault.cause == WorkCause::Gate),
+    }
+}
+
+#[test]
+fn a_gate_is_told_which_call_of_which_seat(rt: HostRuntime) {
+    for &(seat, call) in &[(2, 0), (1, 150)] {
+        ends_one_of_three(&rt, rt.alloc(), &Shut { seat, call });
+    }
+}
+
+#[test]
+fn a_program_may_be_empty(rt: HostRuntime) {
+    let programs = pair(&rt, rt.alloc(), &[Call::Add(Key(5))], &[]);
+    let (set, seats) = two_in_a_row::<LazyList, HostRuntime>(&rt, rt.alloc());
+    let outcome = worked(&rt, rt.alloc(), set, seats, programs, &Always);
+    assert!(rt; are_as_wanted(&outcome, &[&[Reply::True], &[]], &[5]));
 }
 
 /// One program for one seat.

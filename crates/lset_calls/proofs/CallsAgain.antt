@@ -1,5 +1,5 @@
 -- The text of calls is read.
-use Rattle.std.proofs.Common.{◌≡◌, ℕ, ◌<◌, ◌≤◌, ◌^◌, ltb, List, [], ◌∷◌, ◌++◌, map, length}
+use Rattle.std.proofs.Common.{◌≡◌, ℕ, ◌<◌, ◌≤◌, ◌^◌, Bool, true, false, ltb, List, [], ◌∷◌, ◌++◌, map, length}
 use Rattle.std.proofs.Common.{Result, Ok, Err, refl, sym, ap, subst, ◌∙◌, arith, append_assoc, length-append}
 use Rattle.std.specs.Prelude.{MatchResult, ◌≢◌}
 use Rattle.std.specs.List.{AllByRecursion}
@@ -33,7 +33,7 @@ use Rattle.lset_calls.specs.declared.fault.CallsCause.{CallsCause}
 use Rattle.lset_calls.specs.declared.fault.CallsCause.TheVariants as wrong
 use Rattle.lset_calls.specs.declared.fault.CallsFault.{CallsFault}
 use Rattle.lset_calls.specs.Calls.{CallsValue, view, AreCalls, IsCall, ends_after}
-use Rattle.lset_calls.specs.Texts.{title, header_in, call_line, calls_lines, calls_text}
+use Rattle.lset_calls.specs.Texts.{title, header_in, call_line, cut_line, end_line, calls_lines, calls_text}
 use Rattle.lset_calls.specs.Reading.{causes, kinds, judged, line_after, section_after, with_line, SoFar, with_told, step, grammar}
 use Rattle.lset_calls.specs.Reading.{nothing_told, no_lines, text, calls_told, reading, Gives}
 use Rattle.lset_text.specs.Texts.{text_from}
@@ -47,6 +47,7 @@ good_judged c (told.Opening k) good = rw (lt-ltb (length c.opening.keys) MOST_OP
 good_judged c (told.Call x) good = rw (lt-ltb (length c.calls) MOST_CALLS good.0, good.1, good.2) refl
 good_judged c (told.Key k) good = rw (lt-ltb (length c.keys) MOST_KEYS_OPENED good) refl
 good_judged c told.End good = refl
+good_judged c told.Cut good = refl
 
 abbrev at_line : Section → CallsValue → SoFar
 at_line s c = record { section = s; calls = c }
@@ -156,6 +157,12 @@ end_comes section.Calls takes = tt
 end_comes section.Keys takes = tt
 end_comes section.Done takes = absurd takes
 
+cut_comes : (s : Section) → Takes s → Comes s told.Cut
+cut_comes section.Opening takes = tt
+cut_comes section.Calls takes = tt
+cut_comes section.Keys takes = absurd takes
+cut_comes section.Done takes = absurd takes
+
 takes_keys : (s : Section) → Takes s → TakesKeys s
 takes_keys section.Opening takes = tt
 takes_keys section.Calls takes = tt
@@ -181,10 +188,24 @@ keys_end s c (k ∷ more) takes few low =
           (at_line section.Done (record c { keys = xs }))) grouped rest,
     )
 
+-- the keys and the end, or where the recording was cut off
+tail_lines : (s : Section) (c : CallsValue) (keys : List ℕ) (cut_off : Bool) → Takes s → c.keys ≡ [] → c.cut_off ≡ false → (cut_off ≡ true → keys ≡ [])
+    → length keys ≤ MOST_KEYS_OPENED → AllByRecursion (λ (k : ℕ). k < 2 ^ 32) keys
+    → Leads grammar (at_line s c) (map key_line keys ++ end_line cut_off ∷ []) (at_line section.Done (record c { keys = keys; cut_off = cut_off }))
+tail_lines s c keys false takes none going whole few low =
+    subst (λ (b : Bool). Leads grammar (at_line s c) (map key_line keys ++ last_line ∷ []) (at_line section.Done (record c { keys = keys; cut_off = b }))) going
+    (subst (λ (ks : List ℕ). Leads grammar (at_line s c) (map key_line keys ++ last_line ∷ []) (at_line section.Done (record c { keys = ks ++ keys }))) none
+    (keys_end s c keys (takes_keys s takes) (subst (λ (ks : List ℕ). length (ks ++ keys) ≤ MOST_KEYS_OPENED) (sym none) few) low))
+tail_lines s c keys true takes none going whole few low =
+    subst (λ (ks : List ℕ). Leads grammar (at_line s c) (map key_line ks ++ cut_line ∷ []) (at_line section.Done (record c { keys = ks; cut_off = true })))
+    (sym (whole refl))
+    (subst (λ (ks : List ℕ). Leads grammar (at_line s c) (cut_line ∷ []) (at_line section.Done (record c { keys = ks; cut_off = true }))) none
+    (at_line section.Done (record c { cut_off = true }), one_step s c told.Cut (cut_comes s takes) tt tt, refl))
+
 -- ---- the whole
 
 abbrev body_lines : CallsValue → List (List ℕ)
-body_lines c = opening_lines c.opening.keys ++ map call_line c.calls ++ map key_line c.keys ++ last_line ∷ []
+body_lines c = opening_lines c.opening.keys ++ map call_line c.calls ++ map key_line c.keys ++ end_line c.cut_off ∷ []
 
 header_fits : (c : CallsValue) → AreCalls c → IsHeader (header_in c)
 header_fits c is = record {
@@ -202,14 +223,14 @@ body_leads c is =
     let first = keys_lead none c.opening.keys is.opens.rising is.opens.within.opens
     (recursion_from_All (λ (k : ℕ). k < 2 ^ 32) c.opening.keys is.opens.low) in
     let second = calls_lead section.Opening opened c.calls tt is.opens.within.few is.few_calls is.calls in
-    let third = keys_end (after_calls section.Opening c.calls) with_calls c.keys
-    (takes_keys (after_calls section.Opening c.calls) (after_some section.Opening c.calls tt)) is.few_keys is.keys in
+    let third = tail_lines (after_calls section.Opening c.calls) with_calls c.keys c.cut_off
+    (after_some section.Opening c.calls tt) refl refl is.whole is.few_keys is.keys in
     let calls_on = leads_on grammar (at_line section.Opening opened) (at_line (after_calls section.Opening c.calls) with_calls)
-    (at_line section.Done c) (map call_line c.calls) (map key_line c.keys ++ last_line ∷ []) second third in
+    (at_line section.Done c) (map call_line c.calls) (map key_line c.keys ++ end_line c.cut_off ∷ []) second third in
     let all = leads_on grammar (nothing_told (header_in c)) (at_line section.Opening opened) (at_line section.Done c)
-    (opening_lines c.opening.keys) (map call_line c.calls ++ (map key_line c.keys ++ last_line ∷ [])) first calls_on in
+    (opening_lines c.opening.keys) (map call_line c.calls ++ (map key_line c.keys ++ end_line c.cut_off ∷ [])) first calls_on in
     subst (λ (ls : List (List ℕ)). Leads grammar (nothing_told (header_in c)) ls (at_line section.Done c))
-    (grouped (opening_lines c.opening.keys) (map call_line c.calls) (map key_line c.keys) (last_line ∷ [])) all
+    (grouped (opening_lines c.opening.keys) (map call_line c.calls) (map key_line c.keys) (end_line c.cut_off ∷ [])) all
   where
     grouped : (o c k e : List (List ℕ)) → o ++ (c ++ (k ++ e)) ≡ o ++ c ++ k ++ e
     grouped o c k e = simp append_assoc refl
@@ -233,9 +254,9 @@ reads_text c is =
     let h = header_in c in
     let fits = header_fits c is in
     let again = text_again text Good free_line h (body_lines c) (at_line section.Done c) title_lacks fits
-    (no_calls h fits, (refl, refl)) (body_leads c is) refl in
+    (no_calls h fits, (refl, refl, refl)) (body_leads c is) refl in
     let lines : calls_lines c ≡ header_lines title h ++ body_lines c =
-    grouped (header_lines title h) (opening_lines c.opening.keys) (map call_line c.calls) (map key_line c.keys) (last_line ∷ []) in
+    grouped (header_lines title h) (opening_lines c.opening.keys) (map call_line c.calls) (map key_line c.keys) (end_line c.cut_off ∷ []) in
     ap (λ (ls : List (List ℕ)). text_from text (cut_at 10 (text_of ls)) >>= calls_told) lines
     ∙ ap (λ (ps : List (List ℕ)). text_from text ps >>= calls_told) again.0
     ∙ ap (λ (r : Result SoFar CallsFault). r >>= calls_told) again.1

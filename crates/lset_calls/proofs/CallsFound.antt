@@ -3,7 +3,7 @@ use Rattle.std.proofs.Common.{◌≡◌, ℕ, ◌+◌, ◌<◌, ◌^◌, Bool, t
 use Rattle.std.proofs.Common.{Result, Ok, Err, refl, sym, ap, subst, ◌∙◌, arith, append_assoc, length-append}
 use Rattle.std.specs.Prelude.{IfOk}
 use Rattle.std.specs.List.{AllByRecursion}
-use Rattle.std.proofs.lemmas.Bool.{ltb-true}
+use Rattle.std.proofs.lemmas.Bool.{ltb-true, true≢false}
 use Rattle.std.proofs.lemmas.List.{append-nil, map_push}
 use Rattle.std.proofs.lemmas.List.Elements.{All-append, All-cons, All-nil}
 use Rattle.lset_words.specs.declared.TheConstants.{MOST_OPENING}
@@ -20,7 +20,7 @@ use Rattle.lset_text.proofs.OpeningLaws.{rises_more}
 use Rattle.lset_text.proofs.KindLaws.{made_ok, line_found}
 use Rattle.lset_text.proofs.TextLaws.{text_found}
 use Rattle.lset_report.specs.declared.report.TheConstants.{MOST_CALLS, MOST_KEYS_OPENED}
-use Rattle.lset_report.specs.Texts.{key_line, last_line}
+use Rattle.lset_report.specs.Texts.{key_line}
 use Rattle.lset_calls.specs.declared.value.Calls.{Calls}
 use Rattle.lset_calls.specs.declared.value.TimedCall.{TimedCall}
 use Rattle.lset_calls.specs.declared.reading.lines.Line.{Line}
@@ -30,7 +30,7 @@ use Rattle.lset_calls.specs.declared.reading.lines.Section.TheVariants as sectio
 use Rattle.lset_calls.specs.declared.fault.CallsCause.TheVariants as wrong
 use Rattle.lset_calls.specs.declared.fault.CallsFault.{CallsFault}
 use Rattle.lset_calls.specs.Calls.{CallsValue, view, AreCalls, IsCall, is_of_history, has_point}
-use Rattle.lset_calls.specs.Texts.{title, header_in, call_line, calls_text}
+use Rattle.lset_calls.specs.Texts.{title, header_in, call_line, end_line, calls_text}
 use Rattle.lset_calls.specs.Reading.{causes, kinds, counted, rising, timed, judged, line_after, section_after, with_opening, with_line}
 use Rattle.lset_calls.specs.Reading.{SoFar, with_told, step, is_done, ends, no_lines, nothing_told}
 use Rattle.lset_calls.specs.Reading.{text, calls_told, reading, Gives}
@@ -53,6 +53,7 @@ IsGood c (told.Opening k) = (length c.opening.keys < MOST_OPENING) × (is_above 
 IsGood c (told.Call x) = (length c.calls < MOST_CALLS) × (is_of_history c.opening.threads x ≡ true) × (has_point x ≡ true)
 IsGood c (told.Key k) = length c.keys < MOST_KEYS_OPENED
 IsGood c told.End = Unit {0}
+IsGood c told.Cut = Unit {0}
 
 -- the answer is the line
 pub judged_good : (c : CallsValue) (l m : Line) → judged c l ≡ Ok m → IsGood c l × (l ≡ m)
@@ -69,6 +70,7 @@ judged_good c (told.Call x) m is =
 judged_good c (told.Key k) m is =
     let few = test_ok (ltb (length c.keys) MOST_KEYS_OPENED) wrong.TooMany (told.Key k) m is in (ltb-true _ _ few.0, few.1)
 judged_good c told.End m is = (tt, ok_is told.End m is)
+judged_good c told.Cut m is = (tt, ok_is told.Cut m is)
 
 -- ---- the lines so far
 
@@ -76,14 +78,22 @@ abbrev so_far : CallsValue → List (List ℕ)
 so_far c = header_lines title (header_in c) ++ opening_lines c.opening.keys ++ map call_line c.calls ++ map key_line c.keys
 
 abbrev lines_at : SoFar → List (List ℕ)
-lines_at s = cond (is_done s.section) (so_far s.calls ++ last_line ∷ []) (so_far s.calls)
+lines_at s = cond (is_done s.section) (so_far s.calls ++ end_line s.calls.cut_off ∷ []) (so_far s.calls)
 
 -- what has not come yet where a section is reached
 abbrev pub Reaches : Section → CallsValue → Type 0
-Reaches section.Opening c = (c.calls ≡ []) × (c.keys ≡ [])
-Reaches section.Calls c = c.keys ≡ []
-Reaches section.Keys c = Unit {0}
+Reaches section.Opening c = (c.calls ≡ []) × (c.keys ≡ []) × (c.cut_off ≡ false)
+Reaches section.Calls c = (c.keys ≡ []) × (c.cut_off ≡ false)
+Reaches section.Keys c = c.cut_off ≡ false
 Reaches section.Done c = Unit {0}
+
+-- what has not come yet where a line comes
+abbrev Finds : Line → CallsValue → Type 0
+Finds (told.Opening k) c = Reaches section.Opening c
+Finds (told.Call x) c = Reaches section.Calls c
+Finds (told.Key k) c = Reaches section.Keys c
+Finds told.End c = Reaches section.Keys c
+Finds told.Cut c = Reaches section.Calls c
 
 -- where nothing stands behind some lines, one more stands behind them
 behind_keys : (f o c k : List (List ℕ)) (y : List ℕ) → c ≡ [] → k ≡ [] → f ++ (o ++ y ∷ []) ++ c ++ k ≡ f ++ o ++ c ++ k ++ y ∷ []
@@ -96,7 +106,7 @@ behind_all : (f o c k : List (List ℕ)) (y : List ℕ) → f ++ o ++ c ++ (k ++
 behind_all f o c k y = simp append_assoc refl
 
 -- ONE MORE LINE stands after those so far
-more_lines : (c : CallsValue) (l : Line) → Reaches (section_after l) c
+more_lines : (c : CallsValue) (l : Line) → Finds l c
     → lines_at (record { section = section_after l; calls = with_line c l }) ≡ so_far c ++ line_text l ∷ []
 more_lines c (told.Opening k) next =
     let front = header_lines title (header_in c) in
@@ -107,13 +117,14 @@ more_lines c (told.Call x) next =
     let front = header_lines title (header_in c) in
     let keys = opening_lines c.opening.keys in
     ap (λ (ls : List (List ℕ)). front ++ keys ++ ls ++ map key_line c.keys) (map_push call_line c.calls x)
-    ∙ behind_calls front keys (map call_line c.calls) (map key_line c.keys) (call_line x) (ap (map key_line) next)
+    ∙ behind_calls front keys (map call_line c.calls) (map key_line c.keys) (call_line x) (ap (map key_line) next.0)
 more_lines c (told.Key k) next =
     let front = header_lines title (header_in c) in
     let keys = opening_lines c.opening.keys in
     ap (λ (ls : List (List ℕ)). front ++ keys ++ map call_line c.calls ++ ls) (map_push key_line c.keys k)
     ∙ behind_all front keys (map call_line c.calls) (map key_line c.keys) (key_line k)
-more_lines c told.End next = refl
+more_lines c told.End next = ap (λ (b : Bool). so_far c ++ end_line b ∷ []) next
+more_lines c told.Cut next = refl
 
 -- ---- and the calls keep their limits
 
@@ -147,52 +158,67 @@ is_call threads x is history points = record {
   points = points;
 }
 
-calls_more : (c : CallsValue) (l : Line) → AreCalls c → IsLine l → IsGood c l → AreCalls (with_line c l)
-calls_more c (told.Opening k) is line good = record {
+calls_more : (c : CallsValue) (l : Line) → AreCalls c → IsLine l → IsGood c l → Finds l c → AreCalls (with_line c l)
+calls_more c (told.Opening k) is line good next = record {
   opens = opens_more c.opening k is.opens line good.0 good.1;
   calls = is.calls;
   keys = is.keys;
   few_calls = is.few_calls;
   few_keys = is.few_keys;
+  whole = is.whole;
 }
-calls_more c (told.Call x) is line good = record {
+calls_more c (told.Call x) is line good next = record {
   opens = is.opens;
   calls = all_join (IsCall c.opening.threads) c.calls (x ∷ []) is.calls (is_call c.opening.threads x line good.1 good.2, tt);
   keys = is.keys;
   few_calls = let long = length-one c.calls x in omega (arith, long, good.0);
   few_keys = is.few_keys;
+  whole = is.whole;
 }
-calls_more c (told.Key k) is line good = record {
+calls_more c (told.Key k) is line good next = record {
   opens = is.opens;
   calls = is.calls;
   keys = all_join (λ j. j < 2 ^ 32) c.keys (k ∷ []) is.keys (line, tt);
   few_calls = is.few_calls;
   few_keys = let long = length-one c.keys k in omega (arith, long, good);
+  whole = λ cut. absurd (true≢false (sym cut ∙ next));
 }
-calls_more c told.End is line good = is
+calls_more c told.End is line good next = is
+calls_more c told.Cut is line good next = record {
+  opens = is.opens;
+  calls = is.calls;
+  keys = is.keys;
+  few_calls = is.few_calls;
+  few_keys = is.few_keys;
+  whole = λ cut. next.0;
+}
 
-reaches_more : (c : CallsValue) (l : Line) → Reaches (section_after l) c → Reaches (section_after l) (with_line c l)
+reaches_more : (c : CallsValue) (l : Line) → Finds l c → Reaches (section_after l) (with_line c l)
 reaches_more c (told.Opening k) next = next
 reaches_more c (told.Call x) next = next
-reaches_more c (told.Key k) next = tt
+reaches_more c (told.Key k) next = next
 reaches_more c told.End next = tt
+reaches_more c told.Cut next = tt
 
 -- ---- one line
 
-reaches_on : (s : Section) (c : CallsValue) (l : Line) → Comes s l → Reaches s c → Reaches (section_after l) c
-reaches_on section.Opening c (told.Opening k) comes reached = reached
-reaches_on section.Opening c (told.Call x) comes reached = reached.1
-reaches_on section.Opening c (told.Key k) comes reached = tt
-reaches_on section.Opening c told.End comes reached = tt
-reaches_on section.Calls c (told.Opening k) comes reached = absurd comes
-reaches_on section.Calls c (told.Call x) comes reached = reached
-reaches_on section.Calls c (told.Key k) comes reached = tt
-reaches_on section.Calls c told.End comes reached = tt
-reaches_on section.Keys c (told.Opening k) comes reached = absurd comes
-reaches_on section.Keys c (told.Call x) comes reached = absurd comes
-reaches_on section.Keys c (told.Key k) comes reached = tt
-reaches_on section.Keys c told.End comes reached = tt
-reaches_on section.Done c l comes reached = absurd comes
+finds : (s : Section) (c : CallsValue) (l : Line) → Comes s l → Reaches s c → Finds l c
+finds section.Opening c (told.Opening k) comes reached = reached
+finds section.Opening c (told.Call x) comes reached = (reached.1, reached.2)
+finds section.Opening c (told.Key k) comes reached = reached.2
+finds section.Opening c told.End comes reached = reached.2
+finds section.Opening c told.Cut comes reached = (reached.1, reached.2)
+finds section.Calls c (told.Opening k) comes reached = absurd comes
+finds section.Calls c (told.Call x) comes reached = reached
+finds section.Calls c (told.Key k) comes reached = reached.1
+finds section.Calls c told.End comes reached = reached.1
+finds section.Calls c told.Cut comes reached = reached
+finds section.Keys c (told.Opening k) comes reached = absurd comes
+finds section.Keys c (told.Call x) comes reached = absurd comes
+finds section.Keys c (told.Key k) comes reached = reached
+finds section.Keys c told.End comes reached = reached
+finds section.Keys c told.Cut comes reached = absurd comes
+finds section.Done c l comes reached = absurd comes
 
 still_open : (s : Section) (l : Line) → Comes s l → is_done s ≡ false
 still_open section.Opening l comes = refl
@@ -212,12 +238,12 @@ one_line s t x holds is =
     read.1 in
     let good = judged_good c read.0 m.0 read.2 in
     let l = read.0 in
-    let reached = reaches_on s.section c l found.1.1 holds.1 in
+    let next = finds s.section c l found.1.1 holds.1 in
     let so_far_is : so_far c ≡ lines_at s = rw (still_open s.section l found.1.1) refl in
-    let lines : lines_at (with_told s l) ≡ lines_at s ++ x ∷ [] = more_lines c l reached
+    let lines : lines_at (with_told s l) ≡ lines_at s ++ x ∷ [] = more_lines c l next
     ∙ ap (λ (ls : List (List ℕ)). ls ++ line_text l ∷ []) so_far_is ∙ ap (λ (y : List ℕ). lines_at s ++ y ∷ []) (sym found.0) in
     subst (λ (u : SoFar). Holds u × (lines_at u ≡ lines_at s ++ x ∷ [])) (ap (with_told s) good.1 ∙ m.2)
-    ((calls_more c l holds.0 found.1.0 good.0, reaches_more c l reached), lines)
+    ((calls_more c l holds.0 found.1.0 good.0 next, reaches_more c l next), lines)
 
 same_end : (s t : SoFar) → ends s ≡ Ok t → s ≡ t
 same_end s t is = (test_ok (is_done s.section) wrong.NotEnded s t is).1
@@ -229,12 +255,13 @@ no_calls h is = record {
   keys = tt;
   few_calls = omega arith;
   few_keys = omega arith;
+  whole = λ cut. refl;
 }
 
 -- ---- the whole
 
 begins : (h : Header) → IsHeader h → Holds (nothing_told h) × (lines_at (nothing_told h) ≡ header_lines title h)
-begins h is = ((no_calls h is, (refl, refl)), refl)
+begins h is = ((no_calls h is, (refl, refl, refl)), refl)
 
 -- where a text ends
 done_lines : (s : SoFar) → is_done s.section ≡ true → text_of (lines_at s) ≡ calls_text s.calls

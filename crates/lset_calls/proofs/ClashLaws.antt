@@ -1,9 +1,9 @@
 -- Pairs of moments that stand against each other are calls that clash, and the other way round.
-use Rattle.std.proofs.Common.{◌≡◌, ℕ, ◌+◌, ◌<◌, ◌≤◌, inl, inr, Bool, true, false, List, length, get_or, refl, sym, subst, ◌∙◌}
+use Rattle.std.proofs.Common.{◌≡◌, ℕ, ◌+◌, ◌<◌, ◌≤◌, inl, inr, List, length, get_or, refl, sym, subst, ◌∙◌}
 use Rattle.std.proofs.Common.{ap, arith}
-use Rattle.std.specs.Prelude.{Option, Some, None, All, Contains, IfSome, IsSomeAnd, MatchBool}
+use Rattle.std.specs.Prelude.{Option, Some, None, All, Contains, IfSome, IsSomeAnd}
 use Rattle.std.specs.List.{AllByRecursion}
-use Rattle.std.proofs.lemmas.Bool.{cases_order}
+use Rattle.std.proofs.lemmas.Bool.{cases_order, cases_lt}
 use Rattle.std.proofs.lemmas.List.{get_or_default}
 use Rattle.std.proofs.lemmas.List.Elements.{All-get_or, All-from_recursion}
 use Rattle.lset_words.specs.declared.Reply.{Reply}
@@ -12,7 +12,7 @@ use Rattle.lset_calls.specs.declared.value.TimedCall.{TimedCall}
 use Rattle.lset_calls.specs.Clashes.{moments_of, call_at, no_call, ShareMoment, EndedBefore, Overlap}
 use Rattle.lset_calls.specs.Clashes.{Clash, ClashesAt}
 use Rattle.lset_calls.specs.Moments.{AreMomentsOf, moment_at, no_moment, SomePairBelow, NoPairBelow, IsSameMoment, IsBeginning}
-use Rattle.lset_calls.specs.Moments.{Overlaps, Somewhere, Nowhere}
+use Rattle.lset_calls.specs.Moments.{Overlaps, Somewhere, Nowhere, IsFirstPair, IsFirstLine}
 use Rattle.lset_calls.proofs.Entries.{IsTimed, IsOfCall, moment_counted, each_of_call, others, has_moment}
 
 -- ---- clashes do not ask which call is first
@@ -45,6 +45,16 @@ ends_late x begun moment l h = by_end x.ended h
     by_end : (o : Option (ℕ × Reply)) → IfSome o (λ (e : ℕ × Reply). begun < e.0) → IsSomeAnd o (λ (e : ℕ × Reply). e.0 < moment) → ⊥
     by_end None a b = b
     by_end (Some e) a b = omega arith
+
+-- the last line below a limit, where none above it is such
+pub last_of : (P : ℕ → Type 0) (index limit : ℕ) → limit ≤ index + 1 → Somewhere P limit → Nowhere P index → P index
+last_of P index limit l s n = elim (cases_order s.0 index) [
+  | inl e ↦ subst P e s.2
+  | inr o ↦ elim o [
+    | inl g ↦ absurd (n s.0 g s.2)
+    | inr g ↦ absurd (let a : s.0 < limit = s.1 in omega arith)
+  ]
+]
 
 module _ (calls : List TimedCall) (ms : List Moment) (are : AreMomentsOf calls ms) (timed : AllByRecursion IsTimed calls) where
   of_call : (p : ℕ) → p < length ms → IsOfCall calls (moment_at ms p)
@@ -169,17 +179,25 @@ module _ (calls : List TimedCall) (ms : List Moment) (are : AreMomentsOf calls m
         by_clash (inl s) = no_share h.0 i low l other s
         by_clash (inr o) = no_two h.0 i low l other o
 
--- ---- both answers of a test
-pub answers : (b : Bool) (A B C D : Type 0) → (A → C) → (B → D) → MatchBool b A B → MatchBool b C D
-answers true A B C D f g h = f h
-answers false A B C D f g h = g h
+  -- ---- THE FIRST LINE THAT CLASHES: the first that shares a moment, or one above it whose call overlaps another
+  pub first_of : (limit shared first : ℕ) → limit ≤ length calls → IsFirstPair IsSameMoment limit ms shared
+      → IsFirstPair (Overlaps calls) shared ms first → IsFirstLine (ClashesAt calls) limit first
+  first_of limit shared first within s o = record {
+    within = (let a : shared ≤ limit = s.within in let b : first ≤ shared = o.within in omega arith);
+    none = none;
+    some = λ l. elim (cases_lt first shared) [
+      | inl a ↦ clash_at (overlaps_clash (first + 1) (o.some a))
+      | inr a ↦ (let b : first ≤ shared = o.within in
+          let e : shared ≡ first = omega arith in
+          clash_at (shared_clash (first + 1) (subst (λ z. SomePairBelow IsSameMoment (z + 1) ms) e (s.some (omega arith)))))
+    ];
+  }
+    where
+      none : Nowhere (ClashesAt calls) first
+      none = no_clash first (let a : shared ≤ limit = s.within in let b : first ≤ shared = o.within in omega arith)
+          (λ i j d a b x y r. s.none i j d a b (let e : first ≤ shared = o.within in omega arith)
+          (let e : first ≤ shared = o.within in omega arith) r)
+          o.none
 
--- the last line below a limit, where none above it is such
-pub last_of : (P : ℕ → Type 0) (index limit : ℕ) → limit ≤ index + 1 → Somewhere P limit → Nowhere P index → P index
-last_of P index limit l s n = elim (cases_order s.0 index) [
-  | inl e ↦ subst P e s.2
-  | inr o ↦ elim o [
-    | inl g ↦ absurd (n s.0 g s.2)
-    | inr g ↦ absurd (let a : s.0 < limit = s.1 in omega arith)
-  ]
-]
+      clash_at : Somewhere (ClashesAt calls) (first + 1) → ClashesAt calls first
+      clash_at h = last_of (ClashesAt calls) first (first + 1) (omega arith) h none

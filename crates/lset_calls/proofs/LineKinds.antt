@@ -26,9 +26,9 @@ use Rattle.lset_calls.specs.declared.reading.lines.Line.TheVariants as told
 use Rattle.lset_calls.specs.declared.reading.lines.Section.{Section}
 use Rattle.lset_calls.specs.declared.reading.lines.Section.TheVariants as section
 use Rattle.lset_calls.specs.Calls.{IsMoment, IsPoint, IsEnd}
-use Rattle.lset_calls.specs.Texts.{dash, point_piece, end_pieces, call_pieces}
+use Rattle.lset_calls.specs.Texts.{dash, point_piece, end_pieces, call_pieces, cut_line}
 use Rattle.lset_calls.specs.Reading.{kinds, from_calls, from_keys, opening_kind, open_kind, open_pointed_kind, ended_kind}
-use Rattle.lset_calls.specs.Reading.{ended_pointed_kind, key_kind, end_kind}
+use Rattle.lset_calls.specs.Reading.{ended_pointed_kind, key_kind, end_kind, cut_kind}
 use Rattle.lset_report.specs.Texts.{last_line}
 
 -- the pieces of a line, and what its numbers and words are
@@ -37,6 +37,7 @@ line_pieces (told.Opening k) = codes "opening" ∷ decimal k ∷ []
 line_pieces (told.Call x) = call_pieces x
 line_pieces (told.Key k) = codes "key" ∷ decimal k ∷ []
 line_pieces told.End = last_line ∷ []
+line_pieces told.Cut = cut_line ∷ []
 
 abbrev pub line_text : Line → List ℕ
 line_text l = line_of (line_pieces l)
@@ -53,6 +54,7 @@ IsLine (told.Opening k) = k < 2 ^ 32
 IsLine (told.Call x) = IsNumbered x
 IsLine (told.Key k) = k < 2 ^ 32
 IsLine told.End = Unit {0}
+IsLine told.Cut = Unit {0}
 
 -- ---- what they make
 
@@ -107,6 +109,9 @@ key_known = ((refl, (omega arith, tt)), λ t fit. (refl, omega (arith, fit.1.0.1
 end_known : Knows Two line_pieces IsLine end_kind
 end_known = ((refl, tt), λ t fit. (refl, tt))
 
+cut_known : Knows Two line_pieces IsLine cut_kind
+cut_known = ((refl, tt), λ t fit. (refl, tt))
+
 -- a section in which a line may come
 abbrev pub Comes : Section → Line → Type 0
 Comes section.Opening l = Unit {0}
@@ -114,6 +119,7 @@ Comes section.Calls (told.Opening k) = ⊥
 Comes section.Calls l = Unit {0}
 Comes section.Keys (told.Opening k) = ⊥
 Comes section.Keys (told.Call x) = ⊥
+Comes section.Keys told.Cut = ⊥
 Comes section.Keys l = Unit {0}
 Comes section.Done l = ⊥
 
@@ -135,8 +141,11 @@ calls_in s each = (
       (
         known_in s ended_pointed_kind ended_pointed_known (λ t. each (ended_pointed_kind.1 t) tt),
         (
-          known_in s key_kind key_known (λ t. each (key_kind.1 t) tt),
-          (known_in s end_kind end_known (λ t. each (end_kind.1 t) tt), tt),
+          known_in s cut_kind cut_known (λ t. each (cut_kind.1 t) tt),
+          (
+            known_in s key_kind key_known (λ t. each (key_kind.1 t) tt),
+            (known_in s end_kind end_known (λ t. each (end_kind.1 t) tt), tt),
+          ),
         ),
       ),
     ),
@@ -285,17 +294,20 @@ end_made = inr (refl, inl ((tt, tt), refl, (tt, tt)))
 calls_made : (l : Line) → Comes section.Calls l → IsLine l → IsMade Two line_pieces from_calls l
 calls_made (told.Opening k) comes is = absurd comes
 calls_made (told.Call x) comes is = made_by x.thread x.call x.begun x.point x.ended is
-calls_made (told.Key k) comes is = inr (refl, inr (refl, inr (refl, inr (refl, key_made k is))))
-calls_made told.End comes is = inr (refl, inr (refl, inr (refl, inr (refl, end_made))))
+calls_made (told.Key k) comes is = inr (refl, inr (refl, inr (refl, inr (refl, inr (refl, key_made k is)))))
+calls_made told.End comes is = inr (refl, inr (refl, inr (refl, inr (refl, inr (refl, end_made)))))
+calls_made told.Cut comes is = inr (refl, inr (refl, inr (refl, inr (refl, inl ((tt, tt), refl, (tt, tt))))))
 
 pub line_is_made : (s : Section) (l : Line) → Comes s l → IsLine l → IsMade Two line_pieces (kinds s) l
 line_is_made section.Opening (told.Opening k) comes is = inl ((tt, (k, tt)), refl, (tt, ((omega arith, omega (arith, is)), tt)))
 line_is_made section.Opening (told.Call x) comes is = inr (refl, calls_made (told.Call x) tt is)
 line_is_made section.Opening (told.Key k) comes is = inr (refl, calls_made (told.Key k) tt is)
 line_is_made section.Opening told.End comes is = inr (refl, calls_made told.End tt is)
+line_is_made section.Opening told.Cut comes is = inr (refl, calls_made told.Cut tt is)
 line_is_made section.Calls l comes is = calls_made l comes is
 line_is_made section.Keys (told.Opening k) comes is = absurd comes
 line_is_made section.Keys (told.Call x) comes is = absurd comes
 line_is_made section.Keys (told.Key k) comes is = key_made k is
 line_is_made section.Keys told.End comes is = end_made
+line_is_made section.Keys told.Cut comes is = absurd comes
 line_is_made section.Done l comes is = absurd comes

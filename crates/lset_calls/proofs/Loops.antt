@@ -59,6 +59,7 @@ judged_fails c (told.Call x) is =
 judged_fails c (told.Key k) is =
     one_fails (ltb (length c.keys) MOST_KEYS_OPENED) (told.Key k) wrong.TooMany (λ same. cc) is
 judged_fails c told.End is = cc
+judged_fails c told.Cut is = cc
 
 no_cause : IsOneOf causes wrong.Memory → ⊥
 no_cause (inl is) = cc

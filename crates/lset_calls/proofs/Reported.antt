@@ -1,5 +1,5 @@
 -- The parts of a report of calls, of which none is refused and which are sorted by their beginnings.
-use Rattle.std.proofs.Common.{◌≡◌, ℕ, ◌<◌, ◌≤◌, List, [], ◌∷◌, length, get_or, map, refl}
+use Rattle.std.proofs.Common.{◌≡◌, ℕ, ◌<◌, ◌≤◌, false, List, [], ◌∷◌, length, get_or, map, refl}
 use Rattle.std.proofs.Common.{sym, subst, ◌∙◌, ap, arith}
 use Rattle.std.specs.Prelude.{Option, Some, None, All, AllPairs, IfSome, IsSomeAnd}
 use Rattle.std.proofs.lemmas.List.{length-map, get_or-map}
@@ -18,7 +18,7 @@ use Rattle.lset_calls.specs.Clashes.{call_at, no_call, EndedBefore}
 use Rattle.lset_calls.specs.Noting.{ChangeApart}
 use Rattle.lset_calls.specs.Placing.{same_count, HasBar, adds_before, ArePlaced}
 use Rattle.lset_calls.specs.Turns.{TurnsApart}
-use Rattle.lset_calls.specs.Reports.{contents, counts, StandsGiven, IsUpTo, IsPlacedUpTo, HasLeastVersion, IsReportOf}
+use Rattle.lset_calls.specs.Reports.{contents, counts, StandsGiven, IsUpTo, IsPlacedUpTo, HasLeastVersion, IsReportOfCalls}
 use Rattle.lset_calls.specs.Histories.{IsHistoryOf}
 use Rattle.lset_calls.specs.Sorted.{AreInTurn}
 use Rattle.lset_calls.proofs.Entries.{IsTimed}
@@ -147,11 +147,12 @@ module _ (c : CallsValue) (xs : List TimedCall) (are : AreCalls c) (turn : AreIn
   }
 
   -- ---- THE REPORT
-  pub reported : (r : ReportValue) → HasLeastVersion r → r.kind ≡ c.kind → r.history.opening ≡ c.opening → r.keys ≡ c.keys
+  pub reported : c.cut_off ≡ false → (r : ReportValue) → HasLeastVersion r → r.kind ≡ c.kind → r.history.opening ≡ c.opening → r.keys ≡ c.keys
       → r.history.calls ≡ map (λ x. record_of (traced x)) xs
       → ((last : ℕ) → All (IsUpTo last) calls
-      → IsPlacedUpTo last c.opening.quota calls (contents c.opening.keys calls) (counts calls) r.order) → IsReportOf c r
-  reported r version kind opening keys records order = record {
+      → IsPlacedUpTo last c.opening.quota calls (contents c.opening.keys calls) (counts calls) r.order) → IsReportOfCalls c r
+  reported whole r version kind opening keys records order = record {
+    whole = whole;
     accepted = turn.accepted;
     version = version;
     kind_is = kind;

@@ -1,5 +1,5 @@
 -- Calls of a set with the points that were given for them, as a value.
-use Rattle.std.specs.Prelude.{◌≡◌, ℕ, ◌<◌, ◌≤◌, ◌^◌, ◌&&◌, nat_lt, is_none, Bool, true, false, List, length, Option, Some, None}
+use Rattle.std.specs.Prelude.{◌≡◌, ℕ, ◌<◌, ◌≤◌, ◌^◌, ◌&&◌, nat_lt, is_none, Bool, true, false, List, [], length, Option, Some, None}
 use Rattle.std.specs.Prelude.{if◌then◌else◌}
 use Rattle.std.specs.List.{AllByRecursion}
 use Rattle.lset_words.specs.declared.Kind.{Kind}
@@ -21,6 +21,7 @@ pub record CallsValue : Type 0 where
   pub opening : Opening
   pub calls : List TimedCall
   pub keys : List ℕ
+  pub cut_off : Bool
 
 abbrev pub view : Calls → CallsValue
 view c = record {
@@ -28,6 +29,7 @@ view c = record {
   opening = record { threads = c.threads; quota = c.quota; keys = c.opening.items };
   calls = c.calls.items;
   keys = c.keys.items;
+  cut_off = c.cut_off;
 }
 
 -- ---- which calls change the set
@@ -46,8 +48,8 @@ is_true Full = false
 is_true (At k) = false
 is_true Nothing = false
 
--- A CALL CHANGES THE SET at its point, if it has one and is an add or a remove that answered true or is open. Any other call changes
--- nothing; its point has to be a moment of its own all the same.
+-- A CALL CHANGES THE SET at its point, if it has one and is an add or a remove that returned true or is open. Any other call changes
+-- nothing. Its point, if it has one, must all the same lie between its begin and its end, and be a moment of no other call.
 abbrev pub changed_by : Call → Option ℕ → Option (ℕ × Reply) → Option ℕ
 changed_by call point None = if may_change call then point else None
 changed_by call point (Some end) = if may_change call && is_true end.1 then point else None
@@ -117,3 +119,5 @@ pub record AreCalls (c : CallsValue) : Type 0 where
   pub keys : AllByRecursion (λ k. k < 2 ^ 32) c.keys
   pub few_calls : length c.calls ≤ MOST_CALLS
   pub few_keys : length c.keys ≤ MOST_KEYS_OPENED
+  -- of a recording that was cut off, the keys left are not known
+  pub whole : c.cut_off ≡ true → c.keys ≡ []

@@ -90,11 +90,16 @@ pub record IsFirstRefused (c : CallsValue) (line : ℕ) (Why : ℕ → Type 0) :
   pub first : (i : ℕ) → i < index → IsRefusedAt c i → ⊥
 
 -- it clashes, or else it passes the quota
-abbrev pub IsRefusal : CallsValue → ClashFault → Type 0
-IsRefusal c (clash.History line) = IsFirstRefused c line (ClashesAt c.calls)
-IsRefusal c (clash.Quota line) =
+abbrev pub IsClash : CallsValue → ClashFault → Type 0
+IsClash c (clash.History line) = IsFirstRefused c line (ClashesAt c.calls)
+IsClash c (clash.Quota line) =
     IsFirstRefused c line (λ i. (ClashesAt c.calls i → ⊥) × PassesQuota c.opening.quota c.calls i)
-IsRefusal c clash.Memory = Unit {0}
+IsClash c clash.CutOff = ⊥
+IsClash c clash.Memory = Unit {0}
+
+-- the same if the keys left are asked for, which are not known of a recording that was cut off
+abbrev pub IsRefusal : CallsValue → ClashFault → Type 0
+IsRefusal c fault = IsClash c fault ⊎ ((fault ≡ clash.CutOff) × (c.cut_off ≡ true))
 
 -- ---- WHETHER THE POINTS ARE GIVEN, or which call is the first that changed the set and has none
 abbrev pub PointsAreGiven : CallsValue → Result (Unit {0}) CallsFault → Type 0

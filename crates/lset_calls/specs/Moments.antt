@@ -1,8 +1,7 @@
 -- The moments of calls in the order of time, and what a pass over them finds.
-use Rattle.std.specs.Prelude.{◌≡◌, ℕ, suc, ◌<◌, nat_lt, Bool, false, List, [], ◌∷◌, ◌++◌, map, length, Option, Some, None}
+use Rattle.std.specs.Prelude.{◌≡◌, ℕ, suc, ◌+◌, ◌<◌, ◌≤◌, List, [], ◌∷◌, ◌++◌, map, length, Option, Some, None}
 use Rattle.std.specs.Prelude.{slice_index_or, AllPairs}
 use Rattle.std.specs.List.Sorted.{IsNonDecreasingBy, IsPermutation}
-use Rattle.lset_words.specs.declared.Reply.{Reply}
 use Rattle.lset_calls.specs.declared.clashes.Moment.{Moment}
 use Rattle.lset_calls.specs.declared.value.TimedCall.{TimedCall}
 use Rattle.lset_calls.specs.Clashes.{moments_of, call_at, EndedBefore}
@@ -56,6 +55,12 @@ pub record Overlaps (calls : List TimedCall) (a b : Moment) : Type 0 where
   pub one_thread : (call_at calls a.line).thread ≡ (call_at calls b.line).thread
   pub not_ended : EndedBefore (call_at calls a.line) (call_at calls b.line).begun → ⊥
 
+-- `first` is the least line of which a moment is related to one of a line above it, or the limit if there is none below it
+pub record IsFirstPair (R : Moment → Moment → Type 0) (limit : ℕ) (ms : List Moment) (first : ℕ) : Type 0 where
+  pub within : first ≤ limit
+  pub none : NoPairBelow R first ms
+  pub some : first < limit → SomePairBelow R (first + 1) ms
+
 -- some line below a limit, or none
 abbrev pub Somewhere : (ℕ → Type 0) → ℕ → Type 0
 Somewhere P limit = (i : ℕ) × (i < limit) × P i
@@ -63,11 +68,14 @@ Somewhere P limit = (i : ℕ) × (i < limit) × P i
 abbrev pub Nowhere : (ℕ → Type 0) → ℕ → Type 0
 Nowhere P limit = (i : ℕ) → i < limit → P i → ⊥
 
--- the end of a call, and that it is before a moment
-abbrev pub end_moment : Option (ℕ × Reply) → Option ℕ
-end_moment None = None
-end_moment (Some end) = Some end.0
+-- the first such line, or the limit if there is none below it
+pub record IsFirstLine (P : ℕ → Type 0) (limit first : ℕ) : Type 0 where
+  pub within : first ≤ limit
+  pub none : Nowhere P first
+  pub some : first < limit → P first
 
-abbrev pub is_before : ℕ → Option ℕ → Bool
-is_before moment None = false
-is_before moment (Some end) = nat_lt end moment
+-- the line of the last call of a thread, if there is one that has not ended before a moment
+abbrev pub IsOpenLine : List TimedCall → ℕ → Option ℕ → Option ℕ → Type 0
+IsOpenLine calls moment None found = found ≡ None
+IsOpenLine calls moment (Some line) None = EndedBefore (call_at calls line) moment
+IsOpenLine calls moment (Some line) (Some found) = (found ≡ line) × (EndedBefore (call_at calls line) moment → ⊥)

@@ -31,7 +31,7 @@ use Rattle.lset_calls.specs.declared.fault.CallsCause.{CallsCause}
 use Rattle.lset_calls.specs.declared.fault.CallsCause.TheVariants as wrong
 use Rattle.lset_calls.specs.declared.fault.CallsFault.{CallsFault}
 use Rattle.lset_calls.specs.Calls.{CallsValue, view, AreCalls, is_of_history, has_point}
-use Rattle.lset_calls.specs.Texts.{title, dash, calls_text}
+use Rattle.lset_calls.specs.Texts.{title, dash, cut_line, calls_text}
 
 -- ---- faults
 
@@ -99,7 +99,10 @@ key_kind = (piece.word (codes "key") ∷ piece.any ∷ [], λ t. told.Key t.1.0)
 abbrev pub end_kind : LineKind CallsLine
 end_kind = (piece.word last_line ∷ [], λ t. told.End)
 
--- sections come in one order, and each may be left out
+abbrev pub cut_kind : LineKind CallsLine
+cut_kind = (piece.word cut_line ∷ [], λ t. told.Cut)
+
+-- sections come in one order, and each may be left out; a recording that was cut off has no keys
 abbrev pub from_keys : List (LineKind CallsLine)
 from_keys = key_kind ∷ end_kind ∷ []
 
@@ -107,7 +110,7 @@ abbrev pub call_kinds : List (LineKind CallsLine)
 call_kinds = open_kind ∷ open_pointed_kind ∷ ended_kind ∷ ended_pointed_kind ∷ []
 
 abbrev pub from_calls : List (LineKind CallsLine)
-from_calls = call_kinds ++ from_keys
+from_calls = call_kinds ++ cut_kind ∷ from_keys
 
 -- THE LINES THAT MAY COME in a text that has come to a section
 abbrev pub kinds : Section → List (LineKind CallsLine)
@@ -136,6 +139,7 @@ judged c (told.Opening k) = counted MOST_OPENING (length c.opening.keys) (told.O
 judged c (told.Call x) = counted MOST_CALLS (length c.calls) (told.Call x) >>= timed c.opening.threads x
 judged c (told.Key k) = counted MOST_KEYS_OPENED (length c.keys) (told.Key k)
 judged c told.End = Ok told.End
+judged c told.Cut = Ok told.Cut
 
 -- what a line tells after the calls of the lines above
 abbrev pub line_after : Section → CallsValue → List ℕ → Result CallsLine CallsCause
@@ -146,6 +150,7 @@ section_after (told.Opening k) = section.Opening
 section_after (told.Call x) = section.Calls
 section_after (told.Key k) = section.Keys
 section_after told.End = section.Done
+section_after told.Cut = section.Done
 
 abbrev pub with_opening : Opening → ℕ → Opening
 with_opening o k = record o { keys = o.keys ++ k ∷ [] }
@@ -155,6 +160,7 @@ with_line c (told.Opening k) = record c { opening = with_opening c.opening k }
 with_line c (told.Call x) = record c { calls = c.calls ++ x ∷ [] }
 with_line c (told.Key k) = record c { keys = c.keys ++ k ∷ [] }
 with_line c told.End = c
+with_line c told.Cut = record c { cut_off = true }
 
 -- ---- texts
 
@@ -169,7 +175,7 @@ with_told s l = record { section = section_after l; calls = with_line s.calls l 
 abbrev pub step : SoFar → List ℕ → Result SoFar CallsCause
 step s line = made (with_told s) (line_after s.section s.calls line)
 
--- a text ends after the line `end`
+-- a text ends after the line `end` or `cut`
 abbrev pub is_done : Section → Bool
 is_done section.Opening = false
 is_done section.Calls = false
@@ -184,7 +190,7 @@ abbrev pub grammar : Grammar SoFar CallsCause CallsFault
 grammar = record { step = step; ends = ends; not_ended = wrong.NotEnded; at = fault }
 
 abbrev pub no_lines : HeaderTold → CallsValue
-no_lines h = record { kind = h.kind; opening = empty h.threads h.quota; calls = []; keys = [] }
+no_lines h = record { kind = h.kind; opening = empty h.threads h.quota; calls = []; keys = []; cut_off = false }
 
 abbrev pub nothing_told : HeaderTold → SoFar
 nothing_told h = record { section = section.Opening; calls = no_lines h }

@@ -95,7 +95,9 @@ pub record HasLeastVersion (r : ReportValue) : Type 0 where
   pub least : HasWordsOfVersion (record r { version = One }) → length r.keys ≤ most_keys One → r.version ≡ One
 
 -- THE REPORT OF CALLS, none of which is refused:
-pub record IsReportOf (c : CallsValue) (r : ReportValue) : Type 0 where
+pub record IsReportOfCalls (c : CallsValue) (r : ReportValue) : Type 0 where
+  -- the keys left are known
+  pub whole : c.cut_off ≡ false
   pub accepted : (i : ℕ) → i < length c.calls → IsRefusedAt c i → ⊥
   pub version : HasLeastVersion r
   pub kind_is : r.kind ≡ c.kind

@@ -1,5 +1,5 @@
 -- [Calls text]: the one spelling of calls with their points.
-use Rattle.std.specs.Prelude.{ℕ, List, [], ◌∷◌, ◌++◌, map, codes, Option, Some, None}
+use Rattle.std.specs.Prelude.{ℕ, Bool, if◌then◌else◌, List, [], ◌∷◌, ◌++◌, map, codes, Option, Some, None}
 use Rattle.std.specs.Fmt.{decimal}
 use Rattle.lset_words.specs.declared.Reply.{Reply}
 use Rattle.lset_words.specs.Words.{key_of}
@@ -37,9 +37,16 @@ call_pieces x = codes "call" ∷ decimal x.thread ∷ call_text x.call ∷ decim
 abbrev pub call_line : TimedCall → List ℕ
 call_line x = line_of (call_pieces x)
 
+-- the last line of a recording that was cut off
+abbrev pub cut_line : List ℕ
+cut_line = codes "cut"
+
+abbrev pub end_line : Bool → List ℕ
+end_line cut_off = if cut_off then cut_line else last_line
+
 abbrev pub calls_lines : CallsValue → List (List ℕ)
 calls_lines c = header_lines title (header_in c) ++ opening_lines c.opening.keys ++ map call_line c.calls ++ map key_line c.keys
-    ++ last_line ∷ []
+    ++ end_line c.cut_off ∷ []
 
 abbrev pub calls_text : CallsValue → List ℕ
 calls_text c = text_of (calls_lines c)

@@ -1,20 +1,18 @@
-ghost use Rattle.std.specs.Prelude.{◌≡◌, ◌<◌, ◌≤◌, ◌++◌, ◌↔◌, length, All, IsTrue, OnOk, IfOk, MatchBool, MatchOption};
+ghost use Rattle.std.specs.Prelude.{◌≡◌, ◌<◌, ◌≤◌, ◌++◌, ◌↔◌, length, All, IsTrue, OnOk, IfOk, IfSome, MatchOption};
 ghost use Rattle.std.specs.List.Sorted.{IsNonDecreasingBy};
 ghost use Rattle.lset_calls.specs.Calls.{AreCalls, view};
-ghost use Rattle.lset_calls.specs.Clashes.{ClashesAt, PassesQuota, IsRefusedAt, IsRefusal};
+ghost use Rattle.lset_calls.specs.Clashes.{EndedBefore, ClashesAt, PassesQuota, IsRefusedAt, IsClash};
 ghost use Rattle.lset_calls.specs.Moments.{
   entries_of,
   entries_from,
   AreMomentsOf,
-  SomePairBelow,
-  NoPairBelow,
+  IsFirstPair,
+  IsFirstLine,
   IsSameMoment,
   IsBeginning,
+  IsOpenLine,
   Overlaps,
-  Somewhere,
   Nowhere,
-  end_moment,
-  is_before,
 };
 
 use crate::{Calls, ClashFault, TimedCall};
@@ -60,40 +58,27 @@ pub fn moments_in_turn(alloc: Global, calls: &Calls) -> Result<Vec<Moment>, Allo
     Ok(moments)
 }
 
-/// Whether two of the lines below `limit` have a moment in common.
-fn has_shared(moments: &[Moment], limit: u32) -> bool
+/// The least line below `limit` that has a moment in common with a line above it, or `limit` if none has.
+fn first_shared(moments: &[Moment], limit: u32) -> u32
     requires sorted { IsNonDecreasingBy (λ m. m.at) moments.now }
     requires counted { All (λ m. 0 < m.at) moments.now }
-    ensures { MatchBool result (SomePairBelow IsSameMoment limit moments.now) (NoPairBelow IsSameMoment limit moments.now) }
+    ensures { IsFirstPair IsSameMoment limit moments.now result }
 {
-    let mut last = 0u32;
+    let mut first = limit;
+    let mut last = Moment { at: 0, line: 0 };
     for moment in moments {
-        if moment.line < limit {
-            if moment.at == last {
-                return true;
+        if moment.line < first {
+            if moment.at != last.at {
+                last = *moment;
+            } else if last.line < moment.line {
+                first = moment.line;
+            } else {
+                first = first.min(last.line);
+                last = *moment;
             }
-            last = moment.at;
         }
     }
-    false
-}
-
-fn is_before(end: Option<u32>, moment: u32) -> bool
-    ensures { result ≡ is_before moment end }
-{
-    match end {
-        Some(end) => end < moment,
-        None => false,
-    }
-}
-
-fn end_moment(made: TimedCall) -> Option<u32>
-    ensures { result ≡ end_moment made.ended }
-{
-    match made.ended {
-        Some((end, _)) => Some(end),
-        None => None,
-    }
+    first
 }
 
 /// Whether a moment is the beginning of its call, and that is of a line below `limit`.
@@ -104,50 +89,72 @@ fn begins_below(calls: &Calls, moment: Moment, limit: u32) -> bool
     moment.line < limit && moment.at == calls.calls[moment.line as usize].begun
 }
 
-/// Whether two calls of one thread overlap, of the lines below `limit`.
-fn has_overlap(calls: &Calls, moments: &[Moment], limit: u32) -> bool
+/// Whether a call has ended before a moment.
+fn has_ended(made: TimedCall, moment: u32) -> bool
+    ensures { IsTrue result ↔ EndedBefore made moment }
+{
+    match made.ended {
+        Some((end, _)) => end < moment,
+        None => false,
+    }
+}
+
+/// The line of the last call of a thread, if there is one and it has not ended before a moment.
+fn open_line(calls: &Calls, last: Option<u32>, moment: u32) -> Option<u32>
+    requires { IfSome last (λ line. line < length calls.now.calls.items) }
+    ensures { IsOpenLine calls.now.calls.items moment last result }
+{
+    let line = last?;
+    if has_ended(calls.calls[line as usize], moment) {
+        return None;
+    }
+    Some(line)
+}
+
+/// The least line below `limit` whose call overlaps one of its thread in a line above it, or `limit` if none does.
+///
+/// Of the calls of a thread in lines below `first` each has ended before the next begins. So a call that begins can overlap only the
+/// last of them, and the greater line of the two is the new `first`.
+fn first_overlap(calls: &Calls, moments: &[Moment], limit: u32) -> u32
     requires are { AreCalls (view calls.now) }
     requires sorted { IsNonDecreasingBy (λ m. m.at) moments.now }
     requires known { All (λ m. m.line < length calls.now.calls.items) moments.now }
-    ensures { MatchBool result
-        (SomePairBelow (Overlaps calls.now.calls.items) limit moments.now)
-        (NoPairBelow (Overlaps calls.now.calls.items) limit moments.now) }
+    ensures { IsFirstPair (Overlaps calls.now.calls.items) limit moments.now result }
 {
-    let mut idle_since = [Some(0u32); MOST_THREADS as usize];
+    let mut first = limit;
+    let mut lasts = [None; MOST_THREADS as usize];
     for moment in moments {
-        if begins_below(calls, *moment, limit) {
+        if begins_below(calls, *moment, first) {
             let made = calls.calls[moment.line as usize];
-            if !is_before(idle_since[made.thread as usize], made.begun) {
-                return true;
+            let open = open_line(calls, lasts[made.thread as usize], made.begun);
+            let line = open.unwrap_or(first);
+            if line < moment.line {
+                first = moment.line;
+            } else {
+                first = first.min(line);
+                lasts[made.thread as usize] = Some(moment.line);
             }
-            idle_since[made.thread as usize] = end_moment(made);
         }
     }
-    false
+    first
 }
 
-/// Whether some line below `limit` clashes with a line above it.
-fn has_clash(calls: &Calls, moments: &[Moment], limit: u32) -> bool
+/// The first line below `limit` that clashes with a line above it, or `limit` if none does.
+fn first_clash(calls: &Calls, moments: &[Moment], limit: u32) -> u32
     requires are { AreCalls (view calls.now) }
     requires moments { AreMomentsOf calls.now.calls.items moments.now }
     requires inside { limit ≤ length calls.now.calls.items }
-    ensures { MatchBool result
-        (Somewhere (ClashesAt calls.now.calls.items) limit)
-        (Nowhere (ClashesAt calls.now.calls.items) limit) }
+    ensures { IsFirstLine (ClashesAt calls.now.calls.items) limit result }
 {
-    if has_shared(moments, limit) {
-        return true;
-    }
-    has_overlap(calls, moments, limit)
+    let shared = first_shared(moments, limit);
+    first_overlap(calls, moments, shared)
 }
 
-/// Whether some line below `limit` passes the quota of its thread.
-fn has_passed(calls: &Calls, limit: u32) -> bool
+/// The first line below `limit` that passes the quota of its thread, or `limit` if none does.
+fn first_passed(calls: &Calls, limit: u32) -> u32
     requires are { AreCalls (view calls.now) }
     requires inside { limit ≤ length calls.now.calls.items }
-    ensures { MatchBool result
-        (Somewhere (PassesQuota calls.now.quota calls.now.calls.items) limit)
-        (Nowhere (PassesQuota calls.now.quota calls.now.calls.items) limit) }
+    ensures { IsFirstLine (PassesQuota calls.now.quota calls.now.calls.items) limit result }
 {
     let mut counts = [0u32; MOST_THREADS as usize];
     for line in 0..limit {
@@ -155,50 +162,12 @@ fn has_passed(calls: &Calls, limit: u32) -> bool
         if made.puts_in() {
             let count = counts[made.thread as usize] + 1;
             if count > calls.quota {
-                return true;
+                return line;
             }
             counts[made.thread as usize] = count;
         }
     }
-    false
-}
-
-/// Whether some line below `limit` is refused.
-fn is_refused(calls: &Calls, moments: &[Moment], limit: u32) -> bool
-    requires are { AreCalls (view calls.now) }
-    requires moments { AreMomentsOf calls.now.calls.items moments.now }
-    requires inside { limit ≤ length calls.now.calls.items }
-    ensures { MatchBool result
-        (Somewhere (IsRefusedAt (view calls.now)) limit)
-        (Nowhere (IsRefusedAt (view calls.now)) limit) }
-{
-    if has_clash(calls, moments, limit) {
-        return true;
-    }
-    has_passed(calls, limit)
-}
-
-/// The first line that is refused, where one below `limit` is.
-fn first_refused(calls: &Calls, moments: &[Moment], limit: u32) -> u32
-    requires are { AreCalls (view calls.now) }
-    requires moments { AreMomentsOf calls.now.calls.items moments.now }
-    requires inside { limit ≤ length calls.now.calls.items }
-    requires some { Somewhere (IsRefusedAt (view calls.now)) limit }
-    ensures known { result < limit }
-    ensures refused { IsRefusedAt (view calls.now) result }
-    ensures first { Nowhere (IsRefusedAt (view calls.now)) result }
-{
-    let mut low = 0u32;
-    let mut high = limit;
-    while low + 1 < high {
-        let middle = low + (high - low) / 2;
-        if is_refused(calls, moments, middle) {
-            high = middle;
-        } else {
-            low = middle;
-        }
-    }
-    low
+    limit
 }
 
 /// Why the calls have no report, if they have none: the first line that is refused.
@@ -207,16 +176,17 @@ pub fn refusal(calls: &Calls, moments: &[Moment]) -> Option<ClashFault>
     requires moments { AreMomentsOf calls.now.calls.items moments.now }
     ensures { MatchOption result
         (Nowhere (IsRefusedAt (view calls.now)) (length calls.now.calls.items))
-        (IsRefusal (view calls.now)) }
+        (IsClash (view calls.now)) }
 {
     let count = calls.calls.len() as u32;
-    if !is_refused(calls, moments, count) {
-        return None;
+    let clash = first_clash(calls, moments, count);
+    let passed = first_passed(calls, clash);
+    let line = FIRST_LINE + calls.opening.len() as u64 + u64::from(passed);
+    if passed < clash {
+        return Some(ClashFault::Quota(line));
     }
-    let index = first_refused(calls, moments, count);
-    let line = FIRST_LINE + calls.opening.len() as u64 + u64::from(index);
-    if has_clash(calls, moments, index + 1) {
+    if clash < count {
         return Some(ClashFault::History(line));
     }
-    Some(ClashFault::Quota(line))
+    None
 }

@@ -31,7 +31,7 @@ pub enum CallsCause {
     /// The point does not lie between the beginning and the end of the call; or points are asked for, and an `add` or a `remove`
     /// that has answered `true` has none.
     Point,
-    /// The line has bytes and no newline, or the text has no byte left before the line `end`.
+    /// The line has bytes and no newline, or the text has no byte left before the line `end` or `cut`.
     NotEnded,
     /// There was no memory for what stands up to and with this line.
     Memory,
@@ -78,7 +78,8 @@ impl From<HeaderFault> for CallsFault {
     }
 }
 
-/// Why calls that were read have no report: the first line whose call cannot stand beside those of the lines above.
+/// Why calls that were read have no report: the first line whose call cannot stand beside those of the lines above, or the keys left
+/// are not known.
 #[derive(Clone, Copy, Debug, PartialEq, Eq, Error)]
 pub enum ClashFault {
     /// A call of a line above has a moment of this call, or is of the same thread and neither has ended before the other
@@ -88,6 +89,9 @@ pub enum ClashFault {
     /// With this `add` its thread has made more adds that changed the set than the quota.
     #[error("line {0}: Quota")]
     Quota(u64),
+    /// The recording was cut off, and the keys left are asked for.
+    #[error("the recording was cut off")]
+    CutOff,
     /// There was no memory for the report.
     #[error("out of memory")]
     Memory,

@@ -15,5 +15,5 @@ mod version;
 
 pub use fault::{CallsCause, CallsFault, ClashFault};
 pub use reading::{calls_read_back, read_calls};
-pub use report::{Recording, recording_of, report_of};
+pub use report::{Recording, history_of, recording_of, report_of};
 pub use value::{Calls, TimedCall};

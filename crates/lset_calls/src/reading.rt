@@ -88,6 +88,7 @@ impl Reader {
                 opening: Vec::new(alloc),
                 calls: Vec::new(alloc),
                 keys: Vec::new(alloc),
+                cut_off: false,
             },
         }
     }
@@ -101,7 +102,7 @@ impl Reader {
             Line::Opening(_) => (self.calls.opening.len(), MOST_OPENING as usize),
             Line::Call(_) => (self.calls.calls.len(), MOST_CALLS),
             Line::Key(_) => (self.calls.keys.len(), MOST_KEYS_OPENED),
-            Line::End => return Ok(line),
+            Line::End | Line::Cut => return Ok(line),
         };
         if count >= most {
             return Err(CallsCause::TooMany);
@@ -131,6 +132,7 @@ impl Reader {
             Line::Call(made) => self.calls.calls.push(made)?,
             Line::Key(key) => self.calls.keys.push(key)?,
             Line::End => {}
+            Line::Cut => self.calls.cut_off = true,
         }
         self.section = line.section();
         Ok(())
@@ -193,7 +195,8 @@ fn calls(alloc: Global, bytes: &[u8]) -> Result<Calls, CallsFault>
 ///
 /// After the four lines of the header come the opening keys, `opening K`, which rise; the calls in any order, `call T CALL
 /// K BEGIN POINT END REPLY`, with `-` for a point that is not known, and for end and reply of an open call; the keys in any
-/// order, `key K`; and `end`. Whether calls can stand beside each other is for `report_of` to tell.
+/// order, `key K`; and `end`. In place of keys and `end`, the line `cut` says that the recording was cut off, and the keys left are not
+/// known. Whether calls can stand beside each other is for `report_of` to tell.
 ///
 /// A fault is its line, and the first check of that line that fails, in the order of `CallsCause`, but `NotEnded` comes
 /// before all others and `Memory` last. A header line that is due where no byte is left has the fault of that header line.

@@ -1,12 +1,12 @@
-ghost use Rattle.std.specs.Prelude.{◌≡◌, ℕ, length, map, All, OnOk, IfOk, IfErr};
+ghost use Rattle.std.specs.Prelude.{◌≡◌, ℕ, false, length, map, All, OnOk, IfOk, IfErr};
 ghost use Rattle.std.specs.List.Sorted.{IsNonDecreasingBy, IsPermutation};
 ghost use Rattle.lset_words.specs.Log.{record_of};
 ghost use Rattle.lset_report.specs.Report as report;
 ghost use Rattle.lset_calls.specs.Calls.{AreCalls, view, traced};
-ghost use Rattle.lset_calls.specs.Clashes.{IsRefusal, IsRefusedAt};
+ghost use Rattle.lset_calls.specs.Clashes.{IsClash, IsRefusal, IsRefusedAt};
 ghost use Rattle.lset_calls.specs.Histories.{IsHistoryOf};
 ghost use Rattle.lset_calls.specs.Moments.{Nowhere};
-ghost use Rattle.lset_calls.specs.Reports.{IsUpTo, IsPlacedUpTo, contents, counts, IsReportOf};
+ghost use Rattle.lset_calls.specs.Reports.{IsUpTo, IsPlacedUpTo, contents, counts, IsReportOfCalls};
 ghost use Rattle.lset_calls.specs.Sorted.{AreInTurn};
 
 use crate::clashes::{moments_in_turn, refusal};
@@ -60,7 +60,7 @@ fn order_of(alloc: Global, calls: &Calls, sorted: &[TimedCall]) -> Result<Vec<Pl
 fn have_history(alloc: Global, calls: &Calls) -> Result<(), ClashFault>
     requires { AreCalls (view calls.now) }
     ensures accepted { OnOk result (Nowhere (IsRefusedAt (view calls.now)) (length calls.now.calls.items)) }
-    ensures refused { IfErr result (IsRefusal (view calls.now)) }
+    ensures refused { IfErr result (IsClash (view calls.now)) }
 {
     let moments = moments_in_turn(alloc, calls)?;
     match refusal(calls, &moments) {
@@ -76,18 +76,11 @@ pub struct Recording {
     pub keys: Vec<u32>,
 }
 
-/// The history of calls, which takes their begins and ends and leaves their points out, and the keys that were left.
-///
-/// The calls stand by their begins. `ClashFault::History` and `ClashFault::Quota` tell the first line whose call cannot stand beside
-/// those of the lines above; after an error the calls are gone. With n calls it sorts their moments, in about `n log n` steps, and
-/// allocates for them. (Herlihy and Wing's histories.)
-pub fn recording_of(alloc: Global, calls: Calls) -> Result<Recording, ClashFault>
+fn recorded(alloc: Global, calls: Calls) -> Result<Recording, ClashFault>
     requires { AreCalls (view calls) }
-    // What is told is the history of the calls, none of which is refused.
     ensures told { IfOk result (λ r. IsHistoryOf (view calls) r.history) }
     ensures keys { IfOk result (λ r. r.keys.items ≡ (view calls).keys) }
-    // Else the first line that is refused, and why, or want of memory.
-    ensures refused { IfErr result (IsRefusal (view calls)) }
+    ensures refused { IfErr result (IsClash (view calls)) }
 {
     have_history(alloc, &calls)?;
     let sorted = by_beginning(calls.calls);
@@ -98,6 +91,37 @@ pub fn recording_of(alloc: Global, calls: Calls) -> Result<Recording, ClashFault
     })
 }
 
+/// The history of calls, which takes their begins and ends and leaves their points out, also of a recording that was cut off.
+///
+/// The calls stand by their begins. `ClashFault::History` and `ClashFault::Quota` report the first line whose call cannot stand beside
+/// those of the lines above, and no error is `CutOff`; after an error the calls are gone. With n calls it sorts their moments, in about
+/// `n log n` steps, and allocates for them. (Herlihy and Wing's histories.)
+pub fn history_of(alloc: Global, calls: Calls) -> Result<History, ClashFault>
+    requires { AreCalls (view calls) }
+    ensures told { IfOk result (IsHistoryOf (view calls)) }
+    ensures refused { IfErr result (IsClash (view calls)) }
+{
+    let Recording { history, .. } = recorded(alloc, calls)?;
+    Ok(history)
+}
+
+/// The history of calls, as of `history_of`, and the keys that were left. `ClashFault::CutOff` is the error of a recording that was cut
+/// off, whose keys left are not known; the other errors are those of `history_of`.
+pub fn recording_of(alloc: Global, calls: Calls) -> Result<Recording, ClashFault>
+    requires { AreCalls (view calls) }
+    // What is told is the history of the calls, none of which is refused.
+    ensures told { IfOk result (λ r. IsHistoryOf (view calls) r.history) }
+    ensures keys { IfOk result (λ r. r.keys.items ≡ (view calls).keys) }
+    ensures whole { OnOk result ((view calls).cut_off ≡ false) }
+    // Else the first line that is refused, and why, or that the keys are not known, or want of memory.
+    ensures refused { IfErr result (IsRefusal (view calls)) }
+{
+    if calls.cut_off {
+        return Err(ClashFault::CutOff);
+    }
+    recorded(alloc, calls)
+}
+
 /// The report of calls: their history, an order of them, and the keys of the text.
 ///
 /// The calls stand by their beginnings, in the least version that has words for them and room for the keys. The changes stand at the points given
@@ -105,15 +129,19 @@ pub fn recording_of(alloc: Global, calls: Calls) -> Result<Recording, ClashFault
 /// make, and at its end where there is none. Whether that order explains the calls is for `check_order`. (Herlihy and
 /// Wing's linearization points.)
 ///
-/// `ClashFault::History` and `ClashFault::Quota` tell the first line whose call cannot stand beside those of the lines
-/// above. With n calls it takes about `n log n` steps, as it sorts their moments and searches no order.
+/// `ClashFault::History` and `ClashFault::Quota` report the first line whose call cannot stand beside those of the lines above, and
+/// `ClashFault::CutOff` that the recording was cut off, so that the keys left are not known. With n calls it takes about `n log n` steps,
+/// as it sorts their moments and searches no order.
 pub fn report_of(alloc: Global, calls: Calls) -> Result<Report, ClashFault>
     requires { AreCalls (view calls) }
     // What is told is the report of the calls, none of which is refused.
-    ensures told { IfOk result (λ r. IsReportOf (view calls) (report.view r)) }
-    // Else the first line that is refused, and why, or want of memory.
+    ensures told { IfOk result (λ r. IsReportOfCalls (view calls) (report.view r)) }
+    // Else the first line that is refused, and why, or that the keys are not known, or want of memory.
     ensures refused { IfErr result (IsRefusal (view calls)) }
 {
+    if calls.cut_off {
+        return Err(ClashFault::CutOff);
+    }
     have_history(alloc, &calls)?;
     let sorted = by_beginning(Vec::from_slice(alloc, &calls.calls)?);
     let order = order_of(alloc, &calls, &sorted)?;

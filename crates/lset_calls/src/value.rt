@@ -19,7 +19,8 @@ pub struct TimedCall {
 }
 
 /// What was recorded of a set: the kind of list that it is compared with, its threads, 1 to 64, the quota of each, 0 to
-/// 16,384, the keys with which it opened, rising, its calls in any order, and the keys that were left.
+/// 16,384, the keys with which it opened, rising, its calls in any order, and the keys that were left. If the recording was cut off, as by
+/// a crash of the set, the keys left are not known, and there are none here.
 #[derive(Debug, Drop)]
 pub struct Calls {
     pub kind: Kind,
@@ -28,6 +29,7 @@ pub struct Calls {
     pub opening: Vec<u32>,
     pub calls: Vec<TimedCall>,
     pub keys: Vec<u32>,
+    pub cut_off: bool,
 }
 
 fn may_change(call: Call) -> bool

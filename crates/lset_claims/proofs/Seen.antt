@@ -20,9 +20,10 @@ use Rattle.lset_history.proofs.Histories.{IsCall, Follows, calls_of, pairs_of, h
 use Rattle.lset_history.proofs.Keys.{has_true, has_from}
 use Rattle.lset_history.proofs.Lists.{get_or_mapped}
 use Rattle.lset_judge.specs.declared.window.Window.{Window}
-use Rattle.lset_judge.specs.Verdict.{IsUnexplained}
-use Rattle.lset_judge.specs.Window.{alone, calls_numbered, ShowsNone}
-use Rattle.lset_claims.specs.Claims.{HaveNoOrder}
+use Rattle.lset_judge.specs.declared.verdict.Refusal.{Refusal}
+use Rattle.lset_judge.specs.Verdict.{IsUnexplained, IsRefused, IsPlain, IsJudged, is_plain}
+use Rattle.lset_judge.specs.Window.{alone, calls_numbered, ShowsNone, IsWindowOf}
+use Rattle.lset_claims.specs.Claims.{HaveNoOrder, IsOfKey}
 use Rattle.lset_claims.specs.Looks.{seen_by, found_by, looked_call, looked_reply, looked_end, look_of, looks_in}
 use Rattle.lset_claims.proofs.Replies.{IsReplied, replied}
 
@@ -231,18 +232,43 @@ shown_looks h w shows = record {
       (subst (λ (g : HistoryValue). IsUnexplained g keys) (alone_looks h w) (shows.none keys left));
 }
 
-shown : (h : HistoryValue) (w : Window) → ShowsNone h w → HaveNoOrder h w
-shown h w shows = record { known = shows.known; none = shows.none }
-
 -- ---- what is told of a history by its looks
 
-pub looks_refute : (h g : HistoryValue) (keys : List ℕ) → g ≡ looks_in h → IsUnexplained g keys → IsUnexplained h keys
-looks_refute h g keys is none = unexplained h keys (subst (λ (z : HistoryValue). IsUnexplained z keys) is none)
+pub of_key : (h g : HistoryValue) (keys : List ℕ) (refusal : Refusal) (w : Window) → g ≡ looks_in h → IsUnexplained g keys
+    → IsRefused g keys refusal → IsWindowOf g keys refusal w → IsOfKey h keys refusal w
+of_key h g keys refusal w is none refused window =
+    let shows : ShowsNone (looks_in h) w =
+    subst (λ (z : HistoryValue). ShowsNone z w) is (window.shows g.opening.quota) in
+    record {
+      unexplained = unexplained h keys (subst (λ (z : HistoryValue). IsUnexplained z keys) is none);
+      refused = subst (λ (z : HistoryValue). IsRefused z keys refusal) is refused;
+      window_is = subst (λ (z : HistoryValue). IsWindowOf z keys refusal w) is window;
+      shows = shown_looks h w shows;
+    }
 
-pub looks_show : (h g : HistoryValue) (o : Option Window) → g ≡ looks_in h → IfSome o (ShowsNone g) → IfSome o (HaveNoOrder h)
-looks_show h g None is s = tt
-looks_show h g (Some w) is s = shown_looks h w (subst (λ (z : HistoryValue). ShowsNone z w) is s)
+-- a call that is no ceiling is its own look, and so is one that has not ended
+plain_look : (c : Call) (o : Option (ℕ × Reply)) → IfSome o (λ (e : ℕ × Reply). is_plain c e.1 ≡ true)
+    → (looked_call c o ≡ c) × (looked_end c o ≡ o)
+plain_look (call.Add k) None p = (refl, refl)
+plain_look (call.Add k) (Some e) p = (refl, refl)
+plain_look (call.Remove k) None p = (refl, refl)
+plain_look (call.Remove k) (Some e) p = (refl, refl)
+plain_look (call.Contains k) None p = (refl, refl)
+plain_look (call.Contains k) (Some e) p = (refl, refl)
+plain_look (call.Ceiling k) None p = (refl, refl)
+plain_look (call.Ceiling k) (Some e) p = absurd (cc)
 
-pub show : (h : HistoryValue) (o : Option Window) → IfSome o (ShowsNone h) → IfSome o (HaveNoOrder h)
-show h None s = tt
-show h (Some w) s = shown h w s
+plain_looks : (calls : List CallRecord) → IsPlain calls → map look_of calls ≡ calls
+plain_looks [] p = refl
+plain_looks (x ∷ xs) p =
+    let one = plain_look x.call x.ended (All-head (λ (y : CallRecord). IfSome y.ended (λ (e : ℕ × Reply). is_plain y.call e.1 ≡ true)) x xs p) in
+    let rest = plain_looks xs (All-tail (λ (y : CallRecord). IfSome y.ended (λ (e : ℕ × Reply). is_plain y.call e.1 ≡ true)) x xs p) in
+    let call : looked_call x.call x.ended ≡ x.call = one.0 in
+    let end : looked_end x.call x.ended ≡ x.ended = one.1 in
+    let here : look_of x ≡ x = ap (λ (z : Call). record x { call = z; ended = looked_end x.call x.ended }) call
+    ∙ ap (λ (z : Option (ℕ × Reply)). record x { ended = z }) end in
+    ap (λ (z : CallRecord). z ∷ map look_of xs) here ∙ ap (λ (zs : List CallRecord). x ∷ zs) rest
+
+-- a history that the judge decides is that of its looks
+pub judged_looks : (h : HistoryValue) → IsJudged h → looks_in h ≡ h
+judged_looks h j = ap (λ (cs : List CallRecord). record { opening = h.opening; calls = cs }) (plain_looks h.calls j.plain)

@@ -1,4 +1,4 @@
--- A ceiling that answered a key, as a contains that found it: words of private contracts.
+-- A ceiling that answered a key, as a contains that found it.
 use Rattle.std.specs.Prelude.{ℕ, map, Option, Some, None}
 use Rattle.lset_words.specs.declared.Call.{Call}
 use Rattle.lset_words.specs.declared.Call.TheVariants.{Add, Remove, Contains, Ceiling}
@@ -42,5 +42,6 @@ looked_end c (Some e) = Some (e.0, looked_reply c e.1)
 abbrev pub look_of : CallRecord → CallRecord
 look_of x = record x { call = looked_call x.call x.ended; ended = looked_end x.call x.ended }
 
+-- a history with a contains that found the key in place of each ceiling that answered a key
 abbrev pub looks_in : HistoryValue → HistoryValue
 looks_in h = record { opening = h.opening; calls = map look_of h.calls }

@@ -12,10 +12,10 @@ use clap::error::ErrorKind;
 use clap::{Arg, ArgAction, ArgMatches, Error};
 use std::alloc::{AllocError, Global};
 
-/// What `--version` tells behind the program's name: its version, and in a line below the kit and the logic by which it is proved.
+/// What `--version` prints after the program's name: its version, and in a line below the kit and the logic by which it is proved.
 pub const VERSION: &str = "0.1.0\nRattle kit 13, logic dac8208d650f15bf";
 
-const KIND_HELP: &str = "The list: coarse, fine, optimistic, lazy or lock-free";
+const KIND_HELP: &str = "List: coarse, fine, optimistic, lazy or lock-free";
 
 // Where FILE stands among the values of `serve`, counted from 0.
 const SERVE_FILE: usize = 5;
@@ -23,7 +23,7 @@ const SERVE_FILE: usize = 5;
 /// A command of the program.
 #[derive(Clone, Copy)]
 pub enum Command {
-    /// Replays a schedule. It is the command where no word is given.
+    /// Replays a schedule. It is the command if no word is given.
     Replay,
     /// Judges recorded calls.
     Judge,
@@ -31,9 +31,9 @@ pub enum Command {
     Report,
     /// Checks the order of a report.
     Check,
-    /// Draws a schedule or a report.
+    /// Draws a schedule, a report or recorded calls.
     Show,
-    /// Tells what each step of a schedule did.
+    /// Prints what each step of a schedule did.
     Trace,
     /// Makes a schedule of a draft.
     Draft,
@@ -45,7 +45,7 @@ pub enum Command {
     Run,
     /// Serves sessions on one set.
     Serve,
-    /// Tells what each line about a fault says.
+    /// Explains every error message.
     Faults,
 }
 
@@ -60,7 +60,7 @@ pub struct Options {
     pub to: Option<String>,
     /// How many characters the rows of `show` may have.
     pub width: Option<String>,
-    /// `trace` tells the chain.
+    /// `trace` prints the chain.
     pub chain: bool,
     /// `example` prints the report of a broken list.
     pub broken: bool,
@@ -183,7 +183,7 @@ fn lacks_option<'a>(alloc: Global) -> Arg<'a>
         alloc,
         "lacks",
         "NAME",
-        "Runs the list that lacks a check: lock (coarse), second-lock, hand-over-hand (fine), second-walk, same-node (optimistic), marks-in-validation, mark-in-contains, mark-in-ceiling (lazy), mark, mark-in-add, mark-in-remove, mark-at-key, new-slot, last-slot (lock-free)",
+        "Run a broken list, with one check removed: lock (coarse), second-lock, hand-over-hand (fine), second-walk, same-node (optimistic), marks-in-validation, mark-in-contains, mark-in-ceiling (lazy), mark, mark-in-add, mark-in-remove, mark-at-key, new-slot, last-slot (lock-free)",
     )
 }
 
@@ -259,18 +259,18 @@ fn show_command<'a>(alloc: Global) -> Result<clap::Command<'a>, AllocError>
     let command = file_command(
         alloc,
         "show",
-        "Draws the history of a schedule or a report: a bar for each call, with the point at which it takes effect",
-        "The schedule or report; standard input where it is - or left out",
-        "A schedule with an event that is refused is drawn up to it, and the last line tells which; status 1. With --lacks a line tells it, and nothing is drawn.\n\nExample: listset example read-in-anothers-step | listset show --from 9 --to 38",
+        "Draw a schedule, a report or recorded calls: a bar for each call, with the point at which it takes effect",
+        "Schedule, report or calls file; standard input if - or missing",
+        "If an event of the schedule is not enabled, the picture ends before it, the last line names it, and the exit status is 1. With --lacks only that line is printed.\n\nExample: listset example read-in-anothers-step | listset show --from 9 --to 38",
     );
-    let command = and_arg(command, flag(alloc, "svg", "Draws an SVG in place of text"));
+    let command = and_arg(command, flag(alloc, "svg", "Draw an SVG instead of text"));
     let command = and_arg(
         command,
         value_option(
             alloc,
             "from",
             "M",
-            "The first moment to draw: 1 to the last at which a call begins, stands or ends; 1 where it is left out",
+            "First moment to draw: 1 to the last one at which a call begins, takes effect or ends [default: 1]",
         ),
     );
     let command = and_arg(
@@ -279,7 +279,7 @@ fn show_command<'a>(alloc: Global) -> Result<clap::Command<'a>, AllocError>
             alloc,
             "to",
             "M",
-            "The last moment to draw: the first or a later one; 4294967295 where it is left out",
+            "Last moment to draw: the first or a later one [default: 4294967295]",
         ),
     );
     let command = and_arg(
@@ -288,7 +288,7 @@ fn show_command<'a>(alloc: Global) -> Result<clap::Command<'a>, AllocError>
             alloc,
             "width",
             "N",
-            "How many characters the rows of the text may have: 1 to 4294967295; 100 where it is left out",
+            "Maximum width of the text in characters: 1 to 4294967295 [default: 100]",
         ),
     );
     and_arg(command, lacks_option(alloc))
@@ -301,8 +301,8 @@ fn trace_command<'a>(alloc: Global) -> Result<clap::Command<'a>, AllocError>
     let command = file_command(
         alloc,
         "trace",
-        "Tells what each step of a schedule did: the word, what was seen, and what changed",
-        "The schedule; standard input where it is - or left out",
+        "Print each step of a schedule: the word accessed, the value seen, what changed",
+        "Schedule file; standard input if - or missing",
         "Example: listset example two-removers | listset trace --chain",
     );
     let command = and_arg(
@@ -310,7 +310,7 @@ fn trace_command<'a>(alloc: Global) -> Result<clap::Command<'a>, AllocError>
         flag(
             alloc,
             "chain",
-            "Tells the chain after each step that changed it",
+            "Print the chain after each step that changed it",
         ),
     );
     and_arg(command, lacks_option(alloc))
@@ -323,8 +323,8 @@ fn draft_command<'a>(alloc: Global) -> Result<clap::Command<'a>, AllocError>
     file_command(
         alloc,
         "draft",
-        "Makes a schedule of a draft, whose lines may say where a thread stops in place of how many steps it takes",
-        "The draft; standard input where it is - or left out",
+        "Turn a draft into a schedule: lines that say where a thread stops become numbers of steps",
+        "Draft file; standard input if - or missing",
         "Example: listset draft a.draft | listset show",
     )
 }
@@ -334,17 +334,17 @@ fn example_command<'a>(alloc: Global) -> Result<clap::Command<'a>, AllocError>
     ensures local { IfOk result (λ c. (out-Command c).has_globals ≡ false) }
 {
     clap::Command::new(alloc, "example")
-        .about("Prints a classic schedule, or the list of their names")
+        .about("Print a classic schedule, or the list of their names")
         .after_help("Example: listset example snip | listset show")
         .arg(value(
             alloc,
             "NAME",
-            "The name of the schedule; the list of names where it is left out",
+            "Name of the schedule; without it the list of names is printed",
         ))?
         .arg(flag(
             alloc,
             "broken",
-            "Prints the report that a broken list would give, where the example has one",
+            "Print the report that a broken list would give, if the example has one",
         ))
 }
 
@@ -366,25 +366,25 @@ fn random_command<'a>(
         .override_usage(usage)
         .after_help(example);
     let command = and_value(alloc, Ok(command), "KIND", KIND_HELP);
-    let command = and_value(alloc, command, "THREADS", "How many threads: 1 to 64");
+    let command = and_value(alloc, command, "THREADS", "Number of threads: 1 to 64");
     let command = and_value(
         alloc,
         command,
         "QUOTA",
-        "How many successful adds each thread may make: 0 to 16384",
+        "Successful adds allowed per thread: 0 to 16384",
     );
     let command = and_value(alloc, command, "CALLS", calls_help);
     let command = and_value(
         alloc,
         command,
         "KEYS",
-        "How many keys, counted from 0, to draw from: 1 to 4294967295",
+        "Number of keys, counted from 0, to draw from: 1 to 4294967295",
     );
     and_value(
         alloc,
         command,
         "SEED",
-        "The seed of the random draws: 0 to 18446744073709551615",
+        "Seed of the random draws: 0 to 18446744073709551615",
     )
 }
 
@@ -393,9 +393,7 @@ fn serve_command<'a>(alloc: Global) -> Result<clap::Command<'a>, AllocError>
     ensures local { IfOk result (λ c. (out-Command c).has_globals ≡ false) }
 {
     let command = clap::Command::new(alloc, "serve")
-        .about(
-            "Serves sessions on one set, each a client's lines at 127.0.0.1, and prints the keys that are left",
-        )
+        .about("Serve one set to clients on 127.0.0.1, and print the remaining keys at the end")
         .override_usage("listset serve KIND SEATS QUOTA PORT SESSIONS [FILE]")
         .after_help("Example: listset serve lazy 2 16 4000 1");
     let command = and_value(alloc, Ok(command), "KIND", KIND_HELP);
@@ -403,31 +401,31 @@ fn serve_command<'a>(alloc: Global) -> Result<clap::Command<'a>, AllocError>
         alloc,
         command,
         "SEATS",
-        "How many sessions are served at once: 1 to 64",
+        "Number of clients that are served at once: 1 to 64",
     );
     let command = and_value(
         alloc,
         command,
         "QUOTA",
-        "How many successful adds each seat may make: 0 to 16384",
+        "Successful adds allowed per seat: 0 to 16384",
     );
     let command = and_value(
         alloc,
         command,
         "PORT",
-        "The port to listen on: 0 to 65535, and 0 lets the system choose",
+        "Port to listen on: 0 to 65535; with 0 the system chooses",
     );
     let command = and_value(
         alloc,
         command,
         "SESSIONS",
-        "How many sessions to serve before the end: 0 to 10000",
+        "Number of client connections to serve before the end: 0 to 10000",
     );
     let command = and_value(
         alloc,
         command,
         "FILE",
-        "The keys with which the set opens, as a server prints them; standard input where it is -, none where it is left out",
+        "File of the keys with which the set opens, as a server prints them; standard input if -, no keys if missing",
     );
     and_arg(command, values_past_the_last(alloc))
 }
@@ -439,10 +437,10 @@ fn gen_command<'a>(alloc: Global) -> Result<clap::Command<'a>, AllocError>
     random_command(
         alloc,
         "gen",
-        "Prints a random schedule, of 10000 events at most; the same values give the same schedule",
+        "Print a random schedule of at most 10000 events; the same arguments give the same schedule",
         "listset gen KIND THREADS QUOTA CALLS KEYS SEED",
         "Example: listset gen optimistic 3 4 9 5 1 | listset replay",
-        "How many calls the threads begin together, if 10000 events suffice: 0 to 10000",
+        "Calls in all threads together, if 10000 events suffice: 0 to 10000",
     )?
     .arg(values_past_the_last(alloc))
 }
@@ -454,15 +452,15 @@ fn run_command<'a>(alloc: Global) -> Result<clap::Command<'a>, AllocError>
     random_command(
         alloc,
         "run",
-        "Runs random calls of threads at once on one set, and prints counts of the replies and the keys that are left",
+        "Run random calls in threads on one set, and print counts of the replies and the remaining keys",
         "listset run KIND THREADS QUOTA CALLS KEYS SEED [LIVES]",
         "Example: listset run lock-free 4 1000 10000 64 1",
-        "How many calls each thread makes: 0 to 10000",
+        "Calls in each thread: 0 to 10000",
     )?
     .arg(value(
         alloc,
         "LIVES",
-        "How many lives the set has, each opened with the keys of the one before: 1 to 100, 1 where it is left out",
+        "Number of rounds, each on a set that opens with the keys of the round before: 1 to 100 [default: 1]",
     ))?
     .arg(values_past_the_last(alloc))
 }
@@ -474,8 +472,8 @@ fn replay_command<'a>(alloc: Global) -> Result<clap::Command<'a>, AllocError>
     let command = file_command(
         alloc,
         "replay",
-        "Replays a schedule of atomic steps and prints a report (the command where none is given)",
-        "The schedule; standard input where it is - or left out",
+        "Execute a schedule of atomic steps and print its report (the default command)",
+        "Schedule file; standard input if - or missing",
         "Example: listset example full | listset replay",
     );
     and_arg(command, lacks_option(alloc))
@@ -487,12 +485,15 @@ fn judge_files<'a>(alloc: Global) -> Result<clap::Command<'a>, AllocError>
 {
     clap::Command::new(alloc, "judge")
         .about(
-            "Judges recorded calls of a set: whether any order explains their replies and leaves the keys",
+            "Judge recorded calls of a set: ok if an order explains them and the keys left, else not linearizable",
         )
         .after_help(
-            "Begins and ends decide; points are asked for with a reply ceiling or full alone. Several files are parts of one recording: each opens with the keys that the one before left, and has a clock of its own. Status 0 for ok, 1 for not linearizable.\n\nExample: listset judge a.calls",
+            "Points are needed only if a call is a ceiling or answered full. Several files are the parts of one recording: each opens with the keys that the one before left, and has a clock of its own. Exit status 0 for ok, 1 for not linearizable.\n\nExample: listset judge a.calls",
         )
-        .arg(files(alloc, "The calls; standard input where it is - or left out"))
+        .arg(files(
+            alloc,
+            "File of recorded calls; standard input if - or missing",
+        ))
 }
 
 fn judge_command<'a>(alloc: Global) -> Result<clap::Command<'a>, AllocError>
@@ -506,7 +507,7 @@ fn judge_command<'a>(alloc: Global) -> Result<clap::Command<'a>, AllocError>
             alloc,
             "keys",
             "KEYS",
-            "Judges the calls of the keys whose remainder by N is I alone: I/N, as 0/4, with I below N. If it says ok for each I below N, the whole is ok",
+            "I/N, as 0/4: judge only the calls of keys whose remainder by N is I. The whole is ok if each I below N is",
         ),
     )
 }
@@ -518,8 +519,8 @@ fn report_command<'a>(alloc: Global) -> Result<clap::Command<'a>, AllocError>
     file_command(
         alloc,
         "report",
-        "Makes a report of recorded calls: the changes at their points, each other call where its reply fits",
-        "The calls; standard input where it is - or left out",
+        "Turn recorded calls into a report: ordered by their points, or by an order that explains them",
+        "File of recorded calls; standard input if - or missing",
         "Example: listset report a.calls | listset check",
     )
 }
@@ -531,8 +532,8 @@ fn check_command<'a>(alloc: Global) -> Result<clap::Command<'a>, AllocError>
     file_command(
         alloc,
         "check",
-        "Checks that the order in a report explains its calls and its keys",
-        "The report; standard input where it is - or left out",
+        "Check the order in a report: ok, or its first fault",
+        "Report file; standard input if - or missing",
         "Example: listset example full | listset replay | listset check",
     )
 }
@@ -543,7 +544,7 @@ fn faults_command<'a>(alloc: Global, help: &'a str) -> clap::Command<'a>
     ensures local { (out-Command result).has_globals ≡ false }
 {
     clap::Command::new(alloc, "faults")
-        .about("Tells what each line about a fault says, and when it comes")
+        .about("Explain every error message")
         .override_help(help)
 }
 
@@ -551,9 +552,7 @@ fn program_command<'a>(alloc: Global, faults_help: &'a str) -> Result<clap::Comm
     ensures { IfOk result (λ c. app_of c ≡ listset) }
 {
     let program = clap::Command::new(alloc, "listset")
-        .about(
-            "Replays, checks, draws and generates recorded schedules of concurrent list sets, and runs and serves such sets",
-        )
+        .about("Replay, judge, draw, run and serve concurrent list sets")
         .version(VERSION)
         .no_binary_name(true)
         .bin_name("listset");

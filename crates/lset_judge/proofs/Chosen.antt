@@ -29,7 +29,7 @@ use Rattle.lset_judge.specs.Events.{rule_explains}
 use Rattle.lset_judge.specs.Marks.{ruled_on, noted_at, AreMarks}
 use Rattle.lset_judge.specs.declared.window.Window.{Window}
 use Rattle.lset_judge.specs.Verdict.{IsUnexplained, calls_by, of_key, with_quota}
-use Rattle.lset_judge.specs.Window.{AreChosen, calls_numbered, HaveNone, ShowsNoneAtAll, IsForcedAtAll, IsSameWindow}
+use Rattle.lset_judge.specs.Window.{AreChosen, BeginsAfter, calls_numbered, HaveNone, ShowsNoneAtAll, IsForcedAtAll, IsSameWindow}
 use Rattle.lset_judge.proofs.Runs.{IsRunOf, known_at, run_judges}
 
 -- ---- one more
@@ -122,12 +122,14 @@ module _ (threads : ℕ) (calls : List CallRecord) (history : IsHistory threads 
 
 -- A WINDOW SHOWS that no order explains its history, where its calls have none.
 pub shows : (h : HistoryValue) (w : Window) (items : List CallRecord) → IsHistory h.opening.threads h.calls
-    → AreChosen h.calls w.calls.items w.key items → (r : Result Bool AllocError)
+    → AreChosen h.calls w.calls.items w.key items → All (BeginsAfter w.since h.calls) w.calls.items → (r : Result Bool AllocError)
     → IfOk r (λ none. IsTrue none → HaveNone items w.key.0 w.there w.left) → IfOk r (λ none. IsTrue none → ShowsNoneAtAll h w)
-shows h w items history c (Err e) f = f
-shows h w items history c (Ok none) f = λ is quota. record {
+shows h w items history c later (Err e) f = f
+shows h w items history c later (Ok none) f = λ is quota. record {
   known = c.known;
+  rising = c.rising;
   own = c.own;
+  later = later;
   none = λ keys left.
       subst (λ cs. IsUnexplained (record {
         opening = record { threads = h.opening.threads; quota = quota; keys = if w.there then w.key.0 ∷ [] else [] };

@@ -18,6 +18,7 @@ pub mod MarkLemmas
 pub mod MarkOrder
 pub mod Runs
 pub mod Scanned
+pub mod Leaving
 pub mod Refusals
 pub mod Shifted
 pub mod Shifting
@@ -25,5 +26,12 @@ pub mod InMoments
 pub mod KeyParts
 pub mod Chosen
 pub mod Refused
+pub mod CutOff
 pub mod Whole
 pub mod Overlapping
+pub mod After
+pub mod Streamed
+pub mod Begun
+pub mod Closed
+pub mod States
+mod AloneLemmas

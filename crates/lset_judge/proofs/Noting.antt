@@ -235,6 +235,19 @@ module _ (f : Mark → Noted) (first s : State) (run : List Mark) (i : ℕ) (low
   pub walks_on : ruled_on (Some s) (map f (drop i run)) ≡ ruled_on o (map f (drop (i + 1) run))
   walks_on = ap (λ ms. ruled_on (Some s) (map f ms)) (drop_more run i no_mark low) ∙ ap (λ p. ruled_on p (map f (drop (i + 1) run))) now
 
+-- how the key is left, the last event
+pub settled_last : (settled : Bool) (t u : State) (last : ℕ) (left : Bool) → found last (leaves left) t ≡ (if settled then Some u else None)
+    → settled ≡ is_some (ruled_on (Some t) ((last, leaves left) ∷ []))
+settled_last settled t u last left finds = chosen settled ∙ sym (ap is_some finds) ∙ kept (found last (leaves left) t)
+  where
+    chosen : (b : Bool) → b ≡ is_some (if b then Some u else None)
+    chosen true = refl
+    chosen false = refl
+
+    kept : (o : Option State) → is_some o ≡ is_some (ruled_on (entered (leaves left) o) [])
+    kept None = refl
+    kept (Some v) = refl
+
 -- A WALK over the first that fails there, or goes on to how the key is left
 module _ (there there' : Bool) (s t : State) (xs xs' : List Noted) (failed : Option ℕ) (is : s ≡ opened there) (same_there : there ≡ there')
     (same_notes : xs ≡ xs') (walked : ruled_on (Some s) xs ≡ (if is_none failed then Some t else None)) where
@@ -247,23 +260,11 @@ module _ (there there' : Bool) (s t : State) (xs xs' : List Noted) (failed : Opt
       let none : ruled_on (Some (opened there')) xs' ≡ None = from_opened ∙ ap (λ o. if is_none o then Some t else None) at in
       sym (ap is_some (on_both (Some (opened there')) xs' ys ∙ ap (λ o. ruled_on o ys) none ∙ on_none ys))
 
-  pub goes_on_to : (settled left left' : Bool) (u : State) (last last' : ℕ) → failed ≡ None → left ≡ left' → last ≡ last'
-      → found last (leaves left) t ≡ (if settled then Some u else None)
-      → settled ≡ is_some (ruled_on (Some (opened there')) (xs' ++ (last', leaves left') ∷ []))
-  goes_on_to settled left left' u last last' none same_left same_last finds =
+  pub goes_on : (b : Bool) (ys : List Noted) → failed ≡ None → b ≡ is_some (ruled_on (Some t) ys)
+      → b ≡ is_some (ruled_on (Some (opened there')) (xs' ++ ys))
+  goes_on b ys none ends =
       let on : ruled_on (Some (opened there')) xs' ≡ Some t = from_opened ∙ ap (λ o. if is_none o then Some t else None) none in
-      let here : found last' (leaves left') t ≡ (if settled then Some u else None) =
-      sym (ap (λ w. found last' (leaves w) t) same_left) ∙ sym (ap (λ n. found n (leaves left) t) same_last) ∙ finds in
-      chosen settled ∙ sym (ap is_some here) ∙ kept (found last' (leaves left') t)
-      ∙ sym (ap is_some (on_both (Some (opened there')) xs' ((last', leaves left') ∷ []) ∙ ap (λ o. ruled_on o ((last', leaves left') ∷ [])) on))
-    where
-      chosen : (b : Bool) → b ≡ is_some (if b then Some u else None)
-      chosen true = refl
-      chosen false = refl
-
-      kept : (o : Option State) → is_some o ≡ is_some (ruled_on (entered (leaves left') o) [])
-      kept None = refl
-      kept (Some v) = refl
+      ends ∙ sym (ap is_some (on_both (Some (opened there')) xs' ys ∙ ap (λ o. ruled_on o ys) on))
 
 -- A KEY OF WHICH NO CHANGE IS PENDING is left as it is.
 pub quiet_left : (s t : State) (xs : List Noted) (last : ℕ) (w : Bool) → ruled_on (Some s) xs ≡ Some t → t.puts ≡ [] → t.takes ≡ []

@@ -12,10 +12,11 @@ use Rattle.lset_words.proofs.Numbers.{below_or_not, same_number}
 use Rattle.lset_history.specs.History.{HistoryValue, latest_moment}
 use Rattle.lset_judge.specs.declared.marks.Mark.{Mark}
 use Rattle.lset_judge.specs.declared.verdict.Refusal.{Refusal}
-use Rattle.lset_judge.specs.Rule.{same, opened, leaves}
+use Rattle.lset_judge.specs.Rule.{same, opened}
 use Rattle.lset_judge.specs.Events.{rule_explains, RulePasses}
-use Rattle.lset_judge.specs.Marks.{AreMarks, has_mark, no_mark, IsRunEnd, IsOneOf, ruled_on, noted_at, FailsAt, FailsBy, Refuses}
+use Rattle.lset_judge.specs.Marks.{AreMarks, has_mark, no_mark, IsRunEnd, IsOneOf, ruled_on, noted_at, left_notes, keys_left, FailsAt, FailsBy, Refuses}
 use Rattle.lset_judge.proofs.Runs.{IsRunOf, run_at, run_judges, run_fails, unmarked}
+use Rattle.lset_judge.proofs.Leaving.{run_tells, passes_with}
 
 -- ---- marks by keys
 
@@ -130,12 +131,13 @@ module _ (h : HistoryValue) (keys : List ℕ) where
 
     -- ONE MORE RUN: what is found so far, by all marks before its end
     module _ (start end : ℕ) (run : IsRunEnd marks start end)
-        (apart : (i j : ℕ) → i < start → start ≤ j → j < length marks → (get_or marks i no_mark).key < (get_or marks j no_mark).key) where
+        (apart : (i j : ℕ) → i < start → start ≤ j → j < length marks → (get_or marks i no_mark).key < (get_or marks j no_mark).key)
+        (left : Option (List ℕ)) (keys_are : keys ≡ keys_left h left) where
       pub so_far : (latest : ℕ) → latest ≡ latest_moment h.calls → (first found result : Option Refusal) → IsOneOf first found result
           → MatchOption first ((i : ℕ) → i < start → rule_explains h keys (get_or marks i no_mark).key ≡ true) Fails
           → is_none found ≡ is_some (ruled_on (Some (opened (has_key (get_or (slice_range marks start end) 0 no_mark).key h.opening.keys)))
           (map (noted_at latest h.calls) (slice_range marks start end)
-          ++ (latest, leaves (has_key (get_or (slice_range marks start end) 0 no_mark).key keys)) ∷ []))
+          ++ left_notes latest (get_or (slice_range marks start end) 0 no_mark).key left))
           → IfSome found (λ (r : Refusal). r.key.0 ≡ (get_or (slice_range marks start end) 0 no_mark).key)
           → IfSome found (λ (r : Refusal). IfSome r.moment
           (FailsAt (opened (has_key (get_or (slice_range marks start end) 0 no_mark).key h.opening.keys)) latest h.calls (slice_range marks start end)))
@@ -147,15 +149,17 @@ module _ (h : HistoryValue) (keys : List ℕ) where
           let here : (get_or (slice_range marks start end) 0 no_mark).key ≡ k =
           ap (λ (m : Mark). m.key) (run_at marks start end 0 no_mark (omega (arith, some)) ∙ ap (λ n. get_or marks n no_mark) zero) in
           let of_key = is_run h.calls marks are start end run apart in
-          let by_rule = run_judges h keys history marks are k start end of_key in
+          let by_rule = run_tells h k (map (noted_at (latest_moment h.calls) h.calls) (slice_range marks start end))
+          (λ ks. run_judges h ks history marks are k start end of_key) left in
           let ms : List Mark = slice_range marks start end in
           let fails : IfSome found (λ (r : Refusal). IfSome r.moment (FailsBy h k)) =
           each_by found (λ m f. run_fails h keys history marks are k start end of_key m
           (subst (λ n. FailsAt (opened (has_key k h.opening.keys)) n h.calls ms m) is f))
           (subst (λ j. IfSome found (λ (r : Refusal). IfSome r.moment (FailsAt (opened (has_key j h.opening.keys)) latest h.calls ms))) here at) in
           let same = λ (j n : ℕ). is_some (ruled_on (Some (opened (has_key j h.opening.keys)))
-          (map (noted_at n h.calls) (slice_range marks start end) ++ (n, leaves (has_key j keys)) ∷ [])) in
-          let told : is_none found ≡ rule_explains h keys k = judged ∙ ap (λ j. same j latest) here ∙ ap (same k) is ∙ sym by_rule in
+          (map (noted_at n h.calls) (slice_range marks start end) ++ left_notes n j left)) in
+          let told : is_none found ≡ rule_explains h keys k = judged ∙ ap (λ j. same j latest) here ∙ ap (same k) is
+          ∙ by_rule ∙ ap (λ ks. rule_explains h ks k) (sym keys_are) in
           let now = found_tells k found told (subst (λ j. IfSome found (λ (r : Refusal). r.key.0 ≡ j)) here own) fails in
           weaker (((i : ℕ) → i < start → rule_explains h keys (get_or marks i no_mark).key ≡ true) × (rule_explains h keys k ≡ true))
           ((i : ℕ) → i < end → rule_explains h keys (get_or marks i no_mark).key ≡ true) result
@@ -201,3 +205,30 @@ module _ (h : HistoryValue) (keys : List ℕ) (history : IsHistory h.opening.thr
       let each = subst (λ o. MatchOption o ((k : ℕ) → has_mark k marks ≡ true → rule_explains h keys k ≡ true) (Fails h keys)) no_marked m in
       let alike = subst (Unmarked h.opening.keys keys marks) no_found u in
       all_pass h keys history marks are each (λ k none. left_so h keys history marks are k none (alike k none))
+
+  -- what is found of the keys without a mark, if none that has one fails
+  pub unmarked_found : (marked found : Option Refusal) → marked ≡ None
+      → MatchOption marked ((k : ℕ) → has_mark k marks ≡ true → rule_explains h keys k ≡ true) (Fails h keys)
+      → Unmarked h.opening.keys keys marks found → MatchOption found (RulePasses h keys) (Refuses h keys)
+  unmarked_found marked None no_marked m u = none_passes marked None no_marked refl m u
+  unmarked_found marked (Some r) no_marked m u = found_refuses (Some r) u
+
+-- if the keys left are not known
+pub unknown_passes : (h : HistoryValue) → IsHistory h.opening.threads h.calls → (marks : List Mark) → AreMarks h.calls marks → (marked : Option Refusal)
+    → marked ≡ None → MatchOption marked ((k : ℕ) → has_mark k marks ≡ true → rule_explains h (keys_left h None) k ≡ true) (Fails h (keys_left h None))
+    → RulePasses h (keys_left h None)
+unknown_passes h history marks are marked no_marked m =
+    all_pass h (keys_left h None) history marks are
+    (subst (λ o. MatchOption o ((k : ℕ) → has_mark k marks ≡ true → rule_explains h (keys_left h None) k ≡ true) (Fails h (keys_left h None))) no_marked m)
+    (λ k none. passes_with h h.opening.keys k (left_so h h.opening.keys history marks are k none refl))
+
+-- ---- what the judge says by it
+
+pub some_fails : (h : HistoryValue) (keys : List ℕ) (found : Option Refusal) → MatchOption found (RulePasses h keys) (Refuses h keys)
+    → IfSome found (Refuses h keys)
+some_fails h keys None m = tt
+some_fails h keys (Some r) m = m
+
+pub none_fails : (h : HistoryValue) (keys : List ℕ) (found : Option Refusal) → MatchOption found (RulePasses h keys) (Refuses h keys)
+    → found ≡ None → RulePasses h keys
+none_fails h keys found m e = subst (λ o. MatchOption o (RulePasses h keys) (Refuses h keys)) e m

@@ -1,12 +1,13 @@
 -- The window of all calls of a refusal's key up to its moment, from the opening on.
-use Rattle.std.proofs.Common.{◌≡◌, ℕ, ◌+◌, ◌<◌, ◌≤◌, List, [], ◌∷◌, Bool, true, false, refl, sym, ap, ◌∙◌, arith, subst, inl, inr}
+use Rattle.std.proofs.Common.{◌≡◌, ℕ, ◌+◌, ◌<◌, ◌≤◌, List, [], ◌∷◌, ◌++◌, Bool, true, false, refl, sym, ap, ◌∙◌, arith, subst, inl, inr}
 use Rattle.std.proofs.Common.{length, get_or, zero, suc}
-use Rattle.std.specs.Prelude.{All, Option, Some, None, IfSome, if◌then◌else◌, ◌==◌, ◌&&◌, nat_le, nat_lt, filter}
+use Rattle.std.specs.Prelude.{All, AllPairs, Option, Some, None, IfSome, if◌then◌else◌, ◌==◌, ◌&&◌, nat_le, nat_lt, filter}
 use Rattle.std.specs.List.{AllByRecursion}
 use Rattle.std.proofs.lemmas.Bool.{cases_Bool, true≢false}
 use Rattle.std.proofs.lemmas.Bool.Decides.{nat_tests}
 use Rattle.std.proofs.lemmas.List.{length-map, get_or-map}
-use Rattle.std.proofs.lemmas.List.Elements.{recursion_from_All}
+use Rattle.std.proofs.lemmas.List.Elements.{All-push, recursion_from_All}
+use Rattle.std.proofs.lemmas.List.Quantifiers.{all_pairs_push}
 use Rattle.lset_words.specs.declared.Key.{Key}
 use Rattle.lset_words.specs.declared.history.CallRecord.{CallRecord}
 use Rattle.lset_words.specs.declared.history.Placed.{Placed}
@@ -27,6 +28,25 @@ use Rattle.lset_judge.proofs.Chosen.{by_own, left_forced}
 
 abbrev is_by : ℕ → ℕ → CallRecord → Bool
 is_by key moment x = (key_of x.call).0 == key && nat_le x.begun moment
+
+-- ---- numbers that rise
+
+-- below the number of the next call
+pub record RisesBelow (n : ℕ) (xs : List ℕ) : Type 0 where
+  pub rising : AllPairs (λ (a b : ℕ). a < b) xs
+  pub below : All (λ (m : ℕ). m < n) xs
+
+pub rises_more : (n : ℕ) (xs ys : List ℕ) → ys ≡ xs ++ n ∷ [] → RisesBelow n xs → RisesBelow (n + 1) ys
+rises_more n xs ys is r = subst (RisesBelow (n + 1)) (sym is) (record {
+  rising = all_pairs_push (λ (a b : ℕ). a < b) xs n r.rising r.below;
+  below = All-push (λ (m : ℕ). m < n + 1) xs n (λ k d inside. let a = r.below k d inside in omega (arith, a)) (omega arith);
+})
+
+pub rises_on : (n : ℕ) (xs ys : List ℕ) → ys ≡ xs → RisesBelow n xs → RisesBelow (n + 1) ys
+rises_on n xs ys is r = subst (RisesBelow (n + 1)) (sym is) (record {
+  rising = r.rising;
+  below = λ k d inside. let a = r.below k d inside in omega (arith, a);
+})
 
 -- ---- no call
 
@@ -63,7 +83,7 @@ no_marks = record {
 module _ (h : HistoryValue) (told : IsHistory h.opening.threads h.calls) (keys : List ℕ) (r : Refusal) (w : Window) (M : ℕ)
     (until : M ≡ moment_or (latest_moment h.calls) r.moment) (key : w.key ≡ r.key) (since : w.since ≡ 0)
     (there : w.there ≡ has_key r.key.0 h.opening.keys) (left : w.left ≡ left_by keys r.key.0 r.moment)
-    (known : All (λ (n : ℕ). n < length h.calls) w.calls.items) (are : calls_numbered h.calls w.calls.items ≡ calls_by r.key.0 M h.calls)
+    (known : All (λ (n : ℕ). n < length h.calls) w.calls.items) (rising : AllPairs (λ (m n : ℕ). m < n) w.calls.items) (are : calls_numbered h.calls w.calls.items ≡ calls_by r.key.0 M h.calls)
     (refused : IsRefused h keys r) where
   abbrev k : ℕ
   k = r.key.0
@@ -89,7 +109,10 @@ module _ (h : HistoryValue) (told : IsHistory h.opening.threads h.calls) (keys :
   shows : ShowsNoneAtAll h w
   shows quota = record {
     known = known;
+    rising = rising;
     own = own;
+    later = λ i d low. subst (λ n. n < (call_numbered h.calls (get_or w.calls.items i d)).begun) (sym since)
+        (calls_of h.opening.threads h.calls told (get_or w.calls.items i d) no_call (known i d low)).counted;
     none = λ ks l.
         subst (λ b. Opened quota ks b w.key.0 (calls_numbered h.calls w.calls.items)) (sym there)
         (subst (λ (q : Key). Opened quota ks (has_key k h.opening.keys) q.0 (calls_numbered h.calls w.calls.items)) (sym key)

@@ -6,3 +6,5 @@ pub mod Code
 pub mod Locality
 pub mod Window
 pub mod Overlap
+pub mod Leaving
+pub mod Stream

@@ -1,16 +1,16 @@
 -- The marks of calls: the moments at which something may happen of a key, and the rule on the marks of one key.
 use Rattle.std.specs.Prelude.{◌≡◌, ◌≢◌, ℕ, suc, ◌-◌, ◌==◌, ◌<◌, ◌≤◌, ◌⊎◌, Bool, List, [], ◌∷◌, ◌++◌, length, Option, Some, None, All, AllPairs}
-use Rattle.std.specs.Prelude.{Contains, slice_index_or, ◌+◌, false, map, take, IfSome}
+use Rattle.std.specs.Prelude.{Contains, slice_index_or, ◌+◌, false, map, take, IfSome, ◌&&◌, not, if◌then◌else◌}
 use Rattle.std.specs.List.{list_any}
 use Rattle.lset_words.specs.declared.Reply.{Reply}
 use Rattle.lset_words.specs.declared.history.CallRecord.{CallRecord}
 use Rattle.lset_words.specs.Words.{key_of}
-use Rattle.lset_words.specs.SequentialSet.{has_key}
+use Rattle.lset_words.specs.SequentialSet.{has_key, with_key}
 use Rattle.lset_words.specs.History.{call_numbered}
 use Rattle.lset_history.specs.History.{HistoryValue, latest_moment}
 use Rattle.lset_judge.specs.declared.marks.Mark.{Mark}
 use Rattle.lset_judge.specs.declared.verdict.Refusal.{Refusal}
-use Rattle.lset_judge.specs.Rule.{Event, State, found, entered, ruled, opened}
+use Rattle.lset_judge.specs.Rule.{Event, leaves, State, found, entered, ruled, opened}
 use Rattle.lset_judge.specs.Events.{Kind, changes, sees, nothing, kind_if, event_in, event_at, events_on, rule_explains}
 
 -- ---- the marks
@@ -60,9 +60,26 @@ ruled_on None vs = None
 ruled_on (Some s) [] = Some s
 ruled_on (Some s) (x ∷ xs) = ruled_on (entered x.1 (found x.0 x.1 s)) xs
 
+-- how a key is left, if that is known
+abbrev pub left_notes : ℕ → ℕ → Option (List ℕ) → List Noted
+left_notes latest key None = []
+left_notes latest key (Some keys) = (latest, leaves (has_key key keys)) ∷ []
+
 -- what happens at a mark
 abbrev pub noted_at : ℕ → List CallRecord → Mark → Noted
 noted_at latest calls m = (m.moment - 1, event_in latest (call_numbered calls m.call) m.moment)
+
+-- ---- the keys left of a recording that was cut off
+
+-- the keys that a test takes, rising
+abbrev pub taken : (ℕ → Bool) → List ℕ → List ℕ
+taken test [] = []
+taken test (k ∷ ks) = if test k && not (has_key k (taken test ks)) then with_key k (taken test ks) else taken test ks
+
+-- the keys left, if they are known; or else keys with which, if they are left, the rule passes
+abbrev pub keys_left : HistoryValue → Option (List ℕ) → List ℕ
+keys_left h None = taken (λ (k : ℕ). rule_explains h (k ∷ []) k) (h.opening.keys ++ map (λ (x : CallRecord). (key_of x.call).0) h.calls)
+keys_left h (Some keys) = keys
 
 -- ---- what the functions on the way say
 

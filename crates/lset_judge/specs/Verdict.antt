@@ -106,11 +106,11 @@ IsRefused h keys refusal = IsRefusedBy h keys refusal.key.0 refusal.moment
 
 -- ---- WHAT A VERDICT SAYS
 
--- a verdict says that some order explains the calls and leaves the keys, that none does, or that this is not a history that the judge
--- decides
+-- a verdict says that some order explains the calls and leaves the keys; that none does, with a refusal that says why; or that this is not
+-- a history that the judge decides
 abbrev pub IsVerdict : HistoryValue → List ℕ → Verdict → Type 0
 IsVerdict h keys Linearizable = IsExplained h keys
-IsVerdict h keys (NotLinearizable refusal) = IsUnexplained h keys
+IsVerdict h keys (NotLinearizable refusal) = IsUnexplained h keys × IsRefused h keys refusal
 IsVerdict h keys Undecided = IsJudged h → ⊥
 
 -- a history of a set without a quota: each thread has room for all calls
@@ -123,3 +123,10 @@ abbrev pub IsVerdictWithoutQuota : HistoryValue → List ℕ → Verdict → Typ
 IsVerdictWithoutQuota h keys Linearizable = IsExplained (without_quota h) keys
 IsVerdictWithoutQuota h keys (NotLinearizable refusal) = ((quota : ℕ) → IsUnexplained (with_quota quota h) keys) × IsRefused h keys refusal
 IsVerdictWithoutQuota h keys Undecided = IsPlain h.calls → ⊥
+
+-- a verdict on a recording that was cut off, so that the keys left are not known, says that with some keys left some order explains the
+-- calls; or that none does, whatever keys are left
+abbrev pub IsVerdictCutOff : HistoryValue → Verdict → Type 0
+IsVerdictCutOff h Linearizable = (keys : List ℕ) × IsVerdictWithoutQuota h keys Linearizable
+IsVerdictCutOff h (NotLinearizable refusal) = (keys : List ℕ) → IsVerdictWithoutQuota h keys (NotLinearizable refusal)
+IsVerdictCutOff h Undecided = IsPlain h.calls → ⊥

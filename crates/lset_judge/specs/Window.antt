@@ -30,11 +30,17 @@ alone h w = record {
   calls = calls_numbered h.calls w.calls.items;
 }
 
--- its calls are calls of the history and of its key, and no order explains these calls alone, of a set that opens with the key or
--- without it as the window has it: whatever keys they leave, or if they leave the key as it is left
+-- the call with this number begins after a moment
+abbrev pub BeginsAfter : ℕ → List CallRecord → ℕ → Type 0
+BeginsAfter since calls n = since < (call_numbered calls n).begun
+
+-- its calls are calls of the history and of its key, each once, which begin after its moment; and no order explains these calls alone, of a
+-- set that opens with the key or without it as the window has it: whatever keys they leave, or if they leave the key as it is left
 pub record ShowsNone (h : HistoryValue) (w : Window) : Type 0 where
   pub known : All (λ (n : ℕ). n < length h.calls) w.calls.items
+  pub rising : AllPairs (λ (m n : ℕ). m < n) w.calls.items
   pub own : All (λ (n : ℕ). key_of (call_numbered h.calls n).call ≡ w.key) w.calls.items
+  pub later : All (BeginsAfter w.since h.calls) w.calls.items
   pub none : (keys : List ℕ) → IfSome w.left (λ left. has_key w.key.0 keys ≡ left) → IsUnexplained (alone h w) keys
 
 -- each order of the calls of the key that begin by the window's moment leaves the key there, or not, as the window has it

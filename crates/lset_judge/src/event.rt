@@ -31,7 +31,7 @@ pub(crate) enum Event {
     Idle,
 }
 
-fn ended_kind(call: Call, reply: Reply) -> Kind
+pub(crate) fn ended_kind(call: Call, reply: Reply) -> Kind
     ensures { result ≡ kind_of call reply }
 {
     match (call, reply) {
@@ -47,7 +47,7 @@ fn ended_kind(call: Call, reply: Reply) -> Kind
     }
 }
 
-fn open_kind(call: Call) -> Kind
+pub(crate) fn open_kind(call: Call) -> Kind
     ensures { result ≡ open_kind call }
 {
     match call {
@@ -75,6 +75,27 @@ fn until(call_record: &CallRecord, latest: u32) -> u64
     match call_record.ended {
         None => u64::from(latest) + u64::from(call_record.begun),
         Some((end, _)) => u64::from(end),
+    }
+}
+
+/// What a call is to its key as it begins: before which moment it takes effect.
+pub(crate) fn begin_event(kind: Kind, until: u64) -> Event
+    ensures { result ≡ begin_event kind until }
+{
+    match kind {
+        Kind::Changes(to) => Event::Begins(to, until),
+        Kind::Sees(_) | Kind::Nothing => Event::Idle,
+    }
+}
+
+/// And as it ends: the moment at which it began.
+pub(crate) fn end_event(kind: Kind, begun: u64) -> Event
+    ensures { result ≡ end_event kind begun }
+{
+    match kind {
+        Kind::Changes(to) => Event::Ends(to),
+        Kind::Sees(there) => Event::Looks(there, begun),
+        Kind::Nothing => Event::Idle,
     }
 }
 

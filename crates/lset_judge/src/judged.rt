@@ -6,7 +6,7 @@ ghost use Rattle.lset_judge.specs.Verdict.{is_truth, is_plain, is_true_or_open, 
 use lset_history::History;
 use lset_words::{Call, CallRecord, MOST_THREADS, Reply};
 
-fn is_answer(call: Call, reply: Reply) -> bool
+pub(crate) fn is_answer(call: Call, reply: Reply) -> bool
     ensures { result ≡ is_plain call reply }
 {
     match (call, reply) {

@@ -1,13 +1,13 @@
 //! Each key judged by the rule, over its marks.
 
-ghost use Rattle.std.specs.Prelude.{◌≡◌, ◌≢◌, ◌<◌, ◌++◌, [], ◌∷◌, ℕ, All, map, length, false, true, None, Some, is_none, is_some, IfOk, IfSome, slice_index_or, if◌then◌else◌, MatchOption};
+ghost use Rattle.std.specs.Prelude.{◌≡◌, ◌≢◌, ◌<◌, ◌++◌, ℕ, All, map, length, false, true, None, Some, is_none, is_some, IfOk, IfSome, slice_index_or, if◌then◌else◌, MatchOption, option_copied};
 ghost use Rattle.std.specs.List.Sorted.{IsStrictlyIncreasing, IsNonDecreasingBy};
 ghost use Rattle.lset_words.specs.SequentialSet.{has_key};
 ghost use Rattle.lset_words.specs.History.{IsHistory};
 ghost use Rattle.lset_history.specs.History.{latest_moment};
-ghost use Rattle.lset_judge.specs.Rule.{leaves, opened};
-ghost use Rattle.lset_judge.specs.Events.{rule_explains};
-ghost use Rattle.lset_judge.specs.Marks.{ruled_on, noted_at, AreMarks, has_mark, no_mark, IsOneOf, FailsAt, Refuses};
+ghost use Rattle.lset_judge.specs.Rule.{opened};
+ghost use Rattle.lset_judge.specs.Events.{rule_explains, RulePasses};
+ghost use Rattle.lset_judge.specs.Marks.{ruled_on, noted_at, left_notes, keys_left, AreMarks, has_mark, no_mark, IsOneOf, FailsAt, Refuses};
 ghost use Rattle.lset_judge.specs.Code.{state_of};
 ghost use Rattle.lset_judge.specs.Verdict.{IsJudged, IsExplained, IsUnexplained, IsRefused, with_quota};
 
@@ -42,20 +42,31 @@ pub(crate) fn walk(
     Ok(None)
 }
 
-/// Where the rule fails on a key, by all marks of the key.
+/// Whether the rule passes at the end too: if it is known how the key is left, whether it may be left so.
+fn may_end(state: &mut KeyState, latest: u32, key: u32, left: Option<&[u32]>) -> bool
+    requires rising { IfSome (option_copied left) IsStrictlyIncreasing }
+    ensures { result ≡ is_some (ruled_on (Some (state_of state.old)) (left_notes latest key (option_copied left.entry))) }
+{
+    match left {
+        Some(keys) => state.settle(u64::from(latest), Event::Leaves(is_among(keys, key))),
+        None => true,
+    }
+}
+
+/// Where the rule fails on a key, by all marks of the key, and by how it is left, if that is known.
 fn judge_run(
     alloc: Global,
     history: &History,
-    keys: &[u32],
+    left: Option<&[u32]>,
     latest: u32,
     run: &[Mark],
 ) -> Result<Option<Refusal>, AllocError>
-    requires rising { IsStrictlyIncreasing keys.now }
+    requires rising { IfSome (option_copied left) IsStrictlyIncreasing }
     requires known { All (λ m. m.call < length history.now.calls) run.now }
     requires some { 0 < length run.now }
     ensures judged { let key = (slice_index_or run.now 0 no_mark).key in IfOk result (λ refused. is_none refused
         ≡ is_some (ruled_on (Some (opened (has_key key history.now.opening.keys)))
-        (map (noted_at latest history.now.calls) run.now ++ (latest, leaves (has_key key keys.now)) ∷ []))) }
+        (map (noted_at latest history.now.calls) run.now ++ left_notes latest key (option_copied left.entry)))) }
     ensures key { IfOk result (λ refused. IfSome refused (λ refusal. refusal.key.0 ≡ (slice_index_or run.now 0 no_mark).key)) }
     ensures at { let key = (slice_index_or run.now 0 no_mark).key in IfOk result (λ refused. IfSome refused (λ refusal. IfSome refusal.moment
         (FailsAt (opened (has_key key history.now.opening.keys)) latest history.now.calls run.now))) }
@@ -68,7 +79,7 @@ fn judge_run(
             moment: Some(moment),
         })),
         None => {
-            if state.settle(u64::from(latest), Event::Leaves(is_among(keys, key))) {
+            if may_end(&mut state, latest, key, left) {
                 Ok(None)
             } else {
                 Ok(Some(Refusal {
@@ -117,14 +128,14 @@ fn earlier(first: Option<Refusal>, second: Option<Refusal>) -> Option<Refusal>
 fn first_of_runs(
     alloc: Global,
     history: &History,
-    keys: &[u32],
+    left: Option<&[u32]>,
     marks: &[Mark],
 ) -> Result<Option<Refusal>, AllocError>
-    requires rising { IsStrictlyIncreasing keys.now }
+    requires rising { IfSome (option_copied left) IsStrictlyIncreasing }
     requires marks { AreMarks history.now.calls marks.now }
     ensures { IfOk result (λ refused. MatchOption refused
-        ((k : ℕ) → has_mark k marks.now ≡ true → rule_explains history.now keys.now k ≡ true)
-        (Refuses history.now keys.now)) }
+        ((k : ℕ) → has_mark k marks.now ≡ true → rule_explains history.now (keys_left history.now (option_copied left.entry)) k ≡ true)
+        (Refuses history.now (keys_left history.now (option_copied left.entry)))) }
 {
     let calls = history.calls();
     let latest = latest_moment(calls);
@@ -132,7 +143,7 @@ fn first_of_runs(
     let mut start = 0;
     while start < marks.len() {
         let end = run_end(marks, start);
-        let found = judge_run(alloc, history, keys, latest, &marks[start..end])?;
+        let found = judge_run(alloc, history, left, latest, &marks[start..end])?;
         first = earlier(first, found);
         start = end;
     }
@@ -159,6 +170,31 @@ fn first_unmarked(opening: &[u32], keys: &[u32], marks: &[Mark]) -> Option<Refus
     })
 }
 
+/// Where the rule fails first: on a key, by the moment of a mark or by how the key is left. `left` are the keys left, if they are
+/// known.
+pub(crate) fn first_failure(
+    alloc: Global,
+    history: &History,
+    left: Option<&[u32]>,
+) -> Result<Option<Refusal>, AllocError>
+    requires rising { IfSome (option_copied left) IsStrictlyIncreasing }
+    ensures history { IsHistory history.now.opening.threads history.now.calls }
+    ensures opens { IsStrictlyIncreasing history.now.opening.keys }
+    ensures judged { IfOk result (λ refused. MatchOption refused
+        (RulePasses history.now (keys_left history.now (option_copied left.entry)))
+        (Refuses history.now (keys_left history.now (option_copied left.entry)))) }
+{
+    let opening = history.opening();
+    let marks = marks_of(alloc, history.calls())?;
+    if let Some(refusal) = first_of_runs(alloc, history, left, &marks)? {
+        return Ok(Some(refusal));
+    }
+    match left {
+        Some(keys) => Ok(first_unmarked(opening, keys, &marks)),
+        None => Ok(None),
+    }
+}
+
 /// Why no order explains the history and leaves the keys: a key, and the moment up to which its calls have no order, the first that the
 /// rule finds; in a history with `ceiling` and `full` too, and under any quota. If there is none and the judge decides the history
 /// (`is_judged`), under its own quota or another, some order explains it.
@@ -178,9 +214,5 @@ pub fn first_refused(
     ensures passed_at_all { IfOk result (λ refused. refused ≡ None
         → (quota : ℕ) → IsJudged (with_quota quota history.now) → IsExplained (with_quota quota history.now) keys.now) }
 {
-    let marks = marks_of(alloc, history.calls())?;
-    match first_of_runs(alloc, history, keys, &marks)? {
-        Some(refusal) => Ok(Some(refusal)),
-        None => Ok(first_unmarked(history.opening(), keys, &marks)),
-    }
+    first_failure(alloc, history, Some(keys))
 }

@@ -2,6 +2,7 @@
 
 ghost use Rattle.std.specs.Prelude.{◌≡◌, ◌↔◌, [], IsTrue, ℕ, suc, ◌+◌, ◌<◌, ◌≤◌, ◌==◌, length, true, false, IfOk, Some, None, slice_index, if◌then◌else◌};
 ghost use Rattle.lset_judge.specs.Rule.{not_before, options, turned_if, fits, found, entered, opened};
+ghost use Rattle.lset_judge.specs.Leaving.{may_be_left};
 ghost use Rattle.lset_judge.specs.Code.{state_of};
 
 use crate::event::Event;
@@ -68,6 +69,18 @@ impl KeyState {
         ensures { IsTrue result ↔ (((state_of self.now).puts ≡ []) × ((state_of self.now).takes ≡ [])) }
     {
         self.puts.is_empty() && self.takes.is_empty()
+    }
+
+    /// Whether the key may be left there, or not there: it is so, or turns once more.
+    pub(crate) fn may_be_left(&self, there: bool) -> bool
+        ensures { result ≡ may_be_left there (state_of self.now) }
+    {
+        let turns = if self.there {
+            !self.takes.is_empty()
+        } else {
+            !self.puts.is_empty()
+        };
+        self.there == there || turns
     }
 
     fn put(&mut self, before: u64) -> bool

@@ -2,8 +2,9 @@
 
 ghost use Rattle.std.specs.Prelude.{IfOk};
 ghost use Rattle.std.specs.List.Sorted.{IsStrictlyIncreasing};
-ghost use Rattle.lset_judge.specs.Verdict.{IsVerdict, IsVerdictWithoutQuota};
+ghost use Rattle.lset_judge.specs.Verdict.{IsVerdict, IsVerdictWithoutQuota, IsVerdictCutOff};
 
+use crate::judging::first_failure;
 use crate::{first_refused, is_judged, is_plain};
 use lset_history::History;
 use lset_words::Key;
@@ -64,5 +65,23 @@ pub fn judge_without_quota(
         Some(refusal) => Ok(Verdict::NotLinearizable(refusal)),
         None if is_plain(history) => Ok(Verdict::Linearizable),
         None => Ok(Verdict::Undecided),
+    }
+}
+
+/// As `judge_without_quota`, of a recording that was cut off, as by a crash of the set: calls may be pending, and the keys left are not
+/// known. The answer is `Linearizable` exactly if there are keys left with which some order explains the calls, and `NotLinearizable`
+/// exactly if none does whatever keys are left, for each history that `is_plain`. Of any other it says `NotLinearizable` only if none does,
+/// and else `Undecided`.
+///
+/// It fails only if memory is refused, and takes as much as `judge`. A refusal has the same meaning for any keys left, so
+/// `window_of_refusal` takes it with any: with none, for one.
+pub fn judge_cut_off(alloc: Global, history: &History) -> Result<Verdict, AllocError>
+    ensures { IfOk result (IsVerdictCutOff history.now) }
+{
+    let refused = first_failure(alloc, history, None)?;
+    match refused {
+        Some(refusal) => Ok(Verdict::NotLinearizable(refusal)),
+        None if !is_plain(history) => Ok(Verdict::Undecided),
+        None => Ok(Verdict::Linearizable),
     }
 }

@@ -1,17 +1,16 @@
 //! The few calls that show why no order explains a history.
 
-ghost use Rattle.std.specs.Prelude.{◌≡◌, ◌↔◌, ◌<◌, ◌^◌, ℕ, All, IfOk, IfSome, OnOk, IsTrue, false, length, []};
+ghost use Rattle.std.specs.Prelude.{◌≡◌, ◌↔◌, ◌<◌, ◌^◌, ℕ, All, AllPairs, IfOk, IfSome, OnOk, IsTrue, false, length, []};
 ghost use Rattle.std.specs.List.Sorted.{IsStrictlyIncreasing};
 ghost use Rattle.lset_words.specs.Words.{key_of};
 ghost use Rattle.lset_words.specs.History.{IsHistory};
 ghost use Rattle.lset_judge.specs.Verdict.{calls_by, is_true_or_open, IsRefused};
 ghost use Rattle.lset_judge.specs.Window.{
   AreChosen,
+  BeginsAfter,
   HaveNone,
-  ShowsNone,
   ShowsNoneAtAll,
   LeaveIt,
-  IsForced,
   IsForcedAtAll,
   IsSameWindow,
   IsWhole,
@@ -54,21 +53,26 @@ pub struct Window {
     pub calls: Vec<u32>,
 }
 
-/// The calls with these numbers, if they rise, and are calls of the key.
+/// The calls with these numbers, if they rise, and are calls of the key that begin after a moment.
 fn chosen(
     alloc: Global,
     calls: &[CallRecord],
     numbers: &[u32],
     key: Key,
+    since: u32,
 ) -> Result<Option<Vec<CallRecord>>, AllocError>
     requires { length calls.now < 2 ^ 32 }
-    ensures { IfOk result (λ found. IfSome found (λ v. AreChosen calls.now numbers.now key v.items)) }
+    ensures are { IfOk result (λ found. IfSome found (λ v. AreChosen calls.now numbers.now key v.items)) }
+    ensures later { IfOk result (λ found. IfSome found (λ _. All (BeginsAfter since calls.now) numbers.now)) }
 {
     let mut chosen = Vec::new(alloc);
     let mut next = 0;
     for number in numbers {
         let index = *number as usize;
         if index < next || index >= calls.len() || calls[index].call.key().0 != key.0 {
+            return Ok(None);
+        }
+        if calls[index].begun <= since {
             return Ok(None);
         }
         chosen.push(calls[index])?;
@@ -107,7 +111,7 @@ fn shows_none(alloc: Global, history: &History, window: &Window) -> Result<bool,
     ensures { IfOk result (λ shows. IsTrue shows → ShowsNoneAtAll history.now window.now) }
 {
     let calls = history.calls();
-    match chosen(alloc, calls, &window.calls, window.key)? {
+    match chosen(alloc, calls, &window.calls, window.key, window.since)? {
         Some(own) => have_none(alloc, &own, window.key, window.there, window.left),
         None => Ok(false),
     }
@@ -356,7 +360,7 @@ fn short_window(
     let key = refusal.key;
     let end = refusal.moment.unwrap_or(u32::MAX);
     let all = numbers_between(alloc, calls, key, 0, end)?;
-    let Some(own) = chosen(alloc, calls, &all, key)? else {
+    let Some(own) = chosen(alloc, calls, &all, key, 0)? else {
         return Ok(None);
     };
     let marks = marks_of(alloc, &own)?;
@@ -394,6 +398,7 @@ fn numbers_by(
 ) -> Result<Vec<u32>, AllocError>
     requires { length calls.now < 2 ^ 32 }
     ensures known { IfOk result (λ found. All (λ n. n < length calls.now) found.items) }
+    ensures rising { IfOk result (λ found. AllPairs (λ m n. m < n) found.items) }
     ensures are { IfOk result (λ found. calls_numbered calls.now found.items ≡ calls_by key.0 moment calls.now) }
 {
     let mut found = Vec::new(alloc);
@@ -458,22 +463,5 @@ pub fn window_of_refusal(
     match short_window(alloc, history, keys, refusal)? {
         Some(window) => Ok(window),
         None => whole_window(alloc, history, keys, refusal),
-    }
-}
-
-/// As `window_of_refusal`, of any refusal: the window if a short one is found. It fails only if memory is refused.
-pub fn window_of(
-    alloc: Global,
-    history: &History,
-    keys: &[u32],
-    refusal: Refusal,
-) -> Result<Option<Window>, AllocError>
-    requires { IsStrictlyIncreasing keys.now }
-    ensures shows { IfOk result (λ window. IfSome window (ShowsNone history.now)) }
-    ensures forced { IfOk result (λ window. IfSome window (IsForced history.now)) }
-{
-    match short_window(alloc, history, keys, refusal)? {
-        Some(window) => Ok(Some(window)),
-        None => Ok(None),
     }
 }

@@ -17,7 +17,7 @@ use std::alloc::{AllocError, Global};
 pub enum Found {
     /// This order explains the calls, from the opening keys, and leaves the keys.
     Order(Vec<Placed>),
-    /// No order does, and why not.
+    /// No order does, and why not: as `lset_judge::first_refused` says it.
     NoOrder(Refusal),
     /// Neither: the calls have a `ceiling`, a reply `full` or less quota than they may need.
     Unknown,
@@ -68,9 +68,9 @@ fn explaining_order(
 /// the order that a run would give by the points of its calls, this one is found from their begins and ends: a call that changes nothing
 /// stands as early as its reply allows, and a change as late.
 ///
-/// `keys` are the keys left; they rise. `Unknown` comes of a history that `lset_judge::is_judged` is false for; for others no test has seen
-/// it, and no clause excludes it. It fails only if memory is refused. With n calls of t threads it takes about `n (t + log n)` steps, and some
-/// 40 bytes a call. (Linearizability is Herlihy and Wing's; the rule is this project's own.)
+/// `keys` are the keys left; they rise. `Unknown` comes of a history that `lset_judge::is_judged` is false for. No test has seen it of any
+/// other, and it could come only of one that some order explains. It fails only if memory is refused. With n calls of t threads it takes about
+/// `n (t + log n)` steps, and some 40 bytes a call. (Linearizability is Herlihy and Wing's; the rule is this project's own.)
 pub fn find_order(alloc: Global, history: &History, keys: &[u32]) -> Result<Found, AllocError>
     requires { IsStrictlyIncreasing keys.now }
     ensures { IfOk result (IsFound history.now keys.now) }

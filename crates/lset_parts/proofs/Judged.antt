@@ -1,14 +1,12 @@
 -- A part that no order explains refutes the recording up to its end.
 use Rattle.std.proofs.Common.{◌≡◌, ℕ, ◌<◌, List, length, sym, subst, ◌∙◌, arith}
 use Rattle.std.specs.Prelude.{All}
-use Rattle.std.specs.List.Sorted.{IsStrictlyIncreasing}
 use Rattle.lset_words.specs.declared.history.CallRecord.{CallRecord}
 use Rattle.lset_words.specs.declared.history.Placed.{Placed}
 use Rattle.lset_words.specs.History.{IsHistory}
 use Rattle.lset_history.specs.Faults.{Explains}
 use Rattle.lset_history.proofs.Histories.{calls_of}
-use Rattle.lset_judge.specs.Verdict.{IsUnexplained, IsExplained}
-use Rattle.lset_judge.proofs.KeyParts.{any_quota}
+use Rattle.lset_judge.specs.Verdict.{IsUnexplained, with_quota}
 use Rattle.lset_parts.specs.Parts.{Part}
 use Rattle.lset_parts.specs.Kept.{KeptParts, EndsFull}
 use Rattle.lset_parts.specs.Judged.{RefutesTheWhole}
@@ -17,9 +15,8 @@ use Rattle.lset_parts.proofs.Needed.{part_needed}
 
 pub refutes : (kept : KeptParts) (p : Part) → p.history.opening.keys ≡ kept.keys
     → All (λ (x : CallRecord). EndsFull x → ⊥) p.history.calls → IsHistory p.history.opening.threads p.history.calls
-    → IsStrictlyIncreasing p.history.opening.keys → IsStrictlyIncreasing p.keys → IsUnexplained p.history p.keys
-    → RefutesTheWhole kept p
-refutes kept p same full told opens left none opening ps threads quota a rest late judged whole E =
+    → ((quota : ℕ) → IsUnexplained (with_quota quota p.history) p.keys) → RefutesTheWhole kept p
+refutes kept p same full told none opening ps threads quota a rest late whole E =
     let counted : All (λ (x : CallRecord). 0 < x.begun) p.history.calls = λ k d b.
     (calls_of p.history.opening.threads p.history.calls told k d b).counted in
     let needed = part_needed opening p.keys ps threads quota p.since p.history.calls whole a.parts (has_no_full p.history.calls full)
@@ -29,7 +26,5 @@ refutes kept p same full told opens left none opening ps threads quota a rest la
       opening = record { threads = p.history.opening.threads; quota = length order; keys = keys };
       calls = p.history.calls;
     }) order p.keys in
-    let own : Opened p.history.opening.keys =
-    subst Opened (sym a.keys_are ∙ sym same) (needed.1 p.history.opening.threads (length order) (omega arith)) in
-    let found : IsExplained p.history p.keys = any_quota p.history p.keys (length order) told opens left judged (order, own) in
-    none found.0 found.1
+    none (length order) order
+    (subst Opened (sym a.keys_are ∙ sym same) (needed.1 p.history.opening.threads (length order) (omega arith)))

@@ -13,6 +13,7 @@ use Rattle.lset_words.specs.History.{Precedes, Linearizes, answered}
 use Rattle.lset_history.specs.Faults.{set_left_by, Explains}
 use Rattle.lset_history.proofs.Lists.{all_map}
 use Rattle.lset_history.proofs.Pairs.{pairs_head, pairs_tail}
+use Rattle.lset_judge.specs.Verdict.{with_quota}
 use Rattle.lset_parts.specs.Parts.{Part, AreParts, ExplainsWithoutQuota, IsExplained, HasNoFull, NonePrecedes, OpensAsLeft}
 use Rattle.lset_parts.specs.Parts.{calls_of, call_since, whole_calls, keys_left}
 use Rattle.lset_parts.specs.Cuts.{placed_behind}
@@ -21,17 +22,19 @@ use Rattle.lset_parts.proofs.Joining.{joined, left_by_both, all_head, all_tail}
 use Rattle.lset_parts.proofs.Free.{NotFull, legal_again, same_left, counts_left}
 use Rattle.lset_parts.proofs.Since.{linearizes_since, left_since}
 
--- an order of the part, without `Full`
+-- an order of the part under some quota, without `Full`
 pub record IsOrdered (p : Part) : Type 0 where
+  pub quota : ℕ
   pub order : List Placed
-  pub explains : Explains p.history order p.keys
+  pub explains : Explains (with_quota quota p.history) order p.keys
   pub no_full : All (λ (x : Placed). x.reply ≡ Full → ⊥) order
 
 pub ordered : (p : Part) → IsExplained p → HasNoFull p.history.calls → IsOrdered p
-ordered p (o, E) n = record {
+ordered p (q, o, E) n = record {
+  quota = q;
   order = without_full o;
   explains = record {
-    linearizes = linearizes_dropped p.history.calls p.history.opening.quota (opening_set p.history.opening) o n E.linearizes;
+    linearizes = linearizes_dropped p.history.calls q (opening_set p.history.opening) o n E.linearizes;
     keys_left = E.keys_left ∙ ap (λ (s : SetState). s.keys) (sym (left_dropped p.history.calls (opening_set p.history.opening) o));
     rising = E.rising;
   };
@@ -70,15 +73,15 @@ part_fits : (quota : ℕ) (t : SetState) (p : Part) (o : IsOrdered p) → p.hist
     → ((j : ℕ) → count_of t j + length o.order ≤ quota) → Fits quota t p o.order
 part_fits quota t p o same low =
     let s : SetState = opening_set p.history.opening in
-    let L : Linearizes p.history.opening.quota s (calls_of p) o.order =
-    linearizes_since p.since p.history.opening.quota s p.history.calls o.order o.explains.linearizes in
+    let L : Linearizes o.quota s (calls_of p) o.order =
+    linearizes_since p.since o.quota s p.history.calls o.order o.explains.linearizes in
     let many : length (map (answered (calls_of p)) o.order) ≡ length o.order = length-map o.order (answered (calls_of p)) in
     record {
       linearizes = record {
         known = L.known;
         once = L.once;
         ended = L.ended;
-        legal = legal_again p.history.opening.quota quota s t (map (answered (calls_of p)) o.order) same
+        legal = legal_again o.quota quota s t (map (answered (calls_of p)) o.order) same
             (not_full (calls_of p) o.order o.no_full)
             (λ j. let b : count_of t j + length o.order ≤ quota = low j in omega arith) L.legal;
         in_time = L.in_time;

@@ -8,6 +8,7 @@ use Rattle.lset_words.specs.declared.history.Placed.{Placed}
 use Rattle.lset_words.specs.History.{Precedes}
 use Rattle.lset_history.specs.History.{HistoryValue}
 use Rattle.lset_history.specs.Faults.{Explains}
+use Rattle.lset_judge.specs.Verdict.{with_quota}
 
 -- A part: its calls and the keys with which it opens, the keys that it leaves, and the moment of the whole recording from which
 -- its own moments count (0 where all parts have one clock).
@@ -52,9 +53,9 @@ ExplainsWithoutQuota keys calls order left = (threads quota : ℕ) → length or
 
 -- ---- WHAT IS ASKED OF THE PARTS
 
--- some order explains the part by itself
+-- some order explains the part by itself, under some quota
 abbrev pub IsExplained : Part → Type 0
-IsExplained p = (order : List Placed) × Explains p.history order p.keys
+IsExplained p = (quota : ℕ) × (order : List Placed) × Explains (with_quota quota p.history) order p.keys
 
 -- no call has ended with `Full`
 abbrev pub HasNoFull : List CallRecord → Type 0

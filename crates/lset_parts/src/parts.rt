@@ -6,7 +6,7 @@ ghost use Rattle.lset_parts.specs.Judged.{IsPartVerdict};
 ghost use Rattle.lset_parts.specs.Kept.{IsKeptOf, Follows, WholeIsExplained, NextIsNeeded, IsPartFault, EndsEarly, EndsFull, IsUpTo};
 
 use lset_history::History;
-use lset_judge::{Verdict, judge};
+use lset_judge::{Verdict, judge_without_quota};
 use lset_words::{CallRecord, Reply};
 use std::alloc::Global;
 use std::marker::Model;
@@ -182,8 +182,8 @@ impl Parts {
         None
     }
 
-    /// Adds a part that some order explains: its history, whose moments count from the moment `since` of the whole recording, and
-    /// the keys that it left. `since` is 0 if all parts have one clock, and `latest` if each has its own.
+    /// Adds a part that some order explains under some quota: its history, whose moments count from the moment `since` of the whole
+    /// recording, and the keys that it left. `since` is 0 if all parts have one clock, and `latest` if each has its own.
     ///
     /// On an error nothing is changed. It allocates a copy of the keys, and keeps nothing of the calls but two moments and whether
     /// all of them have ended.
@@ -216,8 +216,8 @@ impl Parts {
         Ok(())
     }
 
-    /// Judges a part, and adds it if some order explains it (`lset_judge::judge`). If none does and the parts before are at rest,
-    /// none explains the recording up to the end of this part. `keys` are the keys that the part left; they rise.
+    /// Judges a part, and adds it if some order explains it (`lset_judge::judge_without_quota`). If none does and the parts before are at
+    /// rest, none explains the recording up to the end of this part. `keys` are the keys that the part left; they rise.
     ///
     /// `since` is as in `add`. Only `Linearizable` changes anything. It takes n log n steps for n calls of the part.
     pub fn judge(
@@ -236,7 +236,7 @@ impl Parts {
         if let Some(fault) = self.find_fault(since, history) {
             return Err(fault);
         }
-        match judge(alloc, history, keys) {
+        match judge_without_quota(alloc, history, keys) {
             Ok(Verdict::Linearizable) => {
                 self.add(alloc, since, history, keys)?;
                 Ok(Verdict::Linearizable)

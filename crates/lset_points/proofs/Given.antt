@@ -20,7 +20,7 @@ use Rattle.lset_calls.specs.declared.value.TimedCall.{TimedCall}
 use Rattle.lset_calls.specs.Calls.{CallsValue, AreCalls, IsCall, IsMoment, IsPoint, IsEnd, traced, changed_by, may_change, is_true, ends_after}
 use Rattle.lset_calls.specs.Clashes.{call_at, no_call, Clash}
 use Rattle.lset_calls.specs.Noting.{DifferFrom, ChangeApart}
-use Rattle.lset_calls.specs.Reports.{IsUpTo, IsReportOf}
+use Rattle.lset_calls.specs.Reports.{IsUpTo, IsReportOfCalls}
 use Rattle.lset_calls.proofs.ClashLaws.{clash_turned}
 use Rattle.lset_calls.proofs.Entries.{IsTimed, timed}
 use Rattle.lset_calls.proofs.InTurn.{changes_apart, point_of}
@@ -132,7 +132,7 @@ two_apart x y t u n = elim (cases_lt y.begun x.begun) [
 
 -- ---- all calls
 
-module _ (c : CallsValue) (r : ReportValue) (report : IsReportOf c r) (are : AreCalls c) where
+module _ (c : CallsValue) (r : ReportValue) (report : IsReportOfCalls c r) (are : AreCalls c) where
   each_call : All (IsCall c.opening.threads) c.calls
   each_call = All-from_recursion (IsCall c.opening.threads) c.calls are.calls
 

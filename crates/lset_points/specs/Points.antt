@@ -11,7 +11,7 @@ use Rattle.lset_history.specs.Faults.{Explains, place_at}
 use Rattle.lset_history.specs.Points.{HasPoints}
 use Rattle.lset_report.specs.Report.{ReportValue}
 use Rattle.lset_calls.specs.Calls.{CallsValue, AreCalls, may_change, is_true}
-use Rattle.lset_calls.specs.Reports.{IsReportOf}
+use Rattle.lset_calls.specs.Reports.{IsReportOfCalls}
 
 -- the call changes the set by this reply: an add or a remove, with `True`
 abbrev pub changes : Call → Reply → Bool
@@ -41,7 +41,7 @@ pub record HasGivenPoints (calls : List TracedCall) (order : List Placed) (point
 -- THE POINTS DECIDE. If any order explains the report of calls and makes each change at its point, the order of the report explains it.
 -- So a report whose order is refused has no order with these points.
 abbrev pub PointsDecide : Type 0
-PointsDecide = (c : CallsValue) (r : ReportValue) (report : IsReportOf c r) (other : List Placed) (points : List ℕ)
+PointsDecide = (c : CallsValue) (r : ReportValue) (report : IsReportOfCalls c r) (other : List Placed) (points : List ℕ)
     → AreCalls c → HasGivenPoints report.calls other points → Explains r.history other r.keys → Explains r.history r.order r.keys
 
 -- the order of the report explains it, or does not
@@ -51,7 +51,7 @@ IsChecked r (Some fault) = Explains r.history r.order r.keys → ⊥
 
 -- No order explains the report of these calls and makes each change at its point.
 abbrev pub NoOrderHasThePoints : CallsValue → ReportValue → Type 0
-NoOrderHasThePoints c r = (report : IsReportOf c r) (other : List Placed) (points : List ℕ)
+NoOrderHasThePoints c r = (report : IsReportOfCalls c r) (other : List Placed) (points : List ℕ)
     → HasGivenPoints report.calls other points → Explains r.history other r.keys → ⊥
 
 -- the order of the report explains it, or it has a fault and no order with these points does

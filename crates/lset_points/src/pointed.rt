@@ -4,7 +4,7 @@ ghost use Rattle.std.specs.Prelude.{◌≡◌, IfOk, IfErr};
 ghost use Rattle.lset_report.specs.Report as report;
 ghost use Rattle.lset_calls.specs.Calls.{AreCalls, view};
 ghost use Rattle.lset_calls.specs.Clashes.{IsRefusal};
-ghost use Rattle.lset_calls.specs.Reports.{IsReportOf};
+ghost use Rattle.lset_calls.specs.Reports.{IsReportOfCalls};
 ghost use Rattle.lset_points.specs.Points.{IsChecked, IsDecided};
 
 use lset_calls::{Calls, ClashFault, report_of};
@@ -38,7 +38,7 @@ fn fault_of(alloc: Global, made: &Report) -> Result<Option<OrderFault>, ClashFau
 /// calls it takes about n log n steps, and the memory of their report.
 pub fn judge_by_points(alloc: Global, calls: Calls) -> Result<Pointed, ClashFault>
     requires { AreCalls (view calls) }
-    ensures told { IfOk result (λ p. IsReportOf (view calls) (report.view p.report)) }
+    ensures told { IfOk result (λ p. IsReportOfCalls (view calls) (report.view p.report)) }
     ensures decided { IfOk result (λ p. IsDecided (view calls) (report.view p.report) p.fault) }
     ensures refused { IfErr result (IsRefusal (view calls)) }
 {

@@ -9,9 +9,10 @@ use Rattle.lset_steps.specs.declared.Event.TheVariants.{Go}
 use Rattle.lset_steps.specs.declared.Local.{Local}
 use Rattle.lset_steps.specs.Steps.{Table, State, Run, state_at, after, local_of, seen_next}
 use Rattle.lset_steps.proofs.Discipline.{put_other}
-use Rattle.lset_progress.specs.Progress.{IsPending, Answers, EndsAlone, GetsOn, SomeThreadGetsOn, CanEnd}
+use Rattle.lset_progress.specs.Progress.{IsPending, Answers, EndsAlone, GetsOn, SomeThreadGetsOn, CanEnd, for_each}
 use Rattle.lset_progress.proofs.Alone.{then_go, same_until, goes_on, last_is}
 use Rattle.lset_progress.proofs.Holders.{one_or_more}
+use Rattle.lset_progress.proofs.Totals.{total, total_less, total_all}
 
 pub can_more : (T : Table) (s : State) (n m : ℕ) → n ≤ m → CanEnd T s n → CanEnd T s m
 can_more T s zero m l c = absurd c
@@ -35,32 +36,6 @@ alone_can T s t (suc n) c = (
     | inr g ↦ inr (alone_can T (after T s (Go t)) t n g)
   ],
 )
-
--- the sum of what the first n threads have left
-abbrev total : (ℕ → ℕ) → ℕ → ℕ
-total b zero = 0
-total b (suc n) = b n + total b n
-
-total_same : (b c : ℕ → ℕ) (n : ℕ) → ((v : ℕ) → v < n → c v ≡ b v) → total c n ≡ total b n
-total_same b c zero h = refl
-total_same b c (suc n) h =
-    let e : c n ≡ b n = h n (omega arith) in
-    let r : total c n ≡ total b n = total_same b c n (λ v l. h v (omega arith)) in omega arith
-
-total_less : (b c : ℕ → ℕ) (n u : ℕ) → u < n → c u + 1 ≡ b u → ((v : ℕ) → v ≢ u → c v ≡ b v) → total c n + 1 ≡ total b n
-total_less b c zero u l e h = absurd (omega arith)
-total_less b c (suc n) u l e h = elim (same_or_not n u) [
-  | inl y ↦
-      (let x : c n ≡ c u = ap c y in let x' : b n ≡ b u = ap b y in
-      let r : total c n ≡ total b n = total_same b c n (λ v k. h v (omega arith)) in omega arith)
-  | inr y ↦
-      (let x : c n ≡ b n = h n y in
-      let r : total c n + 1 ≡ total b n = total_less b c n u (omega arith) e h in omega arith)
-]
-
-total_all : (most n : ℕ) → total (λ t. most) n ≡ n * most
-total_all most zero = omega arith
-total_all most (suc n) = let r : total (λ t. most) n ≡ n * most = total_all most n in grind arith
 
 -- a step before a decision leaves what the others have left
 pub record Before (T : Table) (Time : Sizes → List ℕ → ℕ → Local → Type 0) (sz : Sizes) (s : State) (u n : ℕ) : Type 0 where
@@ -151,3 +126,18 @@ module _ (T : Table) (tail : ℕ) (Time : Sizes → List ℕ → ℕ → Local �
   some_can_end most k t es r tn busy fits =
       let all : total (λ v. most) op.threads ≡ op.threads * most = total_all most op.threads in
       can_end (op.threads * most + tail + 1) k es (λ v. most) t r tn busy fits (omega arith)
+
+seven : (a : ℕ) → a + 6 + 1 ≤ a + 7
+seven a = omega arith
+
+-- with 6 steps from a decision to the end
+pub can_end_by : (T : Table) (Time : Sizes → List ℕ → ℕ → Local → Type 0) → Shrinks T 6 Time → SomeThreadGetsOn T
+    → (most : Sizes → ℕ) (op : Opening) (k t : ℕ) (es : ℕ → Event) → Run T op es k → t < op.threads
+    → IsPending (state_at T op es k) t
+    → ((v : ℕ) → v < op.threads → IsPending (state_at T op es k) v
+    → Time (sizes op) (state_at T op es k).words (most (sizes op)) (local_of (state_at T op es k) v))
+    → CanEnd T (state_at T op es k) (for_each most (sizes op))
+can_end_by T Time shrinks some most op k t es r tn busy fits =
+    can_more T (state_at T op es k) (op.threads * most (sizes op) + 6 + 1) (for_each most (sizes op))
+    (seven (op.threads * most (sizes op)))
+    (some_can_end T 6 Time shrinks some op (most (sizes op)) k t es r tn busy fits)

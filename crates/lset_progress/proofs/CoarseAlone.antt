@@ -23,12 +23,13 @@ use Rattle.lset_coarse.specs.Lawful.{coarse_lawful}
 use Rattle.lset_coarse.specs.Lawful.Outline.{At, Walking, one_lock, coarse_follows}
 use Rattle.lset_coarse.specs.Lawful.Outline.At.{at0, at1, at2, at3, at4, at5, at6, at7, at8, at9, at10}
 use Rattle.lset_progress.specs.Progress.{NoOtherHolds, IsPending, CallsEndAlone, CanEnd, GetsOn, Holds, SomeCallCanEnd, SomeThreadGetsOn, coarse_steps}
+use Rattle.lset_progress.proofs.LocksAlone.{Walks, calls_end_by}
 use Rattle.lset_progress.proofs.Rest.{rest, few, fewer}
-use Rattle.lset_progress.proofs.Alone.{Nears, Step, stepped, ends_alone}
+use Rattle.lset_progress.proofs.Alone.{Step, stepped}
 use Rattle.lset_progress.proofs.Alone.Step.{goes, stops}
 use Rattle.lset_progress.proofs.CanEnd.{alone_can}
 use Rattle.lset_progress.proofs.Decided.{leads_on}
-use Rattle.lset_progress.proofs.Holders.{MayHold, kept, after_store, after_try, holder_known, one_or_more, try_succeeds, others_wait}
+use Rattle.lset_progress.proofs.Holders.{MayHold, kept, after_store, after_try, holder_known, one_or_more, try_succeeds}
 use Rattle.lset_progress.proofs.Waiting.{Climbs, on_load, on_store, on_try, some_gets_on}
 
 -- what is known at a moment of a run
@@ -251,46 +252,45 @@ module _ (sz : Sizes) (ws : List ℕ) (used : ℕ → ℕ) (m : Memory false sz 
   starts (at9 e d x a y) busy = let y : left size ws l ≡ 1 = rw e refl in omega arith
   starts (at10 e x r y z) busy = let y : left size ws l ≡ 0 = rw e refl in omega arith
 
--- the stages of a call
-abbrev Stage : Sizes → State → ℕ → ℕ → Type 0
-Stage sz s t n = NoOtherHolds sz s t × Left (node_count sz) s.words n (local_of s t)
-
 first_free : (op : Opening) (last k t : ℕ) (es : ℕ → Event) → Run coarse op es last → k ≤ last
     → NoOtherHolds (sizes op) (state_at coarse op es k) t
     → (local_of (state_at coarse op es k) t).pc ≡ 1 → slice_index (state_at coarse op es k).words 0 ≡ 0
 first_free op last k t es r l free e = try_succeeds coarse coarse_lawful May coarse_may op es last r k l t free 0 (inl refl)
     (omega arith) (λ z. let p : 2 ≤ (local_of (state_at coarse op es k) t).pc = z.1 in omega arith)
 
-nears : Nears coarse Stage
-nears = record {
-  some = λ sz s t g. (let h : left (node_count sz) s.words (local_of s t) < 0 = g.1.1 in omega arith);
-  pending = λ sz s t n g. g.1.0;
-  steps = λ op es k t n r ee tn g.
-      let i : Known op k es = known op (suc k) k es r (omega arith) in
-      let step = next (sizes op) (state_at coarse op es k).words (used_in (state_at coarse op es k)) i.memory t
-      (local_of (state_at coarse op es k) t) (i.threads t tn).registers (views coarse op es) (begun_at (log_of coarse op es) t k) k
-      (has_changed (log_of coarse op es) t k) (first_free op (suc k) k t es r (omega arith) g.0) n g.1.1 (i.threads t tn).at
-      g.1.0 in
-      elim (stepped coarse (state_at coarse op es k) t (rw i.locals tn)
-      (λ ws' l'. Left (node_count (sizes op)) ws' n l') step) [
+abbrev Time : Sizes → List ℕ → ℕ → Local → Type 0
+Time sz ws n l = left (node_count sz) ws l < n
+
+abbrev Free : List ℕ → Local → Type 0
+Free ws l = l.pc ≡ 1 → slice_index ws 0 ≡ 0
+
+abbrev Late : Local → Type 0
+Late l = ⊥
+
+walks : Walks coarse coarse_steps Time Free Free Late
+walks = record {
+  some = λ sz ws l h. omega arith;
+  full = λ op last k t es r upto tn busy free.
+      let i : Known op k es = known op last k es r upto in
+      starts (sizes op) (state_at coarse op es k).words (used_in (state_at coarse op es k)) i.memory t
+      (local_of (state_at coarse op es k) t) (i.threads t tn).registers (views coarse op es)
+      (begun_at (log_of coarse op es) t k) k (has_changed (log_of coarse op es) t k) free (i.threads t tn).at busy;
+  step = λ op last k t es r upto tn busy calm n free h.
+      let i : Known op k es = known op last k es r upto in
+      elim (stepped coarse (state_at coarse op es k) t (rw i.locals tn) (λ ws' l'. Left (node_count (sizes op)) ws' n l')
+      (next (sizes op) (state_at coarse op es k).words (used_in (state_at coarse op es k)) i.memory t
+      (local_of (state_at coarse op es k) t) (i.threads t tn).registers (views coarse op es)
+      (begun_at (log_of coarse op es) t k) k (has_changed (log_of coarse op es) t k) free n h (i.threads t tn).at busy)) [
         | inl a ↦ inl a
-        | inr p ↦ inr (others_wait coarse coarse_lawful op es k t r ee g.0, p)
+        | inr p ↦ inr (p.0, p.1, λ z. z)
       ];
+  alone = λ op last k t es r upto tn others.
+      (first_free op last k t es r upto others, first_free op last k t es r upto others);
+  late_free = λ ws l z. absurd z;
 }
 
 pub coarse_calls_end : CallsEndAlone coarse coarse_steps
-coarse_calls_end op k t es r tn busy free =
-    let i : Known op k es = known op k k es r (omega arith) in
-    ends_alone coarse coarse_lawful Stage nears op t tn (coarse_steps (sizes op)) k es r (
-      free,
-      (
-        busy,
-        starts (sizes op) (state_at coarse op es k).words (used_in (state_at coarse op es k)) i.memory t
-            (local_of (state_at coarse op es k) t) (i.threads t tn).registers (views coarse op es)
-            (begun_at (log_of coarse op es) t k) k (has_changed (log_of coarse op es) t k)
-            (first_free op k k t es r (omega arith) free) (i.threads t tn).at busy,
-      ),
-    )
+coarse_calls_end = calls_end_by coarse coarse_lawful coarse_steps Time Free Free Late walks
 
 -- NO DEADLOCK: who has the list's lock tries none
 module _ (op : Opening) (k : ℕ) (es : ℕ → Event) (r : Run coarse op es k) where

@@ -10,7 +10,7 @@ use Rattle.lset_steps.specs.declared.Action.TheVariants.{Load, Store, Exchange}
 use Rattle.lset_steps.specs.declared.Event.{Event}
 use Rattle.lset_steps.specs.declared.Event.TheVariants.{Go}
 use Rattle.lset_steps.specs.declared.Local.{Local}
-use Rattle.lset_steps.specs.Steps.{State, Run, Enabled, state_at, local_of, seen_by, left_by, log_of}
+use Rattle.lset_steps.specs.Steps.{State, Run, Enabled, state_at, after, local_of, seen_by, left_by, log_of}
 use Rattle.lset_steps.specs.Chain.{View, view, node_key, node_link, node_lock}
 use Rattle.lset_steps.specs.Laws.{Registers, views, used_in}
 use Rattle.lset_steps.specs.Promises.{held}
@@ -23,15 +23,16 @@ use Rattle.lset_fine.specs.Fine.{fine, targets}
 use Rattle.lset_fine.specs.Lawful.{fine_lawful}
 use Rattle.lset_fine.specs.Lawful.Outline.{At, fine_follows}
 use Rattle.lset_fine.specs.Lawful.Outline.At.{at0, at1, at2, at3, at4, at5, at6, at7, at8, at9, at10, at11, at12, at13}
-use Rattle.lset_progress.specs.Progress.{NoOtherHolds, IsPending, Answers, CallsEndAlone, CanEnd, GetsOn, SomeCallCanEnd, SomeThreadGetsOn, fine_steps, for_each}
+use Rattle.lset_progress.specs.Progress.{NoOtherHolds, IsPending, Answers, CallsEndAlone, GetsOn, SomeCallCanEnd, SomeThreadGetsOn, fine_steps, for_each}
 use Rattle.lset_progress.proofs.Ahead.{ahead}
-use Rattle.lset_progress.proofs.CanEnd.{Before, Shrinks, alone_can, can_more, some_can_end}
-use Rattle.lset_progress.proofs.Rest.{rest, few, fewer, keys_stay, keys_tried, rest_same}
-use Rattle.lset_progress.proofs.Alone.{Nears, Step, stepped, ends_alone}
+use Rattle.lset_progress.proofs.LocksAlone.{Walks, Decides, calls_end_by, some_call_can_end}
+use Rattle.lset_progress.proofs.Rest.{KeepsList, rest, few, fewer, keys_stay, keys_tried, rest_same, loading, trying, giving}
+use Rattle.lset_progress.proofs.Alone.{Step, stepped}
 use Rattle.lset_progress.proofs.Alone.Step.{goes, stops}
 use Rattle.lset_progress.proofs.Decided.{leads_on}
-use Rattle.lset_progress.proofs.Holders.{MayHold, kept, after_try, holder_known, one_or_more, try_succeeds, others_wait}
-use Rattle.lset_progress.proofs.Waiting.{Climbs, on_load, on_store, on_try, some_gets_on}
+use Rattle.lset_progress.proofs.Holders.{MayHold, kept, after_try, try_succeeds}
+use Rattle.lset_progress.proofs.Waiting.{on_load, on_store}
+use Rattle.lset_progress.proofs.NodeWaits.{Tries, node_gets_on}
 use Rattle.lset_progress.proofs.NodeLocks.{MayHoldNodes, loaded, stored, missed, took_curr, gave_pred, gave_curr}
 
 -- what is known at a moment of a run
@@ -216,9 +217,9 @@ left_by_keys size key l =
 abbrev left : ℕ → List ℕ → Local → ℕ
 left size ws l = left_by_keys size (node_key ws) l
 
--- fewer than n, and the call is open
-abbrev Left : ℕ → List ℕ → ℕ → Local → Type 0
-Left size ws n l = (l.pc ≢ 0) × (left size ws l < n)
+-- after a step: fewer than n, the call is open, and behind its decision, from row 7 on, if it was
+abbrev Left : ℕ → List ℕ → ℕ → Local → Local → Type 0
+Left size ws n l l' = (l'.pc ≢ 0) × (left size ws l' < n) × (7 ≤ l.pc → 7 ≤ l'.pc)
 
 -- the lock that the next step tries
 abbrev Free : List ℕ → Local → Type 0
@@ -234,14 +235,14 @@ module _ (sz : Sizes) (ws : List ℕ) (used : ℕ → ℕ) (m : Memory false sz 
 
   module _ (free : Free ws l) (n : ℕ) (h : left size ws l < suc n) where
     abbrev Next : Type 0
-    Next = Step fine ws l (λ ws' l'. Left size ws' n l')
+    Next = Step fine ws l (λ ws' l'. Left size ws' n l l')
 
     takes_head : l.pc ≡ 1 → Next
     takes_head e =
         let y : left size ws l ≡ 4 * size + 1 = rw e refl in
         let on : Local = record l { pc = 2; pred = 0 } in let again : Local = record l { pc = 1 } in
         goes (Exchange (lock_index 0) 0 (t + 1)) on None (rw (e, g.thread) refl)
-        (rw (e, if_same (node_lock ws 0) 0 (free.0 e) on again) refl) (λ z. omega arith, omega arith)
+        (rw (e, if_same (node_lock ws 0) 0 (free.0 e) on again) refl) (λ z. omega arith, omega arith, λ z. omega arith)
 
     takes_curr : l.pc ≡ 3 → Behind V t (target l.call) l.pred l.curr → Next
     takes_curr e b =
@@ -250,7 +251,7 @@ module _ (sz : Sizes) (ws : List ℕ) (used : ℕ → ℕ) (m : Memory false sz 
         let k : rest size (left_by ws (Exchange (lock_index l.curr) 0 (t + 1))) l.curr ≡ rest size ws l.curr =
         rest_same ws (left_by ws (Exchange (lock_index l.curr) 0 (t + 1))) size l.curr (keys_tried ws l.curr (t + 1)) in
         goes (Exchange (lock_index l.curr) 0 (t + 1)) on None (rw (e, g.thread) refl)
-        (rw (e, if_same (node_lock ws l.curr) 0 (free.1 e (curr_is_not_pred m b)) on again) refl) (λ z. omega arith, omega arith)
+        (rw (e, if_same (node_lock ws l.curr) 0 (free.1 e (curr_is_not_pred m b)) on again) refl) (λ z. omega arith, omega arith, λ z. omega arith)
 
     finds_key : l.pc ≡ 4 → Next
     finds_key e =
@@ -260,15 +261,15 @@ module _ (sz : Sizes) (ws : List ℕ) (used : ℕ → ℕ) (m : Memory false sz 
         let a = Load (key_index l.curr) in
         elim (below_or_not s k) [
           | inl lt ↦ goes a (record l0 { pc = 5 }) None (rw e refl)
-              (rw (e, if_below s k lt (record l0 { pc = 5 }) (decided_on targets s l0)) refl) (λ z. omega arith, omega arith)
+              (rw (e, if_below s k lt (record l0 { pc = 5 }) (decided_on targets s l0)) refl) (λ z. omega arith, omega arith, λ z. omega arith)
           | inr ge ↦
               (let on = if_not_below s k ge (record l0 { pc = 5 }) (decided_on targets s l0) in
               elim (leads_on targets s l0) [
-                | inl z ↦ goes a (goes_to 7 None l0) None (rw e refl) (rw (e, on ∙ z) refl) (λ z. omega arith, omega arith)
+                | inl z ↦ goes a (goes_to 7 None l0) None (rw e refl) (rw (e, on ∙ z) refl) (λ z. omega arith, omega arith, λ z. omega arith)
                 | inr w ↦ elim w [
-                  | inl z ↦ goes a (goes_to 10 None l0) None (rw e refl) (rw (e, on ∙ z) refl) (λ z. omega arith, omega arith)
+                  | inl z ↦ goes a (goes_to 10 None l0) None (rw e refl) (rw (e, on ∙ z) refl) (λ z. omega arith, omega arith, λ z. omega arith)
                   | inr z ↦ goes a (goes_to 12 (Some z.0) l0) None (rw e refl) (rw (e, on ∙ z.1) refl)
-                      (λ z. omega arith, omega arith)
+                      (λ z. omega arith, omega arith, λ z. omega arith)
                 ]
               ])
         ]
@@ -282,59 +283,59 @@ module _ (sz : Sizes) (ws : List ℕ) (used : ℕ → ℕ) (m : Memory false sz 
         let a : rest size ws 0 < size = few false sz ws used m 0 head in
         let b : rest size ws (node_link ws 0 / 2) < rest size ws 0 = fewer false sz ws used m 0 head (omega arith) in
         goes (Load (link_index 0)) (record l { pc = 3; curr = node_link ws 0 / 2 }) None (rw e refl) (rw e refl)
-        (λ z. omega arith, omega arith)
+        (λ z. omega arith, omega arith, λ z. omega arith)
     next (at3 e d b) busy = takes_curr e b
     next (at4 e d b) busy = finds_key e
     next (at5 e d b lt) busy =
         let y : left size ws l ≡ 4 * rest size ws l.curr + 4 = rw e refl in
         let k : rest size (slice_set ws (lock_index l.pred) 0) l.curr ≡ rest size ws l.curr =
         rest_same ws (slice_set ws (lock_index l.pred) 0) size l.curr (keys_stay ws l.pred 0) in
-        goes (Store (lock_index l.pred) 0) (record l { pc = 6 }) None (rw e refl) (rw e refl) (λ z. omega arith, omega arith)
+        goes (Store (lock_index l.pred) 0) (record l { pc = 6 }) None (rw e refl) (rw e refl) (λ z. omega arith, omega arith, λ z. omega arith)
     next (at6 e d x lt) busy =
         let y : left size ws l ≡ 4 * rest size ws l.curr + 3 = rw e refl in
         let b : rest size ws (node_link ws l.curr / 2) < rest size ws l.curr = fewer false sz ws used m l.curr x.published
         (inner false sz ws used m l.curr (target l.call) lt g.low) in
         goes (Load (link_index l.curr)) (record l { pc = 3; pred = l.curr; curr = node_link ws l.curr / 2 }) None
-        (rw e refl) (rw e refl) (λ z. omega arith, omega arith)
+        (rw e refl) (rw e refl) (λ z. omega arith, omega arith, λ z. omega arith)
     next (at7 e d b a) busy =
         let y : left size ws l ≡ 4 = rw e refl in
         goes (Store (key_index (own_slot l)) (target l.call)) (record l { pc = 8 }) None (rw e refl) (rw e refl)
-        (λ z. omega arith, omega arith)
+        (λ z. omega arith, omega arith, λ z. omega arith)
     next (at8 e d b a x) busy =
         let y : left size ws l ≡ 3 = rw e refl in
         goes (Store (link_index (own_slot l)) (2 * l.curr)) (record l { pc = 9 }) None (rw e refl) (rw e refl)
-        (λ z. omega arith, omega arith)
+        (λ z. omega arith, omega arith, λ z. omega arith)
     next (at9 e d b a x x2) busy =
         let y : left size ws l ≡ 2 = rw e refl in
         goes (Store (link_index l.pred) (2 * own_slot l)) (record l { pc = 12; reply = Some True; used = l.used + 1 }) None
-        (rw e refl) (rw e refl) (λ z. omega arith, omega arith)
+        (rw e refl) (rw e refl) (λ z. omega arith, omega arith, λ z. omega arith)
     next (at10 e d b a) busy =
         let y : left size ws l ≡ 3 = rw e refl in
         goes (Load (link_index l.curr)) (record l { pc = 11; succ = node_link ws l.curr / 2 }) None (rw e refl) (rw e refl)
-        (λ z. omega arith, omega arith)
+        (λ z. omega arith, omega arith, λ z. omega arith)
     next (at11 e d b a x) busy =
         let y : left size ws l ≡ 2 = rw e refl in
         goes (Store (link_index l.pred) (2 * l.succ)) (record l { pc = 12; reply = Some True }) None (rw e refl) (rw e refl)
-        (λ z. omega arith, omega arith)
+        (λ z. omega arith, omega arith, λ z. omega arith)
     next (at12 e p c d r ry due) busy =
         let y : left size ws l ≡ 1 = rw e refl in
-        goes (Store (lock_index l.curr) 0) (record l { pc = 13 }) None (rw e refl) (rw e refl) (λ z. omega arith, omega arith)
+        goes (Store (lock_index l.curr) 0) (record l { pc = 13 }) None (rw e refl) (rw e refl) (λ z. omega arith, omega arith, λ z. omega arith)
     next (at13 e p r ry due) busy = stops (Store (lock_index l.pred) 0) (record l { pc = 0 }) r (rw e refl) (rw (e, ry) refl)
 
   -- from any place
-  walks : V.published l.curr → left size ws l ≤ 4 * rest size ws l.curr + 6 → left size ws l < fine_steps sz
-  walks p le = let x : rest size ws l.curr < size = few false sz ws used m l.curr p in omega arith
+  walking : V.published l.curr → left size ws l ≤ 4 * rest size ws l.curr + 6 → left size ws l < fine_steps sz
+  walking p le = let x : rest size ws l.curr < size = few false sz ws used m l.curr p in omega arith
 
   starts : At sz.quota t vs first now V done l → l.pc ≢ 0 → left size ws l < fine_steps sz
   starts (at0 e) busy = absurd (busy e)
   starts (at1 e d) busy = let y : left size ws l ≡ 4 * size + 1 = rw e refl in omega arith
   starts (at2 e d p x) busy = let y : left size ws l ≡ 4 * size = rw e refl in omega arith
-  starts (at3 e d b) busy = let y : left size ws l ≡ 4 * rest size ws l.curr + 6 = rw e refl in walks b.next (omega arith)
-  starts (at4 e d b) busy = let y : left size ws l ≡ 4 * rest size ws l.curr + 5 = rw e refl in walks b.walk.next (omega arith)
+  starts (at3 e d b) busy = let y : left size ws l ≡ 4 * rest size ws l.curr + 6 = rw e refl in walking b.next (omega arith)
+  starts (at4 e d b) busy = let y : left size ws l ≡ 4 * rest size ws l.curr + 5 = rw e refl in walking b.walk.next (omega arith)
   starts (at5 e d b lt) busy = let y : left size ws l ≡ 4 * rest size ws l.curr + 4 = rw e refl in
-      walks b.walk.next (omega arith)
+      walking b.walk.next (omega arith)
   starts (at6 e d x lt) busy = let y : left size ws l ≡ 4 * rest size ws l.curr + 3 = rw e refl in
-      walks x.published (omega arith)
+      walking x.published (omega arith)
   starts (at7 e d b a) busy = let y : left size ws l ≡ 4 = rw e refl in omega arith
   starts (at8 e d b a x) busy = let y : left size ws l ≡ 3 = rw e refl in omega arith
   starts (at9 e d b a x z) busy = let y : left size ws l ≡ 2 = rw e refl in omega arith
@@ -353,10 +354,6 @@ module _ (l : Local) where
   no_curr e d (inl p) = let z : lock_index l.curr ≡ lock_index l.pred = p.0 in d (omega arith)
   no_curr e d (inr c) = let y : 4 ≤ l.pc = c.1.0 in omega arith
 
--- the stages of a call
-abbrev Stage : Sizes → State → ℕ → ℕ → Type 0
-Stage sz s t n = NoOtherHolds sz s t × Left (node_count sz) s.words n (local_of s t)
-
 module _ (op : Opening) (last k t : ℕ) (es : ℕ → Event) (r : Run fine op es last) (upto : k ≤ last) (tn : t < op.threads)
     (others : NoOtherHolds (sizes op) (state_at fine op es k) t) where
   its_locks_free : Free (state_at fine op es k).words (local_of (state_at fine op es k) t)
@@ -370,35 +367,47 @@ module _ (op : Opening) (last k t : ℕ) (es : ℕ → Event) (r : Run fine op e
             (omega arith) (no_curr l e d),
       )
 
-nears : Nears fine Stage
-nears = record {
-  some = λ sz s t g. (let h : left (node_count sz) s.words (local_of s t) < 0 = g.1.1 in omega arith);
-  pending = λ sz s t n g. g.1.0;
-  steps = λ op es k t n r ee tn g.
-      let i : Known op k es = known op (suc k) k es r (omega arith) in
-      let step = next (sizes op) (state_at fine op es k).words (used_in (state_at fine op es k)) i.memory t
-      (local_of (state_at fine op es k) t) (i.threads t tn).registers (views fine op es) (begun_at (log_of fine op es) t k) k
-      (has_changed (log_of fine op es) t k) (its_locks_free op (suc k) k t es r (omega arith) tn g.0) n g.1.1 (i.threads t tn).at
-      g.1.0 in
-      elim (stepped fine (state_at fine op es k) t (rw i.locals tn)
-      (λ ws' l'. Left (node_count (sizes op)) ws' n l') step) [
-        | inl a ↦ inl a
-        | inr p ↦ inr (others_wait fine fine_lawful op es k t r ee g.0, p)
-      ];
+-- what the rows say at a moment of a run
+module _ (op : Opening) (last k t : ℕ) (es : ℕ → Event) (r : Run fine op es last) (upto : k ≤ last) (tn : t < op.threads)
+    (busy : IsPending (state_at fine op es k) t) where
+  abbrev At_k : State
+  At_k = state_at fine op es k
+
+  facts : Known op k es
+  facts = known op last k es r upto
+
+  full_time : left (node_count (sizes op)) At_k.words (local_of At_k t) < fine_steps (sizes op)
+  full_time = starts (sizes op) At_k.words (used_in At_k) facts.memory t (local_of At_k t) (facts.threads t tn).registers
+      (views fine op es) (begun_at (log_of fine op es) t k) k (has_changed (log_of fine op es) t k) (facts.threads t tn).at busy
+
+  own_step : (n : ℕ) → Free At_k.words (local_of At_k t) → left (node_count (sizes op)) At_k.words (local_of At_k t) < suc n
+      → Answers fine At_k t ⊎ Left (node_count (sizes op)) (after fine At_k (Go t)).words n (local_of At_k t)
+      (local_of (after fine At_k (Go t)) t)
+  own_step n free h = stepped fine At_k t (rw facts.locals tn) (λ ws' l'. Left (node_count (sizes op)) ws' n (local_of At_k t) l')
+      (next (sizes op) At_k.words (used_in At_k) facts.memory t (local_of At_k t) (facts.threads t tn).registers (views fine op es)
+      (begun_at (log_of fine op es) t k) k (has_changed (log_of fine op es) t k) free n h (facts.threads t tn).at busy)
+
+abbrev Time : Sizes → List ℕ → ℕ → Local → Type 0
+Time sz ws n l = left (node_count sz) ws l < n
+
+abbrev Calm : List ℕ → Local → Type 0
+Calm ws l = Unit {0}
+
+-- from the decision on a thread tries no lock
+abbrev Late : Local → Type 0
+Late l = 7 ≤ l.pc
+
+walks : Walks fine fine_steps Time Free Calm Late
+walks = record {
+  some = λ sz ws l h. omega arith;
+  full = λ op last k t es r upto tn busy calm. full_time op last k t es r upto tn busy;
+  step = λ op last k t es r upto tn busy calm n free h. own_step op last k t es r upto tn busy n free h;
+  alone = λ op last k t es r upto tn others. (its_locks_free op last k t es r upto tn others, tt);
+  late_free = λ ws l low. (λ z. omega arith, (λ e. absurd (omega arith), λ e d. absurd (omega arith)), tt);
 }
 
 pub fine_calls_end : CallsEndAlone fine fine_steps
-fine_calls_end op k t es r tn busy others =
-    let i : Known op k es = known op k k es r (omega arith) in
-    ends_alone fine fine_lawful Stage nears op t tn (fine_steps (sizes op)) k es r (
-      others,
-      (
-        busy,
-        starts (sizes op) (state_at fine op es k).words (used_in (state_at fine op es k)) i.memory t
-            (local_of (state_at fine op es k) t) (i.threads t tn).registers (views fine op es)
-            (begun_at (log_of fine op es) t k) k (has_changed (log_of fine op es) t k) (i.threads t tn).at busy,
-      ),
-    )
+fine_calls_end = calls_end_by fine fine_lawful fine_steps Time Free Calm Late walks
 
 -- NO DEADLOCK: who waits for the lock of curr has that of pred, which comes before it
 module _ (op : Opening) (k : ℕ) (es : ℕ → Event) (r : Run fine op es k) where
@@ -417,9 +426,6 @@ module _ (op : Opening) (k : ℕ) (es : ℕ → Event) (r : Run fine op es k) wh
       ⊎ (((local_of S t).pc ≡ 3) × (a ≡ (local_of S t).curr)
       × Behind World t (target (local_of S t).call) (local_of S t).pred (local_of S t).curr)
 
-  abbrev Waits : ℕ → ℕ → Type 0
-  Waits t a = Place t a × (node_lock S.words a ≢ 0) × (a < node_count (sizes op))
-
   module _ (t : ℕ) (tn : t < op.threads) (busy : IsPending S t) where
     abbrev L : Local
     L = local_of S t
@@ -430,38 +436,22 @@ module _ (op : Opening) (k : ℕ) (es : ℕ → Event) (r : Run fine op es k) wh
     g : Registers (sizes op) t L
     g = (i.threads t tn).registers
 
-    tries_or_waits : (a : ℕ) → a < node_count (sizes op) → fine.next L ≡ Exchange (lock_index a) 0 (t + 1) → Place t a
-        → GetsOn fine S t ⊎ ((a : ℕ) × Waits t a)
-    tries_or_waits a inn acts place = elim (same_or_not (node_lock S.words a) 0) [
-      | inl z ↦ inl (on_try fine S t en (lock_index a) 0 (t + 1) acts z)
-      | inr z ↦ inr (a, (place, z, inn))
-    ]
-
-    goes_or_waits : At (sizes op).quota t (views fine op es) (begun_at (log_of fine op es) t k) k World
-        (has_changed (log_of fine op es) t k) L → GetsOn fine S t ⊎ ((a : ℕ) × Waits t a)
-    goes_or_waits (at0 e) = absurd (busy e)
-    goes_or_waits (at1 e d) = tries_or_waits 0 (omega arith) (rw (e, g.thread) refl) (inl (e, refl))
-    goes_or_waits (at2 e d p x) = inl (on_load fine S t en (link_index 0) (rw e refl))
-    goes_or_waits (at3 e d b) = tries_or_waits L.curr g.curr (rw (e, g.thread) refl) (inr (e, refl, b))
-    goes_or_waits (at4 e d b) = inl (on_load fine S t en (key_index L.curr) (rw e refl))
-    goes_or_waits (at5 e d b lt) = inl (on_store fine S t en (lock_index L.pred) 0 (rw e refl))
-    goes_or_waits (at6 e d x lt) = inl (on_load fine S t en (link_index L.curr) (rw e refl))
-    goes_or_waits (at7 e d b a) = inl (on_store fine S t en (key_index (own_slot L)) (target L.call) (rw e refl))
-    goes_or_waits (at8 e d b a x) = inl (on_store fine S t en (link_index (own_slot L)) (2 * L.curr) (rw e refl))
-    goes_or_waits (at9 e d b a x z) = inl (on_store fine S t en (link_index L.pred) (2 * own_slot L) (rw e refl))
-    goes_or_waits (at10 e d b a) = inl (on_load fine S t en (link_index L.curr) (rw e refl))
-    goes_or_waits (at11 e d b a x) = inl (on_store fine S t en (link_index L.pred) (2 * L.succ) (rw e refl))
-    goes_or_waits (at12 e p c d z ry due) = inl (on_store fine S t en (lock_index L.curr) 0 (rw e refl))
-    goes_or_waits (at13 e p z ry due) = inl (on_store fine S t en (lock_index L.pred) 0 (rw e refl))
-
-  its_holder : (a : ℕ) → a < node_count (sizes op) → node_lock S.words a ≢ 0
-      → (u : ℕ) × (u < op.threads) × IsPending S u × May (local_of S u) (lock_index a)
-  its_holder a inn d = elim (one_or_more (node_lock S.words a)) [
-    | inl z ↦ absurd (d z)
-    | inr h ↦
-        (let x = holder_known fine fine_lawful May fine_may op es k r (lock_index a) (inr (a, refl)) (omega arith) k (omega arith)
-        h.0 h.1 in (h.0, x.0, (λ z. rests (local_of S h.0) (lock_index a) z x.1), x.1))
-  ]
+    goes_or_tries : At (sizes op).quota t (views fine op es) (begun_at (log_of fine op es) t k) k World
+        (has_changed (log_of fine op es) t k) L → GetsOn fine S t ⊎ Tries fine fine_lawful OnPred OnCurr fine_may op k es r Place t
+    goes_or_tries (at0 e) = absurd (busy e)
+    goes_or_tries (at1 e d) = inr (0, omega arith, rw (e, g.thread) refl, inl (e, refl))
+    goes_or_tries (at2 e d p x) = inl (on_load fine S t en (link_index 0) (rw e refl))
+    goes_or_tries (at3 e d b) = inr (L.curr, g.curr, rw (e, g.thread) refl, inr (e, refl, b))
+    goes_or_tries (at4 e d b) = inl (on_load fine S t en (key_index L.curr) (rw e refl))
+    goes_or_tries (at5 e d b lt) = inl (on_store fine S t en (lock_index L.pred) 0 (rw e refl))
+    goes_or_tries (at6 e d x lt) = inl (on_load fine S t en (link_index L.curr) (rw e refl))
+    goes_or_tries (at7 e d b a) = inl (on_store fine S t en (key_index (own_slot L)) (target L.call) (rw e refl))
+    goes_or_tries (at8 e d b a x) = inl (on_store fine S t en (link_index (own_slot L)) (2 * L.curr) (rw e refl))
+    goes_or_tries (at9 e d b a x z) = inl (on_store fine S t en (link_index L.pred) (2 * own_slot L) (rw e refl))
+    goes_or_tries (at10 e d b a) = inl (on_load fine S t en (link_index L.curr) (rw e refl))
+    goes_or_tries (at11 e d b a x) = inl (on_store fine S t en (link_index L.pred) (2 * L.succ) (rw e refl))
+    goes_or_tries (at12 e p c d z ry due) = inl (on_store fine S t en (lock_index L.curr) 0 (rw e refl))
+    goes_or_tries (at13 e p z ry due) = inl (on_store fine S t en (lock_index L.pred) 0 (rw e refl))
 
   -- what a thread that waits has is before what it waits for
   comes_before : (u a c : ℕ) → May (local_of S u) (lock_index a) → Place u c
@@ -485,87 +475,13 @@ module _ (op : Opening) (k : ℕ) (es : ℕ → Event) (r : Run fine op es k) wh
       (subst (λ z. rest (node_count (sizes op)) S.words z < rest (node_count (sizes op)) S.words (local_of S u).pred)
       (half ∙ sym w.1) less)
 
-  climbing : Climbs fine S op.threads
-  climbing = record {
-    waits = Waits;
-    has = λ u a. May (local_of S u) (lock_index a);
-    rank = λ a. rest (node_count (sizes op)) S.words a;
-    either = λ t tn busy. goes_or_waits t tn busy (i.threads t tn).at;
-    holder = λ t a tn w. its_holder a w.2 w.1;
-    lower = λ u a c un h w. comes_before u a c h w.0;
-  }
-
 pub fine_gets_on : SomeThreadGetsOn fine
-fine_gets_on op k t es r tn busy = some_gets_on fine (state_at fine op es k) op.threads (climbing op k es r) t tn busy
+fine_gets_on op k t es r tn busy = node_gets_on fine fine_lawful OnPred OnCurr fine_may op k es r (Place op k es r)
+    (λ u un b. goes_or_tries op k es r u un b ((known op k k es r (omega arith)).threads u un).at) (comes_before op k es r) t tn busy
 
--- SOME CALL CAN END: a step before the decision leaves keys and links,
-module _ (ws : List ℕ) (l : Local) where
-  abbrev KeysStay : Type 0
-  KeysStay = node_key (left_by ws (fine.next l)) ≡ node_key ws
-
-  loading : (w : ℕ) → fine.next l ≡ Load w → KeysStay
-  loading w acts = ap (λ a. node_key (left_by ws a)) acts
-
-  trying : (a v : ℕ) → fine.next l ≡ Exchange (lock_index a) 0 v → KeysStay
-  trying a v acts = ap (λ x. node_key (left_by ws x)) acts ∙ keys_tried ws a v
-
-  giving : (a v : ℕ) → fine.next l ≡ Store (lock_index a) v → KeysStay
-  giving a v acts = ap (λ x. node_key (left_by ws x)) acts ∙ keys_stay ws a v
-
-left_same : (size : ℕ) (ws ws' : List ℕ) (l : Local) → node_key ws' ≡ node_key ws → left size ws' l ≡ left size ws l
-left_same size ws ws' l e = ap (λ (f : ℕ → ℕ). left_by_keys size f l) e
-
--- and from the decision on a thread tries no lock
-abbrev Late : Sizes → State → ℕ → ℕ → Type 0
-Late sz s t n = (7 ≤ (local_of s t).pc) × (left (node_count sz) s.words (local_of s t) < n)
-
-late_next : {q t : ℕ} {vs : ℕ → View} {first now : ℕ} {v : View} {done : Bool} {l : Local} (size n : ℕ) (ws : List ℕ)
-    → At q t vs first now v done l → 7 ≤ l.pc → left size ws l < suc n
-    → Step fine ws l (λ ws' l'. (7 ≤ l'.pc) × (left size ws' l' < n))
-late_next size n ws (at0 e) low h = absurd (omega arith)
-late_next size n ws (at1 e d) low h = absurd (omega arith)
-late_next size n ws (at2 e d p x) low h = absurd (omega arith)
-late_next size n ws (at3 e d b) low h = absurd (omega arith)
-late_next size n ws (at4 e d b) low h = absurd (omega arith)
-late_next size n ws (at5 e d b lt) low h = absurd (omega arith)
-late_next size n ws (at6 e d x lt) low h = absurd (omega arith)
-late_next {l = l} size n ws (at7 e d b a) low h = let y : left size ws l ≡ 4 = rw e refl in
-    goes (Store (key_index (own_slot l)) (target l.call)) (record l { pc = 8 }) None (rw e refl) (rw e refl)
-    (omega arith, omega arith)
-late_next {l = l} size n ws (at8 e d b a x) low h = let y : left size ws l ≡ 3 = rw e refl in
-    goes (Store (link_index (own_slot l)) (2 * l.curr)) (record l { pc = 9 }) None (rw e refl) (rw e refl)
-    (omega arith, omega arith)
-late_next {l = l} size n ws (at9 e d b a x z) low h = let y : left size ws l ≡ 2 = rw e refl in
-    goes (Store (link_index l.pred) (2 * own_slot l)) (record l { pc = 12; reply = Some True; used = l.used + 1 }) None
-    (rw e refl) (rw e refl) (omega arith, omega arith)
-late_next {l = l} size n ws (at10 e d b a) low h = let y : left size ws l ≡ 3 = rw e refl in
-    goes (Load (link_index l.curr)) (record l { pc = 11; succ = node_link ws l.curr / 2 }) None (rw e refl) (rw e refl)
-    (omega arith, omega arith)
-late_next {l = l} size n ws (at11 e d b a x) low h = let y : left size ws l ≡ 2 = rw e refl in
-    goes (Store (link_index l.pred) (2 * l.succ)) (record l { pc = 12; reply = Some True }) None (rw e refl) (rw e refl)
-    (omega arith, omega arith)
-late_next {l = l} size n ws (at12 e p c d r ry due) low h = let y : left size ws l ≡ 1 = rw e refl in
-    goes (Store (lock_index l.curr) 0) (record l { pc = 13 }) None (rw e refl) (rw e refl) (omega arith, omega arith)
-late_next {l = l} size n ws (at13 e p r ry due) low h =
-    stops (Store (lock_index l.pred) 0) (record l { pc = 0 }) r (rw e refl) (rw (e, ry) refl)
-
-late_nears : Nears fine Late
-late_nears = record {
-  some = λ sz s t g. (let h : left (node_count sz) s.words (local_of s t) < 0 = g.1 in omega arith);
-  pending = λ sz s t n g z. (let low : 7 ≤ (local_of s t).pc = g.0 in omega arith);
-  steps = λ op es k t n r ee tn g.
-      let i : Known op k es = known op (suc k) k es r (omega arith) in
-      stepped fine (state_at fine op es k) t (rw i.locals tn)
-      (λ ws' l'. (7 ≤ l'.pc) × (left (node_count (sizes op)) ws' l' < n))
-      (late_next (node_count (sizes op)) n (state_at fine op es k).words (i.threads t tn).at g.0 g.1);
-}
-
-abbrev Time : Sizes → List ℕ → ℕ → Local → Type 0
-Time sz ws n l = left (node_count sz) ws l < n
-
-module _ (op : Opening) (es : ℕ → Event) (k u n : ℕ) (r : Run fine op es k) (un : u < op.threads)
-    (g : GetsOn fine (state_at fine op es k) u)
-    (time : Time (sizes op) (state_at fine op es k).words (suc n) (local_of (state_at fine op es k) u)) where
+-- SOME CALL CAN END: a step before the decision leaves keys and links
+module _ (op : Opening) (k u : ℕ) (es : ℕ → Event) (r : Run fine op es k) (un : u < op.threads)
+    (g : GetsOn fine (state_at fine op es k) u) where
   abbrev Here : State
   Here = state_at fine op es k
 
@@ -578,70 +494,44 @@ module _ (op : Opening) (es : ℕ → Event) (k u n : ℕ) (r : Run fine op es k
   regs : Registers (sizes op) u Own
   regs = (now.threads u un).registers
 
-  abbrev Outcome : Type 0
-  Outcome = CanEnd fine Here 6 ⊎ Answers fine Here u ⊎ Before fine Time (sizes op) Here u n
-
-  decided : 7 ≤ Own.pc → left (node_count (sizes op)) Here.words Own < 6 → Outcome
-  decided low h = inl (alone_can fine Here u 6 (ends_alone fine fine_lawful Late late_nears op u un 6 k es r (low, h)))
-
-  free : Free Here.words Own
-  free = (
+  free_on : Free Here.words Own
+  free_on = (
     λ e. g.tries (lock_index 0) 0 (u + 1) (inr (0, refl)) (rw (e, regs.thread) refl),
     λ e d. g.tries (lock_index Own.curr) 0 (u + 1) (inr (Own.curr, refl)) (rw (e, regs.thread) refl),
   )
 
-  quiet : KeysStay Here.words Own → Outcome
-  quiet keys =
-      let at = (now.threads u un).at in
-      elim (stepped fine Here u g.enabled.0 (λ ws' l'. Left (node_count (sizes op)) ws' n l')
-      (next (sizes op) Here.words (used_in Here) now.memory u Own regs (views fine op es) (begun_at (log_of fine op es) u k) k
-      (has_changed (log_of fine op es) u k) free n time at g.enabled.1)) [
-        | inl a ↦ inr (inl a)
-        | inr p ↦ inr (inr (record {
-          time = p.1;
-          open_call = p.0;
-          stays = λ m l t. rw (left_same (node_count (sizes op)) Here.words (left_by Here.words (fine.next Own)) l keys) t;
-        }))
-      ]
+  abbrev Outcome : Type 0
+  Outcome = (Late Own × Time (sizes op) Here.words 6 Own) ⊎ KeepsList fine Here.words Own
 
   outcome : At (sizes op).quota u (views fine op es) (begun_at (log_of fine op es) u k) k
       (view (sizes op) Here.words (used_in Here)) (has_changed (log_of fine op es) u k) Own → Outcome
   outcome (at0 e) = absurd (g.enabled.1 e)
-  outcome (at1 e d) = quiet (trying Here.words Own 0 (u + 1) (rw (e, regs.thread) refl))
-  outcome (at2 e d p x) = quiet (loading Here.words Own (link_index 0) (rw e refl))
-  outcome (at3 e d b) = quiet (trying Here.words Own Own.curr (u + 1) (rw (e, regs.thread) refl))
-  outcome (at4 e d b) = quiet (loading Here.words Own (key_index Own.curr) (rw e refl))
-  outcome (at5 e d b lt) = quiet (giving Here.words Own Own.pred 0 (rw e refl))
-  outcome (at6 e d x lt) = quiet (loading Here.words Own (link_index Own.curr) (rw e refl))
-  outcome (at7 e d b a) = let y : left (node_count (sizes op)) Here.words Own ≡ 4 = rw e refl in decided (omega arith) (omega arith)
+  outcome (at1 e d) = inr (trying fine Here.words Own 0 (u + 1) (rw (e, regs.thread) refl))
+  outcome (at2 e d p x) = inr (loading fine Here.words Own (link_index 0) (rw e refl))
+  outcome (at3 e d b) = inr (trying fine Here.words Own Own.curr (u + 1) (rw (e, regs.thread) refl))
+  outcome (at4 e d b) = inr (loading fine Here.words Own (key_index Own.curr) (rw e refl))
+  outcome (at5 e d b lt) = inr (giving fine Here.words Own Own.pred 0 (rw e refl))
+  outcome (at6 e d x lt) = inr (loading fine Here.words Own (link_index Own.curr) (rw e refl))
+  outcome (at7 e d b a) = let y : left (node_count (sizes op)) Here.words Own ≡ 4 = rw e refl in inl (omega arith, omega arith)
   outcome (at8 e d b a x) = let y : left (node_count (sizes op)) Here.words Own ≡ 3 = rw e refl in
-      decided (omega arith) (omega arith)
+      inl (omega arith, omega arith)
   outcome (at9 e d b a x z) = let y : left (node_count (sizes op)) Here.words Own ≡ 2 = rw e refl in
-      decided (omega arith) (omega arith)
-  outcome (at10 e d b a) = let y : left (node_count (sizes op)) Here.words Own ≡ 3 = rw e refl in
-      decided (omega arith) (omega arith)
+      inl (omega arith, omega arith)
+  outcome (at10 e d b a) = inr (loading fine Here.words Own (link_index Own.curr) (rw e refl))
   outcome (at11 e d b a x) = let y : left (node_count (sizes op)) Here.words Own ≡ 2 = rw e refl in
-      decided (omega arith) (omega arith)
-  outcome (at12 e p c d z ry due) = let y : left (node_count (sizes op)) Here.words Own ≡ 1 = rw e refl in
-      decided (omega arith) (omega arith)
-  outcome (at13 e p z ry due) = let y : left (node_count (sizes op)) Here.words Own ≡ 0 = rw e refl in
-      decided (omega arith) (omega arith)
+      inl (omega arith, omega arith)
+  outcome (at12 e p c d z ry due) = inr (giving fine Here.words Own Own.curr 0 (rw e refl))
+  outcome (at13 e p z ry due) = inr (giving fine Here.words Own Own.pred 0 (rw e refl))
 
-shrinks : Shrinks fine 6 Time
-shrinks = record {
-  some = λ sz ws l t. omega arith;
-  steps = λ op es k u n r un g time. outcome op es k u n r un g time ((known op k k es r (omega arith)).threads u un).at;
+decides : Decides fine Time Free Calm Late
+decides = record {
+  ready = λ op k es r. inr (λ u un. tt);
+  free_on = λ op k u es r un g. free_on op k u es r un g;
+  either = λ op k u es r un g. outcome op k u es r un g ((known op k k es r (omega arith)).threads u un).at;
+  stays = λ sz n ws ws' l keys links h.
+      (let same : left (node_count sz) ws' l ≡ left (node_count sz) ws l = ap (λ (f : ℕ → ℕ). left_by_keys (node_count sz) f l) keys in
+      omega arith);
 }
 
-seven : (a : ℕ) → a + 6 + 1 ≤ a + 7
-seven a = omega arith
-
 pub fine_can_end : SomeCallCanEnd fine (for_each fine_steps)
-fine_can_end op k t es r tn busy =
-    let i : Known op k es = known op k k es r (omega arith) in
-    let c = some_can_end fine 6 Time shrinks fine_gets_on op (fine_steps (sizes op)) k t es r tn busy
-    (λ v vn b. starts (sizes op) (state_at fine op es k).words (used_in (state_at fine op es k)) i.memory v
-    (local_of (state_at fine op es k) v) (i.threads v vn).registers (views fine op es)
-    (begun_at (log_of fine op es) v k) k (has_changed (log_of fine op es) v k) (i.threads v vn).at b) in
-    can_more fine (state_at fine op es k) (op.threads * fine_steps (sizes op) + 6 + 1) (for_each fine_steps (sizes op))
-    (seven (op.threads * fine_steps (sizes op))) c
+fine_can_end = some_call_can_end fine fine_lawful fine_steps Time Free Calm Late walks decides fine_gets_on

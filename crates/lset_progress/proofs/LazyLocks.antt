@@ -5,7 +5,7 @@ use Rattle.std.proofs.Common.{arith, inl, inr, sym, ◌∙◌, ap, subst}
 use Rattle.lset_words.proofs.Numbers.{same_or_not, below_or_not, if_same, if_other, if_below, if_not_below}
 use Rattle.lset_words.specs.declared.Reply.{Reply}
 use Rattle.lset_words.specs.declared.Reply.TheVariants.{True}
-use Rattle.lset_words.specs.Words.{key_index, link_index, lock_index, node_count, target, Opening, sizes}
+use Rattle.lset_words.specs.Words.{key_index, link_index, lock_index, target, Opening, sizes}
 use Rattle.lset_words.specs.Log.{begun_at, has_changed}
 use Rattle.lset_steps.specs.declared.Action.TheVariants.{Load, Store, Exchange}
 use Rattle.lset_steps.specs.declared.Event.{Event}
@@ -18,21 +18,18 @@ use Rattle.lset_steps.specs.Promises.{held}
 use Rattle.lset_steps.specs.ReadRows.{continued}
 use Rattle.lset_steps.specs.Rows.{decided_on, goes_to, own_slot}
 use Rattle.lset_steps.proofs.Discipline.{Inv, inv_at}
-use Rattle.lset_steps.proofs.Memory.{inside}
 use Rattle.lset_steps.proofs.ReadOutline.{Reading}
 use Rattle.lset_steps.proofs.Turns.{discipline_of, node_locks}
-use Rattle.lset_steps.proofs.UnlockedWalk.{Found}
 use Rattle.lset_lazy.specs.Lazy.{lazy, targets, gives_up, at_key, at_pred, at_curr}
 use Rattle.lset_lazy.specs.Lawful.{lazy_lawful}
 use Rattle.lset_lazy.specs.Lawful.Outline.{At, lazy_follows, has_read_rows}
 use Rattle.lset_lazy.specs.Lawful.Outline.At.{at0, at1, at2, at3, at4, at5, at6, at7, at8, at9, at10, at11, at12, at13, at14}
 use Rattle.lset_lazy.specs.Lawful.Outline.At.{at_read}
 use Rattle.lset_progress.specs.Progress.{IsPending, GetsOn, SomeThreadGetsOn}
-use Rattle.lset_progress.proofs.Ahead.{ahead_less}
-use Rattle.lset_progress.proofs.Rest.{rest}
-use Rattle.lset_progress.proofs.Waiting.{Climbs, on_load, on_store, on_try, some_gets_on}
+use Rattle.lset_progress.proofs.Waiting.{on_load, on_store}
 use Rattle.lset_progress.proofs.Decided.{leads_on, some_or_none}
-use Rattle.lset_progress.proofs.Holders.{MayHold, kept, after_store, holder_known, one_or_more}
+use Rattle.lset_progress.proofs.Holders.{MayHold, kept, after_store}
+use Rattle.lset_progress.proofs.NodeWaits.{Tries, TwoLocks, two_locks_get_on}
 use Rattle.lset_progress.proofs.NodeLocks.{MayHoldNodes, loaded, stored, missed, took_pred, took_curr, gave_curr}
 use Rattle.lset_progress.proofs.NodeLocks.{none_held}
 use Rattle.lset_progress.proofs.ReadStays.{ReadsOn, reads_on_at, read_row_of, read_low}
@@ -233,14 +230,6 @@ module _ (op : Opening) (k : ℕ) (es : ℕ → Event) (r : Run lazy op es k) wh
   i : Known op k es
   i = known op k k es r (omega arith)
 
-  abbrev Place : ℕ → ℕ → Type 0
-  Place t a = (((local_of S t).pc ≡ 4) × (a ≡ (local_of S t).pred))
-      ⊎ (((local_of S t).pc ≡ 5) × (a ≡ (local_of S t).curr)
-      × Found V (target (local_of S t).call) (local_of S t).pred (local_of S t).curr (local_of S t).ckey)
-
-  abbrev Waits : ℕ → ℕ → Type 0
-  Waits t a = Place t a × (node_lock S.words a ≢ 0) × (a < node_count (sizes op))
-
   module _ (t : ℕ) (tn : t < op.threads) (busy : IsPending S t) where
     abbrev L : Local
     L = local_of S t
@@ -251,76 +240,28 @@ module _ (op : Opening) (k : ℕ) (es : ℕ → Event) (r : Run lazy op es k) wh
     g : Registers (sizes op) t L
     g = (i.threads t tn).registers
 
-    tries_or_waits : (a : ℕ) → a < node_count (sizes op) → lazy.next L ≡ Exchange (lock_index a) 0 (t + 1) → Place t a
-        → GetsOn lazy S t ⊎ ((a : ℕ) × Waits t a)
-    tries_or_waits a inn acts place = elim (same_or_not (node_lock S.words a) 0) [
-      | inl z ↦ inl (on_try lazy S t en (lock_index a) 0 (t + 1) acts z)
-      | inr z ↦ inr (a, (place, z, inn))
-    ]
-
-    goes_or_waits : At (sizes op).quota t (views lazy op es) (begun_at (log_of lazy op es) t k) k V
-        (has_changed (log_of lazy op es) t k) L → GetsOn lazy S t ⊎ ((a : ℕ) × Waits t a)
-    goes_or_waits (at0 e) = absurd (busy e)
-    goes_or_waits (at1 e d) = inl (on_load lazy S t en (link_index 0) (rw e refl))
-    goes_or_waits (at2 e d x) = inl (on_load lazy S t en (key_index L.curr) (rw e refl))
-    goes_or_waits (at3 e d x lt) = inl (on_load lazy S t en (link_index L.curr) (rw e refl))
-    goes_or_waits (at4 e d f) = tries_or_waits L.pred g.pred (rw (e, g.thread) refl) (inl (e, refl))
-    goes_or_waits (at5 e d f p) = tries_or_waits L.curr g.curr (rw (e, g.thread) refl) (inr (e, refl, f))
-    goes_or_waits (at6 e d f b) = inl (on_load lazy S t en (link_index L.pred) (rw e refl))
-    goes_or_waits (at7 e d f b) = inl (on_load lazy S t en (link_index L.curr) (rw e refl))
-    goes_or_waits (at8 e d b a) = inl (on_store lazy S t en (key_index (own_slot L)) (target L.call) (rw e refl))
-    goes_or_waits (at9 e d b a x) = inl (on_store lazy S t en (link_index (own_slot L)) (2 * L.curr) (rw e refl))
-    goes_or_waits (at10 e d b a x y) = inl (on_store lazy S t en (link_index L.pred) (2 * own_slot L) (rw e refl))
-    goes_or_waits (at11 e d b a x) = inl (on_store lazy S t en (link_index L.curr) (2 * L.succ + 1) (rw e refl))
-    goes_or_waits (at12 e d b a x) = inl (on_store lazy S t en (link_index L.pred) (2 * L.succ) (rw e refl))
-    goes_or_waits (at13 e b o) = inl (on_store lazy S t en (lock_index L.curr) 0 (rw e refl))
-    goes_or_waits (at14 e p o) = inl (on_store lazy S t en (lock_index L.pred) 0 (rw e refl))
-    goes_or_waits (at_read a) =
+    goes_or_tries : At (sizes op).quota t (views lazy op es) (begun_at (log_of lazy op es) t k) k V
+        (has_changed (log_of lazy op es) t k) L → GetsOn lazy S t ⊎ Tries lazy lazy_lawful OnPred OnCurr lazy_may op k es r
+        (TwoLocks lazy lazy_lawful OnPred OnCurr lazy_may op k es r) t
+    goes_or_tries (at0 e) = absurd (busy e)
+    goes_or_tries (at1 e d) = inl (on_load lazy S t en (link_index 0) (rw e refl))
+    goes_or_tries (at2 e d x) = inl (on_load lazy S t en (key_index L.curr) (rw e refl))
+    goes_or_tries (at3 e d x lt) = inl (on_load lazy S t en (link_index L.curr) (rw e refl))
+    goes_or_tries (at4 e d f) = inr (L.pred, g.pred, rw (e, g.thread) refl, inl (e, refl))
+    goes_or_tries (at5 e d f p) = inr (L.curr, g.curr, rw (e, g.thread) refl, inr (e, refl, f))
+    goes_or_tries (at6 e d f b) = inl (on_load lazy S t en (link_index L.pred) (rw e refl))
+    goes_or_tries (at7 e d f b) = inl (on_load lazy S t en (link_index L.curr) (rw e refl))
+    goes_or_tries (at8 e d b a) = inl (on_store lazy S t en (key_index (own_slot L)) (target L.call) (rw e refl))
+    goes_or_tries (at9 e d b a x) = inl (on_store lazy S t en (link_index (own_slot L)) (2 * L.curr) (rw e refl))
+    goes_or_tries (at10 e d b a x y) = inl (on_store lazy S t en (link_index L.pred) (2 * own_slot L) (rw e refl))
+    goes_or_tries (at11 e d b a x) = inl (on_store lazy S t en (link_index L.curr) (2 * L.succ + 1) (rw e refl))
+    goes_or_tries (at12 e d b a x) = inl (on_store lazy S t en (link_index L.pred) (2 * L.succ) (rw e refl))
+    goes_or_tries (at13 e b o) = inl (on_store lazy S t en (lock_index L.curr) 0 (rw e refl))
+    goes_or_tries (at14 e p o) = inl (on_store lazy S t en (lock_index L.pred) 0 (rw e refl))
+    goes_or_tries (at_read a) =
         let x : ReadsOn lazy S.words L = reads_on_at lazy has_read_rows S.words L (read_row_of a) in
         inl (on_load lazy S t en x.word x.acts)
 
-  its_holder : (a : ℕ) → a < node_count (sizes op) → node_lock S.words a ≢ 0
-      → (u : ℕ) × (u < op.threads) × IsPending S u × May (local_of S u) (lock_index a)
-  its_holder a inn d = elim (one_or_more (node_lock S.words a)) [
-    | inl z ↦ absurd (d z)
-    | inr h ↦
-        (let x = holder_known lazy lazy_lawful May lazy_may op es k r (lock_index a) (inr (a, refl)) (omega arith) k
-        (omega arith) h.0 h.1 in (h.0, x.0, (λ z. rests (local_of S h.0) (lock_index a) z x.1), x.1))
-  ]
-
-  -- what a thread that waits has is before what it waits for
-  comes_before : (u a c : ℕ) → May (local_of S u) (lock_index a) → Place u c
-      → rest (node_count (sizes op)) S.words c < rest (node_count (sizes op)) S.words a
-  comes_before u a c (inl p) (inl w) = absurd (let y : 5 ≤ (local_of S u).pc = p.1.0 in let z : (local_of S u).pc ≡ 4 = w.0 in
-      omega arith)
-  comes_before u a c (inr p) (inl w) = absurd (let y : 6 ≤ (local_of S u).pc = p.1.0 in let z : (local_of S u).pc ≡ 4 = w.0 in
-      omega arith)
-  comes_before u a c (inr p) (inr w) = absurd (let y : 6 ≤ (local_of S u).pc = p.1.0 in let z : (local_of S u).pc ≡ 5 = w.0 in
-      omega arith)
-  comes_before u a c (inl p) (inr w) =
-      let same : lock_index a ≡ lock_index (local_of S u).pred = p.0 in
-      let pred : a ≡ (local_of S u).pred = omega arith in
-      let f = w.2 in
-      let below : node_key S.words (local_of S u).pred < target (local_of S u).call = f.spot.below in
-      let is : node_key S.words (local_of S u).curr ≡ (local_of S u).ckey = f.is in
-      let above : target (local_of S u).call ≤ (local_of S u).ckey = f.above in
-      let less : rest (node_count (sizes op)) S.words (local_of S u).curr
-      < rest (node_count (sizes op)) S.words (local_of S u).pred =
-      ahead_less (node_key S.words) (node_count (sizes op)) (node_key S.words (local_of S u).pred) (local_of S u).curr
-      (inside lazy.marks (sizes op) S.words (used_in S) i.memory (local_of S u).curr f.spot.curr_published) (omega arith) in
-      subst (λ z. rest (node_count (sizes op)) S.words c < rest (node_count (sizes op)) S.words z) (sym pred)
-      (subst (λ z. rest (node_count (sizes op)) S.words z < rest (node_count (sizes op)) S.words (local_of S u).pred)
-      (sym w.1) less)
-
-  climbing : Climbs lazy S op.threads
-  climbing = record {
-    waits = Waits;
-    has = λ u a. May (local_of S u) (lock_index a);
-    rank = λ a. rest (node_count (sizes op)) S.words a;
-    either = λ t tn busy. goes_or_waits t tn busy (i.threads t tn).at;
-    holder = λ t a tn w. its_holder a w.2 w.1;
-    lower = λ u a c un h w. comes_before u a c h w.0;
-  }
-
 pub lazy_gets_on : SomeThreadGetsOn lazy
-lazy_gets_on op k t es r tn busy = some_gets_on lazy (state_at lazy op es k) op.threads (climbing op k es r) t tn busy
+lazy_gets_on op k t es r tn busy = two_locks_get_on lazy lazy_lawful OnPred OnCurr lazy_may op k es r (λ pc p. p.0) (λ pc c. c.0)
+    (λ u un b. goes_or_tries op k es r u un b ((known op k k es r (omega arith)).threads u un).at) t tn busy

@@ -6,7 +6,10 @@ mod Alone
 mod Holders
 mod Waiting
 mod NodeLocks
+mod NodeWaits
+mod Totals
 mod CanEnd
+mod LocksAlone
 mod HeadPlain
 mod ReadStays
 mod ReadAlone
@@ -17,7 +20,10 @@ mod OptimisticAlone
 mod LazyLocks
 mod LazyMarks
 mod LazyAlone
+mod LockFreeSteps
 mod LockFreeAlone
+mod LockFreedom
 mod WrittenRuns
 mod CeilingWaits
 mod WrongMachines
+mod Livelock

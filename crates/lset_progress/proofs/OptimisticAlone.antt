@@ -7,10 +7,12 @@ use Rattle.lset_words.specs.declared.Reply.{Reply}
 use Rattle.lset_words.specs.declared.Reply.TheVariants.{True}
 use Rattle.lset_words.specs.Words.{key_index, link_index, lock_index, node_count, target, Sizes, Opening, sizes}
 use Rattle.lset_words.specs.Log.{begun_at, has_changed}
+use Rattle.lset_steps.specs.declared.Action.{Action}
 use Rattle.lset_steps.specs.declared.Action.TheVariants.{Load, Store, Exchange}
 use Rattle.lset_steps.specs.declared.Event.{Event}
+use Rattle.lset_steps.specs.declared.Event.TheVariants.{Go}
 use Rattle.lset_steps.specs.declared.Local.{Local}
-use Rattle.lset_steps.specs.Steps.{State, Run, state_at, local_of, left_by, log_of}
+use Rattle.lset_steps.specs.Steps.{State, Run, state_at, after, local_of, seen_by, left_by, log_of}
 use Rattle.lset_steps.specs.Chain.{View, view, node_key, node_link, node_lock}
 use Rattle.lset_steps.specs.Laws.{Registers, views, used_in}
 use Rattle.lset_steps.specs.ReadRows.{continued}
@@ -22,17 +24,18 @@ use Rattle.lset_optimistic.specs.Lawful.{optimistic_lawful}
 use Rattle.lset_optimistic.specs.Lawful.Outline.{At}
 use Rattle.lset_optimistic.specs.Lawful.Outline.At.{at0, at1, at2, at3, at4, at5, at6, at7, at8, at9, at10, at11, at12, at13}
 use Rattle.lset_optimistic.specs.Lawful.Outline.At.{at14, at15}
-use Rattle.lset_progress.specs.Progress.{Answers, NoOtherHolds, CallsEndAlone, CanEnd, GetsOn, SomeCallCanEnd, for_each}
+use Rattle.lset_progress.specs.Progress.{Answers, IsPending, CallsEndAlone, GetsOn, SomeCallCanEnd, for_each}
 use Rattle.lset_progress.specs.Progress.{optimistic_steps}
 use Rattle.lset_progress.proofs.Ahead.{ahead}
-use Rattle.lset_progress.proofs.CanEnd.{Before, Shrinks, alone_can, can_more, some_can_end}
-use Rattle.lset_progress.proofs.Rest.{rest, few, fewer, keys_stay, keys_tried, links_stay, links_tried, rest_same}
+use Rattle.lset_progress.proofs.LocksAlone.{Walks, Decides, calls_end_by, some_call_can_end}
+use Rattle.lset_progress.proofs.NodeWaits.{Free, free_alone}
+use Rattle.lset_progress.proofs.Rest.{KeepsList, rest, few, fewer, keys_tried, links_tried, rest_same, loading, trying, giving}
 use Rattle.lset_progress.proofs.Paths.{Path, no_steps, path_on, path_from, path_up}
-use Rattle.lset_progress.proofs.Alone.{Nears, Step, stepped, ends_alone}
+use Rattle.lset_progress.proofs.Alone.{Step, stepped}
 use Rattle.lset_progress.proofs.Alone.Step.{goes, stops}
 use Rattle.lset_progress.proofs.Decided.{leads_on, some_or_none}
-use Rattle.lset_progress.proofs.Holders.{try_succeeds, others_wait}
-use Rattle.lset_progress.proofs.OptimisticLocks.{Known, known, May, optimistic_may, optimistic_gets_on}
+use Rattle.lset_progress.proofs.WrittenRuns.{no_reply}
+use Rattle.lset_progress.proofs.OptimisticLocks.{Known, known, OnPred, OnCurr, optimistic_may, optimistic_gets_on}
 
 -- HOW MANY STEPS are left behind the next one, at each row, of a walk that is valid. Where there is no reply both locks are given
 -- back, and the walk starts again.
@@ -72,32 +75,52 @@ record Valid (ws : List ℕ) (l : Local) : Type 0 where
   on_its_way : 6 ≤ l.pc → l.pc ≤ 7 → Path (node_link ws) l.node l.pred
   not_there : l.pc ≡ 6 → l.node ≢ l.pred
 
--- the rows before and after a walk
-no_walk : (ws : List ℕ) (l : Local) → (l.pc ≡ 1) ⊎ (9 ≤ l.pc) → Valid ws l
-no_walk ws l (inl e) = record {
-  to_pred = λ a b c. absurd (omega arith);
-  to_curr = λ a. absurd (omega arith);
-  follows = λ a b c. absurd (omega arith);
+-- the rows before and after a walk,
+outside : (ws : List ℕ) (l : Local) → (2 ≤ l.pc → l.pc ≤ 8 → ⊥) → Valid ws l
+outside ws l other = record {
+  to_pred = λ a b c. absurd (other a (omega arith));
+  to_curr = λ a. absurd (other (omega arith) (omega arith));
+  follows = λ a b c. absurd (other a b);
+  on_its_way = λ a b. absurd (other (omega arith) (omega arith));
+  not_there = λ a. absurd (other (omega arith) (omega arith));
+}
+
+-- those of the first,
+at_pred : (ws : List ℕ) (l : Local) → (2 ≤ l.pc) × (l.pc ≤ 5) × (l.pc ≢ 3) → Path (node_link ws) 0 l.pred
+    → node_link ws l.pred ≡ 2 * l.curr → Valid ws l
+at_pred ws l row to_pred follows = let high : l.pc ≤ 5 = row.1 in record {
+  to_pred = λ a b c. to_pred;
+  to_curr = λ a. absurd (row.2 a);
+  follows = λ a b c. follows;
   on_its_way = λ a b. absurd (omega arith);
   not_there = λ a. absurd (omega arith);
 }
-no_walk ws l (inr e) = record {
+
+-- and of the second
+within : (ws : List ℕ) (l : Local) → (6 ≤ l.pc) × (l.pc ≤ 8) → node_link ws l.pred ≡ 2 * l.curr
+    → (l.pc ≤ 7 → Path (node_link ws) l.node l.pred) → (l.pc ≡ 6 → l.node ≢ l.pred) → Valid ws l
+within ws l row follows on_its_way not_there = let low : 6 ≤ l.pc = row.0 in record {
   to_pred = λ a b c. absurd (omega arith);
   to_curr = λ a. absurd (omega arith);
-  follows = λ a b c. absurd (omega arith);
-  on_its_way = λ a b. absurd (omega arith);
-  not_there = λ a. absurd (omega arith);
+  follows = λ a b c. follows;
+  on_its_way = λ a b. on_its_way b;
+  not_there = not_there;
 }
 
 -- the walk is valid, or there is time for another one
 abbrev Timed : ℕ → List ℕ → ℕ → Local → Type 0
 Timed size ws n l = (Valid ws l × (left size ws l < n)) ⊎ (left size ws l + round size < n)
 
-abbrev Left : ℕ → List ℕ → ℕ → Local → Type 0
-Left size ws n l = (l.pc ≢ 0) × Timed size ws n l
+-- BEHIND ITS DECISION a thread tries no lock, and has a reply where it gives its locks back
+abbrev LateRow : Local → Type 0
+LateRow l = (9 ≤ l.pc) × (l.pc ≤ 15) × (13 < l.pc → (r : Reply) × (l.reply ≡ Some r))
 
-abbrev Free : List ℕ → Local → Type 0
-Free ws l = (l.pc ≡ 4 → node_lock ws l.pred ≡ 0) × (l.pc ≡ 5 → l.curr ≢ l.pred → node_lock ws l.curr ≡ 0)
+early : (l l' : Local) → l.pc < 9 → LateRow l → LateRow l'
+early l l' before late = absurd (let low : 9 ≤ l.pc = late.0 in omega arith)
+
+-- after a step of l
+abbrev Left : ℕ → List ℕ → ℕ → Local → Local → Type 0
+Left size ws n l l' = (l'.pc ≢ 0) × Timed size ws n l' × (LateRow l → LateRow l')
 
 module _ (sz : Sizes) (ws : List ℕ) (used : ℕ → ℕ) (m : Memory false sz ws used) (t : ℕ) (l : Local) (g : Registers sz t l)
     (vs : ℕ → View) (first now : ℕ) (done : Bool) where
@@ -112,7 +135,7 @@ module _ (sz : Sizes) (ws : List ℕ) (used : ℕ → ℕ) (m : Memory false sz 
 
   module _ (free : Free ws l) (n : ℕ) (time : Timed size ws (suc n) l) where
     abbrev Next : Type 0
-    Next = Step optimistic ws l (λ ws' l'. Left size ws' n l')
+    Next = Step optimistic ws l (λ ws' l'. Left size ws' n l l')
 
     -- valid, if it was; and valid in any case
     on : (ws' : List ℕ) (l' : Local) → (Valid ws l → Valid ws' l') → left size ws' l' < left size ws l → Timed size ws' n l'
@@ -135,6 +158,19 @@ module _ (sz : Sizes) (ws : List ℕ) (used : ℕ → ℕ) (m : Memory false sz 
       | inr h ↦ inl (valid, omega arith)
     ]
 
+    -- on to a row behind the walk
+    late_to : (a : Action) (l' : Local) → optimistic.next l ≡ a
+        → optimistic.feed l (seen_by ws a) ≡ record { local = l'; answer = None } → 9 ≤ l'.pc
+        → left size (left_by ws a) l' < left size ws l → (LateRow l → LateRow l') → Next
+    late_to a l' acts feeds low less late = goes a l' None acts feeds
+        (λ z. omega arith, anew (left_by ws a) l' (outside (left_by ws a) l' (λ x y. omega arith)) less, late)
+
+    -- or from a row of the walk
+    walk_to : (a : Action) (l' : Local) → optimistic.next l ≡ a
+        → optimistic.feed l (seen_by ws a) ≡ record { local = l'; answer = None } → l.pc < 9 → l'.pc ≢ 0
+        → Timed size (left_by ws a) n l' → Next
+    walk_to a l' acts feeds before busy t = goes a l' None acts feeds (busy, t, early l l' before)
+
     row_1 : l.pc ≡ 1 → Next
     row_1 e =
         let y : left size ws l ≡ 4 * size + 3 = rw e refl in
@@ -142,16 +178,10 @@ module _ (sz : Sizes) (ws : List ℕ) (used : ℕ → ℕ) (m : Memory false sz 
         let a : rest size ws 0 < size = few false sz ws used m 0 head in
         let b : rest size ws (node_link ws 0 / 2) < rest size ws 0 = fewer false sz ws used m 0 head (omega arith) in
         let l' : Local = record l { pc = 2; pred = 0; pkey = 0; curr = node_link ws 0 / 2 } in
-        goes (Load (link_index 0)) l' None (rw e refl) (rw e refl) (
-          λ z. omega arith,
-          anew ws l' (record {
-            to_pred = λ a b c. no_steps (node_link ws) 0;
-            to_curr = λ a. absurd (omega arith);
-            follows = λ a b c. even 0 head;
-            on_its_way = λ a b. absurd (omega arith);
-            not_there = λ a. absurd (omega arith);
-          }) (omega arith),
-        )
+        walk_to (Load (link_index 0)) l' (rw e refl) (rw e refl) (omega arith) (λ z. omega arith)
+        (anew ws l' (at_pred ws l' (omega arith, omega arith, λ z. omega arith)
+        (no_steps (node_link ws) 0)
+        (even 0 head)) (omega arith))
 
     row_2 : l.pc ≡ 2 → Spot V (target l.call) l.pred l.curr → Next
     row_2 e x =
@@ -159,28 +189,20 @@ module _ (sz : Sizes) (ws : List ℕ) (used : ℕ → ℕ) (m : Memory false sz 
         let s : ℕ = node_key ws l.curr in let k : ℕ = target l.call in
         let more : Local = record l { pc = 3; ckey = s } in let found : Local = record l { pc = 4; ckey = s } in
         elim (below_or_not s k) [
-          | inl lt ↦ goes (Load (key_index l.curr)) more None (rw e refl) (rw (e, if_below s k lt more found) refl) (
-            λ z. omega arith,
-            on ws more (λ v. record {
-              to_pred = λ a b c. absurd (omega arith);
-              to_curr = λ a. let f : node_link ws l.pred ≡ 2 * l.curr = v.follows (omega arith) (omega arith) (omega arith) in
-                  path_on (node_link ws) 0 l.pred l.curr (v.to_pred (omega arith) (omega arith) (omega arith))
-                  (inner false sz ws used m l.pred (target l.call) x.below g.low) (omega arith);
-              follows = λ a b c. absurd (omega arith);
-              on_its_way = λ a b. absurd (omega arith);
-              not_there = λ a. absurd (omega arith);
-            }) (omega arith),
-          )
-          | inr ge ↦ goes (Load (key_index l.curr)) found None (rw e refl) (rw (e, if_not_below s k ge more found) refl) (
-            λ z. omega arith,
-            on ws found (λ v. record {
-              to_pred = λ a b c. v.to_pred (omega arith) (omega arith) (omega arith);
-              to_curr = λ a. absurd (omega arith);
-              follows = λ a b c. v.follows (omega arith) (omega arith) (omega arith);
-              on_its_way = λ a b. absurd (omega arith);
-              not_there = λ a. absurd (omega arith);
-            }) (omega arith),
-          )
+          | inl lt ↦ walk_to (Load (key_index l.curr)) more (rw e refl) (rw (e, if_below s k lt more found) refl) (omega arith) (λ z. omega arith)
+              (on ws more (λ v. record {
+                to_pred = λ a b c. absurd (omega arith);
+                to_curr = λ a. let f : node_link ws l.pred ≡ 2 * l.curr = v.follows (omega arith) (omega arith) (omega arith) in
+                    path_on (node_link ws) 0 l.pred l.curr (v.to_pred (omega arith) (omega arith) (omega arith))
+                    (inner false sz ws used m l.pred (target l.call) x.below g.low) (omega arith);
+                follows = λ a b c. absurd (omega arith);
+                on_its_way = λ a b. absurd (omega arith);
+                not_there = λ a. absurd (omega arith);
+              }) (omega arith))
+          | inr ge ↦ walk_to (Load (key_index l.curr)) found (rw e refl) (rw (e, if_not_below s k ge more found) refl) (omega arith) (λ z. omega arith)
+              (on ws found (λ v. at_pred ws found (omega arith, omega arith, λ z. omega arith)
+              (v.to_pred (omega arith) (omega arith) (omega arith))
+              (v.follows (omega arith) (omega arith) (omega arith))) (omega arith))
         ]
 
     row_3 : l.pc ≡ 3 → V.published l.curr → node_key ws l.curr ≡ l.ckey → l.ckey < target l.call → Next
@@ -189,16 +211,10 @@ module _ (sz : Sizes) (ws : List ℕ) (used : ℕ → ℕ) (m : Memory false sz 
         let less : rest size ws (node_link ws l.curr / 2) < rest size ws l.curr = fewer false sz ws used m l.curr c
         (inner false sz ws used m l.curr (target l.call) (omega arith) g.low) in
         let l' : Local = record l { pc = 2; pred = l.curr; pkey = l.ckey; curr = node_link ws l.curr / 2 } in
-        goes (Load (link_index l.curr)) l' None (rw e refl) (rw e refl) (
-          λ z. omega arith,
-          on ws l' (λ v. record {
-            to_pred = λ a b c. v.to_curr e;
-            to_curr = λ a. absurd (omega arith);
-            follows = λ a b x. even l.curr c;
-            on_its_way = λ a b. absurd (omega arith);
-            not_there = λ a. absurd (omega arith);
-          }) (omega arith),
-        )
+        walk_to (Load (link_index l.curr)) l' (rw e refl) (rw e refl) (omega arith) (λ z. omega arith)
+        (on ws l' (λ v. at_pred ws l' (omega arith, omega arith, λ z. omega arith)
+        (v.to_curr e)
+        (even l.curr c)) (omega arith))
 
     row_4 : l.pc ≡ 4 → Next
     row_4 e =
@@ -207,16 +223,10 @@ module _ (sz : Sizes) (ws : List ℕ) (used : ℕ → ℕ) (m : Memory false sz 
         let a = Exchange (lock_index l.pred) 0 (t + 1) in
         let links : node_link (left_by ws (Exchange (lock_index l.pred) 0 (t + 1))) ≡ node_link ws =
         links_tried ws l.pred (t + 1) in
-        goes a l' None (rw (e, g.thread) refl) (rw (e, if_same (node_lock ws l.pred) 0 (free.0 e) l' again) refl) (
-          λ z. omega arith,
-          on (left_by ws a) l' (λ v. record {
-            to_pred = λ a b c. subst (λ f. Path f 0 l.pred) (sym links) (v.to_pred (omega arith) (omega arith) (omega arith));
-            to_curr = λ a. absurd (omega arith);
-            follows = λ a b c. ap (λ f. f l.pred) links ∙ v.follows (omega arith) (omega arith) (omega arith);
-            on_its_way = λ a b. absurd (omega arith);
-            not_there = λ a. absurd (omega arith);
-          }) (omega arith),
-        )
+        walk_to a l' (rw (e, g.thread) refl) (rw (e, if_same (node_lock ws l.pred) 0 (free.0 e) l' again) refl) (omega arith) (λ z. omega arith)
+        (on (left_by ws a) l' (λ v. at_pred (left_by ws a) l' (omega arith, omega arith, λ z. omega arith)
+        (subst (λ f. Path f 0 l.pred) (sym links) (v.to_pred (omega arith) (omega arith) (omega arith)))
+        (ap (λ f. f l.pred) links ∙ v.follows (omega arith) (omega arith) (omega arith))) (omega arith))
 
     row_5 : l.pc ≡ 5 → l.curr ≢ l.pred → Next
     row_5 e d =
@@ -232,27 +242,12 @@ module _ (sz : Sizes) (ws : List ℕ) (used : ℕ → ℕ) (m : Memory false sz 
         let less : rest size ws 0 < size = few false sz ws used m 0 m.ordered.head_published in
         let is = if_same (node_lock ws l.curr) 0 (free.1 e d) both again in
         elim (same_or_not l.pred 0) [
-          | inl z ↦ goes a here None (rw (e, g.thread) refl) (rw (e, is ∙ if_same l.pred 0 z here walk) refl) (
-            λ z. omega arith,
-            on (left_by ws a) here (λ v. record {
-              to_pred = λ a b c. absurd (omega arith);
-              to_curr = λ a. absurd (omega arith);
-              follows = λ a b c. ap (λ f. f l.pred) links ∙ v.follows (omega arith) (omega arith) (omega arith);
-              on_its_way = λ a b. absurd (omega arith);
-              not_there = λ a. absurd (omega arith);
-            }) (omega arith),
-          )
-          | inr z ↦ goes a walk None (rw (e, g.thread) refl) (rw (e, is ∙ if_other l.pred 0 z here walk) refl) (
-            λ z. omega arith,
-            on (left_by ws a) walk (λ v. record {
-              to_pred = λ a b c. absurd (omega arith);
-              to_curr = λ a. absurd (omega arith);
-              follows = λ a b c. ap (λ f. f l.pred) links ∙ v.follows (omega arith) (omega arith) (omega arith);
-              on_its_way = λ a b. subst (λ f. Path f 0 l.pred) (sym links)
-                  (v.to_pred (omega arith) (omega arith) (omega arith));
-              not_there = λ a f. z (sym f);
-            }) (omega arith),
-          )
+          | inl z ↦ walk_to a here (rw (e, g.thread) refl) (rw (e, is ∙ if_same l.pred 0 z here walk) refl) (omega arith) (λ z. omega arith)
+              (on (left_by ws a) here (λ v. within (left_by ws a) here (omega arith, omega arith) (ap (λ f. f l.pred) links ∙ v.follows (omega arith) (omega arith) (omega arith)) (λ b. absurd (omega arith)) (λ a. absurd (omega arith))) (omega arith))
+          | inr z ↦ walk_to a walk (rw (e, g.thread) refl) (rw (e, is ∙ if_other l.pred 0 z here walk) refl) (omega arith) (λ z. omega arith)
+              (on (left_by ws a) walk (λ v. within (left_by ws a) walk (omega arith, omega arith) (ap (λ f. f l.pred) links ∙ v.follows (omega arith) (omega arith) (omega arith))
+              (λ b. subst (λ f. Path f 0 l.pred) (sym links)
+              (v.to_pred (omega arith) (omega arith) (omega arith))) (λ a f. z (sym f))) (omega arith))
         ]
 
     row_6 : l.pc ≡ 6 → V.published l.node → node_key ws l.node < target l.call → Next
@@ -261,16 +256,9 @@ module _ (sz : Sizes) (ws : List ℕ) (used : ℕ → ℕ) (m : Memory false sz 
         let less : rest size ws (node_link ws l.node / 2) < rest size ws l.node = fewer false sz ws used m l.node p
         (inner false sz ws used m l.node (target l.call) low g.low) in
         let l' : Local = record l { pc = 7; node = node_link ws l.node / 2 } in
-        goes (Load (link_index l.node)) l' None (rw e refl) (rw e refl) (
-          λ z. omega arith,
-          on ws l' (λ v. record {
-            to_pred = λ a b c. absurd (omega arith);
-            to_curr = λ a. absurd (omega arith);
-            follows = λ a b c. v.follows (omega arith) (omega arith) (omega arith);
-            on_its_way = λ a b. path_from (node_link ws) l.node l.pred (v.not_there e) (v.on_its_way (omega arith) (omega arith));
-            not_there = λ a. absurd (omega arith);
-          }) (omega arith),
-        )
+        walk_to (Load (link_index l.node)) l' (rw e refl) (rw e refl) (omega arith) (λ z. omega arith)
+        (on ws l' (λ v. within ws l' (omega arith, omega arith) (v.follows (omega arith) (omega arith) (omega arith))
+        (λ b. path_from (node_link ws) l.node l.pred (v.not_there e) (v.on_its_way (omega arith) (omega arith))) (λ a. absurd (omega arith))) (omega arith))
 
     row_7 : l.pc ≡ 7 → V.published l.node → node_key ws l.pred ≡ l.pkey → Next
     row_7 e p low =
@@ -279,36 +267,17 @@ module _ (sz : Sizes) (ws : List ℕ) (used : ℕ → ℕ) (m : Memory false sz 
         let past : Local = gives_up l in let there : Local = record l { pc = 8 } in let more : Local = record l { pc = 6 } in
         let other : Local = if l.node == l.pred then there else more in
         elim (below_or_not l.pkey s) [
-          | inl lt ↦ goes (Load (key_index l.node)) past None (rw e refl) (rw (e, if_below l.pkey s lt past other) refl) (
-            λ z. omega arith,
-            fails ws past (λ v.
-                let up : node_key ws l.node ≤ node_key ws l.pred = path_up (view sz ws used) m.ordered l.node l.pred p
-                (v.on_its_way (omega arith) (omega arith)) in omega arith)
-                (no_walk ws past (inr (omega arith))) (omega arith),
-          )
+          | inl lt ↦ walk_to (Load (key_index l.node)) past (rw e refl) (rw (e, if_below l.pkey s lt past other) refl) (omega arith) (λ z. omega arith)
+              (fails ws past (λ v.
+              let up : node_key ws l.node ≤ node_key ws l.pred = path_up (view sz ws used) m.ordered l.node l.pred p
+              (v.on_its_way (omega arith) (omega arith)) in omega arith)
+              (outside ws past (λ x y. omega arith)) (omega arith))
           | inr ge ↦ elim (same_or_not l.node l.pred) [
-            | inl z ↦ goes (Load (key_index l.node)) there None (rw e refl)
-                (rw (e, if_not_below l.pkey s ge past other ∙ if_same l.node l.pred z there more) refl) (
-                  λ z. omega arith,
-                  on ws there (λ v. record {
-                    to_pred = λ a b c. absurd (omega arith);
-                    to_curr = λ a. absurd (omega arith);
-                    follows = λ a b c. v.follows (omega arith) (omega arith) (omega arith);
-                    on_its_way = λ a b. absurd (omega arith);
-                    not_there = λ a. absurd (omega arith);
-                  }) (omega arith),
-                )
-            | inr z ↦ goes (Load (key_index l.node)) more None (rw e refl)
-                (rw (e, if_not_below l.pkey s ge past other ∙ if_other l.node l.pred z there more) refl) (
-                  λ z. omega arith,
-                  on ws more (λ v. record {
-                    to_pred = λ a b c. absurd (omega arith);
-                    to_curr = λ a. absurd (omega arith);
-                    follows = λ a b c. v.follows (omega arith) (omega arith) (omega arith);
-                    on_its_way = λ a b. v.on_its_way (omega arith) (omega arith);
-                    not_there = λ a. z;
-                  }) (omega arith),
-                )
+            | inl z ↦ walk_to (Load (key_index l.node)) there (rw e refl) (rw (e, if_not_below l.pkey s ge past other ∙ if_same l.node l.pred z there more) refl) (omega arith) (λ z. omega arith)
+                (on ws there (λ v. within ws there (omega arith, omega arith) (v.follows (omega arith) (omega arith) (omega arith)) (λ b. absurd (omega arith)) (λ a. absurd (omega arith))) (omega arith))
+            | inr z ↦ walk_to (Load (key_index l.node)) more (rw e refl) (rw (e, if_not_below l.pkey s ge past other ∙ if_other l.node l.pred z there more) refl) (omega arith) (λ z. omega arith)
+                (on ws more (λ v. within ws more (omega arith, omega arith) (v.follows (omega arith) (omega arith) (omega arith))
+                (λ b. v.on_its_way (omega arith) (omega arith)) (λ a. z)) (omega arith))
           ]
         ]
 
@@ -322,29 +291,21 @@ module _ (sz : Sizes) (ws : List ℕ) (used : ℕ → ℕ) (m : Memory false sz 
           | inl f ↦
               (let is = feeds ∙ ap (λ z. continued z) (if_same (s / 2) l.curr f yes no) in
               elim (leads_on targets l.ckey l) [
-                | inl z ↦ goes (Load (link_index l.pred)) (goes_to 9 None l) None (rw e refl) (is ∙ ap (λ z. continued z) z)
-                    (λ z. omega arith, anew ws (goes_to 9 None l) (no_walk ws (goes_to 9 None l) (inr (omega arith))) (omega arith))
+                | inl z ↦ walk_to (Load (link_index l.pred)) (goes_to 9 None l) (rw e refl) (is ∙ ap (λ z. continued z) z) (omega arith) (λ z. omega arith)
+                    (anew ws (goes_to 9 None l) (outside ws (goes_to 9 None l) (λ x y. omega arith)) (omega arith))
                 | inr w ↦ elim w [
-                  | inl z ↦ goes (Load (link_index l.pred)) (goes_to 12 None l) None (rw e refl) (is ∙ ap (λ z. continued z) z) (
-                    λ z. omega arith,
-                    anew ws (goes_to 12 None l) (no_walk ws (goes_to 12 None l) (inr (omega arith)))
-                        (omega arith),
-                  )
-                  | inr z ↦ goes (Load (link_index l.pred)) (goes_to 14 (Some z.0) l) None (rw e refl)
-                      (is ∙ ap (λ z. continued z) z.1) (
-                        λ z. omega arith,
-                        anew ws (goes_to 14 (Some z.0) l)
-                            (no_walk ws (goes_to 14 (Some z.0) l) (inr (omega arith))) (omega arith),
-                      )
+                  | inl z ↦ walk_to (Load (link_index l.pred)) (goes_to 12 None l) (rw e refl) (is ∙ ap (λ z. continued z) z) (omega arith) (λ z. omega arith)
+                      (anew ws (goes_to 12 None l) (outside ws (goes_to 12 None l) (λ x y. omega arith))
+                      (omega arith))
+                  | inr z ↦ walk_to (Load (link_index l.pred)) (goes_to 14 (Some z.0) l) (rw e refl) (is ∙ ap (λ z. continued z) z.1) (omega arith) (λ z. omega arith)
+                      (anew ws (goes_to 14 (Some z.0) l)
+                      (outside ws (goes_to 14 (Some z.0) l) (λ x y. omega arith)) (omega arith))
                 ]
               ])
-          | inr f ↦ goes (Load (link_index l.pred)) no None (rw e refl)
-              (feeds ∙ ap (λ z. continued z) (if_other (s / 2) l.curr f yes no)) (
-                λ z. omega arith,
-                fails ws no (λ v.
-                    let x : node_link ws l.pred ≡ 2 * l.curr = v.follows (omega arith) (omega arith) (omega arith) in f (omega arith))
-                    (no_walk ws no (inr (omega arith))) (omega arith),
-              )
+          | inr f ↦ walk_to (Load (link_index l.pred)) no (rw e refl) (feeds ∙ ap (λ z. continued z) (if_other (s / 2) l.curr f yes no)) (omega arith) (λ z. omega arith)
+              (fails ws no (λ v.
+              let x : node_link ws l.pred ≡ 2 * l.curr = v.follows (omega arith) (omega arith) (omega arith) in f (omega arith))
+              (outside ws no (λ x y. omega arith)) (omega arith))
         ]
 
     row_15 : l.pc ≡ 15 → Next
@@ -354,9 +315,12 @@ module _ (sz : Sizes) (ws : List ℕ) (used : ℕ → ℕ) (m : Memory false sz 
           let ws' : List ℕ = slice_set ws (lock_index l.curr) 0 in
           let l' : Local = record l { pc = 1 } in
           goes (Store (lock_index l.curr) 0) l' None (rw e refl) (rw (e, z) refl)
-          (λ z. omega arith, anew ws' l' (no_walk ws' l' (inl refl)) (omega arith)))
+          (λ z. omega arith, anew ws' l' (outside ws' l' (λ x y. omega arith)) (omega arith), λ h. absurd (without z h)))
       | inr z ↦ stops (Store (lock_index l.curr) 0) (record l { pc = 0 }) z.0 (rw e refl) (rw (e, z.1) refl)
     ]
+      where
+        without : l.reply ≡ None → LateRow l → ⊥
+        without z h = let x = h.2 (omega arith) in no_reply x.0 (sym z ∙ x.1)
 
     next : At sz.quota t vs first now V done l → l.pc ≢ 0 → Next
     next (at0 e) busy = absurd (busy e)
@@ -371,40 +335,34 @@ module _ (sz : Sizes) (ws : List ℕ) (used : ℕ → ℕ) (m : Memory false sz 
     next (at7 e d f c start g x) busy = row_7 e x.node_published f.low
     next (at8 e d f c h a) busy = row_8 e
     next (at9 e d b a) busy =
-        let y : left size ws l ≡ 4 = rw e refl in let l' : Local = record l { pc = 10 } in
-        let a = Store (key_index (own_slot l)) (target l.call) in
-        goes a l' None (rw e refl) (rw e refl)
-        (λ z. omega arith, anew (left_by ws a) l' (no_walk (left_by ws a) l' (inr (omega arith))) (omega arith))
+        let y : left size ws l ≡ 4 = rw e refl in
+        late_to (Store (key_index (own_slot l)) (target l.call)) (record l { pc = 10 }) (rw e refl) (rw e refl) (omega arith)
+        (omega arith) (λ h. (omega arith, omega arith, λ z. absurd (omega arith)))
     next (at10 e d b a x) busy =
-        let y : left size ws l ≡ 3 = rw e refl in let l' : Local = record l { pc = 11 } in
-        let a = Store (link_index (own_slot l)) (2 * l.curr) in
-        goes a l' None (rw e refl) (rw e refl)
-        (λ z. omega arith, anew (left_by ws a) l' (no_walk (left_by ws a) l' (inr (omega arith))) (omega arith))
+        let y : left size ws l ≡ 3 = rw e refl in
+        late_to (Store (link_index (own_slot l)) (2 * l.curr)) (record l { pc = 11 }) (rw e refl) (rw e refl) (omega arith)
+        (omega arith) (λ h. (omega arith, omega arith, λ z. absurd (omega arith)))
     next (at11 e d b a x z) busy =
         let y : left size ws l ≡ 2 = rw e refl in
-        let l' : Local = record l { pc = 14; reply = Some True; used = l.used + 1 } in
-        let a = Store (link_index l.pred) (2 * own_slot l) in
-        goes a l' None (rw e refl) (rw e refl)
-        (λ z. omega arith, anew (left_by ws a) l' (no_walk (left_by ws a) l' (inr (omega arith))) (omega arith))
+        late_to (Store (link_index l.pred) (2 * own_slot l)) (record l { pc = 14; reply = Some True; used = l.used + 1 })
+        (rw e refl) (rw e refl) (omega arith) (omega arith) (λ h. (omega arith, omega arith, λ z. (True, refl)))
     next (at12 e d b a) busy =
-        let y : left size ws l ≡ 3 = rw e refl in let l' : Local = record l { pc = 13; succ = node_link ws l.curr / 2 } in
-        goes (Load (link_index l.curr)) l' None (rw e refl) (rw e refl)
-        (λ z. omega arith, anew ws l' (no_walk ws l' (inr (omega arith))) (omega arith))
+        let y : left size ws l ≡ 3 = rw e refl in
+        late_to (Load (link_index l.curr)) (record l { pc = 13; succ = node_link ws l.curr / 2 }) (rw e refl) (rw e refl)
+        (omega arith) (omega arith) (λ h. (omega arith, omega arith, λ z. absurd (omega arith)))
     next (at13 e d b a x) busy =
-        let y : left size ws l ≡ 2 = rw e refl in let l' : Local = record l { pc = 14; reply = Some True } in
-        let a = Store (link_index l.pred) (2 * l.succ) in
-        goes a l' None (rw e refl) (rw e refl)
-        (λ z. omega arith, anew (left_by ws a) l' (no_walk (left_by ws a) l' (inr (omega arith))) (omega arith))
+        let y : left size ws l ≡ 2 = rw e refl in
+        late_to (Store (link_index l.pred) (2 * l.succ)) (record l { pc = 14; reply = Some True }) (rw e refl) (rw e refl)
+        (omega arith) (omega arith) (λ h. (omega arith, omega arith, λ z. (True, refl)))
     next (at14 e p c x i o) busy =
-        let y : left size ws l ≡ 1 + then_again size l.reply = rw e refl in let l' : Local = record l { pc = 15 } in
-        let a = Store (lock_index l.pred) 0 in
-        goes a l' None (rw e refl) (rw e refl)
-        (λ z. omega arith, anew (left_by ws a) l' (no_walk (left_by ws a) l' (inr (omega arith))) (omega arith))
+        let y : left size ws l ≡ 1 + then_again size l.reply = rw e refl in
+        late_to (Store (lock_index l.pred) 0) (record l { pc = 15 }) (rw e refl) (rw e refl) (omega arith) (omega arith)
+        (λ h. (omega arith, omega arith, λ z. h.2 (omega arith)))
     next (at15 e c o) busy = row_15 e
 
   -- from any place
   later : (9 ≤ l.pc) → left size ws l < optimistic_steps sz → Timed size ws (optimistic_steps sz) l
-  later e h = inl (no_walk ws l (inr e), h)
+  later e h = inl (outside ws l (λ a b. omega arith), h)
 
   again_few : (r : Option Reply) → then_again size r ≤ 4 * size + 4
   again_few None = omega arith
@@ -412,7 +370,7 @@ module _ (sz : Sizes) (ws : List ℕ) (used : ℕ → ℕ) (m : Memory false sz 
 
   starts : At sz.quota t vs first now V done l → l.pc ≢ 0 → Timed size ws (optimistic_steps sz) l
   starts (at0 e) busy = absurd (busy e)
-  starts (at1 e d) busy = let y : left size ws l ≡ 4 * size + 3 = rw e refl in inl (no_walk ws l (inl e), omega arith)
+  starts (at1 e d) busy = let y : left size ws l ≡ 4 * size + 3 = rw e refl in inl (outside ws l (λ a b. omega arith), omega arith)
   starts (at2 e d x k) busy =
       let y : left size ws l ≡ 2 * rest size ws l.curr + 2 * size + 6 = rw e refl in
       let z : rest size ws l.curr < size = few false sz ws used m l.curr x.curr_published in inr (omega arith)
@@ -440,87 +398,55 @@ module _ (sz : Sizes) (ws : List ℕ) (used : ℕ → ℕ) (m : Memory false sz 
       let y : left size ws l ≡ then_again size l.reply = rw e refl in
       let z : then_again size l.reply ≤ 4 * size + 4 = again_few l.reply in later (omega arith) (omega arith)
 
--- it tries no lock that it holds
-no_pred : (l : Local) → l.pc ≡ 4 → May l (lock_index l.pred) → ⊥
-no_pred l e (inl p) = let y : 5 ≤ l.pc = p.1.0 in omega arith
-no_pred l e (inr c) = let y : 6 ≤ l.pc = c.1.0 in omega arith
-
-no_curr : (l : Local) → l.pc ≡ 5 → l.curr ≢ l.pred → May l (lock_index l.curr) → ⊥
-no_curr l e d (inl p) = let z : lock_index l.curr ≡ lock_index l.pred = p.0 in d (omega arith)
-no_curr l e d (inr c) = let y : 6 ≤ l.pc = c.1.0 in omega arith
-
--- the stages of a call
-abbrev Stage : Sizes → State → ℕ → ℕ → Type 0
-Stage sz s t n = NoOtherHolds sz s t × Left (node_count sz) s.words n (local_of s t)
-
-module _ (op : Opening) (last k t : ℕ) (es : ℕ → Event) (r : Run optimistic op es last) (upto : k ≤ last) (tn : t < op.threads)
-    (others : NoOtherHolds (sizes op) (state_at optimistic op es k) t) where
-  its_locks_free : Free (state_at optimistic op es k).words (local_of (state_at optimistic op es k) t)
-  its_locks_free =
-      let i : Known op k es = known op last k es r upto in
-      let l : Local = local_of (state_at optimistic op es k) t in
-      let c : (local_of (state_at optimistic op es k) t).curr < node_count (sizes op) = (i.threads t tn).registers.curr in
-      let p : (local_of (state_at optimistic op es k) t).pred < node_count (sizes op) = (i.threads t tn).registers.pred in (
-        λ e. try_succeeds optimistic optimistic_lawful May optimistic_may op es last r k upto t others (lock_index l.pred)
-            (inr (l.pred, refl)) (omega arith) (no_pred l e),
-        λ e d. try_succeeds optimistic optimistic_lawful May optimistic_may op es last r k upto t others (lock_index l.curr)
-            (inr (l.curr, refl)) (omega arith) (no_curr l e d),
-      )
-
 some_time : (size : ℕ) (ws : List ℕ) (l : Local) → Timed size ws 0 l → ⊥
 some_time size ws l (inl v) = let h : left size ws l < 0 = v.1 in omega arith
 some_time size ws l (inr h) = omega arith
 
-nears : Nears optimistic Stage
-nears = record {
-  some = λ sz s t g. some_time (node_count sz) s.words (local_of s t) g.1.1;
-  pending = λ sz s t n g. g.1.0;
-  steps = λ op es k t n r ee tn g.
-      let i : Known op k es = known op (suc k) k es r (omega arith) in
-      let step = next (sizes op) (state_at optimistic op es k).words (used_in (state_at optimistic op es k)) i.memory t
-      (local_of (state_at optimistic op es k) t) (i.threads t tn).registers (views optimistic op es)
-      (begun_at (log_of optimistic op es) t k) k (has_changed (log_of optimistic op es) t k)
-      (its_locks_free op (suc k) k t es r (omega arith) tn g.0) n g.1.1 (i.threads t tn).at g.1.0 in
-      elim (stepped optimistic (state_at optimistic op es k) t (rw i.locals tn)
-      (λ ws' l'. Left (node_count (sizes op)) ws' n l') step) [
-        | inl a ↦ inl a
-        | inr p ↦ inr (others_wait optimistic optimistic_lawful op es k t r ee g.0, p)
-      ];
+-- what the rows say at a moment of a run
+module _ (op : Opening) (last k t : ℕ) (es : ℕ → Event) (r : Run optimistic op es last) (upto : k ≤ last) (tn : t < op.threads)
+    (busy : IsPending (state_at optimistic op es k) t) where
+  abbrev S : State
+  S = state_at optimistic op es k
+
+  i : Known op k es
+  i = known op last k es r upto
+
+  full_time : Timed (node_count (sizes op)) S.words (optimistic_steps (sizes op)) (local_of S t)
+  full_time = starts (sizes op) S.words (used_in S) i.memory t (local_of S t) (i.threads t tn).registers (views optimistic op es)
+      (begun_at (log_of optimistic op es) t k) k (has_changed (log_of optimistic op es) t k) (i.threads t tn).at busy
+
+  own_step : (n : ℕ) → Free S.words (local_of S t) → Timed (node_count (sizes op)) S.words (suc n) (local_of S t)
+      → Answers optimistic S t ⊎ Left (node_count (sizes op)) (after optimistic S (Go t)).words n (local_of S t)
+      (local_of (after optimistic S (Go t)) t)
+  own_step n free time = stepped optimistic S t (rw i.locals tn) (λ ws' l'. Left (node_count (sizes op)) ws' n (local_of S t) l')
+      (next (sizes op) S.words (used_in S) i.memory t (local_of S t) (i.threads t tn).registers (views optimistic op es)
+      (begun_at (log_of optimistic op es) t k) k (has_changed (log_of optimistic op es) t k) free n time (i.threads t tn).at busy)
+
+abbrev Time : Sizes → List ℕ → ℕ → Local → Type 0
+Time sz ws n l = Timed (node_count sz) ws n l
+
+abbrev Calm : List ℕ → Local → Type 0
+Calm ws l = Unit {0}
+
+open_late : (l : Local) → LateRow l → l.pc ≢ 0
+open_late l late z = let low : 9 ≤ l.pc = late.0 in omega arith
+
+free_late : (ws : List ℕ) (l : Local) → LateRow l → Free ws l
+free_late ws l late = let low : 9 ≤ l.pc = late.0 in (λ e. absurd (omega arith), λ e d. absurd (omega arith))
+
+walks : Walks optimistic optimistic_steps Time Free Calm LateRow
+walks = record {
+  some = λ sz ws l h. some_time (node_count sz) ws l h;
+  full = λ op last k t es r upto tn busy calm. full_time op last k t es r upto tn busy;
+  step = λ op last k t es r upto tn busy calm n free h. own_step op last k t es r upto tn busy n free h;
+  alone = λ op last k t es r upto tn others. (free_alone optimistic optimistic_lawful OnPred OnCurr optimistic_may (λ pc p. p.0) (λ pc c. c.0) op last k t es r upto tn others, tt);
+  late_free = λ ws l late. (open_late l late, free_late ws l late, tt);
 }
 
 pub optimistic_calls_end : CallsEndAlone optimistic optimistic_steps
-optimistic_calls_end op k t es r tn busy others =
-    let i : Known op k es = known op k k es r (omega arith) in
-    ends_alone optimistic optimistic_lawful Stage nears op t tn (optimistic_steps (sizes op)) k es r (
-      others,
-      (
-        busy,
-        starts (sizes op) (state_at optimistic op es k).words (used_in (state_at optimistic op es k)) i.memory t
-            (local_of (state_at optimistic op es k) t) (i.threads t tn).registers (views optimistic op es)
-            (begun_at (log_of optimistic op es) t k) k (has_changed (log_of optimistic op es) t k) (i.threads t tn).at busy,
-      ),
-    )
+optimistic_calls_end = calls_end_by optimistic optimistic_lawful optimistic_steps Time Free Calm LateRow walks
 
 -- SOME CALL CAN END: a step before the decision leaves keys and links,
-module _ (ws : List ℕ) (l : Local) where
-  abbrev Quiet : Type 0
-  Quiet = (node_key (left_by ws (optimistic.next l)) ≡ node_key ws) × (node_link (left_by ws (optimistic.next l)) ≡ node_link ws)
-
-  loading : (w : ℕ) → optimistic.next l ≡ Load w → Quiet
-  loading w acts = (ap (λ a. node_key (left_by ws a)) acts, ap (λ a. node_link (left_by ws a)) acts)
-
-  trying : (a v : ℕ) → optimistic.next l ≡ Exchange (lock_index a) 0 v → Quiet
-  trying a v acts = (
-    ap (λ x. node_key (left_by ws x)) acts ∙ keys_tried ws a v,
-    ap (λ x. node_link (left_by ws x)) acts ∙ links_tried ws a v,
-  )
-
-  giving : (a v : ℕ) → optimistic.next l ≡ Store (lock_index a) v → Quiet
-  giving a v acts = (
-    ap (λ x. node_key (left_by ws x)) acts ∙ keys_stay ws a v,
-    ap (λ x. node_link (left_by ws x)) acts ∙ links_stay ws a v,
-  )
-
 valid_same : (ws ws' : List ℕ) (l : Local) → node_link ws' ≡ node_link ws → Valid ws l → Valid ws' l
 valid_same ws ws' l e v = record {
   to_pred = λ a b c. subst (λ f. Path f 0 l.pred) (sym e) (v.to_pred a b c);
@@ -539,87 +465,8 @@ timed_same size n ws ws' l keys links time =
       | inr h ↦ inr (omega arith)
     ]
 
--- and from the decision on a thread tries no lock, and has a reply where it gives its locks back
-abbrev LateRow : Local → Type 0
-LateRow l = ((9 ≤ l.pc) × (l.pc ≤ 13)) ⊎ ((13 < l.pc) × (l.pc ≤ 15) × ((r : Reply) × (l.reply ≡ Some r)))
-
-abbrev Late : Sizes → State → ℕ → ℕ → Type 0
-Late sz s t n = LateRow (local_of s t) × (left (node_count sz) s.words (local_of s t) < n)
-
-late_from : (l : Local) → LateRow l → 9 ≤ l.pc
-late_from l (inl e) = e.0
-late_from l (inr e) = let z : 13 < l.pc = e.0 in omega arith
-
-late_upto : (l : Local) → LateRow l → l.pc ≤ 15
-late_upto l (inl e) = let z : l.pc ≤ 13 = e.1 in omega arith
-late_upto l (inr e) = e.1
-
-has_reply : (l : Local) → LateRow l → 13 < l.pc → (r : Reply) × (l.reply ≡ Some r)
-has_reply l (inl e) h = absurd (let z : l.pc ≤ 13 = e.1 in omega arith)
-has_reply l (inr e) h = e.2
-
-module _ (l : Local) (size n : ℕ) (ws : List ℕ)
-    (late : LateRow l) (h : left size ws l < suc n) where
-  abbrev Goes : Type 0
-  Goes = Step optimistic ws l (λ ws' l'. LateRow l' × (left size ws' l' < n))
-
-  low : 9 ≤ l.pc
-  low = late_from l late
-
-  high : l.pc ≤ 15
-  high = late_upto l late
-
-  gives_first : (r : Reply) → l.reply ≡ Some r → l.pc ≡ 14 → Goes
-  gives_first r f e =
-      let y : left size ws l ≡ 1 = rw (e, f) refl in
-      let y' : left size (slice_set ws (lock_index l.pred) 0) (record l { pc = 15 }) ≡ 0 = rw f refl in
-      goes (Store (lock_index l.pred) 0) (record l { pc = 15 }) None (rw e refl) (rw e refl)
-      (inr (omega arith, omega arith, (r, f)), omega arith)
-
-  gives_last : (r : Reply) → l.reply ≡ Some r → l.pc ≡ 15 → Goes
-  gives_last r f e = stops (Store (lock_index l.curr) 0) (record l { pc = 0 }) r (rw e refl) (rw (e, f) refl)
-
-  late_next : {q t : ℕ} {vs : ℕ → View} {first now : ℕ} {v : View} {done : Bool} → At q t vs first now v done l → Goes
-  late_next (at0 e) = absurd (omega arith)
-  late_next (at1 e d) = absurd (omega arith)
-  late_next (at2 e d x k) = absurd (omega arith)
-  late_next (at3 e d c k b) = absurd (omega arith)
-  late_next (at4 e d f) = absurd (omega arith)
-  late_next (at5 e d f p) = absurd (omega arith)
-  late_next (at6 e d f c k start g x) = absurd (omega arith)
-  late_next (at7 e d f c start g x) = absurd (omega arith)
-  late_next (at8 e d f c x a) = absurd (omega arith)
-  late_next (at9 e d b a) = let y : left size ws l ≡ 4 = rw e refl in
-      goes (Store (key_index (own_slot l)) (target l.call)) (record l { pc = 10 }) None (rw e refl) (rw e refl) (inl (omega arith, omega arith), omega arith)
-  late_next (at10 e d b a x) = let y : left size ws l ≡ 3 = rw e refl in
-      goes (Store (link_index (own_slot l)) (2 * l.curr)) (record l { pc = 11 }) None (rw e refl) (rw e refl) (inl (omega arith, omega arith), omega arith)
-  late_next (at11 e d b a x z) = let y : left size ws l ≡ 2 = rw e refl in
-      goes (Store (link_index l.pred) (2 * own_slot l)) (record l { pc = 14; reply = Some True; used = l.used + 1 }) None (rw e refl) (rw e refl) (inr (omega arith, omega arith, (True, refl)), omega arith)
-  late_next (at12 e d b a) = let y : left size ws l ≡ 3 = rw e refl in
-      goes (Load (link_index l.curr)) (record l { pc = 13; succ = node_link ws l.curr / 2 }) None (rw e refl) (rw e refl) (inl (omega arith, omega arith), omega arith)
-  late_next (at13 e d b a x) = let y : left size ws l ≡ 2 = rw e refl in
-      goes (Store (link_index l.pred) (2 * l.succ)) (record l { pc = 14; reply = Some True }) None (rw e refl) (rw e refl) (inr (omega arith, omega arith, (True, refl)), omega arith)
-  late_next (at14 e p c x i o) = let z = has_reply l late (omega arith) in gives_first z.0 z.1 e
-  late_next (at15 e c o) = let z = has_reply l late (omega arith) in gives_last z.0 z.1 e
-
-late_nears : Nears optimistic Late
-late_nears = record {
-  some = λ sz s t g. (let h : left (node_count sz) s.words (local_of s t) < 0 = g.1 in omega arith);
-  pending = λ sz s t n g z. (let low : 9 ≤ (local_of s t).pc = late_from (local_of s t) g.0 in omega arith);
-  steps = λ op es k t n r ee tn g.
-      let i : Known op k es = known op (suc k) k es r (omega arith) in
-      stepped optimistic (state_at optimistic op es k) t (rw i.locals tn)
-      (λ ws' l'. LateRow l' × (left (node_count (sizes op)) ws' l' < n))
-      (late_next (local_of (state_at optimistic op es k) t) (node_count (sizes op)) n (state_at optimistic op es k).words g.0 g.1
-      (i.threads t tn).at);
-}
-
-abbrev Time : Sizes → List ℕ → ℕ → Local → Type 0
-Time sz ws n l = Timed (node_count sz) ws n l
-
-module _ (op : Opening) (es : ℕ → Event) (k u n : ℕ) (r : Run optimistic op es k) (un : u < op.threads)
-    (g : GetsOn optimistic (state_at optimistic op es k) u)
-    (time : Time (sizes op) (state_at optimistic op es k).words (suc n) (local_of (state_at optimistic op es k) u)) where
+module _ (op : Opening) (k u : ℕ) (es : ℕ → Event) (r : Run optimistic op es k) (un : u < op.threads)
+    (g : GetsOn optimistic (state_at optimistic op es k) u) where
   abbrev Here : State
   Here = state_at optimistic op es k
 
@@ -632,94 +479,49 @@ module _ (op : Opening) (es : ℕ → Event) (k u n : ℕ) (r : Run optimistic o
   regs : Registers (sizes op) u Own
   regs = (now.threads u un).registers
 
-  abbrev Outcome : Type 0
-  Outcome = CanEnd optimistic Here 6 ⊎ Answers optimistic Here u ⊎ Before optimistic Time (sizes op) Here u n
-
-  decided : LateRow Own → left (node_count (sizes op)) Here.words Own < 6 → Outcome
-  decided late h = inl (alone_can optimistic Here u 6 (ends_alone optimistic optimistic_lawful Late late_nears op u un 6 k es r (late, h)))
-
-  free : Free Here.words Own
-  free = (
+  free_on : Free Here.words Own
+  free_on = (
     λ e. g.tries (lock_index Own.pred) 0 (u + 1) (inr (Own.pred, refl)) (rw (e, regs.thread) refl),
     λ e d. g.tries (lock_index Own.curr) 0 (u + 1) (inr (Own.curr, refl)) (rw (e, regs.thread) refl),
   )
 
-  quiet : Quiet Here.words Own → Outcome
-  quiet same =
-      let at = (now.threads u un).at in
-      elim (stepped optimistic Here u g.enabled.0 (λ ws' l'. Left (node_count (sizes op)) ws' n l')
-      (next (sizes op) Here.words (used_in Here) now.memory u Own regs (views optimistic op es) (begun_at (log_of optimistic op es) u k) k
-      (has_changed (log_of optimistic op es) u k) free n time at g.enabled.1)) [
-        | inl a ↦ inr (inl a)
-        | inr p ↦ inr (inr (record {
-          time = p.1;
-          open_call = p.0;
-          stays = λ m l. timed_same (node_count (sizes op)) m Here.words (left_by Here.words (optimistic.next Own)) l same.0 same.1;
-        }))
-      ]
+  abbrev Outcome : Type 0
+  Outcome = (LateRow Own × Time (sizes op) Here.words 6 Own) ⊎ KeepsList optimistic Here.words Own
 
-  -- where the locks are given back, with a reply or without
-  first_with : (r : Reply) → Own.reply ≡ Some r → Own.pc ≡ 14 → Outcome
-  first_with r f e =
-      let y : left (node_count (sizes op)) Here.words Own ≡ 1 = rw (e, f) refl in
-      decided (inr (omega arith, omega arith, (r, f))) (omega arith)
-
-  first_with_or_not : Own.pc ≡ 14 → Outcome
-  first_with_or_not e = elim (some_or_none Own.reply) [
-    | inl z ↦ quiet (giving Here.words Own Own.pred 0 (rw e refl))
-    | inr z ↦ first_with z.0 z.1 e
-  ]
-
-  last_with : (r : Reply) → Own.reply ≡ Some r → Own.pc ≡ 15 → Outcome
-  last_with r f e =
-      let y : left (node_count (sizes op)) Here.words Own ≡ 0 = rw (e, f) refl in
-      decided (inr (omega arith, omega arith, (r, f))) (omega arith)
-
-  last_with_or_not : Own.pc ≡ 15 → Outcome
-  last_with_or_not e = elim (some_or_none Own.reply) [
-    | inl z ↦ quiet (giving Here.words Own Own.curr 0 (rw e refl))
-    | inr z ↦ last_with z.0 z.1 e
-  ]
+  decided : LateRow Own → left (node_count (sizes op)) Here.words Own < 6 → Outcome
+  decided late h = inl (late, inl (outside Here.words Own (λ a b. let low : 9 ≤ Own.pc = late.0 in omega arith), h))
 
   outcome : At (sizes op).quota u (views optimistic op es) (begun_at (log_of optimistic op es) u k) k
       (view (sizes op) Here.words (used_in Here)) (has_changed (log_of optimistic op es) u k) Own → Outcome
   outcome (at0 e) = absurd (g.enabled.1 e)
-  outcome (at1 e d) = quiet (loading Here.words Own (link_index 0) (rw e refl))
-  outcome (at2 e d x y) = quiet (loading Here.words Own (key_index Own.curr) (rw e refl))
-  outcome (at3 e d c y b) = quiet (loading Here.words Own (link_index Own.curr) (rw e refl))
-  outcome (at4 e d f) = quiet (trying Here.words Own Own.pred (u + 1) (rw (e, regs.thread) refl))
-  outcome (at5 e d f p) = quiet (trying Here.words Own Own.curr (u + 1) (rw (e, regs.thread) refl))
-  outcome (at6 e d f c y start z x) = quiet (loading Here.words Own (link_index Own.node) (rw e refl))
-  outcome (at7 e d f c start z x) = quiet (loading Here.words Own (key_index Own.node) (rw e refl))
-  outcome (at8 e d f c x a) = quiet (loading Here.words Own (link_index Own.pred) (rw e refl))
+  outcome (at1 e d) = inr (loading optimistic Here.words Own (link_index 0) (rw e refl))
+  outcome (at2 e d x y) = inr (loading optimistic Here.words Own (key_index Own.curr) (rw e refl))
+  outcome (at3 e d c y b) = inr (loading optimistic Here.words Own (link_index Own.curr) (rw e refl))
+  outcome (at4 e d f) = inr (trying optimistic Here.words Own Own.pred (u + 1) (rw (e, regs.thread) refl))
+  outcome (at5 e d f p) = inr (trying optimistic Here.words Own Own.curr (u + 1) (rw (e, regs.thread) refl))
+  outcome (at6 e d f c y start z x) = inr (loading optimistic Here.words Own (link_index Own.node) (rw e refl))
+  outcome (at7 e d f c start z x) = inr (loading optimistic Here.words Own (key_index Own.node) (rw e refl))
+  outcome (at8 e d f c x a) = inr (loading optimistic Here.words Own (link_index Own.pred) (rw e refl))
   outcome (at9 e d b a) = let y : left (node_count (sizes op)) Here.words Own ≡ 4 = rw e refl in
-      decided (inl (omega arith, omega arith)) (omega arith)
+      decided (omega arith, omega arith, λ z. absurd (omega arith)) (omega arith)
   outcome (at10 e d b a x) = let y : left (node_count (sizes op)) Here.words Own ≡ 3 = rw e refl in
-      decided (inl (omega arith, omega arith)) (omega arith)
+      decided (omega arith, omega arith, λ z. absurd (omega arith)) (omega arith)
   outcome (at11 e d b a x z) = let y : left (node_count (sizes op)) Here.words Own ≡ 2 = rw e refl in
-      decided (inl (omega arith, omega arith)) (omega arith)
-  outcome (at12 e d b a) = let y : left (node_count (sizes op)) Here.words Own ≡ 3 = rw e refl in
-      decided (inl (omega arith, omega arith)) (omega arith)
+      decided (omega arith, omega arith, λ z. absurd (omega arith)) (omega arith)
+  outcome (at12 e d b a) = inr (loading optimistic Here.words Own (link_index Own.curr) (rw e refl))
   outcome (at13 e d b a x) = let y : left (node_count (sizes op)) Here.words Own ≡ 2 = rw e refl in
-      decided (inl (omega arith, omega arith)) (omega arith)
-  outcome (at14 e p c x i y) = first_with_or_not e
-  outcome (at15 e c y) = last_with_or_not e
+      decided (omega arith, omega arith, λ z. absurd (omega arith)) (omega arith)
+  outcome (at14 e p c x i y) = inr (giving optimistic Here.words Own Own.pred 0 (rw e refl))
+  outcome (at15 e c y) = inr (giving optimistic Here.words Own Own.curr 0 (rw e refl))
 
-shrinks : Shrinks optimistic 6 Time
-shrinks = record {
-  some = λ sz ws l t. some_time (node_count sz) ws l t;
-  steps = λ op es k u n r un g time. outcome op es k u n r un g time ((known op k k es r (omega arith)).threads u un).at;
+decides : Decides optimistic Time Free Calm LateRow
+decides = record {
+  ready = λ op k es r. inr (λ u un. tt);
+  free_on = λ op k u es r un g. free_on op k u es r un g;
+  either = λ op k u es r un g. outcome op k u es r un g ((known op k k es r (omega arith)).threads u un).at;
+  stays = λ sz n ws ws' l keys links h. timed_same (node_count sz) n ws ws' l keys links h;
 }
 
-seven : (a : ℕ) → a + 6 + 1 ≤ a + 7
-seven a = omega arith
-
 pub optimistic_can_end : SomeCallCanEnd optimistic (for_each optimistic_steps)
-optimistic_can_end op k t es r tn busy =
-    let i : Known op k es = known op k k es r (omega arith) in
-    let c = some_can_end optimistic 6 Time shrinks optimistic_gets_on op (optimistic_steps (sizes op)) k t es r tn busy
-    (λ v vn b. starts (sizes op) (state_at optimistic op es k).words (used_in (state_at optimistic op es k)) i.memory v
-    (local_of (state_at optimistic op es k) v) (i.threads v vn).registers (views optimistic op es)
-    (begun_at (log_of optimistic op es) v k) k (has_changed (log_of optimistic op es) v k) (i.threads v vn).at b) in
-    can_more optimistic (state_at optimistic op es k) (op.threads * optimistic_steps (sizes op) + 6 + 1) (for_each optimistic_steps (sizes op))
-    (seven (op.threads * optimistic_steps (sizes op))) c
+optimistic_can_end =
+    some_call_can_end optimistic optimistic_lawful optimistic_steps Time Free Calm LateRow walks decides optimistic_gets_on

@@ -55,18 +55,3 @@ leads_of v i j (a ∷ ns) p = (p.1, leads_of v (v.link i / 2) j ns p.2)
 
 pub path_of : (v : View) (b : ℕ) → InChain v b → Path v.link 0 b
 path_of v b i = (i.0, leads_of v 0 b i.0 i.1)
-
--- links behind the end of a path have no part in it
-leads_same : (v : View) → IsOrdered v → (link : ℕ → ℕ) (i j : ℕ) (ns : List ℕ) → v.published i
-    → ((a : ℕ) → v.key a < v.key j → link a ≡ v.link a) → Leads v.link i ns j → Leads link i ns j
-leads_same v ord link i j [] m same p = p
-leads_same v ord link i j (a ∷ ns) m same p =
-    let m' : v.published (v.link i / 2) = ord.next_published i m p.0 in
-    let h : v.key i < v.key (v.link i / 2) = ord.rises i m p.0 in
-    let r : v.key (v.link i / 2) ≤ v.key j = leads_up v ord (v.link i / 2) j ns m' p.1 in
-    let e : link i ≡ v.link i = same i (omega arith) in
-    (p.0, subst (λ x. Leads link (x / 2) ns j) (sym e) (leads_same v ord link (v.link i / 2) j ns m' same p.1))
-
-pub path_same : (v : View) → IsOrdered v → (link : ℕ → ℕ) (i j : ℕ) → v.published i
-    → ((a : ℕ) → v.key a < v.key j → link a ≡ v.link a) → Path v.link i j → Path link i j
-path_same v ord link i j m same p = (p.0, leads_same v ord link i j p.0 m same p.1)

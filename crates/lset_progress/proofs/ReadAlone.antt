@@ -19,7 +19,7 @@ use Rattle.lset_steps.proofs.ReadTables.{HasReadRows, IsReadRow}
 use Rattle.lset_steps.proofs.ReadOutline.{Reading}
 use Rattle.lset_steps.proofs.ReadOutline.Reading.{reads20, reads21, reads22, reads23, reads24, reads25}
 use Rattle.lset_progress.proofs.Ahead.{ahead, ahead_most}
-use Rattle.lset_progress.proofs.Rest.{rest, few, fewer}
+use Rattle.lset_progress.proofs.Rest.{SameKeys, rest_by, few_by, fewer_by}
 use Rattle.lset_progress.proofs.Paths.{Path, no_steps, path_on}
 use Rattle.lset_progress.proofs.Alone.{Step}
 use Rattle.lset_progress.proofs.Alone.Step.{goes, stops}
@@ -29,91 +29,88 @@ abbrev pub Plain : List ℕ → Type 0
 Plain ws = (b : ℕ) → Path (node_link ws) 0 b → node_link ws b % 2 ≡ 0
 
 -- how many steps are left behind the next one
-abbrev pub reads_left_by_keys : ℕ → (ℕ → ℕ) → Local → ℕ
-reads_left_by_keys size key l =
+abbrev pub reads_left : ℕ → (ℕ → ℕ) → Local → ℕ
+reads_left size key l =
     if l.pc == 20 then 2 * ahead key size (key l.curr)
     else if l.pc == 21 then 2 * ahead key size (key l.curr) + 1
     else if l.pc == 23 then 2 * ahead key size (key l.curr)
     else if l.pc == 24 then 2 * ahead key size (key l.curr) + 1
     else 0
 
-abbrev pub reads_left : ℕ → List ℕ → Local → ℕ
-reads_left size ws l = reads_left_by_keys size (node_key ws) l
-
 -- a ceiling has come along the chain
 abbrev pub AlongChain : List ℕ → Local → Type 0
 AlongChain ws l = 23 ≤ l.pc → Path (node_link ws) 0 l.curr
 
 -- or there is time for another walk
-abbrev pub ReadTimed : ℕ → ℕ → List ℕ → ℕ → Local → Type 0
-ReadTimed round size ws n l = (AlongChain ws l × (reads_left size ws l < n)) ⊎ (reads_left size ws l + round < n)
+abbrev pub ReadTimed : ℕ → ℕ → (ℕ → ℕ) → List ℕ → ℕ → Local → Type 0
+ReadTimed round size key ws n l = (AlongChain ws l × (reads_left size key l < n)) ⊎ (reads_left size key l + round < n)
 
-pub record ReadLeft (round size : ℕ) (ws : List ℕ) (n : ℕ) (l : Local) : Type 0 where
+pub record ReadLeft (round size : ℕ) (key : ℕ → ℕ) (ws : List ℕ) (n : ℕ) (l : Local) : Type 0 where
   pub row : IsReadRow l.pc
   pub plain : 23 ≤ l.pc → Plain ws
-  pub time : ReadTimed round size ws n l
+  pub time : ReadTimed round size key ws n l
 
 -- from any place
-pub few_left : (size : ℕ) (ws : List ℕ) (l : Local) → IsReadRow l.pc → reads_left size ws l ≤ 2 * size + 1
-few_left size ws l p =
+pub few_left : (size : ℕ) (key : ℕ → ℕ) (l : Local) → IsReadRow l.pc → reads_left size key l ≤ 2 * size + 1
+few_left size key l p =
     each p
   where
-    most : rest size ws l.curr ≤ size
-    most = ahead_most (node_key ws) size (node_key ws l.curr)
+    most : rest_by size key l.curr ≤ size
+    most = ahead_most key size (key l.curr)
 
-    each : IsReadRow l.pc → reads_left size ws l ≤ 2 * size + 1
-    each (inl e) = let y : reads_left size ws l ≡ 2 * rest size ws l.curr = rw e refl in let x = most in omega arith
-    each (inr (inl e)) = let y : reads_left size ws l ≡ 2 * rest size ws l.curr + 1 = rw e refl in let x = most in omega arith
-    each (inr (inr (inl e))) = let y : reads_left size ws l ≡ 0 = rw e refl in omega arith
-    each (inr (inr (inr (inl e)))) = let y : reads_left size ws l ≡ 2 * rest size ws l.curr = rw e refl in let x = most in
+    each : IsReadRow l.pc → reads_left size key l ≤ 2 * size + 1
+    each (inl e) = let y : reads_left size key l ≡ 2 * rest_by size key l.curr = rw e refl in let x = most in omega arith
+    each (inr (inl e)) = let y : reads_left size key l ≡ 2 * rest_by size key l.curr + 1 = rw e refl in let x = most in omega arith
+    each (inr (inr (inl e))) = let y : reads_left size key l ≡ 0 = rw e refl in omega arith
+    each (inr (inr (inr (inl e)))) = let y : reads_left size key l ≡ 2 * rest_by size key l.curr = rw e refl in let x = most in
         omega arith
-    each (inr (inr (inr (inr (inl e))))) = let y : reads_left size ws l ≡ 2 * rest size ws l.curr + 1 = rw e refl in
+    each (inr (inr (inr (inr (inl e))))) = let y : reads_left size key l ≡ 2 * rest_by size key l.curr + 1 = rw e refl in
         let x = most in omega arith
-    each (inr (inr (inr (inr (inr e))))) = let y : reads_left size ws l ≡ 0 = rw e refl in omega arith
+    each (inr (inr (inr (inr (inr e))))) = let y : reads_left size key l ≡ 0 = rw e refl in omega arith
 
 module _ (T : Table) (rows : HasReadRows T) (marks : Bool) (sz : Sizes) (ws : List ℕ) (used : ℕ → ℕ) (m : Memory marks sz ws used)
-    (vs : ℕ → View) (first now : ℕ) (done : Bool) (ordered : (at : ℕ) → at ≤ now → IsOrdered (vs at))
+    (key : ℕ → ℕ) (same : SameKeys key (view sz ws used)) (vs : ℕ → View) (first now : ℕ) (done : Bool) (ordered : (at : ℕ) → at ≤ now → IsOrdered (vs at))
     (later : (at a : ℕ) → at ≤ now → (vs at).published a → (view sz ws used).published a × (node_key ws a ≡ (vs at).key a))
     (l : Local) (low : target l.call < tail_word) (plain : 23 ≤ l.pc → Plain ws) (round : ℕ) (enough : 2 * node_count sz ≤ round) where
   abbrev size : ℕ
   size = node_count sz
 
-  module _ (n : ℕ) (time : ReadTimed round size ws (suc n) l) where
+  module _ (n : ℕ) (time : ReadTimed round size key ws (suc n) l) where
     abbrev Next : Type 0
-    Next = Step T ws l (λ ws' l'. ReadLeft round size ws' n l')
+    Next = Step T ws l (λ ws' l'. (ws' ≡ ws) × ReadLeft round size key ws n l')
 
-    on : (l' : Local) → (AlongChain ws l → AlongChain ws l') → reads_left size ws l' < reads_left size ws l
-        → ReadTimed round size ws n l'
+    on : (l' : Local) → (AlongChain ws l → AlongChain ws l') → reads_left size key l' < reads_left size key l
+        → ReadTimed round size key ws n l'
     on l' along le = elim time [
-      | inl v ↦ inl (let h : reads_left size ws l < suc n = v.1 in (along v.0, omega arith))
+      | inl v ↦ inl (let h : reads_left size key l < suc n = v.1 in (along v.0, omega arith))
       | inr h ↦ inr (omega arith)
     ]
 
     -- it goes on to l', at a row of its own
     loads : (w : ℕ) (l' : Local) → T.next l ≡ Load w → T.feed l (slice_index ws w) ≡ continued l' → IsReadRow l'.pc
-        → (23 ≤ l'.pc → Plain ws) → ReadTimed round size ws n l' → Next
-    loads w l' acts feeds row p t = goes (Load w) l' None acts feeds (record { row = row; plain = p; time = t })
+        → (23 ≤ l'.pc → Plain ws) → ReadTimed round size key ws n l' → Next
+    loads w l' acts feeds row p t = goes (Load w) l' None acts feeds (refl, record { row = row; plain = p; time = t })
 
     not_tail : node_key ws l.curr < target l.call → l.curr ≢ 1
     not_tail lt = inner marks sz ws used m l.curr (target l.call) lt low
 
     -- where it was in the chain it has a next node, with less ahead
     goes_less : At20 vs first now (key_of l.call).0 l.curr
-        → (l.curr ≢ 1) × (rest size ws (node_link ws l.curr / 2) < rest size ws l.curr)
+        → (l.curr ≢ 1) × (rest_by size key (node_link ws l.curr / 2) < rest_by size key l.curr)
     goes_less a =
         let upto : a.past.at ≤ now = a.past.upto in
         let was : (vs a.past.at).published l.curr =
         in_chain_published (vs a.past.at) (ordered a.past.at upto) l.curr a.past.in_chain in
         let is = later a.past.at l.curr upto was in
-        let key : node_key ws l.curr ≡ (vs a.past.at).key l.curr = is.1 in
+        let was_key : node_key ws l.curr ≡ (vs a.past.at).key l.curr = is.1 in
         let below : (vs a.past.at).key l.curr < (key_of l.call).0 + 1 = a.low in
         let user : l.curr ≢ 1 = not_tail (omega arith) in
-        (user, fewer marks sz ws used m l.curr is.0 user)
+        (user, fewer_by marks sz ws used m key same l.curr is.0 user)
 
     from_20 : l.pc ≡ 20 → At20 vs first now (key_of l.call).0 l.curr → Next
     from_20 e a =
-        let y : reads_left size ws l ≡ 2 * rest size ws l.curr = rw e refl in
-        let less : rest size ws (node_link ws l.curr / 2) < rest size ws l.curr = (goes_less a).1 in
+        let y : reads_left size key l ≡ 2 * rest_by size key l.curr = rw e refl in
+        let less : rest_by size key (node_link ws l.curr / 2) < rest_by size key l.curr = (goes_less a).1 in
         let l' : Local = record l { pc = 21; curr = node_link ws l.curr / 2 } in
         loads (link_index l.curr) l' (rows.acts l (inl e) ∙ rw e refl)
         (rows.feeds l (node_link ws l.curr) (inl e) ∙ rw e refl) (inr (inl refl)) (λ z. absurd (omega arith))
@@ -121,7 +118,7 @@ module _ (T : Table) (rows : HasReadRows T) (marks : Bool) (sz : Sizes) (ws : Li
 
     from_21 : l.pc ≡ 21 → Next
     from_21 e =
-        let y : reads_left size ws l ≡ 2 * rest size ws l.curr + 1 = rw e refl in
+        let y : reads_left size key l ≡ 2 * rest_by size key l.curr + 1 = rw e refl in
         let s : ℕ = node_key ws l.curr in let k : ℕ = target l.call in
         let acts : T.next l ≡ Load (key_index l.curr) = rows.acts l (inr (inl e)) ∙ rw e refl in
         let feeds : T.feed l (node_key ws l.curr) ≡ read_key l (node_key ws l.curr) =
@@ -157,9 +154,9 @@ module _ (T : Table) (rows : HasReadRows T) (marks : Bool) (sz : Sizes) (ws : Li
 
     from_23 : l.pc ≡ 23 → At20 vs first now (key_of l.call).0 l.curr → Next
     from_23 e a =
-        let y : reads_left size ws l ≡ 2 * rest size ws l.curr = rw e refl in
+        let y : reads_left size key l ≡ 2 * rest_by size key l.curr = rw e refl in
         let goes_on = goes_less a in
-        let less : rest size ws (node_link ws l.curr / 2) < rest size ws l.curr = goes_on.1 in
+        let less : rest_by size key (node_link ws l.curr / 2) < rest_by size key l.curr = goes_on.1 in
         let l' : Local = record l { pc = 24; curr = node_link ws l.curr / 2 } in
         loads (link_index l.curr) l' (rows.acts l (inr (inr (inr (inl e)))) ∙ rw e refl)
         (rows.feeds l (node_link ws l.curr) (inr (inr (inr (inl e)))) ∙ rw e refl) (inr (inr (inr (inr (inl refl)))))
@@ -168,7 +165,7 @@ module _ (T : Table) (rows : HasReadRows T) (marks : Bool) (sz : Sizes) (ws : Li
 
     from_24 : l.pc ≡ 24 → Next
     from_24 e =
-        let y : reads_left size ws l ≡ 2 * rest size ws l.curr + 1 = rw e refl in
+        let y : reads_left size key l ≡ 2 * rest_by size key l.curr + 1 = rw e refl in
         let s : ℕ = node_key ws l.curr in let k : ℕ = target l.call in
         let acts : T.next l ≡ Load (key_index l.curr) = rows.acts l (inr (inr (inr (inr (inl e))))) ∙ rw e refl in
         let feeds : T.feed l (node_key ws l.curr) ≡ ceiling_key l (node_key ws l.curr) =
@@ -191,13 +188,13 @@ module _ (T : Table) (rows : HasReadRows T) (marks : Bool) (sz : Sizes) (ws : Li
 
     from_25 : l.pc ≡ 25 → Next
     from_25 e =
-        let y : reads_left size ws l ≡ 0 = rw e refl in
+        let y : reads_left size key l ≡ 0 = rw e refl in
         let s : ℕ = node_link ws l.curr in
         let acts : T.next l ≡ Load (link_index l.curr) = rows.acts l (inr (inr (inr (inr (inr e))))) ∙ rw e refl in
         let feeds : T.feed l (node_link ws l.curr) ≡ ceiling_mark l (node_link ws l.curr) =
         rows.feeds l (node_link ws l.curr) (inr (inr (inr (inr (inr e))))) ∙ rw e refl in
         let again : Local = record l { pc = 23; curr = 0 } in
-        let head : rest size ws 0 < size = few marks sz ws used m 0 m.ordered.head_published in
+        let head : rest_by size key 0 < size = few_by marks sz ws used m key same 0 m.ordered.head_published in
         elim (same_or_not (s % 2) 0) [
           | inl z ↦ stops (Load (link_index l.curr)) (record l { pc = 0 }) (ceiling_at l.ckey) acts
               (feeds ∙ if_same (s % 2) 0 z (leaves_with (ceiling_at l.ckey) l) (continued again))

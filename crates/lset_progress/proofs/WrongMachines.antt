@@ -1,16 +1,18 @@
 -- That the laws of progress refuse the wrong machines: for each a run that is written out.
-use Rattle.std.specs.Prelude.{◌≡◌, ℕ, ◌<◌, None, List, [], ◌∷◌, length, slice_index, refl}
+use Rattle.std.specs.Prelude.{◌≡◌, ℕ, ◌+◌, ◌<◌, ◌≤◌, ◌⊎◌, Bool, None, List, [], ◌∷◌, length, slice_index, refl}
 use Rattle.std.proofs.Common.{arith, inl, inr, sym, ◌∙◌, ap, subst, zero, suc}
+use Rattle.std.proofs.lemmas.List.{get_or_past}
 use Rattle.lset_words.specs.declared.Call.TheVariants.{Add, Remove}
 use Rattle.lset_words.specs.Words.{lock_index, Opening, empty, sizes}
 use Rattle.lset_words.proofs.Bounds.{opens_empty}
 use Rattle.lset_steps.specs.declared.Event.{Event}
 use Rattle.lset_steps.specs.declared.Event.TheVariants.{Begin, Go}
-use Rattle.lset_steps.specs.Steps.{Table, State, opening, event_at, after, told, local_of}
+use Rattle.lset_steps.specs.Steps.{Table, State, Run, Enabled, opening, event_at, state_at, after, told, local_of}
 use Rattle.lset_steps.specs.Laws.{IsLockWord, views}
 use Rattle.lset_steps.proofs.MoreEvents.{RunsTo, runs_to_opening}
-use Rattle.lset_progress.specs.Progress.{IsPending, IsCeiling, NoMarkInChain, NoOtherHolds, EndsAlone, GetsOn, SomeThreadGetsOn}
-use Rattle.lset_progress.specs.Wrong.{spinning, keeping, crossed, NoCallsEndAlone, NoCallsEndUnhindered}
+use Rattle.lset_progress.specs.Progress.{IsPending, IsCeiling, NoMarkInChain, NoOtherHolds, EndsAlone, GetsOn, SomeThreadGetsOn, SomeEnds}
+use Rattle.lset_progress.specs.Progress.{steps_of, steps_among}
+use Rattle.lset_progress.specs.Wrong.{spinning, keeping, crossed, NoCallsEndAlone, NoCallsEndUnhindered, NotLockFree}
 use Rattle.lset_progress.proofs.WrittenRuns.{AllEnabled, state_after, runs_on, no_reply}
 
 -- two threads with two slots each
@@ -53,6 +55,59 @@ spinning_is_refused most law =
     (subst (λ s. IsCeiling (local_of s 0).call → NoMarkInChain (views spinning op (event_at spinning_events) (length spinning_events)))
     r.is (λ z. absurd z)) in
     stuck spinning spinning_state 0 refl refl (most (sizes op)) (subst (λ s. EndsAlone spinning s 0 (most (sizes op))) (sym r.is) e)
+
+-- thread 0 goes on, and the state stays as it is
+abbrev spins : ℕ → Event
+spins = event_at spinning_events
+
+only_0 : (j : ℕ) → 17 ≤ j → spins j ≡ Go 0
+only_0 j l = get_or_past spinning_events j (Go 0) l
+
+this_or_later : (j : ℕ) → 17 ≤ suc j → (17 ≤ j) ⊎ (suc j ≡ 17)
+this_or_later j l = grind arith
+
+spins_on_at : (j : ℕ) → 17 ≤ j → spinning_state ≡ state_at spinning op spins j
+spins_on_at zero l = absurd (omega arith)
+spins_on_at (suc j) l = elim (this_or_later j l) [
+  | inl k ↦ ap (λ s. after spinning s (Go 0)) (spins_on_at j k)
+      ∙ ap (λ e. after spinning (state_at spinning op spins j) e) (sym (only_0 j k))
+  | inr e ↦ subst (λ i. spinning_state ≡ state_at spinning op spins i) (sym e) spinning_run.is
+]
+
+before_or_after : (j : ℕ) → (j < 17) ⊎ (17 ≤ j)
+before_or_after j = grind arith
+
+spins_run : (n : ℕ) → Run spinning op spins n
+spins_run n = record {
+  opens = spinning_run.run.opens;
+  enabled = λ j l. elim (before_or_after j) [
+    | inl b ↦ spinning_run.run.enabled j b
+    | inr k ↦ subst (λ e. Enabled (state_at spinning op spins j) e) (sym (only_0 j k))
+        (subst (λ s. Enabled s (Go 0)) (spins_on_at j k) (omega arith, λ z. omega arith))
+  ];
+}
+
+all_count : (reads : Bool) (n k : ℕ) → 17 ≤ k → steps_among reads spinning op spins k n ≡ n
+all_count reads zero k l = refl
+all_count reads (suc n) k l =
+    let one : steps_of reads spinning_state (Go 0) ≡ 1 = refl in
+    let here : steps_of reads (state_at spinning op spins k) (spins k) ≡ 1 =
+    subst (λ e. steps_of reads (state_at spinning op spins k) e ≡ 1) (sym (only_0 k l))
+    (subst (λ s. steps_of reads s (Go 0) ≡ 1) (spins_on_at k l) one) in
+    let rest : steps_among reads spinning op spins (suc k) n ≡ n = all_count reads n (suc k) (omega arith) in
+    omega arith
+
+silent_at : (j : ℕ) → 17 ≤ j → (told spinning (state_at spinning op spins j) (spins j)).answer ≡ None
+silent_at j l = subst (λ e. (told spinning (state_at spinning op spins j) e).answer ≡ None) (sym (only_0 j l))
+    (subst (λ s. (told spinning s (Go 0)).answer ≡ None) (spins_on_at j l) refl)
+
+pub spinning_is_not_lock_free : NotLockFree spinning
+spinning_is_not_lock_free reads most law =
+    let e : SomeEnds reads spinning op spins 17 (most (sizes op)) = law op 17 (most (sizes op)) spins (spins_run (17 + most (sizes op)))
+    (let all : steps_among reads spinning op spins 17 (most (sizes op)) ≡ most (sizes op) =
+    all_count reads (most (sizes op)) 17 (omega arith) in omega arith) in
+    no_reply e.ends.0 (sym (silent_at e.at e.from)
+    ∙ ap (λ z. (told spinning (state_at spinning op spins e.at) z).answer) e.own ∙ e.ends.1)
 
 -- Thread 0 has walked to head and tail; thread 1 puts 7 between; thread 0 fails, keeps the lock of the head, and comes to it again.
 abbrev keeping_events : List Event

@@ -1,13 +1,13 @@
 -- Progress of calls, as laws of runs (Herlihy and Shavit's terms). Nothing is asked of the schedule: each law speaks of each moment
 -- of each run.
-use Rattle.std.specs.Prelude.{◌≡◌, ◌≢◌, ℕ, zero, suc, ◌+◌, ◌*◌, ◌%◌, ◌<◌, ◌⊎◌, Some, slice_index}
+use Rattle.std.specs.Prelude.{◌≡◌, ◌≢◌, ℕ, zero, suc, ◌+◌, ◌*◌, ◌%◌, ◌<◌, ◌≤◌, ◌⊎◌, Bool, true, false, Some, slice_index}
 use Rattle.lset_words.specs.declared.Call.{Call}
 use Rattle.lset_words.specs.declared.Call.TheVariants as call
 use Rattle.lset_words.specs.declared.Reply.{Reply}
 use Rattle.lset_words.specs.Words.{node_count, word_count, Sizes, Opening, sizes}
 use Rattle.lset_steps.specs.declared.Action.TheVariants.{Exchange}
 use Rattle.lset_steps.specs.declared.Event.{Event}
-use Rattle.lset_steps.specs.declared.Event.TheVariants.{Go}
+use Rattle.lset_steps.specs.declared.Event.TheVariants.{Begin, Go}
 use Rattle.lset_steps.specs.Steps.{Table, State, Run, Enabled, state_at, after, told, local_of}
 use Rattle.lset_steps.specs.Chain.{View, InChain}
 use Rattle.lset_steps.specs.Laws.{IsLockWord, views}
@@ -94,6 +94,43 @@ SomeCallCanEnd T most = (op : Opening) (k t : ℕ) (es : ℕ → Event) → Run 
     → IsPending (state_at T op es k) t
     → CanEnd T (state_at T op es k) (most (sizes op))
 
+-- whether a step of a call counts: that of an add or a remove, or also that of a contains, but never that of a ceiling
+abbrev pub counted : Bool → Call → ℕ
+counted reads (call.Add k) = 1
+counted reads (call.Remove k) = 1
+counted true (call.Contains k) = 1
+counted false (call.Contains k) = 0
+counted reads (call.Ceiling k) = 0
+
+-- how many steps count among the n events from the moment k on
+abbrev pub steps_of : Bool → State → Event → ℕ
+steps_of reads s (Begin t call) = 0
+steps_of reads s (Go t) = counted reads (local_of s t).call
+
+abbrev pub steps_among : Bool → Table → Opening → (ℕ → Event) → ℕ → ℕ → ℕ
+steps_among reads T op es k zero = 0
+steps_among reads T op es k (suc n) = steps_of reads (state_at T op es k) (es k) + steps_among reads T op es (suc k) n
+
+-- one of those events is a step that counts, and ends its call
+pub record SomeEnds (reads : Bool) (T : Table) (op : Opening) (es : ℕ → Event) (k n : ℕ) : Type 0 where
+  pub at : ℕ
+  pub from : k ≤ at
+  pub before : at < k + n
+  pub thread : ℕ
+  pub own : es at ≡ Go thread
+  pub counts : counted reads (local_of (state_at T op es at) thread).call ≡ 1
+  pub ends : Answers T (state_at T op es at) thread
+
+-- of any `most` steps that count and follow one another in a run, one ends its call
+abbrev pub EndsAmong : Bool → Table → (Sizes → ℕ) → Type 0
+EndsAmong reads T most = (op : Opening) (k n : ℕ) (es : ℕ → Event) → Run T op es (k + n)
+    → most (sizes op) ≤ steps_among reads T op es k n → SomeEnds reads T op es k n
+
+-- [Lock freedom]: of any `most` steps of adds and removes that follow one another in a run, one ends its call, whichever threads make
+-- them, and whatever else happens between them; and of any `most` steps of adds, removes and contains too.
+abbrev pub IsLockFree : Table → (Sizes → ℕ) → Type 0
+IsLockFree T most = (reads : Bool) → EndsAmong reads T most
+
 -- as many steps for each thread, and some from a decision to the end
 abbrev pub for_each : (Sizes → ℕ) → Sizes → ℕ
 for_each most sz = sz.threads * most sz + 7
@@ -110,6 +147,12 @@ optimistic_steps sz = 8 * node_count sz + 9
 
 abbrev pub lock_free_steps : Sizes → ℕ
 lock_free_steps sz = 4 * node_count sz + 5
+
+-- for each thread the steps of its call as it stands, and a walk more for each exchange that can succeed and ends no call: at most
+-- a mark for each thread, and for each node that it is taken out
+abbrev pub lock_free_window : Sizes → ℕ
+lock_free_window sz =
+    sz.threads * (2 * node_count sz + 2) * (node_count sz + sz.threads) + sz.threads * lock_free_steps sz
 
 abbrev pub lazy_steps : Sizes → ℕ
 lazy_steps sz = 4 * node_count sz + 15

@@ -1,11 +1,11 @@
--- [Wrong machines]: each is wrong in one row, and a law of progress does not hold for it.
-use Rattle.std.specs.Prelude.{ℕ, ◌+◌, ◌*◌, if◌then◌else◌, ◌==◌, Option, Some, None}
+-- [Wrong machines]: each is wrong in one row or two, and a law of progress does not hold for it.
+use Rattle.std.specs.Prelude.{ℕ, ◌+◌, ◌*◌, if◌then◌else◌, ◌==◌, Bool, Option, Some, None}
 use Rattle.lset_words.specs.declared.Call.{Call}
 use Rattle.lset_words.specs.declared.Call.TheVariants as call
 use Rattle.lset_words.specs.declared.Reply.{Reply}
 use Rattle.lset_words.specs.Words.{lock_index, Sizes}
 use Rattle.lset_steps.specs.declared.Action.{Action}
-use Rattle.lset_steps.specs.declared.Action.TheVariants.{Exchange}
+use Rattle.lset_steps.specs.declared.Action.TheVariants.{Load, Store, Exchange}
 use Rattle.lset_steps.specs.declared.Fed.{Fed}
 use Rattle.lset_steps.specs.declared.Local.{Local}
 use Rattle.lset_steps.specs.Steps.{Table}
@@ -13,7 +13,7 @@ use Rattle.lset_steps.specs.ReadRows.{continued}
 use Rattle.lset_optimistic.specs.Optimistic.{optimistic}
 use Rattle.lset_lazy.specs.Lazy.{lazy}
 use Rattle.lset_lock_free.specs.LockFree.{lock_free}
-use Rattle.lset_progress.specs.Progress.{CallsEndAlone, CallsEndUnhindered}
+use Rattle.lset_progress.specs.Progress.{CallsEndAlone, CallsEndUnhindered, EndsAmong}
 
 -- LockFreeList whose walk tries the exchange of row 3 again where it failed, and does not start again from the head
 abbrev pub spins_on : Local → ℕ → Fed
@@ -25,6 +25,33 @@ spinning = record {
   begin = lock_free.begin;
   next = lock_free.next;
   feed = λ l seen. if l.pc == 3 then spins_on l seen else lock_free.feed l seen;
+  effect = lock_free.effect;
+}
+
+-- LockFreeList whose add, from its decision, writes its number into the lock word of pred (row 11), and goes on only if it still reads
+-- it there (row 12); else it writes it again
+abbrev pub claims_first : Fed → Fed
+claims_first f = record { local = if f.local.pc == 5 then record f.local { pc = 11 } else f.local; answer = f.answer }
+
+abbrev pub claiming_next : Local → Action
+claiming_next l =
+    if l.pc == 11 then Store (lock_index l.pred) (l.thread + 1)
+    else if l.pc == 12 then Load (lock_index l.pred)
+    else lock_free.next l
+
+abbrev pub claiming_feed : Local → ℕ → Fed
+claiming_feed l seen =
+    if l.pc == 4 then claims_first (lock_free.feed l seen)
+    else if l.pc == 11 then continued (record l { pc = 12 })
+    else if l.pc == 12 then (if seen == l.thread + 1 then continued (record l { pc = 5 }) else continued (record l { pc = 11 }))
+    else lock_free.feed l seen
+
+abbrev pub claiming : Table
+claiming = record {
+  marks = lock_free.marks;
+  begin = lock_free.begin;
+  next = claiming_next;
+  feed = claiming_feed;
   effect = lock_free.effect;
 }
 
@@ -75,3 +102,6 @@ NoCallsEndAlone T = (most : Sizes → ℕ) → CallsEndAlone T most → ⊥
 
 abbrev pub NoCallsEndUnhindered : Table → Type 0
 NoCallsEndUnhindered T = (most : Sizes → ℕ) → CallsEndUnhindered T most → ⊥
+
+abbrev pub NotLockFree : Table → Type 0
+NotLockFree T = (reads : Bool) (most : Sizes → ℕ) → EndsAmong reads T most → ⊥

@@ -12,6 +12,7 @@ ghost use Rattle.lset_lock_free.specs.LockFree.{lock_free};
 ghost use Rattle.lset_progress.specs.Progress.{
   CallsEndAlone,
   CallsEndUnhindered,
+  IsLockFree,
   SomeCallCanEnd,
   SomeCeilingNeverEnds,
   SomeThreadGetsOn,
@@ -20,9 +21,10 @@ ghost use Rattle.lset_progress.specs.Progress.{
   for_each,
   lazy_steps,
   lock_free_steps,
+  lock_free_window,
   optimistic_steps,
 };
-ghost use Rattle.lset_progress.specs.Wrong.{NoCallsEndAlone, NoCallsEndUnhindered, crossed, keeping, spinning};
+ghost use Rattle.lset_progress.specs.Wrong.{NoCallsEndAlone, NoCallsEndUnhindered, NotLockFree, claiming, crossed, keeping, spinning};
 
 /// While no other thread holds the lock of a CoarseList, a call that runs alone ends within `2N + 3` steps. (Solo termination, of
 /// Herlihy and Shavit's coarse-grained list.)
@@ -54,6 +56,13 @@ pub fn lazy_calls_end_alone()
 /// freedom, which is Herlihy, Luchangco and Moir's; the list is Harris's and Michael's.)
 pub fn lock_free_calls_end_alone()
     ensures { CallsEndUnhindered lock_free lock_free_steps }
+{}
+
+/// Of any `n(2N + 2)(N + n) + n(4N + 5)` steps of `add` and `remove` that the n threads of a LockFreeList make one after another, one
+/// ends its call, whichever threads make them, and whatever else happens between them; and of as many steps of `add`, `remove` and
+/// `contains` too. (Lock freedom, of Harris's and Michael's list, as Herlihy and Shavit tell it.)
+pub fn lock_free_list_is_lock_free()
+    ensures { IsLockFree lock_free lock_free_window }
 {}
 
 /// A `ceiling` of LockFreeList may never end, though every other thread is idle: an ended `remove` has left its marked node in the
@@ -113,6 +122,17 @@ pub fn some_lazy_call_can_end()
 /// failed, and does not start again from the head.
 pub fn a_spinning_walk_is_refused()
     ensures { NoCallsEndUnhindered spinning }
+{}
+
+/// The law of `lock_free_list_is_lock_free` refuses that LockFreeList too, whether steps of `contains` count or not.
+pub fn a_spinning_walk_is_not_lock_free()
+    ensures { NotLockFree spinning }
+{}
+
+/// It also refuses a LockFreeList in which two calls of `add` hinder each other for ever: each writes its number beside the place of its
+/// node, and goes on only if it still finds it there.
+pub fn two_that_claim_a_place_are_not_lock_free()
+    ensures { NotLockFree claiming }
 {}
 
 /// The law of `optimistic_calls_end_alone` refuses an OptimisticList that keeps a lock where its validation fails.

@@ -13,7 +13,7 @@ use Rattle.lset_replay.specs.declared.events.LineEvent.{LineEvent}
 use Rattle.lset_replay.specs.declared.recorder.Recorder.{Recorder}
 use Rattle.lset_replay.specs.Events.{only_events, line_at}
 use Rattle.lset_replay.specs.Reports.{IsFirstRefused}
-use Rattle.lset_replay.specs.Trace.{Trace, trace_of, trace_after, entry_told, MayFollow, MayChange, no_trace}
+use Rattle.lset_replay.specs.Trace.{Trace, trace_of, trace_after, entry_told, MayRecord, MayChange, no_trace}
 use Rattle.lset_replay.specs.Follows.{HasFollowed, HasKept}
 use Rattle.lset_history.specs.Changes.{moments_of}
 use Rattle.lset_replay.proofs.KeyChanges.{HoldsKeys}
@@ -94,7 +94,7 @@ module _ (T : Table) (accounts : TellsKeys T) (op : Opening) (events : List Line
 
   open shown T op events use {log, contents, counts}
 
-  pub ready : Enabled w.state e → (a : Told) → a ≡ told T w.state e → MayFollow r (suc k) e a
+  pub ready : Enabled w.state e → (a : Told) → a ≡ told T w.state e → MayRecord r (suc k) e a
   ready en a says = at e is a (says ∙ ap (λ z. told T z e) (state_is trace_after T op events k w r h e is))
     where
       account : Account op (suc k) log contents counts
@@ -109,7 +109,7 @@ module _ (T : Table) (accounts : TellsKeys T) (op : Opening) (events : List Line
           counts k (entry_of T (state_at T op (event_at (only_events events)) k) z)) i (account.enters k (omega arith))
 
       at : (d : Event) → event_at (only_events events) k ≡ d → (a : Told) → a ≡ told T (state_at T op (event_at (only_events events)) k) d
-          → MayFollow r (suc k) d a
+          → MayRecord r (suc k) d a
       at (Begin t call) i a says = may_begin op (suc k) log contents counts
           account low k (omega arith) r (ap (λ (o : Opening). o.threads) h.opening_is) h.trace t call (entered (Begin t call) i)
       at (Go t) i a says =

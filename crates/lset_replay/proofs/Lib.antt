@@ -4,7 +4,6 @@ pub mod RankedPoints
 pub mod Pointed
 pub mod ChainsKept
 pub mod Telling
-pub mod ToldReports
 pub mod KeyChanges
 pub mod LeastFits
 pub mod Following

@@ -7,5 +7,4 @@ pub mod Blocks
 pub mod Follows
 pub mod Tracing
 pub mod Tracer
-pub mod TracedReports
 pub mod Fronts

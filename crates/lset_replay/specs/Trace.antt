@@ -171,7 +171,7 @@ MayChange changes moment None = Unit {0}
 MayChange changes moment (Some (k, present)) =
     IsLaterThanAll changes moment × (present ≡ not (is_present_now changes k.0))
 
-abbrev pub MayFollow : Recorder → ℕ → Event → Told → Type 0
-MayFollow r moment (event.Begin thread call) told = MayBegin r.history thread moment × (thread < length r.under_way.items)
-MayFollow r moment (event.Go thread) told =
+abbrev pub MayRecord : Recorder → ℕ → Event → Told → Type 0
+MayRecord r moment (event.Begin thread call) told = MayBegin r.history thread moment × (thread < length r.under_way.items)
+MayRecord r moment (event.Go thread) told =
     MayStep r.history r.under_way.items r.places.items thread moment × MayChange (moments_of r.changes) moment told.change

@@ -19,7 +19,7 @@ ghost use Rattle.lset_replay.specs.Trace.{
   trace_after,
   entry_told,
   MayStep,
-  MayFollow,
+  MayRecord,
 };
 
 use crate::places::{Linearized, OpenCall, found_in, needs_key};
@@ -178,7 +178,7 @@ impl Recorder {
     /// Follows the event that leads to a moment, and what it told.
     #[inline(always)]
     pub fn follow(&mut self, event: Event, told: Told, moment: u32) -> Result<(), AllocError>
-        requires { MayFollow self.old moment event told }
+        requires { MayRecord self.old moment event told }
         ensures trace { OnOk result (trace_of self.new ≡ trace_after moment (entry_told event told) (trace_of self.old)) }
         ensures opening { OnOk result (self.new.history.opening ≡ self.old.history.opening) }
     {

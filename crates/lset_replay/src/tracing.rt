@@ -6,7 +6,7 @@ ghost use Rattle.lset_steps.specs.Worlds.{Refused, thread_of};
 ghost use Rattle.lset_schedule.specs.Plan.{IsSchedule, view, opening_in};
 ghost use Rattle.lset_replay.specs.Events.{events_of, only_events};
 ghost use Rattle.lset_replay.specs.Follows.{HasFollowed};
-ghost use Rattle.lset_replay.specs.Trace.{MayFollow, open_call_at, trace_after};
+ghost use Rattle.lset_replay.specs.Trace.{MayRecord, open_call_at, trace_after};
 ghost use Rattle.lset_replay.specs.Tracing.{EndsTrace, IsTraceOf, HearsEvents, TellsEvent};
 ghost use Rattle.lset_replay.specs.Tracer.{
   MadeEvent,
@@ -81,7 +81,8 @@ pub fn call_end(recorder: &Recorder, number: Option<u32>, answer: Option<Reply>)
     })
 }
 
-fn is_same_chain(before: &[ChainKey], later: &[ChainKey]) -> bool
+/// Whether two chains have the same keys with the same marks.
+pub fn is_same_chain(before: &[ChainKey], later: &[ChainKey]) -> bool
     ensures { IsTrue result ↔ (before.now ≡ later.now) }
 {
     before == later
@@ -156,7 +157,7 @@ impl<M: Machine> Tracer<M> {
         requires seats { length self.old.world.state.locals ≡ self.old.world.sizes.threads }
         requires few { length self.old.recorder.places.items < 2 ^ 32 }
         requires may { Enabled self.old.world.state next.event
-            → MayFollow self.old.recorder moment next.event (told M.table self.old.world.state next.event) }
+            → MayRecord self.old.recorder moment next.event (told M.table self.old.world.state next.event) }
         requires chain { KeepsChain self.old.chains (view_of self.old.world.sizes self.old.world.state) self.old.kept.items }
         ensures told { IfOk result (λ made. MatchResult made (λ told. MadeEvent trace_after M.table next moment self.old.world
             self.old.recorder told self.new.world self.new.recorder

@@ -2,7 +2,7 @@
 //! answers, and tells which call answered want of memory (or `Spawn`, where a thread is refused for it). That call is made
 //! again, with memory, and then has to answer as if nothing had been refused.
 //!
-//! Run as it stands no growth is refused. `tests/allocations.py` refuses them in turn: it has the one allocation of a fixed
+//! Run as it stands no growth is refused. `tests/failed_allocations.py` refuses them in turn: it has the one allocation of a fixed
 //! number fail, and by the number on the standard input this program takes as many blocks before its first call.
 #![tactic(auto)]
 

@@ -1,7 +1,6 @@
 pub mod Trouble
 pub mod Tools
 pub mod Replaying
-pub mod Reporting
 pub mod Checking
 pub mod Generating
 pub mod Moments

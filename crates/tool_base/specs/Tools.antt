@@ -4,7 +4,7 @@ use Rattle.std.specs.Io.KnownBytes.{Appends, Keeps}
 use Rattle.tool_base.specs.declared.answer.Answer.{Answer}
 use Rattle.tool_base.specs.declared.streams.TheConstants.{LONGEST}
 use Rattle.tool_base.specs.declared.trouble.Trouble.{Trouble}
-use Rattle.tool_base.specs.declared.trouble.Trouble.TheVariants.{CannotRead, TooLong, LongReport, CannotWrite, Memory, Line, Bad}
+use Rattle.tool_base.specs.declared.trouble.Trouble.TheVariants.{CannotRead, TooLong, LongReport, CutOff, CannotWrite, Memory, Line, Bad}
 use Rattle.tool_base.specs.declared.trouble.Trouble.TheVariants.{CannotListen, Work, Serve}
 use Rattle.tool_base.specs.Trouble.{trouble_text}
 use Rattle.tool_base.specs.Trouble as trouble
@@ -66,6 +66,7 @@ abbrev pub IsInputTrouble : List ℕ → Trouble → Type 0
 IsInputTrouble bytes CannotRead = Unit {0}
 IsInputTrouble bytes TooLong = LONGEST < length bytes
 IsInputTrouble bytes LongReport = ⊥
+IsInputTrouble bytes CutOff = ⊥
 IsInputTrouble bytes CannotWrite = ⊥
 IsInputTrouble bytes Memory = Unit {0}
 IsInputTrouble bytes (Line number cause) = ⊥

@@ -27,7 +27,7 @@ use Rattle.tool_base.specs.declared.trouble.WorkName.TheVariants as work
 use Rattle.tool_base.specs.declared.trouble.ServeName.{ServeName}
 use Rattle.tool_base.specs.declared.trouble.ServeName.TheVariants as serve
 use Rattle.tool_base.specs.declared.trouble.Trouble.{Trouble}
-use Rattle.tool_base.specs.declared.trouble.Trouble.TheVariants.{CannotRead, TooLong, LongReport, CannotWrite, Memory, Line, Bad}
+use Rattle.tool_base.specs.declared.trouble.Trouble.TheVariants.{CannotRead, TooLong, LongReport, CutOff, CannotWrite, Memory, Line, Bad}
 use Rattle.tool_base.specs.declared.trouble.Trouble.TheVariants.{CannotListen, Work, Serve}
 
 -- of an input that was not read
@@ -98,12 +98,14 @@ of_calls fault = of_calls_line fault.line fault.cause
 abbrev pub of_clash : ClashFault → Trouble
 of_clash (clash.History number) = Line number (line.Calls calls.History)
 of_clash (clash.Quota number) = Line number (line.Calls calls.Quota)
+of_clash clash.CutOff = CutOff
 of_clash clash.Memory = Memory
 
 abbrev pub status_of : Trouble → ℕ
 status_of CannotRead = 1
 status_of TooLong = 1
 status_of LongReport = 1
+status_of CutOff = 1
 status_of CannotWrite = 1
 status_of Memory = 3
 status_of (Line number cause) = 1
@@ -191,6 +193,7 @@ abbrev pub trouble_text : Trouble → List ℕ
 trouble_text CannotRead = codes "listset: cannot read\n"
 trouble_text TooLong = codes "listset: too long\n"
 trouble_text LongReport = codes "listset: report too long: record fewer calls\n"
+trouble_text CutOff = codes "listset: recording cut off: only judge of one file, of all keys, reads it\n"
 trouble_text CannotWrite = codes "listset: cannot write\n"
 trouble_text Memory = codes "listset: out of memory\n"
 trouble_text (Line number cause) = codes "listset: line " ++ decimal number ++ codes ": " ++ name_of cause ++ codes "\n"

@@ -6,101 +6,103 @@ use crate::trouble::Trouble;
 use std::alloc::Global;
 use std::io::Write;
 
-/// Each line about a fault, and each cause in a sentence.
+/// Each error message of the program, and each cause in a sentence.
 pub const FAULTS: &str = "\
-What a line about a fault says. The page docs/TEXTS.md has examples.
+Error messages of listset. docs/TEXTS.md has examples.
 
-listset: line L: CAUSE, of a schedule, status 1
-  Header    Line 1 is neither 'listset-schedule 1' nor 'listset-schedule 2'. The word draft makes a schedule of a draft.
-  Kind      Line 2 is not 'list' and one of coarse, fine, optimistic, lazy and lock-free, or not the list of --lacks NAME.
-  Threads   Line 3 is not 'threads' and a number from 1 to 64.
-  Quota     Line 4 is not 'quota' and a number from 0 to 16384.
-  Event     The line is neither 'begin T CALL K' nor 'go T N', nor, in version 2 and above the first of these, 'opening K'.
-  Number    A piece is no number, or one out of its range; a number has no sign and no zero in front.
-  TooMany   The events up to this line are more than 1000000, or the opening keys more than 1048576.
-  Opening   The opening key is not above the one in the line before.
-  NotEnded  The line has no newline at its end.
-  NoThread  The event is of a thread that is not below the number of threads.
-  Busy      A thread begins a call and has one open.
-  Idle      A thread makes a step and has no call open.
-  Lost      Of --lacks NAME alone: the list is so broken that the step names no word of its table.
+listset: line L: CAUSE, in a schedule; exit status 1
+  Header    Line 1 must be 'listset-schedule 1' or 'listset-schedule 2'. To turn a draft into a schedule, use the command draft.
+  Kind      Line 2 must be 'list' and one of coarse, fine, optimistic, lazy, lock-free; with --lacks NAME, the list of NAME.
+  Threads   Line 3 must be 'threads' and a number from 1 to 64.
+  Quota     Line 4 must be 'quota' and a number from 0 to 16384.
+  Event     Expected 'begin T CALL K' or 'go T N'. In version 2 'opening K' is allowed too, before the first event.
+  Number    Expected a number in range, without sign or leading zero: 5, not +5 or 05.
+  TooMany   Up to this line there are more than 1000000 events, or more than 1048576 opening keys.
+  Opening   Opening keys must increase; this one is not above the one before.
+  NotEnded  The line does not end with a newline.
+  NoThread  There is no such thread. Threads are numbered from 0 to the number of threads less 1.
+  Busy      The thread begins a call while it has one pending.
+  Idle      The thread makes a step while it has no call pending.
+  Lost      Only with --lacks: the broken list's step would access a word outside its table.
 
-listset: line L: CAUSE, of a draft, status 1
-  Header    Line 1 is not 'listset-draft 2'.
-  Waits     The thread does not come there within 10000 steps and the events that are left, as where it waits for a lock.
+listset: line L: CAUSE, in a draft; exit status 1
+  Header    Line 1 must be 'listset-draft 2'.
+  Waits     The thread does not get there within 10000 steps or the events left. It may be waiting for a lock.
   (others)  As in a schedule.
 
-listset: line L: CAUSE, of a report, status 1
-  Header    Line 1 is neither 'listset-report 1' nor 'listset-report 2'. The word replay makes a report of a schedule, report one of calls.
+listset: line L: CAUSE, in a report; exit status 1
+  Header    Line 1 must be 'listset-report 1' or 'listset-report 2'. To make a report, use replay for a schedule, report for recorded calls.
   Kind      As in a schedule.
   Threads   As in a schedule.
   Quota     As in a schedule.
-  Line      The line is none that may come there: lines 'opening', 'call', 'place' and 'key', in this order, and 'end'.
+  Line      This line cannot come here. The order is: 'opening', 'call', 'place' and 'key' lines, then 'end'.
   Number    As in a schedule.
-  TooMany   There are more than 1048576 lines 'opening', 1000000 'call', 1000000 'place', or 1048576 'key' (in version 2 2097152).
-  Opening   The opening key is not above the one in the line before.
-  History   The call has not the next number, or does not go on with the history of the calls above.
-  NotEnded  The text ends before the line 'end', or the line has no newline at its end.
+  TooMany   There are more than 1048576 'opening', 1000000 'call', 1000000 'place' or 1048576 'key' lines (2097152 in version 2).
+  Opening   Opening keys must increase; this one is not above the one before.
+  History   The call does not have the next number, or conflicts with a call above it.
+  NotEnded  The input ends before the line 'end', or the line does not end with a newline.
 
-listset: line L: CAUSE, of calls, status 1
-  Header    Line 1 is not 'listset-calls 2'. The words judge and report read calls, check reads a report.
+listset: line L: CAUSE, in recorded calls; exit status 1
+  Header    Line 1 must be 'listset-calls 2'. The commands judge and report read recorded calls; check reads a report.
   Kind      As in a schedule.
   Threads   As in a schedule.
-  Quota     As in a schedule; or the line is an add with which those of its thread that changed the set are more than its quota.
-  Line      The line is none that may come there: lines 'opening', 'call' and 'key', in this order, and 'end'.
-  Number    A moment is none from 1 to 4294967295; or as in a schedule.
-  TooMany   There are more than 1048576 lines 'opening', 1000000 'call' or 2097152 'key'.
-  Opening   The opening key is not above the one in the line before.
-  History   There is no such thread, the end is not after the beginning, or a line above has one of the moments or a call of
-            the thread that overlaps.
-  Point     The point does not lie between beginning and end. Or an add or a remove that answered true has none, for report, and
-            for judge where ceiling or full stand among the calls.
-  NotEnded  The text ends before the line 'end', or the line has no newline at its end.
+  Quota     As in a schedule; or with this add its thread has more adds that changed the set than the quota.
+  Line      This line cannot come here. The order is: 'opening', 'call' and 'key' lines, then 'end'; or 'cut' for 'key' lines and 'end'.
+  Number    Moments are numbers from 1 to 4294967295; all else as in a schedule.
+  TooMany   There are more than 1048576 'opening', 1000000 'call' or 2097152 'key' lines.
+  Opening   Opening keys must increase; this one is not above the one before.
+  History   There is no such thread; or the call does not end after it begins; or a line above has one of its moments, or an
+            overlapping call of the same thread.
+  Point     The point is not between begin and end. Or an add or remove that returned true has no point, and needs one: judge needs
+            points if a call is a ceiling or answered full.
+  NotEnded  The input ends before the line 'end' or 'cut', or the line does not end with a newline.
 
-listset: line L: CAUSE, of the keys with which serve opens, status 1
-  Line      The line is not 'key K'.
-  Number    The key is no number up to 4294967295.
+listset: line L: CAUSE, in the keys with which serve opens; exit status 1
+  Line      Expected 'key K'.
+  Number    Expected a number from 0 to 4294967295.
   TooMany   There are more than 1048576 keys.
-  Opening   The key is not above the one before.
-  NotEnded  The line has no newline at its end.
+  Opening   Keys must increase; this one is not above the one before.
+  NotEnded  The line does not end with a newline.
 
-not linearizable, of judge, status 1
+not linearizable, from judge; exit status 1
   no order explains the calls of key K up to moment M
-            The calls that had ended by moment M have replies that fit no order.
+            The replies of the calls that had ended by moment M fit no order.
   no order explains the calls of key K and leaves it as it was left
-            Each order leaves the key and there is no line 'key K', or the other way round.
+            Every order leaves the key in the set and there is no line 'key K', or the reverse.
 
-refused FAULT ID, of the order in a report, or of judge by the points of the calls, status 1
+refused FAULT ID, of the order in a report, or from judge by the points of the calls; exit status 1
   Unknown     No call has this number.
-  Twice       The call stands at an earlier place too.
-  Missing     The call has ended, and stands at no place.
-  WrongReply  The history has another reply, or the sequential set gives another one at this place.
-  TooEarly    A call that ended before this one began stands later.
-  WrongSet    The keys are not those that the order leaves.
+  Twice       The call is in the order twice.
+  Missing     The call is completed, and is not in the order.
+  WrongReply  The history has another reply, or a sequential set gives another reply at this place.
+  TooEarly    The call comes before one that had ended when it began.
+  WrongSet    The keys are not those that the order leaves, in increasing order.
 
-listset: work: CAUSE, of run, status 1
-  Spawn    The system refused a thread.
-  Opening  A life would open with more than 1048576 keys.
+listset: work: CAUSE, from run; exit status 1
+  Spawn    The system refused to start a thread.
+  Opening  A round would open with more than 1048576 keys.
 
-listset: serve: CAUSE, status 1
-  Accept  The system did not let a connection in.
-  Spawn   The system refused a thread.
-  Send    A connection was let in, and no worker took it.
-  Left    The workers took fewer connections than were let in.
+listset: serve: CAUSE; exit status 1
+  Accept  The system did not accept a connection.
+  Spawn   The system refused to start a thread.
+  Send    A connection was accepted, and no worker took it.
+  Left    The workers took fewer connections than were accepted.
 
-Other lines
-  listset: cannot read    A file could not be opened, or a read failed; status 1.
-  listset: too long       The input has more than 67108864 bytes; status 1.
+Other messages
+  listset: cannot read    A file could not be opened, or a read failed; exit status 1.
+  listset: too long       The input has more than 67108864 bytes; exit status 1.
   listset: report too long: record fewer calls
-                          The report of these calls would have more than 67108864 bytes, and `check` reads none so long; status 1.
-  listset: cannot write   A write failed; status 1.
-  listset: cannot listen  The system did not give the port; status 1.
-  listset: bad NAME       The value or the option NAME is missing or is none that may stand there, or FROM is past the last moment; status 2.
-  listset: bad NAME: ..   No list lacks what --lacks names; the line has the names; status 2.
-  listset: out of memory  The system gave no memory; status 3.
+                          The report of these calls would have more than 67108864 bytes, which check does not read; exit status 1.
+  listset: recording cut off: only judge of one file, of all keys, reads it
+                          The recording ends with the line 'cut', so the keys left are not known; exit status 1.
+  listset: cannot write   A write failed; exit status 1.
+  listset: cannot listen  The system refused the port; exit status 1.
+  listset: bad NAME       The argument or option NAME is missing or out of range, or FROM is past the last moment; exit status 2.
+  listset: bad NAME: ..   --lacks takes one of the names listed; exit status 2.
+  listset: out of memory  An allocation failed; exit status 3.
 ";
 
-/// What `faults` tells: `FAULTS`. `Trouble::Memory` where memory was refused.
+/// The answer of the command `faults`: the text `FAULTS`. `Trouble::Memory` if an allocation fails.
 #[tactic(auto, unfolding(crate::specs::Faults::faults_text))]
 pub fn faults_told(alloc: Global) -> Result<Answer, Trouble>
     ensures { TellsFaults (view result) }

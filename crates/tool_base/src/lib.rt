@@ -8,7 +8,6 @@ mod faults;
 mod generating;
 mod moments;
 mod replaying;
-mod reporting;
 mod streams;
 mod trouble;
 mod values;
@@ -19,7 +18,6 @@ pub use faults::{FAULTS, faults_told, tool_faults};
 pub use generating::{generated, tool_gen};
 pub use moments::{DEFAULT_WIDTH, MOST_MOMENT, MOST_WIDTH, Moments, read_moments, read_width};
 pub use replaying::{replayed, tool_replay};
-pub use reporting::{reported, tool_report};
 pub use streams::{InputFault, LONGEST, input_of, put};
 pub use trouble::{KeyCause, LineCause, ServeName, Trouble, ValueName, WorkName};
 pub use values::{

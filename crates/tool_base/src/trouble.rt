@@ -108,6 +108,8 @@ pub enum Trouble {
     TooLong,
     /// The report that was asked for has more bytes than an input may have.
     LongReport,
+    /// The recording was cut off, and the keys left are asked for.
+    CutOff,
     /// A write failed, or took no byte.
     CannotWrite,
     /// Memory was refused.
@@ -135,6 +137,7 @@ impl Trouble {
             Trouble::CannotRead
             | Trouble::TooLong
             | Trouble::LongReport
+            | Trouble::CutOff
             | Trouble::CannotWrite
             | Trouble::CannotListen
             | Trouble::Line(_, _)
@@ -211,6 +214,7 @@ impl From<ClashFault> for Trouble {
                 Trouble::Line(line, LineCause::Calls(CallsCause::History))
             }
             ClashFault::Quota(line) => Trouble::Line(line, LineCause::Calls(CallsCause::Quota)),
+            ClashFault::CutOff => Trouble::CutOff,
             ClashFault::Memory => Trouble::Memory,
         }
     }

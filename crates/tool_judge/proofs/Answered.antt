@@ -11,18 +11,18 @@ use Rattle.tool_base.specs.declared.answer.Answer.{Answer}
 use Rattle.tool_base.specs.declared.trouble.Trouble.{Trouble}
 use Rattle.tool_base.specs.declared.trouble.Trouble.TheVariants.{Memory}
 use Rattle.tool_base.specs.Tools.{AnswerValue, IsTaken, IsInputTrouble, view}
-use Rattle.tool_judge.specs.Judging.{IsJudgedAs, IsAnswerByPoints, IsFaultOfCalls, IsFirstFault, Judges}
+use Rattle.tool_judge.specs.Judging.{IsJudgedAs, IsAnswerByPoints, IsFaultOfJudged, IsFirstFaultOfJudged, Judges}
 
 -- a trouble with its calls is one with the text
 pub refused : (bytes : List ℕ) (c : CallsValue) (t : Trouble) → IsTaken bytes → reading bytes ≡ Ok c
-    → (t ≡ Memory) ⊎ IsFaultOfCalls c t → Judges bytes (Err t)
+    → (t ≡ Memory) ⊎ IsFaultOfJudged c t → Judges bytes (Err t)
 refused bytes c t taken e (inl m) = inl (subst (λ x. IsInputTrouble bytes x) (sym m) tt)
-refused bytes c t taken e (inr f) = inr (taken, subst (λ r. IsFirstFault r t) (sym e) f)
+refused bytes c t taken e (inr f) = inr (taken, subst (λ r. IsFirstFaultOfJudged r t) (sym e) f)
 
 pub told : (bytes : List ℕ) (c : CallsValue) (t : Trouble) → reading bytes ≡ Ok c
-    → (t ≡ Memory) ⊎ IsFaultOfCalls c t → (t ≡ Memory) ⊎ IsFirstFault (reading bytes) t
+    → (t ≡ Memory) ⊎ IsFaultOfJudged c t → (t ≡ Memory) ⊎ IsFirstFaultOfJudged (reading bytes) t
 told bytes c t e (inl m) = inl m
-told bytes c t e (inr f) = inr (subst (λ r. IsFirstFault r t) (sym e) f)
+told bytes c t e (inr f) = inr (subst (λ r. IsFirstFaultOfJudged r t) (sym e) f)
 
 calls_in : CallsValue → Result CallsValue CallsFault → CallsValue
 calls_in c (Ok d) = d
@@ -34,23 +34,22 @@ unfolding calls_in
 read_twice bytes c d e f = ap (calls_in c) (sym e ∙ f)
 
 -- what the points answer, if the judge does not decide
-pub by_points : (bytes : List ℕ) (c d : CallsValue) (h : HistoryValue) (calls : ℕ) (left : List ℕ) (r : Result Answer Trouble)
+pub by_points : (bytes : List ℕ) (c d : CallsValue) (h : HistoryValue) (left : List ℕ) (r : Result Answer Trouble)
     → IsTaken bytes → AreCalls c → bytes ≡ calls_text c → reading bytes ≡ Ok c → reading bytes ≡ Ok d
-    → IsJudgedAs c h left Undecided → calls ≡ length h.calls → IfOk (view r) (IsAnswerByPoints d calls left)
-    → IfErr r (λ t. (t ≡ Memory) ⊎ IsFaultOfCalls d t) → Judges bytes (view r)
-by_points bytes c d h calls left (Ok a) taken are text e f judged count answer trouble =
+    → IsJudgedAs c h left Undecided → IfOk (view r) (IsAnswerByPoints d left)
+    → IfErr r (λ t. (t ≡ Memory) ⊎ IsFaultOfJudged d t) → Judges bytes (view r)
+by_points bytes c d h left (Ok a) taken are text e f judged answer trouble =
     let value : AnswerValue = record { text = a.text.items; status = a.status } in (
       taken,
       c,
       are,
       text,
-      (
+      inl (
         h,
         left,
         Undecided,
         judged,
-        subst (λ n. IsAnswerByPoints c n left value) count
-            (subst (λ z. IsAnswerByPoints z calls left value) (sym (read_twice bytes c d e f)) answer),
+        subst (λ z. IsAnswerByPoints z left value) (sym (read_twice bytes c d e f)) answer,
       ),
     )
-by_points bytes c d h calls left (Err t) taken are text e f judged count answer trouble = refused bytes d t taken f trouble
+by_points bytes c d h left (Err t) taken are text e f judged answer trouble = refused bytes d t taken f trouble

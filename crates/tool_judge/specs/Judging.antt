@@ -1,5 +1,6 @@
 -- What `judge` makes of an input.
-use Rattle.std.specs.Prelude.{◌≡◌, ℕ, ◌⊎◌, List, [], ◌∷◌, ◌++◌, map, codes, length, Bool, true, false, IfSome, Option, Some, None, Result, Ok, Err, Contains}
+use Rattle.std.specs.Prelude.{◌≡◌, ℕ, ◌*◌, ◌⊎◌, List, [], ◌∷◌, ◌++◌, map, codes, length, Bool, true, false, nat_lt, if◌then◌else◌}
+use Rattle.std.specs.Prelude.{Option, Some, None, Result, Ok, Err, Contains}
 use Rattle.std.specs.List.Sorted.{IsStrictlyIncreasing}
 use Rattle.std.specs.Fmt.{decimal}
 use Rattle.lset_words.specs.declared.history.CallRecord.{CallRecord}
@@ -14,15 +15,16 @@ use Rattle.lset_calls.specs.Calls.{CallsValue, AreCalls}
 use Rattle.lset_calls.specs.declared.value.TimedCall.{TimedCall}
 use Rattle.lset_calls.specs.Texts.{calls_text, call_line}
 use Rattle.lset_calls.specs.Reading.{reading}
-use Rattle.lset_calls.specs.Clashes.{IsRefusal, PointsAreGiven}
+use Rattle.lset_calls.specs.Clashes.{IsClash, IsRefusal, PointsAreGiven}
 use Rattle.lset_calls.specs.Histories.{IsHistoryOf}
-use Rattle.lset_calls.specs.Reports.{IsReportOf}
+use Rattle.lset_calls.specs.Reports.{IsReportOfCalls}
 use Rattle.lset_judge.specs.declared.verdict.Refusal.{Refusal}
 use Rattle.lset_judge.specs.declared.verdict.Verdict.{Verdict}
 use Rattle.lset_judge.specs.declared.verdict.Verdict.TheVariants.{Linearizable, NotLinearizable, Undecided}
 use Rattle.lset_judge.specs.declared.window.Window.{Window}
-use Rattle.lset_judge.specs.Verdict.{IsVerdict}
-use Rattle.lset_judge.specs.Window.{ShowsNone}
+use Rattle.lset_judge.specs.Verdict.{IsRefused, IsVerdictWithoutQuota, IsVerdictCutOff}
+use Rattle.lset_judge.specs.Window.{IsWindowOf}
+use Rattle.lset_judge.specs.Overlap.{overlapped}
 use Rattle.tool_judge.specs.declared.judging.Decision.{Decision}
 use Rattle.tool_judge.specs.declared.judging.Decision.TheVariants.{Answered, ByPoints}
 use Rattle.tool_base.specs.declared.trouble.Trouble.{Trouble}
@@ -39,8 +41,34 @@ pub record AreKeysOf (lines keys : List ℕ) : Type 0 where
 
 -- ---- what is written
 
-abbrev pub ok_text : ℕ → List ℕ
-ok_text calls = codes "ok " ++ decimal calls ++ codes " calls\n"
+abbrev pub ok_line : ℕ → List ℕ
+ok_line calls = codes "ok " ++ decimal calls ++ codes " calls\n"
+
+abbrev pub overlap_line : ℕ → List ℕ
+overlap_line overlapped = decimal overlapped ++ codes " of them overlap a change of their key\n"
+
+-- fewer than 5 of 100
+abbrev pub is_few : ℕ → ℕ → Bool
+is_few overlapped calls = nat_lt (overlapped * 100) (calls * 5)
+
+abbrev pub hint : Bool → List ℕ
+hint true =
+    codes "that is few, and a bug shows only if calls meet: take fewer keys, more threads, or pauses in the set\n"
+hint false = []
+
+-- how many calls there are, how many of them overlap a change of their key, and what to do if these are few
+abbrev pub ok_text : List CallRecord → List ℕ
+ok_text calls = ok_line (length calls) ++ overlap_line (overlapped calls) ++ hint (is_few (overlapped calls) (length calls))
+
+-- the same of a recording that was cut off
+abbrev pub cut_off_line : List ℕ
+cut_off_line = codes "the recording was cut off: some keys left fit, and those that were left are not known\n"
+
+abbrev pub cut_off_text : List CallRecord → List ℕ
+cut_off_text calls = ok_text calls ++ cut_off_line
+
+abbrev pub undecided_text : List ℕ
+undecided_text = codes "undecided: the recording was cut off, and a call is a ceiling or answered full\n"
 
 abbrev pub calls_of_key : ℕ → List ℕ
 calls_of_key key = codes "not linearizable\nno order explains the calls of key " ++ decimal key
@@ -66,71 +94,97 @@ state_words false = codes " is not there at moment "
 abbrev pub state_line : Window → List ℕ
 state_line w = codes "key " ++ decimal w.key.0 ++ state_words w.there ++ decimal w.since
 
-abbrev pub alone_line : List ℕ
-alone_line = codes "these calls alone have no order:"
+abbrev pub alone_line : Option Bool → List ℕ
+alone_line None = codes "these calls alone have no order:"
+alone_line (Some left) = codes "these calls alone have no order that leaves it as it was left:"
+
+abbrev pub unchanged_line : List ℕ
+unchanged_line = codes "no later call changes it"
 
 abbrev pub shown_call : List CallRecord → ℕ → List ℕ
 shown_call calls number = call_line (without_point (call_numbered calls number))
 
-abbrev pub window_lines : List CallRecord → Window → List (List ℕ)
-window_lines calls w = state_line w ∷ alone_line ∷ map (shown_call calls) w.calls.items
+-- the calls of a window; if it has none, no call changes its key after its moment
+abbrev pub shown_calls : List CallRecord → Option Bool → List ℕ → List (List ℕ)
+shown_calls calls left [] = unchanged_line ∷ []
+shown_calls calls left (n ∷ ns) = alone_line left ∷ map (shown_call calls) (n ∷ ns)
 
-abbrev pub window_text : List CallRecord → Option Window → List ℕ
-window_text calls None = []
-window_text calls (Some w) = text_of (window_lines calls w)
+abbrev pub window_text : List CallRecord → Window → List ℕ
+window_text calls w = text_of (state_line w ∷ shown_calls calls w.left w.calls.items)
 
 -- the answer by the points that were recorded: whether the report's order explains the calls; if not, none that has the changes at
 -- these points does (`lset_points`)
 abbrev pub no_other_order : List ℕ
 no_other_order = codes "no order has the changes at these points\n"
 
-abbrev pub answer_by_points : ℕ → Option OrderFault → AnswerValue
+abbrev pub answer_by_points : List CallRecord → Option OrderFault → AnswerValue
 answer_by_points calls None = record { text = ok_text calls; status = 0 }
 answer_by_points calls (Some fault) = record {
   text = refusal_text fault ++ no_other_order;
   status = 1;
 }
 
-abbrev pub IsAnswerOnOrder : ReportValue → ℕ → AnswerValue → Type 0
-IsAnswerOnOrder r calls answer =
-    (verdict : Option OrderFault) × checking.IsVerdict r verdict × (answer ≡ answer_by_points calls verdict)
+abbrev pub IsAnswerOnOrder : ReportValue → AnswerValue → Type 0
+IsAnswerOnOrder r answer =
+    (verdict : Option OrderFault) × checking.IsVerdict r verdict × (answer ≡ answer_by_points r.history.calls verdict)
 
-abbrev pub IsAnswerByPoints : CallsValue → ℕ → List ℕ → AnswerValue → Type 0
-IsAnswerByPoints c calls left answer =
-    (r : ReportValue) × IsReportOf c r × PointsAreGiven c (Ok tt) × IsAnswerOnOrder (record r { keys = left }) calls answer
+abbrev pub IsAnswerByPoints : CallsValue → List ℕ → AnswerValue → Type 0
+IsAnswerByPoints c left answer =
+    (r : ReportValue) × IsReportOfCalls c r × PointsAreGiven c (Ok tt) × IsAnswerOnOrder (record r { keys = left }) answer
 
--- THE JUDGE SAYS this of recorded calls, with the keys that were left: their history is judged
+-- THE JUDGE SAYS this of recorded calls, with the keys that were left: their history is judged, as of a set without a quota
 pub record IsJudgedAs (c : CallsValue) (h : HistoryValue) (left : List ℕ) (verdict : Verdict) : Type 0 where
+  pub whole : c.cut_off ≡ false
   pub history_is : IsHistoryOf c h
   pub left_is : AreKeysOf c.keys left
-  pub verdict_is : IsVerdict h left verdict
+  pub verdict_is : IsVerdictWithoutQuota h left verdict
 
--- a refusal goes on with a few calls of its key that have no order, if they were found
-abbrev pub IsRefusedAnswer : HistoryValue → Refusal → AnswerValue → Type 0
-IsRefusedAnswer h refusal answer =
-    (window : Option Window) × IfSome window (ShowsNone h)
-    × (answer ≡ record { text = reason_text refusal ++ window_text h.calls window; status = 1 })
+-- THE ANSWER ON A REFUSAL: the calls of its key have no order, up to its moment or that leaves the key as it was left; and there is a
+-- window, whose calls alone have none from a state in which the calls before leave the key
+pub record IsRefusedAnswer (h : HistoryValue) (left : List ℕ) (refusal : Refusal) (answer : AnswerValue) : Type 0 where
+  pub refused : IsRefused h left refusal
+  pub window : Window
+  pub window_is : IsWindowOf h left refusal window
+  pub answer_is : answer ≡ record { text = reason_text refusal ++ window_text h.calls window; status = 1 }
 
 -- what is written of a verdict
 abbrev pub HasAnswer : CallsValue → HistoryValue → List ℕ → AnswerValue → Verdict → Type 0
-HasAnswer c h left answer Linearizable = answer ≡ record { text = ok_text (length h.calls); status = 0 }
-HasAnswer c h left answer (NotLinearizable refusal) = IsRefusedAnswer h refusal answer
-HasAnswer c h left answer Undecided = IsAnswerByPoints c (length h.calls) left answer
+HasAnswer c h left answer Linearizable = answer ≡ record { text = ok_text h.calls; status = 0 }
+HasAnswer c h left answer (NotLinearizable refusal) = IsRefusedAnswer h left refusal answer
+HasAnswer c h left answer Undecided = IsAnswerByPoints c left answer
+
+-- what is written of a recording that was cut off
+abbrev pub HasAnswerCutOff : HistoryValue → AnswerValue → Verdict → Type 0
+HasAnswerCutOff h answer Linearizable = answer ≡ record { text = cut_off_text h.calls; status = 0 }
+HasAnswerCutOff h answer (NotLinearizable refusal) = IsRefusedAnswer h [] refusal answer
+HasAnswerCutOff h answer Undecided = answer ≡ record { text = undecided_text; status = 1 }
+
+-- THE ANSWER ON A RECORDING THAT WAS CUT OFF says whether with some keys left an order explains the calls
+pub record IsAnswerCutOff (c : CallsValue) (answer : AnswerValue) : Type 0 where
+  pub cut_off : c.cut_off ≡ true
+  pub history : HistoryValue
+  pub history_is : IsHistoryOf c history
+  pub verdict : Verdict
+  pub verdict_is : IsVerdictCutOff history verdict
+  pub answer_is : HasAnswerCutOff history answer verdict
+
+abbrev pub IsAnswerOnWhole : CallsValue → AnswerValue → Type 0
+IsAnswerOnWhole c answer =
+    (h : HistoryValue) × (left : List ℕ) × (verdict : Verdict) × IsJudgedAs c h left verdict × HasAnswer c h left answer verdict
 
 -- THE ANSWER ON RECORDED CALLS
 abbrev pub IsAnswerOn : CallsValue → AnswerValue → Type 0
-IsAnswerOn c answer =
-    (h : HistoryValue) × (left : List ℕ) × (verdict : Verdict) × IsJudgedAs c h left verdict × HasAnswer c h left answer verdict
+IsAnswerOn c answer = IsAnswerOnWhole c answer ⊎ IsAnswerCutOff c answer
 
--- the answer, or the keys left and the number of calls for the points to decide
+-- the answer, or the keys left for the points to decide
 abbrev pub IsDecision : CallsValue → Decision → Type 0
 IsDecision c (Answered answer) = IsAnswerOn c (record { text = answer.text.items; status = answer.status })
-IsDecision c (ByPoints left calls) =
-    (h : HistoryValue) × IsJudgedAs c h left.items Undecided × (calls ≡ length h.calls)
+IsDecision c (ByPoints left) = (h : HistoryValue) × IsJudgedAs c h left.items Undecided
 
 -- ---- what is made of an input
 
--- the first call that cannot stand beside those above it, or, where the points are asked for, the first change that has none
+-- of a command that needs the keys left: the first call that cannot stand beside those above it, or that the recording was cut off, or, if
+-- the points are asked for, the first change that has none
 abbrev pub IsFaultOfCalls : CallsValue → Trouble → Type 0
 IsFaultOfCalls c t =
     ((refusal : ClashFault) × (t ≡ of_clash refusal) × IsRefusal c refusal)
@@ -141,7 +195,17 @@ abbrev pub IsFirstFault : Result CallsValue CallsFault → Trouble → Type 0
 IsFirstFault (Err fault) t = t ≡ of_calls fault
 IsFirstFault (Ok c) t = IsFaultOfCalls c t
 
+-- of the judge: it takes a recording that was cut off, and asks for no points of it
+abbrev pub IsFaultOfJudged : CallsValue → Trouble → Type 0
+IsFaultOfJudged c t =
+    ((refusal : ClashFault) × (t ≡ of_clash refusal) × IsClash c refusal)
+    ⊎ ((fault : CallsFault) × (t ≡ of_calls fault) × (c.cut_off ≡ false) × PointsAreGiven c (Err fault))
+
+abbrev pub IsFirstFaultOfJudged : Result CallsValue CallsFault → Trouble → Type 0
+IsFirstFaultOfJudged (Err fault) t = t ≡ of_calls fault
+IsFirstFaultOfJudged (Ok c) t = IsFaultOfJudged c t
+
 -- what is made of the bytes of an input: the answer on the calls whose text they are, or a trouble with the input, or its first fault
 abbrev pub Judges : List ℕ → Made → Type 0
 Judges bytes (Ok answer) = IsTaken bytes × (c : CallsValue) × AreCalls c × (bytes ≡ calls_text c) × IsAnswerOn c answer
-Judges bytes (Err t) = IsInputTrouble bytes t ⊎ (IsTaken bytes × IsFirstFault (reading bytes) t)
+Judges bytes (Err t) = IsInputTrouble bytes t ⊎ (IsTaken bytes × IsFirstFaultOfJudged (reading bytes) t)

@@ -11,5 +11,5 @@ mod windows;
 
 pub use judging::{judge_bytes, refused_answer, tool_judge};
 pub use keys::keys_of;
-pub use texts::reason_text;
+pub use texts::{ok_line, reason_text};
 pub use windows::window_text;

@@ -1,11 +1,11 @@
-ghost use Rattle.std.specs.Prelude.{◌≡◌, ◌≢◌, ◌++◌, IfOk, IfErr, OnOk};
+ghost use Rattle.std.specs.Prelude.{◌≡◌, ◌≢◌, ◌<◌, ◌^◌, ◌++◌, IfOk, IfErr, OnOk};
 ghost use Rattle.lset_history.specs.declared.fault.OrderFault.TheVariants as order;
 ghost use Rattle.tool_base.specs.Checking.{refusal_text};
 ghost use Rattle.tool_base.specs.declared.trouble.Trouble.TheVariants.{Memory};
-ghost use Rattle.tool_judge.specs.Judging.{ok_text, calls_of_key, up_to, extent, reason_text, no_other_order};
+ghost use Rattle.tool_judge.specs.Judging.{ok_line, overlap_line, is_few, ok_text, cut_off_text, calls_of_key, up_to, extent, reason_text, no_other_order};
 
-use lset_history::OrderFault;
-use lset_judge::Refusal;
+use lset_history::{History, OrderFault};
+use lset_judge::{Refusal, overlapped};
 use std::alloc::{AllocError, Global};
 use tool_base::{Trouble, refusal_text};
 
@@ -13,12 +13,60 @@ const AS_LEFT: &[u8] = b" and leaves it as it was left\n";
 
 const NO_OTHER_ORDER: &[u8] = b"no order has the changes at these points\n";
 
-/// The line about calls that some order explains.
-pub fn ok_text(alloc: Global, calls: usize) -> Result<Vec<u8>, AllocError>
-    ensures { IfOk result (λ text. text.items ≡ ok_text calls) }
+const HINT: &[u8] =
+    b"that is few, and a bug shows only if calls meet: take fewer keys, more threads, or pauses in the set\n";
+
+const CUT_OFF: &[u8] =
+    b"the recording was cut off: some keys left fit, and those that were left are not known\n";
+
+/// The answer on a recording that was cut off and that begins and ends do not decide.
+pub(crate) const UNDECIDED: &[u8] =
+    b"undecided: the recording was cut off, and a call is a ceiling or answered full\n";
+
+/// The first line about calls that some order explains.
+pub fn ok_line(alloc: Global, calls: u64) -> Result<Vec<u8>, AllocError>
+    ensures { IfOk result (λ text. text.items ≡ ok_line calls) }
 {
     let text = format!(in alloc; "ok {calls} calls\n")?;
     Ok(text.into_bytes())
+}
+
+fn overlap_line(alloc: Global, overlapped: u32) -> Result<Vec<u8>, AllocError>
+    ensures { IfOk result (λ text. text.items ≡ overlap_line overlapped) }
+{
+    let text = format!(in alloc; "{overlapped} of them overlap a change of their key\n")?;
+    Ok(text.into_bytes())
+}
+
+/// Whether fewer than 5 of 100 calls overlap a change of their key.
+fn is_few(overlapped: u32, calls: usize) -> bool
+    requires { calls < 2 ^ 32 }
+    ensures { result ≡ is_few overlapped calls }
+{
+    u64::from(overlapped) * 100 < calls as u64 * 5
+}
+
+/// The lines about calls that some order explains.
+pub fn ok_text(alloc: Global, history: &History) -> Result<Vec<u8>, AllocError>
+    ensures { IfOk result (λ text. text.items ≡ ok_text history.now.calls) }
+{
+    let calls = history.calls().len();
+    let overlapped = overlapped(alloc, history)?;
+    let mut text = ok_line(alloc, calls as u64)?;
+    text.extend_from_slice(&overlap_line(alloc, overlapped)?)?;
+    if is_few(overlapped, calls) {
+        text.extend_from_slice(HINT)?;
+    }
+    Ok(text)
+}
+
+/// The lines about calls of a recording that was cut off, if with some keys left an order explains them.
+pub fn cut_off_text(alloc: Global, history: &History) -> Result<Vec<u8>, AllocError>
+    ensures { IfOk result (λ text. text.items ≡ cut_off_text history.now.calls) }
+{
+    let mut text = ok_text(alloc, history)?;
+    text.extend_from_slice(CUT_OFF)?;
+    Ok(text)
 }
 
 fn calls_of_key(alloc: Global, key: u32) -> Result<Vec<u8>, AllocError>

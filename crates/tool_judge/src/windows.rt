@@ -2,7 +2,7 @@ ghost use Rattle.std.specs.Prelude.{◌≡◌, ◌++◌, [], ◌∷◌, ◌<◌,
 ghost use Rattle.lset_calls.specs.Texts.{call_line};
 ghost use Rattle.lset_text.specs.Parts.{ended, text_of};
 ghost use Rattle.lset_words.specs.History.{call_numbered};
-ghost use Rattle.tool_judge.specs.Judging.{alone_line, shown_call, state_line, state_words, window_lines, window_text, without_point};
+ghost use Rattle.tool_judge.specs.Judging.{alone_line, shown_call, shown_calls, state_line, state_words, unchanged_line, window_text, without_point};
 
 use lset_history::History;
 use lset_judge::Window;
@@ -51,10 +51,23 @@ fn put_state(out: &mut String, window: &Window) -> Result<(), AllocError>
     Ok(())
 }
 
-fn put_alone(out: &mut String) -> Result<(), AllocError>
-    ensures { OnOk result (string_bytes out.new ≡ string_bytes out.old ++ ended alone_line) }
+fn put_alone(out: &mut String, left: Option<bool>) -> Result<(), AllocError>
+    ensures { OnOk result (string_bytes out.new ≡ string_bytes out.old ++ ended (alone_line left)) }
 {
-    writeln!(out, "these calls alone have no order:")?;
+    match left {
+        None => writeln!(out, "these calls alone have no order:")?,
+        Some(_) => writeln!(
+            out,
+            "these calls alone have no order that leaves it as it was left:"
+        )?,
+    }
+    Ok(())
+}
+
+fn put_unchanged(out: &mut String) -> Result<(), AllocError>
+    ensures { OnOk result (string_bytes out.new ≡ string_bytes out.old ++ ended unchanged_line) }
+{
+    writeln!(out, "no later call changes it")?;
     Ok(())
 }
 
@@ -68,14 +81,27 @@ fn put_calls(out: &mut String, calls: &[CallRecord], numbers: &[u32]) -> Result<
     Ok(())
 }
 
-/// The lines about the calls of a window: the state of their key, and each call as a recording without points has it.
+/// The calls of a window, or, if it has none, that no call changes its key after its moment.
+fn put_shown(out: &mut String, calls: &[CallRecord], window: &Window) -> Result<(), AllocError>
+    requires { All (λ n. n < length calls.now) window.now.calls.items }
+    ensures { OnOk result (string_bytes out.new
+        ≡ string_bytes out.old ++ text_of (shown_calls calls.now window.now.left window.now.calls.items)) }
+{
+    if window.calls.is_empty() {
+        return put_unchanged(out);
+    }
+    put_alone(out, window.left)?;
+    put_calls(out, calls, &window.calls)
+}
+
+/// The lines about the calls of a window: the state of their key, and each call as a recording without points has it; or, if the window
+/// has none, that no later call changes the key.
 pub fn window_text(alloc: Global, history: &History, window: &Window) -> Result<Vec<u8>, AllocError>
     requires { All (λ n. n < length history.now.calls) window.now.calls.items }
-    ensures { IfOk result (λ text. text.items ≡ text_of (window_lines history.now.calls window.now)) }
+    ensures { IfOk result (λ text. text.items ≡ window_text history.now.calls window.now) }
 {
     let mut text = String::new(alloc);
     put_state(&mut text, window)?;
-    put_alone(&mut text)?;
-    put_calls(&mut text, history.calls(), &window.calls)?;
+    put_shown(&mut text, history.calls(), window)?;
     Ok(text.into_bytes())
 }

@@ -5,8 +5,7 @@ use Rattle.lset_words.specs.declared.history.CallRecord.{CallRecord}
 use Rattle.lset_judge.specs.declared.verdict.Refusal.{Refusal}
 use Rattle.lset_judge.specs.declared.verdict.Verdict.{Verdict}
 use Rattle.lset_judge.specs.declared.verdict.Verdict.TheVariants.{NotLinearizable}
-use Rattle.lset_judge.specs.Verdict.{IsUnexplained}
-use Rattle.lset_parts.specs.Judged.{IsPartVerdict, RefutesTheWhole}
+use Rattle.lset_parts.specs.Judged.{IsPartVerdict, IsRefusedPart}
 use Rattle.lset_parts.specs.Parts.{Part, call_since, calls_of, whole_calls}
 use Rattle.lset_parts.specs.Kept.{KeptParts, IsKeptOf}
 use Rattle.tool_parts.specs.declared.kept.Finding.{Finding}
@@ -51,22 +50,25 @@ found_next keys old now p finding opened is ps kept =
     inl (open_now.0, now, open_now.1, is)
 
 -- what the judge says of a part that no order explains
-pub is_refused : (old new : KeptParts) (told : Told) (keys : List ℕ) (since : ℕ) (verdict : Verdict) (refusal : Refusal) (lines : List ℕ)
-    (rests : Bool) (answer : AnswerValue) → keys ≡ told.keys.items → since ≡ old.latest → verdict ≡ NotLinearizable refusal
+pub refused_part : (old new : KeptParts) (told : Told) (keys : List ℕ) (since : ℕ) (verdict : Verdict) (refusal : Refusal)
+    → keys ≡ told.keys.items → since ≡ old.latest → verdict ≡ NotLinearizable refusal
     → IsPartVerdict old new (record { history = told.history; keys = keys; since = since }) verdict
-    → IsRefusedAnswer told.history refusal answer → lines ≡ answer.text → rests ≡ new.at_rest
-    → IsRefused old (part_at told old.latest) lines rests
-is_refused old new told keys since verdict refusal lines rests answer same late is says is_answer lines_are rest =
-    let p : Part = record { history = told.history; keys = keys; since = since } in
-    let said : IsPartVerdict old new p (NotLinearizable refusal) = subst (IsPartVerdict old new p) is says in
-    let behind : RefutesTheWhole old (record { history = told.history; keys = keys; since = old.latest }) =
-    subst (λ (s : ℕ). RefutesTheWhole old (record { history = told.history; keys = keys; since = s })) late said.1 in
-    record {
-      unexplained = subst (IsUnexplained told.history) same said.0;
-      whole = subst (λ (ks : List ℕ). RefutesTheWhole old (record { history = told.history; keys = ks; since = old.latest })) same behind;
-      rests_is = rest ∙ ap (λ (k : KeptParts). k.at_rest) said.2;
-      refusal = refusal;
-      answer = answer;
-      is_answer = is_answer;
-      lines_are = lines_are;
-    }
+    → IsRefusedPart old (part_at told old.latest) refusal × (new ≡ old)
+refused_part old new told keys since verdict refusal same late is says =
+    let p : List ℕ → ℕ → Part = λ ks s. record { history = told.history; keys = ks; since = s } in
+    let said : IsPartVerdict old new (p keys since) (NotLinearizable refusal) = subst (IsPartVerdict old new (p keys since)) is says in
+    let behind : IsRefusedPart old (p keys old.latest) refusal = subst (λ (s : ℕ). IsRefusedPart old (p keys s) refusal) late said.0 in
+    (subst (λ (ks : List ℕ). IsRefusedPart old (p ks old.latest) refusal) same behind, said.1)
+
+pub is_refused : (old new : KeptParts) (told : Told) (refusal : Refusal) (rests : Bool) (answer : AnswerValue)
+    → IsRefusedPart old (part_at told old.latest) refusal × (new ≡ old)
+    → IsRefusedAnswer told.history told.keys.items refusal answer → rests ≡ new.at_rest
+    → IsRefused old (part_at told old.latest) answer.text rests
+is_refused old new told refusal rests answer (part, same) is_answer rest = record {
+  refusal = refusal;
+  part = part;
+  rests_is = rest ∙ ap (λ (k : KeptParts). k.at_rest) same;
+  answer = answer;
+  is_answer = is_answer;
+  lines_are = refl;
+}

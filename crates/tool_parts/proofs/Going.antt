@@ -27,7 +27,7 @@ pub at_first : (asked : Option KeyPart) (parts : ℕ) (IsFile : Option (List ℕ
     → Goes asked parts IsFile all all 0 kept
 at_first asked parts IsFile all kept is = record { ps = []; kept_is = is; count = refl; goes = λ made over. over }
 
-pub with_rest : (asked : Option KeyPart) (parts : ℕ) (IsFile : Option (List ℕ) → Type 0) (all rest other : List (List ℕ)) (index : ℕ) (kept : Kept)
+with_rest : (asked : Option KeyPart) (parts : ℕ) (IsFile : Option (List ℕ) → Type 0) (all rest other : List (List ℕ)) (index : ℕ) (kept : Kept)
     → rest ≡ other → Goes asked parts IsFile all rest index kept → Goes asked parts IsFile all other index kept
 with_rest asked parts IsFile all rest other index kept e g = subst (λ (r : List (List ℕ)). Goes asked parts IsFile all r index kept) e g
 
@@ -39,7 +39,7 @@ ended asked parts IsFile all rest index kept made g none says =
     let last = with_rest asked parts IsFile all rest [] index kept none g in last.goes made (says last.ps last.kept_is)
 
 -- the paths from a place on
-pub rest_next : {X : Type 0} (f : X → List ℕ) (xs : List X) (i : ℕ) (x : X) → i < length xs → x ≡ get_or xs i x
+rest_next : {X : Type 0} (f : X → List ℕ) (xs : List X) (i : ℕ) (x : X) → i < length xs → x ≡ get_or xs i x
     → map f (drop i xs) ≡ f x ∷ map f (drop (i + 1) xs)
 rest_next f xs i x l is = rw add-one (ap (map f) (drop-cons xs i x l) ∙ ap (λ y. f y ∷ map f (drop (suc i) xs)) (sym is))
 
@@ -48,6 +48,15 @@ rest_none f [] zero l = refl
 rest_none f [] (suc i) l = refl
 rest_none f (x ∷ xs) zero l = absurd (omega arith)
 rest_none f (x ∷ xs) (suc i) l = rest_none f xs i (omega arith)
+
+-- at a file, whose path and those behind it are left
+pub at_file : {X : Type 0} (f : X → List ℕ) (asked : Option KeyPart) (parts : ℕ) (IsFile : Option (List ℕ) → Type 0) (xs : List X) (i : ℕ) (x : X)
+    (path : List ℕ) (kept : Kept) → i < length xs → x ≡ get_or xs i x → path ≡ f x
+    → Goes asked parts IsFile (map f xs) (map f (drop i xs)) i kept
+    → Goes asked parts IsFile (map f xs) (path ∷ map f (drop (i + 1) xs)) i kept
+at_file f asked parts IsFile xs i x path kept low is same g =
+    with_rest asked parts IsFile (map f xs) (map f (drop i xs)) (path ∷ map f (drop (i + 1) xs)) i kept
+    (rest_next f xs i x low is ∙ ap (λ (p : List ℕ). p ∷ map f (drop (i + 1) xs)) (sym same)) g
 
 module _ (asked : Option KeyPart) (parts : ℕ) (IsFile : Option (List ℕ) → Type 0) (all rest : List (List ℕ)) (path : List ℕ) (index : ℕ) where
   -- at a file that ends it by a trouble

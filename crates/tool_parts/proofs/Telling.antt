@@ -1,5 +1,5 @@
 -- What a text tells of a part, and what is made of an only part.
-use Rattle.std.proofs.Common.{◌≡◌, ℕ, ◌+◌, ◌<◌, List, [], ◌∷◌, ◌++◌, length, Option, Some, None, Ok, Err, refl, sym, subst, ap, ◌∙◌, arith, inl, inr}
+use Rattle.std.proofs.Common.{◌≡◌, false, ℕ, ◌+◌, ◌<◌, List, [], ◌∷◌, ◌++◌, length, Option, Some, None, Ok, Err, refl, sym, subst, ap, ◌∙◌, arith, inl, inr}
 use Rattle.std.specs.Prelude.{◌⊎◌, IfSome, IfOk, IfErr, Result, All}
 use Rattle.std.specs.List.Sorted.{IsStrictlyIncreasing}
 use Rattle.lset_history.specs.History.{HistoryValue}
@@ -7,15 +7,13 @@ use Rattle.lset_calls.specs.Calls.{CallsValue, AreCalls}
 use Rattle.lset_calls.specs.Texts.{calls_text}
 use Rattle.lset_calls.specs.Reading.{reading}
 use Rattle.lset_calls.specs.Histories.{IsHistoryOf}
-use Rattle.lset_judge.specs.Verdict.{IsExplained, IsJudged}
-use Rattle.lset_parts.specs.Parts.{Part, whole_calls}
-use Rattle.lset_parts.specs.Parts as parts
+use Rattle.lset_parts.specs.Parts.{Part, IsExplained, whole_calls}
 use Rattle.lset_parts.specs.Kept.{KeptParts, IsKeptOf}
 use Rattle.lset_parts.proofs.Joining.{all_head}
 use Rattle.tool_base.specs.declared.trouble.Trouble.{Trouble}
 use Rattle.tool_base.specs.declared.trouble.Trouble.TheVariants.{Memory}
 use Rattle.tool_base.specs.Tools.{AnswerValue, IsTaken, IsInputTrouble}
-use Rattle.tool_judge.specs.Judging.{AreKeysOf, IsFaultOfCalls, IsFirstFault, ok_text}
+use Rattle.tool_judge.specs.Judging.{AreKeysOf, IsFaultOfCalls, IsFirstFault, ok_line}
 use Rattle.tool_parts.specs.declared.key_part.KeyPart.{KeyPart}
 use Rattle.tool_parts.specs.declared.kept.Finding.{Finding}
 use Rattle.tool_parts.specs.declared.kept.Finding.TheVariants.{Undecided}
@@ -28,18 +26,19 @@ use Rattle.tool_parts.specs.Parting.{JudgesText, JudgesRead, JudgesInput, Judges
 use Rattle.tool_parts.proofs.Adding.{whole_length}
 
 -- of the keys that are asked for
-pub told_of_keys : (c : CallsValue) (h : HistoryValue) (left : List ℕ) (asked : KeyPart) (r : Option Told) → IsHistoryOf c h
+pub told_of_keys : (c : CallsValue) (h : HistoryValue) (left : List ℕ) (asked : KeyPart) (r : Option Told) → c.cut_off ≡ false → IsHistoryOf c h
     → AreKeysOf c.keys left → IsKeysTold h left asked r → IsToldBy c (Some asked) r
-told_of_keys c h left asked None history keys told = (h, left, history, keys, told)
-told_of_keys c h left asked (Some t) history keys told = (h, left, history, keys, told.0, told.1, told.2, told.3)
+told_of_keys c h left asked None known history keys told = (h, left, known, history, keys, told)
+told_of_keys c h left asked (Some t) known history keys told = (h, left, known, history, keys, told.0, told.1, told.2, told.3)
 
 abbrev part_of_text : (bytes : List ℕ) (c : CallsValue) (asked : Option KeyPart) (h : HistoryValue) (left : List ℕ) (p : Part) → AreCalls c
-    → bytes ≡ calls_text c → IsHistoryOf c h → AreKeysOf c.keys left → p.history ≡ history_asked asked h → p.keys ≡ keys_asked asked left
+    → bytes ≡ calls_text c → c.cut_off ≡ false → IsHistoryOf c h → AreKeysOf c.keys left → p.history ≡ history_asked asked h → p.keys ≡ keys_asked asked left
     → IsPartOf asked bytes p
-part_of_text bytes c asked h left p are text history keys own_history own_keys = record {
+part_of_text bytes c asked h left p are text known history keys own_history own_keys = record {
   calls = c;
   are = are;
   text_is = text;
+  whole = known;
   history = h;
   history_is = history;
   left = left;
@@ -55,16 +54,16 @@ pub judged_next : (bytes : List ℕ) (c : CallsValue) (asked : Option KeyPart) (
     → IfOk r (λ (found : Option Finding). IfSome found (λ (finding : Finding). (since : ℕ) × ((ps : List Part) → IsKept ps old
     → IsFindingNext ps (part_at told since) finding)))
     → IfErr r (λ (t : Trouble). t ≡ Memory) → JudgesRead asked bytes old new r
-judged_next bytes c asked told old new (Ok None) are text taken (h, left, history, keys, whole, own_history, own_keys, rise) adds found memory =
+judged_next bytes c asked told old new (Ok None) are text taken (h, left, known, history, keys, whole, own_history, own_keys, rise) adds found memory =
     let more = adds refl in (
       part_at told more.0,
-      part_of_text bytes c asked h left (part_at told more.0) are text history keys own_history own_keys,
+      part_of_text bytes c asked h left (part_at told more.0) are text known history keys own_history own_keys,
       whole,
       more.1,
     )
-judged_next bytes c asked told old new (Ok (Some f)) are text taken (h, left, history, keys, whole, own_history, own_keys, rise) adds found memory = (
+judged_next bytes c asked told old new (Ok (Some f)) are text taken (h, left, known, history, keys, whole, own_history, own_keys, rise) adds found memory = (
   part_at told found.0,
-  part_of_text bytes c asked h left (part_at told found.0) are text history keys own_history own_keys,
+  part_of_text bytes c asked h left (part_at told found.0) are text known history keys own_history own_keys,
   (λ ps kept. inl (found.1 ps kept)),
 )
 judged_next bytes c asked told old new (Err t) are text taken is adds found memory =
@@ -73,10 +72,10 @@ judged_next bytes c asked told old new (Err t) are text taken is adds found memo
 -- a part of a recording that the judge does not decide
 pub not_judged : (bytes : List ℕ) (c : CallsValue) (asked : Option KeyPart) (old new : Kept) → AreCalls c → bytes ≡ calls_text c
     → IsToldBy c asked None → JudgesText asked bytes old new (Some Undecided)
-not_judged bytes c asked old new are text (h, left, history, keys, none) =
+not_judged bytes c asked old new are text (h, left, known, history, keys, none) =
     let p : Part = record { history = history_asked asked h; keys = keys_asked asked left; since = 0 } in (
       p,
-      part_of_text bytes c asked h left p are text history keys refl refl,
+      part_of_text bytes c asked h left p are text known history keys refl refl,
       (λ ps kept. inr (refl, none)),
     )
 
@@ -96,11 +95,11 @@ of_input asked (Some all) bytes old new (Err t) known taken judged = subst (λ (
 
 -- ---- an only part
 
-explained_by : (p : Part) (kept : Option KeptParts) → IsKeptBy (p ∷ []) kept → IsExplained p.history p.keys
+explained_by : (p : Part) (kept : Option KeptParts) → IsKeptBy (p ∷ []) kept → IsExplained p
 explained_by p None none = absurd (cc)
-explained_by p (Some kept) (opening, a) = all_head parts.IsExplained p [] a.parts.explained
+explained_by p (Some kept) (opening, a) = all_head IsExplained p [] a.parts.explained
 
-pub only_part : (p : Part) (kept : Kept) → IsKept (p ∷ []) kept → IsExplained p.history p.keys × (kept.calls ≡ length p.history.calls)
+pub only_part : (p : Part) (kept : Kept) → IsKept (p ∷ []) kept → IsExplained p × (kept.calls ≡ length p.history.calls)
 only_part p kept a = (
   explained_by p kept.parts a.parts,
   (let calls : kept.calls ≡ length (whole_calls (p ∷ [])) = a.calls in omega (arith, whole_length [] p)),
@@ -110,12 +109,12 @@ abbrev says : ℕ → List ℕ → AnswerValue
 says status text = record { text = text; status = status }
 
 pub only_ok : (asked : KeyPart) (bytes : List ℕ) (old new : Kept) (found : Option Finding) (text : List ℕ) → IsTaken bytes → IsKept [] old
-    → JudgesText (Some asked) bytes old new found → found ≡ None → text ≡ ok_text new.calls
+    → JudgesText (Some asked) bytes old new found → found ≡ None → text ≡ ok_line new.calls
     → JudgesPart asked bytes (Ok (record { text = text; status = 0 }))
 only_ok asked bytes old new found text taken kept judged none is =
     let j : JudgesText (Some asked) bytes old new None = subst (JudgesText (Some asked) bytes old new) none judged in
     let one = only_part j.0 new (j.3 [] kept) in
-    (taken, j.0, j.1, inl (j.2, one.0, ap (says 0) (is ∙ ap ok_text one.1)))
+    (taken, j.0, j.1, inl (j.2, one.0, ap (says 0) (is ∙ ap ok_line one.1)))
 
 pub only_found : (asked : KeyPart) (bytes : List ℕ) (old new : Kept) (found : Option Finding) (finding : Finding) (text : List ℕ)
     → IsTaken bytes → IsKept [] old → JudgesText (Some asked) bytes old new found → found ≡ Some finding → text ≡ finding_text finding

@@ -3,10 +3,10 @@ use Rattle.std.specs.Prelude.{◌≡◌, ◌≢◌, ℕ, ◌<◌, ◌^◌, ◌==
 use Rattle.std.specs.Prelude.{Option, Some, None}
 use Rattle.std.specs.Fmt.{decimal}
 use Rattle.lset_judge.specs.declared.verdict.Refusal.{Refusal}
-use Rattle.lset_judge.specs.Verdict.{IsJudged, IsUnexplained}
+use Rattle.lset_judge.specs.Verdict.{IsPlain}
 use Rattle.lset_parts.specs.Parts.{Part, calls_of}
 use Rattle.lset_parts.specs.Kept.{KeptParts, EndsEarly, EndsFull}
-use Rattle.lset_parts.specs.Judged.{RefutesTheWhole}
+use Rattle.lset_parts.specs.Judged.{IsRefusedPart}
 use Rattle.tool_base.specs.Tools.{AnswerValue}
 use Rattle.tool_base.specs.Trouble.{trouble_text}
 use Rattle.tool_base.specs.declared.trouble.Trouble.{Trouble}
@@ -42,7 +42,7 @@ abbrev pub finding_text : Finding → List ℕ
 finding_text (Refused lines rests) = refused_text lines.items rests
 finding_text (OtherKeys key) = other_keys_text key
 finding_text Undecided =
-    codes "undecided: a ceiling, a full or more adds than the quota: judge the whole in one file, by its points\n"
+    codes "undecided: a ceiling or a full: judge the whole in one file, by its points\n"
 finding_text Late = codes "undecided: the parts before it are too long\n"
 finding_text Early = codes "undecided: one of its calls ended before a call of an earlier part began\n"
 
@@ -57,18 +57,17 @@ first_difference (x ∷ xs) (y ∷ ys) = if x == y then first_difference xs ys e
 
 -- No order explains the part; and none explains the whole up to its end, if the parts before are at rest.
 pub record IsRefused (kept : KeptParts) (p : Part) (lines : List ℕ) (rests : Bool) : Type 0 where
-  pub unexplained : IsUnexplained p.history p.keys
-  pub whole : RefutesTheWhole kept p
-  pub rests_is : rests ≡ kept.at_rest
   pub refusal : Refusal
+  pub part : IsRefusedPart kept p refusal
+  pub rests_is : rests ≡ kept.at_rest
   pub answer : AnswerValue
-  pub is_answer : IsRefusedAnswer p.history refusal answer
+  pub is_answer : IsRefusedAnswer p.history p.keys refusal answer
   pub lines_are : lines ≡ answer.text
 
 -- what it says of a part, where this is kept of the parts before it
 abbrev pub IsFindingBy : KeptParts → Part → Finding → Type 0
 IsFindingBy kept p (Refused lines rests) = IsRefused kept p lines.items rests
 IsFindingBy kept p (OtherKeys key) = (p.history.opening.keys ≢ kept.keys) × (key ≡ first_difference p.history.opening.keys kept.keys)
-IsFindingBy kept p Undecided = (IsJudged p.history → ⊥) ⊎ Any EndsFull p.history.calls
+IsFindingBy kept p Undecided = (IsPlain p.history.calls → ⊥) ⊎ Any EndsFull p.history.calls
 IsFindingBy kept p Late = 2 ^ 63 < p.since
 IsFindingBy kept p Early = Any (EndsEarly kept.began) (calls_of p)

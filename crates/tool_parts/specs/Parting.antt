@@ -1,5 +1,5 @@
 -- What is made of a recording in parts: of some of its keys, and of several files.
-use Rattle.std.specs.Prelude.{◌≡◌, ℕ, ◌+◌, ◌≤◌, ◌^◌, ◌⊎◌, List, [], ◌∷◌, ◌++◌, length, Option, Some, None, option_map, IfSome, Result, Ok, Err}
+use Rattle.std.specs.Prelude.{◌≡◌, ℕ, ◌+◌, ◌≤◌, ◌^◌, ◌⊎◌, false, List, [], ◌∷◌, ◌++◌, length, Option, Some, None, option_map, IfSome, Result, Ok, Err}
 use Rattle.std.specs.Io.KnownBytes.{Keeps}
 use Rattle.std.specs.List.Sorted.{IsStrictlyIncreasing}
 use Rattle.lset_words.specs.declared.history.Placed.{Placed}
@@ -8,8 +8,8 @@ use Rattle.lset_calls.specs.Calls.{CallsValue, AreCalls}
 use Rattle.lset_calls.specs.Texts.{calls_text}
 use Rattle.lset_calls.specs.Reading.{reading}
 use Rattle.lset_calls.specs.Histories.{IsHistoryOf}
-use Rattle.lset_judge.specs.Verdict.{IsExplained, IsJudged}
-use Rattle.lset_parts.specs.Parts.{Part, ExplainsWithoutQuota, whole_calls}
+use Rattle.lset_judge.specs.Verdict.{IsPlain}
+use Rattle.lset_parts.specs.Parts.{Part, ExplainsWithoutQuota, IsExplained, whole_calls}
 use Rattle.lset_parts.specs.Kept.{KeptParts, IsKeptOf}
 use Rattle.tool_base.specs.declared.answer.Answer.{Answer}
 use Rattle.tool_base.specs.declared.trouble.Trouble.{Trouble}
@@ -18,7 +18,7 @@ use Rattle.tool_base.specs.declared.trouble.ValueName.TheVariants.{Keys}
 use Rattle.tool_base.specs.Trouble.{trouble_text, status_of}
 use Rattle.tool_base.specs.Tools.{AnswerValue, Made, Outcome, IsTaken, IsInputTrouble, Delivers, AppendsFront, line_of}
 use Rattle.tool_base.specs.Tools as tools
-use Rattle.tool_judge.specs.Judging.{AreKeysOf, IsFirstFault, ok_text}
+use Rattle.tool_judge.specs.Judging.{AreKeysOf, IsFirstFault, ok_line}
 use Rattle.tool_parts.specs.declared.key_part.KeyPart.{KeyPart}
 use Rattle.tool_parts.specs.declared.kept.Finding.{Finding}
 use Rattle.tool_parts.specs.declared.kept.Finding.TheVariants.{Late, Undecided}
@@ -36,6 +36,7 @@ pub record IsPartOf (asked : Option KeyPart) (bytes : List ℕ) (p : Part) : Typ
   pub calls : CallsValue
   pub are : AreCalls calls
   pub text_is : bytes ≡ calls_text calls
+  pub whole : calls.cut_off ≡ false
   pub history : HistoryValue
   pub history_is : IsHistoryOf calls history
   pub left : List ℕ
@@ -45,7 +46,7 @@ pub record IsPartOf (asked : Option KeyPart) (bytes : List ℕ) (p : Part) : Typ
 
 -- the judge decides the whole history of which some keys are asked for: then locality holds of it
 abbrev pub IsWholeJudged : Option KeyPart → HistoryValue → Type 0
-IsWholeJudged asked h = IfSome asked (λ (_ : KeyPart). IsJudged h)
+IsWholeJudged asked h = IfSome asked (λ (_ : KeyPart). IsPlain h.calls)
 
 -- ---- what is kept of the parts so far
 
@@ -72,22 +73,22 @@ IsFindingNext ps p finding =
 
 -- and the judge may not decide the whole history of which some keys are asked for
 abbrev pub IsFinding : HistoryValue → List Part → Part → Finding → Type 0
-IsFinding h ps p finding = IsFindingNext ps p finding ⊎ ((finding ≡ Undecided) × (IsJudged h → ⊥))
+IsFinding h ps p finding = IsFindingNext ps p finding ⊎ ((finding ≡ Undecided) × (IsPlain h.calls → ⊥))
 
 -- ---- ONE PART MORE
 
 -- what the calls of a text tell of the keys that are asked for, if the judge decides the whole of it
 abbrev pub IsToldBy : CallsValue → Option KeyPart → Option Told → Type 0
 IsToldBy c asked None =
-    (h : HistoryValue) × (left : List ℕ) × IsHistoryOf c h × AreKeysOf c.keys left × (IsJudged h → ⊥)
+    (h : HistoryValue) × (left : List ℕ) × (c.cut_off ≡ false) × IsHistoryOf c h × AreKeysOf c.keys left × (IsPlain h.calls → ⊥)
 IsToldBy c asked (Some told) =
-    (h : HistoryValue) × (left : List ℕ) × IsHistoryOf c h × AreKeysOf c.keys left × IsWholeJudged asked h
+    (h : HistoryValue) × (left : List ℕ) × (c.cut_off ≡ false) × IsHistoryOf c h × AreKeysOf c.keys left × IsWholeJudged asked h
     × (told.history ≡ history_asked asked h) × (told.keys.items ≡ keys_asked asked left) × IsStrictlyIncreasing told.keys.items
 
 -- the same of a recording that was read
 abbrev pub IsKeysTold : HistoryValue → List ℕ → KeyPart → Option Told → Type 0
-IsKeysTold h left asked None = IsJudged h → ⊥
-IsKeysTold h left asked (Some told) = IsJudged h × (told.history ≡ history_asked (Some asked) h)
+IsKeysTold h left asked None = IsPlain h.calls → ⊥
+IsKeysTold h left asked (Some told) = IsPlain h.calls × (told.history ≡ history_asked (Some asked) h)
     × (told.keys.items ≡ keys_asked (Some asked) left) × IsStrictlyIncreasing told.keys.items
 
 -- the part that a text tells is added to those kept, or it ends the judging
@@ -117,7 +118,7 @@ JudgesInput asked input old new (Err t) = IfSome input (λ (bytes : List ℕ). I
 -- some order explains the calls of the keys that are asked for, and leaves those keys; or none does; or it is not decided
 abbrev pub IsAnswerOnKeys : HistoryValue → Part → AnswerValue → Type 0
 IsAnswerOnKeys h p answer =
-    (IsJudged h × IsExplained p.history p.keys × (answer ≡ record { text = ok_text (length p.history.calls); status = 0 }))
+    (IsPlain h.calls × IsExplained p × (answer ≡ record { text = ok_line (length p.history.calls); status = 0 }))
     ⊎ ((finding : Finding) × IsFinding h [] p finding × (answer ≡ record { text = finding_text finding; status = 1 }))
 
 abbrev pub JudgesPart : KeyPart → List ℕ → Made → Type 0

@@ -6,7 +6,7 @@ ghost use Rattle.lset_calls.specs.Calls.{AreCalls, view};
 ghost use Rattle.tool_base.specs.Tools.{Ends, IsTaken};
 ghost use Rattle.tool_base.specs.Tools as tools;
 ghost use Rattle.tool_base.specs.declared.trouble.Trouble.TheVariants.{Memory};
-ghost use Rattle.tool_judge.specs.Judging.{IsFaultOfCalls, ok_text};
+ghost use Rattle.tool_judge.specs.Judging.{IsFaultOfCalls};
 ghost use Rattle.tool_parts.specs.Parting.{IsKeysTold, IsToldBy, JudgesInput, JudgesKeys, JudgesPart, JudgesRead};
 
 use crate::kept::{Finding, Kept, Told};
@@ -14,13 +14,13 @@ use crate::key_part::{KeyPart, history_of_part, keys_of_part, read_key_part};
 use crate::texts::finding_text;
 use lset_calls::{Calls, Recording, read_calls, recording_of};
 use lset_history::History;
-use lset_judge::is_judged;
+use lset_judge::is_plain;
 use std::alloc::{AllocError, Global};
 use std::io::{Read, Write};
 use tool_base::{Answer, Trouble, ValueName, deliver, input_of};
-use tool_judge::keys_of;
+use tool_judge::{keys_of, ok_line};
 
-/// What a recording tells of the keys of a part; nothing, if the judge does not decide the whole of it.
+/// What a recording tells of the keys of a part; nothing, if begins and ends do not decide the whole of it.
 fn told_of_keys(
     alloc: Global,
     history: &History,
@@ -31,7 +31,7 @@ fn told_of_keys(
     requires rising { IsStrictlyIncreasing left.now }
     ensures { IfOk result (IsKeysTold history.now left.now asked) }
 {
-    if !is_judged(history) {
+    if !is_plain(history) {
         return Ok(None);
     }
     Ok(Some(Told {
@@ -87,13 +87,6 @@ pub(crate) fn judge_input<R: Read>(
     judge_text(alloc, kept, &bytes, asked)
 }
 
-fn ok_text(alloc: Global, calls: u64) -> Result<Vec<u8>, AllocError>
-    ensures { IfOk result (λ text. text.items ≡ ok_text calls) }
-{
-    let text = format!(in alloc; "ok {calls} calls\n")?;
-    Ok(text.into_bytes())
-}
-
 /// The answer on the keys that are asked for, of the recording whose text the bytes are.
 fn judge_part(alloc: Global, bytes: &[u8], asked: KeyPart) -> Result<Answer, Trouble>
     requires taken { IsTaken bytes.now }
@@ -104,7 +97,7 @@ fn judge_part(alloc: Global, bytes: &[u8], asked: KeyPart) -> Result<Answer, Tro
     let found = judge_text(alloc, &mut kept, bytes, Some(asked))?;
     match found {
         None => Ok(Answer {
-            text: ok_text(alloc, kept.calls)?,
+            text: ok_line(alloc, kept.calls)?,
             status: 0,
         }),
         Some(finding) => Ok(Answer {

@@ -10,7 +10,7 @@ use tool_base::{Trouble, line_of_trouble};
 const OTHER_KEYS: &[u8] = b"opens with other keys than the part before left";
 
 const UNDECIDED: &[u8] =
-    b"undecided: a ceiling, a full or more adds than the quota: judge the whole in one file, by its points\n";
+    b"undecided: a ceiling or a full: judge the whole in one file, by its points\n";
 
 const LATE: &[u8] = b"undecided: the parts before it are too long\n";
 

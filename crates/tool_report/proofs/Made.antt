@@ -6,7 +6,8 @@ use Rattle.lset_calls.specs.Reading.{reading}
 use Rattle.tool_base.specs.declared.trouble.Trouble.{Trouble}
 use Rattle.tool_base.specs.declared.trouble.Trouble.TheVariants.{Memory, LongReport}
 use Rattle.tool_base.specs.Tools.{IsTaken, IsInputTrouble}
-use Rattle.tool_report.specs.Reporting.{IsFaultOfCalls, IsFirstFault, Reports}
+use Rattle.tool_judge.specs.Judging.{IsFaultOfCalls, IsFirstFault}
+use Rattle.tool_report.specs.Reporting.{Reports}
 
 pub of_the_text : (bytes : List ℕ) (c : CallsValue) (t : Trouble) → reading bytes ≡ Ok c → (t ≡ Memory) ⊎ IsFaultOfCalls c t
     → (t ≡ Memory) ⊎ IsFirstFault (reading bytes) t ⊎ (t ≡ LongReport)

@@ -1,6 +1,5 @@
 -- What `report` makes of recorded calls.
-use Rattle.std.specs.Prelude.{◌≡◌, ℕ, ◌<◌, ◌⊎◌, List, length, codes, Option, Some, None, Result, Ok, Err, Contains}
-use Rattle.std.specs.List.Sorted.{IsStrictlyIncreasing}
+use Rattle.std.specs.Prelude.{◌≡◌, ℕ, ◌<◌, ◌⊎◌, false, List, length, codes, Option, Some, None, Ok, Err}
 use Rattle.lset_history.specs.History.{HistoryValue}
 use Rattle.lset_history.specs.Faults.{Explains}
 use Rattle.lset_judge.specs.Verdict.{IsUnexplained}
@@ -9,34 +8,28 @@ use Rattle.lset_report.specs.declared.report.Report.{Report}
 use Rattle.lset_report.specs.Report.{ReportValue, view}
 use Rattle.lset_report.specs.Texts.{report_text}
 use Rattle.lset_calls.specs.declared.fault.CallsFault.{CallsFault}
-use Rattle.lset_calls.specs.declared.fault.ClashFault.{ClashFault}
 use Rattle.lset_calls.specs.Calls.{CallsValue, AreCalls}
 use Rattle.lset_calls.specs.Texts.{calls_text}
 use Rattle.lset_calls.specs.Reading.{reading}
-use Rattle.lset_calls.specs.Clashes.{IsRefusal, PointsAreGiven}
+use Rattle.lset_calls.specs.Clashes.{PointsAreGiven}
 use Rattle.lset_calls.specs.Histories.{IsHistoryOf}
-use Rattle.lset_calls.specs.Reports.{IsReportOf}
+use Rattle.lset_calls.specs.Reports.{IsReportOfCalls}
 use Rattle.tool_base.specs.declared.streams.TheConstants.{LONGEST}
 use Rattle.tool_base.specs.declared.trouble.Trouble.{Trouble}
 use Rattle.tool_base.specs.declared.trouble.Trouble.TheVariants.{LongReport}
-use Rattle.tool_base.specs.Trouble.{of_calls, of_clash}
 use Rattle.tool_base.specs.Tools.{AnswerValue, Made, IsTaken, IsInputTrouble}
-
--- the keys of `key` lines, which stand in any order: each once, in increasing order
-pub record AreKeysOf (lines keys : List ℕ) : Type 0 where
-  pub rise : IsStrictlyIncreasing keys
-  pub all : (k : ℕ) → Contains lines k → Contains keys k
-  pub no_other : (k : ℕ) → Contains keys k → Contains lines k
+use Rattle.tool_judge.specs.Judging.{AreKeysOf, IsFirstFault}
 
 -- ---- the report of calls
 
 -- By their points: each change has its point, and this is their report.
 pub record IsByPoints (c : CallsValue) (r : ReportValue) : Type 0 where
   pub points : PointsAreGiven c (Ok tt)
-  pub report : IsReportOf c r
+  pub report : IsReportOfCalls c r
 
 -- By an order that was found: a change has no point, and the order explains the calls and leaves the keys.
 pub record IsByOrder (c : CallsValue) (r : ReportValue) : Type 0 where
+  pub whole : c.cut_off ≡ false
   pub lacking : (fault : CallsFault) × PointsAreGiven c (Err fault)
   pub version_is : r.version ≡ Two
   pub kind_is : r.kind ≡ c.kind
@@ -55,6 +48,7 @@ pub record IsReported (bytes : List ℕ) (c : CallsValue) (r : ReportValue) : Ty
 
 -- Or there is none: a change has no point, and no order explains the calls and leaves the keys.
 pub record HasNoOrder (c : CallsValue) : Type 0 where
+  pub whole : c.cut_off ≡ false
   pub lacking : (fault : CallsFault) × PointsAreGiven c (Err fault)
   pub history : HistoryValue
   pub left : List ℕ
@@ -64,17 +58,6 @@ pub record HasNoOrder (c : CallsValue) : Type 0 where
 
 abbrev pub no_order_text : List ℕ
 no_order_text = codes "no order explains these calls: judge shows why\n"
-
--- the first call that cannot stand beside those above it; or the first change that has no point, if no order was found
-abbrev pub IsFaultOfCalls : CallsValue → Trouble → Type 0
-IsFaultOfCalls c t =
-    ((refusal : ClashFault) × (t ≡ of_clash refusal) × IsRefusal c refusal)
-    ⊎ ((fault : CallsFault) × (t ≡ of_calls fault) × PointsAreGiven c (Err fault))
-
--- the first fault of the text, or else of its calls
-abbrev pub IsFirstFault : Result CallsValue CallsFault → Trouble → Type 0
-IsFirstFault (Err fault) t = t ≡ of_calls fault
-IsFirstFault (Ok c) t = IsFaultOfCalls c t
 
 -- the text of the report has more bytes than a text that is read may have
 abbrev pub IsOfLongReport : List ℕ → Trouble → Type 0

@@ -4,7 +4,6 @@
 //! which explains the calls.
 #![tactic(auto)]
 
-mod keys;
 mod reporting;
 
 pub use reporting::{report_bytes, tool_report};

@@ -4,9 +4,9 @@ ghost use Rattle.lset_calls.specs.Clashes.{PointsAreGiven};
 ghost use Rattle.lset_calls.specs.Reading.{reading};
 ghost use Rattle.tool_base.specs.Tools.{Ends, IsTaken, view};
 ghost use Rattle.tool_base.specs.declared.trouble.Trouble.TheVariants.{CannotRead, LongReport, Memory};
-ghost use Rattle.tool_report.specs.Reporting.{IsFaultOfCalls, IsFirstFault, IsMadeOf, Reports, value_of};
+ghost use Rattle.tool_judge.specs.Judging.{IsFaultOfCalls, IsFirstFault};
+ghost use Rattle.tool_report.specs.Reporting.{IsMadeOf, Reports, value_of};
 
-use crate::keys::keys_of;
 use lset_calls::{Calls, CallsFault, Recording, read_calls, recording_of, report_of};
 use lset_order::{Found, find_order};
 use lset_report::{Report, write_report};
@@ -14,6 +14,7 @@ use lset_text::Version;
 use std::alloc::Global;
 use std::io::{Read, Write};
 use tool_base::{Answer, LONGEST, Trouble, deliver, input_of};
+use tool_judge::keys_of;
 
 const NO_ORDER: &[u8] = b"no order explains these calls: judge shows why\n";
 

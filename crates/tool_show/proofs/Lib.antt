@@ -1,3 +1,4 @@
 pub mod InBars
 pub mod RunPictures
 mod Troubles
+mod CallsDrawn

@@ -1,5 +1,5 @@
 -- The last lines of the picture of a report whose order is refused: whether another order explains it.
-use Rattle.std.specs.Prelude.{◌≡◌, ℕ, List, [], ◌++◌, codes, Option, MatchOption}
+use Rattle.std.specs.Prelude.{◌≡◌, ℕ, List, [], ◌++◌, codes, MatchOption}
 use Rattle.std.specs.Fmt.{decimal}
 use Rattle.lset_words.specs.declared.history.CallRecord.{CallRecord}
 use Rattle.lset_judge.specs.declared.verdict.Refusal.{Refusal}
@@ -15,7 +15,7 @@ of_full call =
     codes "\nnot linearizable\ncall " ++ decimal call ++ codes " answers full, and its thread has not used its quota up\n"
 
 -- as `judge` says it
-abbrev pub of_key : List CallRecord → Refusal → Option Window → List ℕ
+abbrev pub of_key : List CallRecord → Refusal → Window → List ℕ
 of_key calls refusal window = codes "\n" ++ reason_text refusal ++ window_text calls window
 
 -- after an empty line what is known of all orders of the calls

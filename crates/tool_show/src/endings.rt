@@ -1,4 +1,4 @@
-ghost use Rattle.std.specs.Prelude.{◌≡◌, ◌<◌, ◌++◌, IfOk, IfSome, All, length};
+ghost use Rattle.std.specs.Prelude.{◌≡◌, ◌<◌, ◌++◌, IfOk, All, length};
 ghost use Rattle.tool_drawing.specs.Pictures.{view};
 ghost use Rattle.tool_show.specs.Endings.{of_full, of_key, IsEnding};
 
@@ -24,20 +24,19 @@ fn of_full(alloc: Global, call: u32) -> Result<Vec<u8>, AllocError>
     Ok(text.into_bytes())
 }
 
-fn of_key(
+/// The lines about a refusal and its window, as `judge` has them.
+pub(crate) fn of_key(
     alloc: Global,
     history: &History,
     refusal: Refusal,
-    window: Option<Window>,
+    window: &Window,
 ) -> Result<Vec<u8>, AllocError>
-    requires { IfSome window (λ w. All (λ n. n < length history.now.calls) w.calls.items) }
-    ensures { IfOk result (λ text. text.items ≡ of_key history.now.calls refusal window) }
+    requires { All (λ n. n < length history.now.calls) window.now.calls.items }
+    ensures { IfOk result (λ text. text.items ≡ of_key history.now.calls refusal window.now) }
 {
     let mut text = Vec::from_slice(alloc, b"\n")?;
     text.extend_from_slice(&reason_text(alloc, refusal)?)?;
-    if let Some(window) = window {
-        text.extend_from_slice(&window_text(alloc, history, &window)?)?;
-    }
+    text.extend_from_slice(&window_text(alloc, history, window)?)?;
     Ok(text)
 }
 
@@ -52,7 +51,7 @@ pub fn ending(alloc: Global, picture: &Picture) -> Result<Vec<u8>, AllocError>
     }
     match claim_of(alloc, &picture.history, &picture.keys)? {
         Claim::Explained => Vec::from_slice(alloc, EXPLAINED),
-        Claim::OfKey(refusal, window) => of_key(alloc, &picture.history, refusal, window),
+        Claim::OfKey(refusal, window) => of_key(alloc, &picture.history, refusal, &window),
         Claim::OfFull(call) => of_full(alloc, call),
         Claim::OfKeys => Vec::from_slice(alloc, NOT_RISING),
         Claim::Unknown => Vec::from_slice(alloc, UNKNOWN),

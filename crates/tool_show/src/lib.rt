@@ -1,9 +1,10 @@
-//! Pictures of schedules and of reports, and the tool that draws them: the bars of the calls, the points at which they stand
+//! Pictures of schedules, of reports and of recorded calls, and the tool that draws them: the bars of the calls, the points at which they stand
 //! in the order, of a refused order why, and of a refused event which.
 #![tactic(auto)]
 
 mod asking;
 mod bars;
+mod calls;
 mod endings;
 mod reports;
 mod schedules;

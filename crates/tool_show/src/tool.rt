@@ -15,10 +15,12 @@ ghost use Rattle.tool_show.specs.Showing.{
   IsFirstFault,
   IsScheduleFault,
   IsWrong,
+  has_calls_title,
   has_report_title,
   status_of,
 };
 
+use crate::calls::{Drawing, of_calls};
 use crate::{Form, ending, picture_of_replay, picture_of_report};
 use lset_report::read_report;
 use lset_schedule::read_schedule;
@@ -37,6 +39,15 @@ fn has_report_title(bytes: &[u8]) -> bool
     ensures { result ≡ has_report_title bytes.now }
 {
     bytes.starts_with(TITLE_ONE) || bytes.starts_with(TITLE_TWO)
+}
+
+/// The first line of a text of recorded calls.
+const TITLE_OF_CALLS: &[u8] = b"listset-calls 2\n";
+
+fn has_calls_title(bytes: &[u8]) -> bool
+    ensures { result ≡ has_calls_title bytes.now }
+{
+    bytes.starts_with(TITLE_OF_CALLS)
 }
 
 /// The picture of the schedule whose text the bytes are.
@@ -59,30 +70,55 @@ fn of_report(alloc: Global, bytes: &[u8]) -> Result<Picture, Trouble>
     Ok(picture)
 }
 
-/// The picture of the schedule or the report whose text the bytes are.
-fn picture_of(alloc: Global, bytes: &[u8]) -> Result<Picture, Trouble>
-    ensures shows { IfOk result (λ p. ShowsText bytes.now (view p)) }
-    ensures trouble { IfErr result (λ t. (t ≡ Memory) ⊎ IsFirstFault bytes.now t) }
+/// What is drawn of a text that is no recording.
+fn of_picture(picture: Picture) -> Drawing
+    ensures { view result.picture ≡ view picture }
 {
-    if has_report_title(bytes) {
-        of_report(alloc, bytes)
-    } else {
-        of_schedule(alloc, bytes)
+    Drawing {
+        picture,
+        says: None,
     }
 }
 
-/// The picture as text, with its ending, or as an SVG.
+/// What is drawn of the schedule, the report or the recorded calls whose text the bytes are.
+fn drawing_of(alloc: Global, bytes: &[u8]) -> Result<Drawing, Trouble>
+    requires { IsTaken bytes.now }
+    ensures shows { IfOk result (λ d. ShowsText bytes.now (view d.picture)) }
+    ensures trouble { IfErr result (λ t. (t ≡ Memory) ⊎ IsFirstFault bytes.now t) }
+{
+    if has_report_title(bytes) {
+        return Ok(of_picture(of_report(alloc, bytes)?));
+    }
+    if has_calls_title(bytes) {
+        return of_calls(alloc, bytes);
+    }
+    Ok(of_picture(of_schedule(alloc, bytes)?))
+}
+
+/// The lines below a picture: those that are given, or else its ending.
+fn lines_below(
+    alloc: Global,
+    picture: &Picture,
+    says: Option<&[u8]>,
+) -> Result<Vec<u8>, AllocError> {
+    match says {
+        Some(lines) => Vec::from_slice(alloc, lines),
+        None => ending(alloc, picture),
+    }
+}
+
+/// The picture as text, with the lines below it, or as an SVG.
 fn text_of(
     alloc: Global,
     picture: &Picture,
+    says: Option<&[u8]>,
     form: Form,
     window: Window,
 ) -> Result<Vec<u8>, AllocError> {
     match form {
         Form::Text(width) => {
             let mut text = write_picture(alloc, picture, window, width)?;
-            let end = ending(alloc, picture)?;
-            text.extend_from_slice(&end)?;
+            text.extend_from_slice(&lines_below(alloc, picture, says)?)?;
             Ok(text)
         }
         Form::Svg => write_svg(alloc, picture, window),
@@ -100,6 +136,26 @@ fn status_of(picture: &Picture) -> u8
     }
 }
 
+/// As `drawn`, with these lines below the picture, if some are given.
+fn drawn_above(
+    alloc: Global,
+    picture: &Picture,
+    says: Option<&[u8]>,
+    form: Form,
+    window: Window,
+) -> Result<Answer, Trouble>
+    ensures { IsDrawn window (view picture.now) (tools.view result) }
+{
+    if is_past_the_last(picture, window.from) {
+        return Err(Trouble::Bad(ValueName::From));
+    }
+    let text = text_of(alloc, picture, says, form, window)?;
+    Ok(Answer {
+        text,
+        status: status_of(picture),
+    })
+}
+
 /// A picture as text, with its ending, or as an SVG, of the moments in `window`; the status is 1 where it tells a refusal, of an
 /// order or of an event, and else 0. The error is `Bad(From)` where the window begins past the last moment at which something
 /// happens, and `Memory`.
@@ -111,35 +167,31 @@ pub fn drawn(
 ) -> Result<Answer, Trouble>
     ensures { IsDrawn window (view picture.now) (tools.view result) }
 {
-    if is_past_the_last(picture, window.from) {
-        return Err(Trouble::Bad(ValueName::From));
-    }
-    let text = text_of(alloc, picture, form, window)?;
-    Ok(Answer {
-        text,
-        status: status_of(picture),
-    })
+    drawn_above(alloc, picture, None, form, window)
 }
 
-/// The picture of the schedule or the report whose text the bytes are, as text or as an SVG. A window that begins past the
-/// last moment at which something happens is refused.
+/// The picture of the schedule, the report or the recorded calls whose text the bytes are, as text or as an SVG. A window that begins past
+/// the last moment at which something happens is refused.
 fn answer_of(alloc: Global, bytes: &[u8], form: Form, window: Window) -> Result<Answer, Trouble>
     requires { IsTaken bytes.now }
     ensures shows { Shows window bytes.now (tools.view result) }
     ensures trouble { IfErr result (λ t. (t ≡ Memory) ⊎ IsWrong window bytes.now t) }
 {
-    let picture = picture_of(alloc, bytes)?;
-    drawn(alloc, &picture, form, window)
+    let Drawing { picture, says } = drawing_of(alloc, bytes)?;
+    drawn_above(alloc, &picture, says.as_deref(), form, window)
 }
 
-/// The answer of `show` on an input of these bytes: the picture of that schedule or report, of the moments in `window`.
+/// The answer of `show` on an input of these bytes: the picture of that schedule, report or recording, of the moments in `window`. Of
+/// recorded calls it is that of an order that explains them; if there is none, of the calls of the window that `judge` shows, with its lines
+/// below; and if begins and ends do not decide, of their report by their points.
 ///
-/// Its status is 1 where the order of the report or an event of the schedule is refused, and else 0. A schedule with such
-/// an event is drawn up to it.
+/// Its status is 1 where the order of the report or an event of the schedule is refused, or no order explains the calls, and else 0. A
+/// schedule with such an event is drawn up to it.
 ///
 /// - `TooLong`: there are more than `LONGEST` bytes.
-/// - `Bad`: a text with the first line of a report, of either version, has the first fault of `read_report`; any other text
-///   that of `read_schedule`; and `From`, where all that happens in the picture is before `window.from`.
+/// - `Line`: the first fault of `read_report` in a text with the first line of a report, of either version, of `judge_bytes` in one with that
+///   of recorded calls, and of `read_schedule` in any other.
+/// - `Bad(From)`: all that happens in the picture is before `window.from`.
 /// - `Memory`: it was refused.
 pub fn shown(alloc: Global, bytes: &[u8], form: Form, window: Window) -> Result<Answer, Trouble>
     ensures shows { Shows window bytes.now (tools.view result) }
@@ -164,7 +216,7 @@ fn drawn_of<R: Read>(
     shown(alloc, &bytes, form, window)
 }
 
-/// Draws the schedule or the report on the input: writes its picture on the output, in that form, of the
+/// Draws the schedule, the report or the recorded calls on the input: writes its picture on the output, in that form, of the
 /// moments in the window, or one line about what is wrong on `faults` and nothing on the output. The first line of the
 /// input says which it is. Gives the exit status: 0 where the picture was written, 1 where it was written and tells why the order or
 /// which event is refused, 2 where the window begins past the last moment of the picture, 3 where memory was refused, else 1. A

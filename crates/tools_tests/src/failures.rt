@@ -134,19 +134,19 @@ fn each_way_fails<R: Threads + Wait + Sync + Abort>(
 
 #[test]
 fn each_read_fails_in_turn(rt: HostRuntime) -> Result<(), Fail> {
-    assert!(rt; each_way_fails(&rt, rt.alloc(), Device::Input, &READS)? == 4_244);
+    assert!(rt; each_way_fails(&rt, rt.alloc(), Device::Input, &READS)? == 5_206);
     Ok(())
 }
 
 #[test]
 fn each_write_on_the_output_fails_in_turn(rt: HostRuntime) -> Result<(), Fail> {
-    assert!(rt; each_way_fails(&rt, rt.alloc(), Device::Output, &WRITES)? == 8_035);
+    assert!(rt; each_way_fails(&rt, rt.alloc(), Device::Output, &WRITES)? == 9_261);
     Ok(())
 }
 
 #[test]
 fn each_write_of_a_line_fails_in_turn(rt: HostRuntime) -> Result<(), Fail> {
-    assert!(rt; each_way_fails(&rt, rt.alloc(), Device::Faults, &WRITES)? == 252);
+    assert!(rt; each_way_fails(&rt, rt.alloc(), Device::Faults, &WRITES)? == 288);
     Ok(())
 }
 

@@ -178,3 +178,58 @@ pub const SHEET: &str = concat!(
 </svg>
 "#,
 );
+
+/// Two calls, none of which overlaps a change of its key.
+pub const FEW: &str = "listset-calls 2
+list lazy
+threads 1
+quota 4
+call 0 add 5 1 - 2 true
+call 0 contains 5 3 - 4 true
+key 5
+end
+";
+
+pub const FEW_SAID: &str = "ok 2 calls
+0 of them overlap a change of their key
+that is few, and a bug shows only if calls meet: take fewer keys, more threads, or pauses in the set
+";
+
+/// Two adds of one key that changed the set.
+pub const BOTH: &str = "listset-calls 2
+list lazy
+threads 2
+quota 4
+call 0 add 5 1 - 4 true
+call 1 add 5 2 - 3 true
+key 5
+end
+";
+
+pub const BOTH_SAID: &str = "not linearizable
+no order explains the calls of key 5 up to moment 4
+key 5 is not there at moment 0
+these calls alone have no order:
+call 0 add 5 1 - 4 true
+call 1 add 5 2 - 3 true
+";
+
+pub const BOTH_PICTURE: &str = "lazy list, 2 threads, quota 4: 2 calls
+refused WrongReply 1: place 2 says true, and after place 1 the set is {5} and answers false
+
+moment    1      2      3     4
+thread 0  [add 5--------------true]
+thread 1         [add 5-true]
+
+order
+   1           thread 0  add 5 true
+   2           thread 1  add 5 true
+keys
+
+not linearizable
+no order explains the calls of key 5 up to moment 4
+key 5 is not there at moment 0
+these calls alone have no order:
+call 0 add 5 1 - 4 true
+call 1 add 5 2 - 3 true
+";

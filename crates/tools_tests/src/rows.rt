@@ -1,8 +1,9 @@
 //! Runs of the tools, on devices that fail as planned.
 use crate::devices::{Plan, Reader, Writer};
 use crate::row_texts::{
-    CEILING, CEILING_REPORT, DRAWN, IDLE, IDLE_PICTURE, IDLE_TRACE, LEFT_OUT, NO_TITLE, OUTCOME,
-    PICTURE, REFUSED_PICTURE, REPORT, SCHEDULE, SHEET, TRACE,
+    BOTH, BOTH_PICTURE, BOTH_SAID, CEILING, CEILING_REPORT, DRAWN, FEW, FEW_SAID, IDLE,
+    IDLE_PICTURE, IDLE_TRACE, LEFT_OUT, NO_TITLE, OUTCOME, PICTURE, REFUSED_PICTURE, REPORT,
+    SCHEDULE, SHEET, TRACE,
 };
 use std::alloc::{AllocError, Global};
 use std::sync::Wait;
@@ -10,6 +11,7 @@ use std::thread::Threads;
 use tool_base::{tool_check, tool_gen, tool_replay};
 use tool_drawing::Window;
 use tool_examples::{Example, tool_example};
+use tool_judge::tool_judge;
 use tool_run::tool_run;
 use tool_show::{Form, tool_show};
 use tool_trace::tool_trace;
@@ -24,6 +26,7 @@ const ALL: Window = Window {
 pub enum Tool {
     Replay,
     Check,
+    Judge,
     /// As text.
     Show,
     /// As an SVG.
@@ -56,7 +59,7 @@ type Told = (Tool, &'static str, u8, &'static str, &'static str);
 
 const FIRST: Told = (Tool::Replay, SCHEDULE, 0, REPORT, "");
 
-static ROWS: [Told; 21] = [
+static ROWS: [Told; 25] = [
     FIRST,
     (Tool::Replay, CEILING, 0, CEILING_REPORT, ""),
     (Tool::Replay, REPORT, 1, "", NO_TITLE),
@@ -64,7 +67,11 @@ static ROWS: [Told; 21] = [
     (Tool::Check, CEILING_REPORT, 0, "ok\n", ""),
     (Tool::Check, LEFT_OUT, 1, "refused Missing 0\n", ""),
     (Tool::Check, SCHEDULE, 1, "", NO_TITLE),
+    (Tool::Judge, FEW, 0, FEW_SAID, ""),
+    (Tool::Judge, BOTH, 1, BOTH_SAID, ""),
+    (Tool::Judge, REPORT, 1, "", NO_TITLE),
     (Tool::Show, SCHEDULE, 0, PICTURE, ""),
+    (Tool::Show, BOTH, 1, BOTH_PICTURE, ""),
     (Tool::Show, IDLE, 1, IDLE_PICTURE, ""),
     (Tool::Show, LEFT_OUT, 1, REFUSED_PICTURE, ""),
     (Tool::Show, TRACE, 1, "", NO_TITLE),
@@ -155,6 +162,7 @@ pub fn ran<R: Threads + Wait + Sync>(
     let status = match row.tool {
         Tool::Replay => tool_replay(alloc, from, to, also),
         Tool::Check => tool_check(alloc, from, to, also),
+        Tool::Judge => tool_judge(alloc, from, to, also),
         Tool::Show => tool_show(alloc, Form::Text(100), ALL, from, to, also),
         Tool::Svg => tool_show(alloc, Form::Svg, ALL, from, to, also),
         Tool::Trace => tool_trace(alloc, false, from, to, also),

@@ -92,12 +92,12 @@ struct DoubleRemove {
     }
 };
 
-// The thirtieth remove hangs, with the lock held, or crashes.
-template <class Last> struct Stops : MySet {
+// A remove, the thirtieth, hangs with the lock held, or crashes.
+template <class Last, int due = 30> struct Stops : MySet {
     int removes = 0;
     bool remove(unsigned key) {
         std::lock_guard held(lock);
-        if (++removes == 30) Last()();
+        if (++removes == due) Last()();
         return keys.erase(key);
     }
 };

@@ -1,6 +1,7 @@
 // The tests as a program of their own, which needs no library for tests:
-//     g++ -O2 -std=c++17 -pthread tests.cpp -o tests && ./tests         (./tests first: the first alone)
+//     g++ -O2 -std=c++17 -pthread tests.cpp -o tests && ./tests         (./tests first: the first alone; ./tests crash: a crash)
 #include "listset_judge.hpp"
+#include "lazy_list.hpp"
 #include "sets.hpp"
 #include <fstream>
 #include <iostream>
@@ -19,10 +20,62 @@ template <class S> listset::verdict is_right(const char *name, listset::options 
     return verdict;
 }
 
-template <class S> void is_refused(const char *name) {
-    auto verdict = listset::judge<S>();
+template <class S> void is_refused(const char *name, listset::options how = {}) {
+    auto verdict = listset::judge<S>(how);
     std::cout << name << ": " << verdict << "\n";
     expect(!verdict && verdict.said.rfind("not linearizable", 0) == 0 && verdict.recording.rfind("listset-calls 2", 0) == 0, name);
+}
+
+std::string text_of(const std::string &file) {
+    std::stringstream text;
+    text << std::ifstream(file).rdbuf();
+    return text.str();
+}
+
+// The keys of the lines of a recording that begin with this word.
+std::vector<std::string> keys_of(const std::string &recording, const std::string &word) {
+    std::vector<std::string> found;
+    std::stringstream text(recording);
+    for (std::string line; std::getline(text, line);)
+        if (line.rfind(word + " ", 0) == 0) found.push_back(line.substr(word.size() + 1));
+    return found;
+}
+
+std::vector<std::string> files_in(const std::string &folder) {
+    std::vector<std::string> found;
+    for (auto &it : std::filesystem::directory_iterator(folder)) found.push_back(it.path());
+    std::sort(found.begin(), found.end());
+    return found;
+}
+
+std::string folder_of(const char *name) { return std::filesystem::temp_directory_path() / name; }
+
+// A run in three parts, each of which opens with the keys that the one before left.
+void is_kept() {
+    listset::options how{8, 8000, 4, 0, 1, 1};
+    how.record = folder_of("recorded"), how.own_process = false;
+    is_right<MySet>("in four parts", how);
+    how.calls = 6000, how.own_process = true;
+    is_right<MySet>("in three parts", how);
+    auto files = files_in(how.record);
+    expect(files.size() == 3, "three parts");
+    std::vector<std::string> left;
+    for (auto &file : files) {
+        auto text = text_of(file);
+        expect(keys_of(text, "call").size() == (file == files.back() ? 8000 : 20000), "calls of a part");
+        expect(keys_of(text, "opening") == left, "a part opens with the keys that were left");
+        left = keys_of(text, "key");
+    }
+}
+
+// A run that ends with the part that failed.
+template <class S> void ends_in_part(size_t part, const char *how, bool own_process) {
+    listset::options options{8, 8000, 4, 0, 1, 1};
+    options.record = folder_of(own_process ? "crashed" : "refused"), options.own_process = own_process;
+    auto verdict = listset::judge<S>(options);
+    auto files = files_in(options.record);
+    expect(!verdict && verdict.said.rfind(how, 0) == 0, how);
+    expect(files.size() == part && files.back() == verdict.file && text_of(verdict.file) == verdict.recording, how);
 }
 
 int open_calls(const std::string &text) {
@@ -32,17 +85,17 @@ int open_calls(const std::string &text) {
 }
 
 // A run that comes to no end: how, what was under way, and what the judge says of the calls up to there.
-template <class S> void stops(const char *how, const char *judged, bool own_process = true) {
+template <class S> void stops(const char *how, const char *judged, bool own_process = true, unsigned keys = 4) {
     listset::options options;
+    options.keys = keys;
     options.seconds = std::string(how).find("hung") == std::string::npos ? 10 : 1, options.own_process = own_process;
     auto verdict = listset::judge<S>(options);
     std::cout << verdict << "\n";
-    std::stringstream text;
-    text << std::ifstream(verdict.file).rdbuf();
     expect(!verdict && verdict.said.rfind(how, 0) == 0 && verdict.said.find("\nunder way:\ncall ") != std::string::npos, how);
-    expect(verdict.said.find(judged) != std::string::npos && text.str() == verdict.recording, how);
-    // (what was under way stands there too, beside a remove of each key)
-    expect(open_calls(verdict.recording) > open_calls(verdict.said), how);
+    expect(verdict.said.find(judged) != std::string::npos && text_of(verdict.file) == verdict.recording, how);
+    // (what was under way stands there too)
+    expect(open_calls(verdict.recording) == open_calls(verdict.said), how);
+    expect(verdict.recording.size() > 4 && verdict.recording.substr(verdict.recording.size() - 5) == "\ncut\n", "it was cut off");
 }
 
 template <class S> void says(const char *words, listset::options how) {
@@ -61,28 +114,45 @@ void all() {
     expect(is_right<MySet>("past a quota", {1, 120000, 1, 0, 1, 1}).overlapped == 0, "calls in turn do not");
     auto of = [](unsigned seed) { return listset::judge<FindsAll>({1, 50, 4, 20, 1, seed}).recording; };
     expect(of(1) == of(1) && of(1) != of(2), "a seed gives the same calls again");
+    listset::options once{1, 50, 4, 20, 1, 1};
+    auto first = listset::judge<FindsAll>(once), second = listset::judge<FindsAll>(once);
+    expect(first.file != second.file && text_of(first.file) == first.recording, "each recording has its file");
     is_refused<CheckThenAct>("CheckThenAct");
     is_refused<LostLock>("LostLock");
     is_refused<DoubleRemove>("DoubleRemove");
+    is_right<LazyList<>>("LazyList", {32, 500, 64, 20, 3, 1});
+    is_refused<LazyList<Bug::NoLocks>>("without locks", {32, 500, 64});
+    is_refused<LazyList<Bug::NoValidation>>("without validation", {32, 500, 64});
+    is_refused<LazyList<Bug::NoMarks>>("without marks", {32, 500, 64});
+    is_refused<LazyList<Bug::UsedAgain>>("with nodes that are used again", {32, 500, 64});
     stops<Stops<Hangs>>("the set hung: no call began or ended for 1 s\n", "\nup to there: some order explains the calls");
     stops<FindsAllAndHangs>("the set hung: no call began or ended for 1 s\n", "\nup to there: not linearizable\n");
     stops<Stops<Crashes>>("the set crashed: Segmentation fault\n", "\nup to there: some order explains the calls");
+    stops<Stops<Crashes>>("the set crashed: Segmentation fault\n", "\nup to there: some order explains the calls", true, 64);
     stops<Stops<Exits>>("the set ended its process with the status 3\n", "\nup to there: some order explains the calls");
+    is_kept();
+    ends_in_part<Stops<Crashes, 10000>>(2, "the set crashed: Segmentation fault\nunder way:\ncall ", true);
+    ends_in_part<FindsAll>(1, "not linearizable\n", false);
     says<MySet>("threads is 65, and has to be 1 to 64", {65, 9, 4, 20, 1, 1});
     says<MySet>("threads times calls is 0, and has to be 1 to 1000000", {2, 0, 4, 20, 1, 1});
     says<MySet>("keys is 0, and has to be 1 to 1048576", {2, 9, 0, 20, 1, 1});
     says<MySet>("pauses is 101, and has to be 0 to 100", {2, 9, 4, 101, 1, 1});
     says<MySet>("runs is 0, and has to be 1 to 1000000", {2, 9, 4, 20, 0, 1});
     says<MySet>("seconds is 3601, and has to be 1 to 3600", {2, 9, 4, 20, 1, 1, 3601});
-    says<CannotBeMade>("the set could not be made: no room", {2, 9, 4, 20, 1, 1});
-    says<FailsToAdd>("a call of the set failed: no memory", {2, 9, 4, 20, 1, 1});
+    says<MySet>("threads times calls is 1000000002, and has to be 1 to 1000000000", {2, 500000001, 4, 20, 1, 1, 10, true, "."});
+    says<MySet>("record is /dev/null/x, which is no folder and cannot be made one: name another", {2, 9, 4, 20, 1, 1, 10, true, "/dev/null/x"});
+    says<CannotBeMade>("the set could not be made: std::runtime_error: no room", {2, 9, 4, 20, 1, 1});
+    for (bool own_process : {true, false})
+        stops<FailsToAdd>("a call of the set threw std::runtime_error: no memory\n", "\nup to there: some order explains the calls", own_process);
     // (last, since its threads stay)
     stops<Stops<Hangs>>("the set hung: no call began or ended for 1 s\n", "\nup to there: some order explains the calls", false);
 }
 
-int main(int words, char **) {
+int main(int words, char **word) {
     try {
-        words > 1 ? (void)is_right<MySet>("MySet") : all();
+        if (words == 1) all();
+        else if (word[1] == std::string("first")) is_right<MySet>("MySet");
+        else stops<Stops<Crashes>>("the set crashed: Segmentation fault\n", "\nup to there: some order explains the calls");
     } catch (const std::exception &why) {
         failed++, std::cout << "FAILED: " << why.what() << "\n";
     }

@@ -5,28 +5,26 @@
 // MySet has Add, Remove and Contains. Goroutines call fresh sets, and the begin and the end of each call are recorded. A judge says
 // whether any order of the calls explains their replies: liblistset, in a test with the tag `listset`, which needs cgo and pkg-config;
 // else the program that the environment variable LISTSET names, or `listset` of PATH. LISTSET may also name the page's listset.js,
-// which node runs. A set that hangs is judged up to there.
+// which node runs. On Unix Check has a process of its own for the set, which runs this test again up to Check: so a set that crashes or
+// hangs is judged up to there.
 package judge
 
 import (
 	"bytes"
 	"errors"
 	"fmt"
-	"math/rand"
 	"os"
 	"os/exec"
 	"path/filepath"
-	"runtime"
 	"sort"
 	"strings"
+	"sync"
 	"sync/atomic"
-	"time"
 )
 
 const (
 	quota   = 16384 // the most adds that answered true, of one thread number of a recording
 	numbers = 64    // of threads, of a recording
-	longest = 100   // looks at the counter, of a pause
 )
 
 // Set is what is called from many goroutines at once.
@@ -38,13 +36,15 @@ type Set interface {
 
 // Options says how a set is called. Judge checks it before the first set is made.
 type Options struct {
-	Threads int   // goroutines that call a set at once: 1 to 64
-	Calls   int   // of each goroutine: 1 or more, and 1,000,000 at most of all
-	Keys    int   // calls are on the keys below this: 1 to 1,048,576. On few keys more calls meet
-	Pauses  int   // before how many of 100 calls a goroutine pauses, for some microseconds at most: 0 to 100
-	Runs    int   // fresh sets that are called: 1 to 1,000,000
-	Seed    int64 // what calls, keys and pauses of the first run are drawn from; the next run has the next seed
-	Seconds int   // a run in which no call begins or ends for so long is ended: 1 to 3,600; 0 is 10
+	Threads   int    // goroutines that call a set at once: 1 to 64
+	Calls     int    // of each goroutine: 1 or more, and 1,000,000 at most of all, or with Record 1,000,000,000
+	Keys      int    // calls are on the keys below this: 1 to 1,048,576. On few keys more calls meet
+	Pauses    int    // before how many of 100 calls a goroutine pauses, for some microseconds at most: 0 to 100
+	Runs      int    // fresh sets that are called: 1 to 1,000,000
+	Seed      int64  // what calls, keys and pauses of the first run are drawn from; the next run has the next seed
+	Seconds   int    // a run in which no call begins or ends for so long is ended: 1 to 3,600; 0 is 10
+	InProcess bool   // Check calls the set in this process, which then crashes with it (for a debugger, or for coverage)
+	Record    string // a folder that keeps each run, in parts of 20,000 calls: after each, goroutines rest until it is judged
 }
 
 // Usual is 20 runs of 8 goroutines by 1,000 calls on 4 keys.
@@ -52,19 +52,23 @@ func Usual() Options {
 	return Options{Threads: 8, Calls: 1000, Keys: 4, Pauses: 20, Runs: 20, Seed: 1, Seconds: 10}
 }
 
-// Verdict is what is known if some order explains each run: the calls, those that overlapped an add or a remove of their key that
-// answered true, and which judge it was, with whether it says that it is proved. It prints itself.
+// Verdict is what is known if some order explains each run: the calls, those that overlapped a change of their key, by the judge, and
+// which judge it was, with whether it says that it is proved. It prints itself.
 type Verdict struct {
 	Calls, Overlapped int
 	Judge             string
 }
 
-func (it Verdict) String() string {
-	few := ""
-	if it.Overlapped*100 < it.Calls*5 {
-		few = "; that is few: take more threads, fewer keys or a machine that does less"
+// few is what to do if so few calls met that `ok` says little; else it is empty.
+func (it Verdict) few() string {
+	if it.Overlapped*100 >= it.Calls*5 {
+		return ""
 	}
-	return fmt.Sprintf("ok: %d calls, of which %d overlapped a change of their key%s; judge: %s", it.Calls, it.Overlapped, few, it.Judge)
+	return "; that is few: take more threads, fewer keys or a machine that does less"
+}
+
+func (it Verdict) String() string {
+	return fmt.Sprintf("ok: %d calls, of which %d overlapped a change of their key%s; judge: %s", it.Calls, it.Overlapped, it.few(), it.Judge)
 }
 
 // Failed is a run that failed: what the judge said of it, the recording that it judged, the file that has it, and which judge it was.
@@ -77,28 +81,75 @@ func (it *Failed) Error() string {
 	return fmt.Sprintf("seed %d: %s\nrecorded in %s; judge: %s", it.Seed, it.Said, it.File, it.Judge)
 }
 
-// NotLinearizable is the error if no order explains the run of a seed. NotEnded is the error if the set hung in it, which was judged up
-// to there. Any other error means that nothing is known of the set: an option is out of range, the set panicked, or there is no judge.
+// NotLinearizable is the error if no order explains the run of a seed. NotEnded is the error if the set crashed, hung or panicked in it,
+// which was judged up to there. Any other error means that nothing is known of the set: an option is out of range, no set could be made,
+// or there is no judge.
 type NotLinearizable struct{ Failed }
 
 type NotEnded struct{ Failed }
 
-// Check judges the sets that `make` makes, and fails a test with the first run that no order explains. It takes Usual or these options.
-func Check[S Set](t interface {
+// Test is what Check needs of a *testing.T.
+type Test interface {
 	Helper()
+	Name() string
+	Cleanup(func())
 	Log(...any)
 	Fatal(...any)
-}, make func() S, options ...Options) {
+}
+
+// Check judges the sets that `make` makes, and fails a test with the first run that no order explains, or in which the set crashes or
+// hangs. It takes Usual or these options. The set has a process of its own, which runs the test from its begin up to this Check; its
+// other Checks do nothing there.
+func Check[S Set](t Test, make func() S, options ...Options) {
 	t.Helper()
-	verdict, err := Judge(make, append(options, Usual())[0])
+	name := nameOf(t)
+	if mine, isChild := os.LookupEnv(checkName); isChild && mine != name {
+		return
+	}
+	how := append(options, Usual())[0]
+	verdict, err := judged(how, func(it *area) (caller, error) {
+		if how.InProcess {
+			return &here{it, func() Set { return make() }}, nil
+		}
+		return inChild(name, it, func() Set { return make() })
+	})
 	if err != nil {
 		t.Fatal(err)
+		return
 	}
 	t.Log(verdict)
 }
 
-// Judge judges the sets that `make` makes.
-func Judge[S Set](make func() S, how Options) (verdict Verdict, err error) {
+// checkName is the variable that tells a process of its own which Check it is for.
+const checkName = "LISTSET_CHECK"
+
+var (
+	checks = map[string]int{} // of each test that goes on
+	lock   sync.Mutex
+)
+
+// nameOf is the test's name and the number of its Check.
+func nameOf(t Test) string {
+	lock.Lock()
+	defer lock.Unlock()
+	name := t.Name()
+	if checks[name]++; checks[name] == 1 {
+		t.Cleanup(func() {
+			lock.Lock()
+			defer lock.Unlock()
+			delete(checks, name)
+		})
+	}
+	return fmt.Sprintf("%s#%d", name, checks[name])
+}
+
+// Judge judges the sets that `make` makes, in this process.
+func Judge[S Set](make func() S, how Options) (Verdict, error) {
+	return judged(how, func(it *area) (caller, error) { return &here{it, func() Set { return make() }}, nil })
+}
+
+// judged judges each run that a caller makes, up to the first that fails.
+func judged(how Options, callerOf func(*area) (caller, error)) (Verdict, error) {
 	if how.Seconds == 0 {
 		how.Seconds = Usual().Seconds
 	}
@@ -109,37 +160,66 @@ func Judge[S Set](make func() S, how Options) (verdict Verdict, err error) {
 	if err != nil {
 		return Verdict{}, err
 	}
-	for seed := how.Seed; seed < how.Seed+int64(how.Runs); seed++ {
-		run, err := recorded(func() Set { return make() }, how, seed)
-		if err != nil {
-			return Verdict{}, err
+	it, verdict := newArea(how), Verdict{Judge: by.String()}
+	of, err := callerOf(it)
+	if err != nil {
+		return Verdict{}, err
+	}
+	defer of.stop()
+	for seed := how.Seed; err == nil && seed < how.Seed+int64(how.Runs); seed++ {
+		err = it.judgeParts(seed, of, by, &verdict)
+	}
+	if err == nil && verdict.few() != "" {
+		fmt.Fprintln(os.Stderr, verdict) // (a test that passes may show no log)
+	}
+	return verdict, err
+}
+
+// judgeParts has a run made, and judges each part of it as it is made, up to the first that fails.
+func (it *area) judgeParts(seed int64, of caller, by *judgeFound, verdict *Verdict) error {
+	for part := 1; part <= it.parts; part++ {
+		if part > 1 {
+			it.goOn()
+		} else {
+			it.begin(seed, of)
 		}
-		if err := run.judged(by, seed); err != nil {
-			return Verdict{}, err
+		run, err := it.madePart(of)
+		if err != nil {
+			return err
+		}
+		overlapped, err := run.judged(by, it, part)
+		if err != nil {
+			return err
 		}
 		verdict.Calls += len(run.rows)
-		verdict.Overlapped += run.overlapped()
+		verdict.Overlapped += overlapped
 	}
-	verdict.Judge = by.String()
-	return verdict, nil
+	return nil
 }
 
 func (it Options) check() error {
+	mostCalls := 1000000
+	if it.Record != "" {
+		mostCalls = 1000000000
+	}
 	for _, option := range []struct {
 		name               string
 		given, least, most int
 	}{
-		{"Threads", it.Threads, 1, 64}, {"Calls", it.Calls, 1, 1000000}, {"Threads times Calls", it.Threads * it.Calls, 1, 1000000},
+		{"Threads", it.Threads, 1, 64}, {"Calls", it.Calls, 1, mostCalls}, {"Threads times Calls", it.Threads * it.Calls, 1, mostCalls},
 		{"Keys", it.Keys, 1, 1048576}, {"Pauses", it.Pauses, 0, 100}, {"Runs", it.Runs, 1, 1000000}, {"Seconds", it.Seconds, 1, 3600},
 	} {
 		if option.given < option.least || option.given > option.most {
 			return fmt.Errorf("%s is %d, and has to be %d to %d", option.name, option.given, option.least, option.most)
 		}
 	}
+	if it.Record != "" && os.MkdirAll(it.Record, 0o777) != nil {
+		return fmt.Errorf("Record is %s, which is no folder and cannot be made one: name another", it.Record)
+	}
 	return nil
 }
 
-// ---- a run, written down as it goes
+// ---- a run, as it is judged
 
 type row struct {
 	thread     int
@@ -149,8 +229,6 @@ type row struct {
 	reply      bool
 }
 
-func (it *row) isChange() bool { return it.reply && it.call != "contains" }
-
 func (it *row) line(number int) string {
 	if it.end == 0 {
 		return fmt.Sprintf("call %d %s %d %d - - -\n", number, it.call, it.key, it.begin)
@@ -158,166 +236,30 @@ func (it *row) line(number int) string {
 	return fmt.Sprintf("call %d %s %d %d - %d %t\n", number, it.call, it.key, it.begin, it.end, it.reply)
 }
 
-// area is what the goroutines of a run write: the calls, those of each goroutine in turn.
-type area struct {
-	Options
-	seed                  int64
-	rows                  []row
-	tickets, looks, there uint32
-	opening, left         atomic.Value // of []uint32
-	failed                chan error   // has room for one, the first
-}
-
-// fail makes an error of a panic.
-func (it *area) fail(words string) {
-	if why := recover(); why != nil {
-		select {
-		case it.failed <- fmt.Errorf("%s: %v", words, why):
-		default:
-		}
-	}
-}
-
-// recorded makes a set and has it called, until all calls have ended or none goes on. Goroutines that hang stay.
-func recorded(make func() Set, how Options, seed int64) (run, error) {
-	it := newArea(how, seed)
-	ended := it.start(func() { it.callAll(make) })
-	trouble := ""
-	if !it.comesToEnd(ended) {
-		trouble = fmt.Sprintf("the set hung: no call began or ended for %d s", how.Seconds)
-	}
-	select {
-	case err := <-it.failed:
-		return run{}, err
-	default:
-		return it.run(trouble), nil
-	}
-}
-
-func newArea(how Options, seed int64) *area {
-	it := &area{Options: how, seed: seed, rows: make([]row, how.Threads*how.Calls), failed: make(chan error, 1)}
-	it.opening.Store([]uint32{})
-	it.left.Store([]uint32{})
-	return it
-}
-
-func (it *area) start(does func()) chan bool {
-	ended := make(chan bool)
-	go func() {
-		defer close(ended)
-		does()
-	}()
-	return ended
-}
-
-func (it *area) comesToEnd(ended chan bool) bool {
-	since, seen := time.Now(), uint32(0)
-	for time.Since(since) < time.Duration(it.Seconds)*time.Second {
-		select {
-		case <-ended:
-			return true
-		case <-time.After(time.Millisecond):
-		}
-		if now := atomic.LoadUint32(&it.tickets) + atomic.LoadUint32(&it.looks); now != seen {
-			since, seen = time.Now(), now
-		}
-	}
-	return false
-}
-
-func (it *area) callAll(make func() Set) {
-	if set := it.made(make); set != nil {
-		it.opening.Store(it.keysOf(set))
-		var ended []chan bool
-		for thread := 0; thread < it.Threads && len(it.failed) == 0; thread++ {
-			mine := it.rows[thread*it.Calls : (thread+1)*it.Calls]
-			draw := rand.New(rand.NewSource(it.seed*64 + int64(thread)))
-			ended = append(ended, it.start(func() { it.call(set, mine, draw) }))
-		}
-		for _, one := range ended {
-			<-one
-		}
-		it.left.Store(it.keysOf(set))
-	}
-}
-
-func (it *area) made(make func() Set) Set {
-	defer it.fail("the set could not be made")
-	return make()
-}
-
-func (it *area) keysOf(set Set) (found []uint32) {
-	defer it.fail("a call of the set failed")
-	for key := uint32(0); key < uint32(it.Keys) && len(it.failed) == 0; key++ {
-		if set.Contains(key) {
-			found = append(found, key)
-		}
-		atomic.AddUint32(&it.looks, 1)
-	}
-	return found
-}
-
-// call makes the calls of one goroutine.
-func (it *area) call(set Set, mine []row, draw *rand.Rand) {
-	defer it.fail("a call of the set failed")
-	it.waitForAll()
-	for i := range mine {
-		row := &mine[i]
-		row.call, row.key = []string{"add", "remove", "contains"}[draw.Intn(3)], uint32(draw.Intn(it.Keys))
-		if draw.Intn(100) < it.Pauses {
-			it.pause(draw.Intn(longest))
-		}
-		atomic.StoreUint32(&row.begin, atomic.AddUint32(&it.tickets, 1))
-		switch row.call {
-		case "add":
-			row.reply = set.Add(row.key)
-		case "remove":
-			row.reply = set.Remove(row.key)
-		default:
-			row.reply = set.Contains(row.key)
-		}
-		atomic.StoreUint32(&row.end, atomic.AddUint32(&it.tickets, 1))
-	}
-}
-
-// waitForAll waits until all goroutines are there.
-func (it *area) waitForAll() {
-	atomic.AddUint32(&it.there, 1)
-	for atomic.LoadUint32(&it.there) < uint32(it.Threads) {
-		runtime.Gosched()
-	}
-}
-
-func (it *area) pause(looks int) {
-	for ; looks > 0; looks-- {
-		atomic.LoadUint32(&it.tickets)
-	}
-}
-
-// ---- a run, as it is judged
-
-// run is the calls of one set by their begins, those that did not end, and the keys before and after; of a set that hung the last are
-// not known.
+// run is the calls of one set by their begins, those that did not end, and the keys before and after; of a run in parts those of a
+// part. Of a set that crashed or hung the last are not known.
 type run struct {
-	opening       []uint32
+	opening       []int
 	rows, pending []row
-	left          []uint32
+	left          []int
 	trouble       string
 }
 
 func (it *area) run(trouble string) run {
-	made := run{opening: it.opening.Load().([]uint32), left: it.left.Load().([]uint32), trouble: trouble}
-	for i := range it.rows {
-		at := &it.rows[i]
-		row := row{thread: i / it.Calls, end: atomic.LoadUint32(&at.end), begin: atomic.LoadUint32(&at.begin)}
-		if row.begin > 0 {
-			row.call, row.key = at.call, at.key
+	made := run{opening: keysIn(it.opening), left: keysIn(it.left), trouble: trouble}
+	before := atomic.LoadUint32(&it.before) // (calls that began by then are of parts before)
+	for i := range it.slots {
+		at := &it.slots[i]
+		row := row{thread: i / it.rows, end: atomic.LoadUint32(&at.end), begin: atomic.LoadUint32(&at.begin)}
+		if row.begin <= before {
+			continue
 		}
-		switch {
-		case row.end > 0:
-			row.reply = at.reply
+		row.call, row.key = words[at.call], at.key
+		if row.end > row.begin {
+			row.reply = at.reply == 1
 			made.rows = append(made.rows, row)
-		case row.begin > 0:
+		} else {
+			row.end = 0 // (it is that of a part before)
 			made.pending = append(made.pending, row)
 		}
 	}
@@ -325,18 +267,26 @@ func (it *area) run(trouble string) run {
 	return made
 }
 
-func (it *run) judged(by *judgeFound, seed int64) error {
-	recording, err := it.text()
+// judged is how many calls overlapped a change of their key, by the judge; or the error says what is wrong, with this part of a run.
+func (it *run) judged(by *judgeFound, of *area, part int) (int, error) {
+	recording := it.text()
+	file, err := of.keep(part, recording)
 	if err != nil {
-		return err
+		return 0, err
 	}
-	said, err := by.refused(recording)
+	overlapped, said, err := by.judged(recording)
+	if err != nil && it.trouble != "" {
+		said, err = err.Error(), nil // (an older judge knows no `cut`)
+	}
 	if err != nil || said == "" && it.trouble == "" {
-		return err
+		return overlapped, err
 	}
-	failed := Failed{seed, said, recording, kept(recording, seed), by.String()}
+	if file == "" {
+		file = kept(recording, of.seed)
+	}
+	failed := Failed{of.seed, said, recording, file, by.String()}
 	if it.trouble == "" {
-		return &NotLinearizable{failed}
+		return 0, &NotLinearizable{failed}
 	}
 	underWay := ""
 	for _, row := range it.pending {
@@ -346,52 +296,47 @@ func (it *run) judged(by *judgeFound, seed int64) error {
 		said = "some order explains the calls"
 	}
 	failed.Said = fmt.Sprintf("%s\nunder way:\n%sup to there: %s", it.trouble, underWay, said)
-	return &NotEnded{failed}
+	return 0, &NotEnded{failed}
+}
+
+// keep is the file that keeps a part of a run, in the folder Record; none without it. Parts of an earlier run go at the first.
+func (it *area) keep(part int, recording string) (string, error) {
+	if it.Record == "" {
+		return "", nil
+	}
+	file := func(part int) string {
+		return filepath.Join(it.Record, fmt.Sprintf("seed-%d-part-%06d.calls", it.seed, part))
+	}
+	for old := 1; part == 1 && os.Remove(file(old)) == nil; old++ {
+	}
+	if os.WriteFile(file(part), []byte(recording), 0o666) != nil {
+		return "", fmt.Errorf("Record is %s, where no file can be written: name another folder", it.Record)
+	}
+	return file(part), nil
 }
 
 // kept is the file of a recording that failed, which the caller may hand on.
 func kept(recording string, seed int64) string {
-	path := filepath.Join(os.TempDir(), fmt.Sprintf("listset-%d-%d.calls", os.Getpid(), seed))
-	if os.WriteFile(path, []byte(recording), 0o644) != nil {
+	file, err := os.CreateTemp("", fmt.Sprintf("listset-seed-%d-*.calls", seed))
+	if err == nil {
+		file.Close()
+		err = os.WriteFile(file.Name(), []byte(recording), 0o666)
+	}
+	if err != nil {
 		return "no file, as none could be written"
 	}
-	return path
+	return file.Name()
 }
-
-// overlapped is how many calls overlapped a change of their key.
-func (it *run) overlapped() (count int) {
-	openOf := map[uint32][]int{} // of each key the calls that have begun, while they may be open
-	isMet := make([]bool, len(it.rows))
-	for i, call := range it.rows {
-		open := []int{i}
-		for _, other := range openOf[call.key] {
-			if it.rows[other].end > call.begin {
-				open = append(open, other)
-				isMet[i] = isMet[i] || it.rows[other].isChange()
-				isMet[other] = isMet[other] || call.isChange()
-			}
-		}
-		openOf[call.key] = open
-	}
-	for _, met := range isMet {
-		if met {
-			count++
-		}
-	}
-	return count
-}
-
-func (it *run) all() []row { return append(append([]row{}, it.rows...), it.pending...) }
 
 // text is the recording that `listset judge` reads. A goroutine whose quota is used goes on under another number.
-func (it *run) text() (string, error) {
+func (it *run) text() string {
 	var text strings.Builder
 	fmt.Fprintf(&text, "listset-calls 2\nlist lazy\nthreads %d\nquota %d\n", numbers, quota)
 	for _, key := range it.opening {
 		fmt.Fprintf(&text, "opening %d\n", key)
 	}
 	next, number, left := 0, map[int]int{}, map[int]int{}
-	for _, call := range it.all() {
+	for _, call := range append(append([]row{}, it.rows...), it.pending...) {
 		if left[call.thread] == 0 {
 			number[call.thread], left[call.thread] = next, quota
 			next++
@@ -402,39 +347,12 @@ func (it *run) text() (string, error) {
 		text.WriteString(call.line(number[call.thread]))
 	}
 	if it.trouble != "" {
-		removes, err := it.removesOfUnknown(next)
-		return text.String() + removes + "end\n", err
+		return text.String() + "cut\n"
 	}
 	for _, key := range it.left {
 		fmt.Fprintf(&text, "key %d\n", key)
 	}
-	return text.String() + "end\n", nil
-}
-
-// removesOfUnknown has of each key that has calls or was there a remove that did not end, and so may have taken effect: so the key may
-// be left or not.
-func (it *run) removesOfUnknown(first int) (text string, err error) {
-	isThere, last := map[uint32]bool{}, uint32(0)
-	for _, key := range it.opening {
-		isThere[key] = true
-	}
-	for _, row := range it.all() {
-		isThere[row.key] = true
-		for _, moment := range []uint32{row.begin, row.end} {
-			if moment > last {
-				last = moment
-			}
-		}
-	}
-	if first+len(isThere) > numbers {
-		return "", fmt.Errorf("%s; what came before is judged only of %d keys and threads at most", it.trouble, numbers)
-	}
-	for key := range isThere {
-		last++
-		text += (&row{call: "remove", key: key, begin: last}).line(first)
-		first++
-	}
-	return text, nil
+	return text.String() + "end\n"
 }
 
 // ---- the judge
@@ -502,16 +420,18 @@ func ran(command []string, input string, words ...string) (int, string) {
 	return made.ProcessState.ExitCode(), said
 }
 
-// refused is what the judge says of a recording that no order explains, or nothing if one does.
-func (it *judgeFound) refused(recording string) (string, error) {
+// judged is how many calls of a recording overlapped a change of their key, and what the judge says if no order explains it.
+func (it *judgeFound) judged(recording string) (overlapped int, refused string, err error) {
 	status, said := it.ask(recording)
-	switch {
-	case status == 0 && strings.HasPrefix(said, "ok "):
-		return "", nil
-	case status == 1 && strings.HasPrefix(said, "not linearizable"):
-		return said, nil
-	case said == "":
-		said = "nothing"
+	if _, err := fmt.Sscanf(said, "ok %d calls\n%d of them", new(int), &overlapped); status == 0 && err == nil {
+		return overlapped, "", nil
 	}
-	return "", fmt.Errorf("%s gave no verdict, but said: %s. Take a listset that has the word judge", it.name, strings.SplitN(said, "\n", 2)[0])
+	if status == 1 && strings.HasPrefix(said, "not linearizable") {
+		return 0, said, nil
+	}
+	first := strings.SplitN(said, "\n", 2)[0]
+	if first == "" {
+		first = "nothing"
+	}
+	return 0, "", fmt.Errorf("%s gave no verdict, but said: %s. Take a newer listset", it.name, first)
 }

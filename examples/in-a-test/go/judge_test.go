@@ -3,6 +3,8 @@ package judge
 import (
 	"errors"
 	"os"
+	"path/filepath"
+	"reflect"
 	"runtime"
 	"strings"
 	"sync"
@@ -76,7 +78,7 @@ func (FindsAll) Contains(uint32) bool { return true }
 
 func TestASeedGivesTheSameCallsAgain(t *testing.T) {
 	of := func(seed int64) (found *NotLinearizable) {
-		_, err := Judge(func() FindsAll { return FindsAll{NewMySet()} }, Options{1, 50, 4, 20, 1, seed, 10})
+		_, err := Judge(func() FindsAll { return FindsAll{NewMySet()} }, Options{Threads: 1, Calls: 50, Keys: 4, Pauses: 20, Runs: 1, Seed: seed})
 		if !errors.As(err, &found) {
 			t.Fatal(err)
 		}
@@ -171,56 +173,210 @@ func TestDoubleRemoveIsRefused(t *testing.T) {
 	isRefused(t, func() *DoubleRemove { return &DoubleRemove{} })
 }
 
-// Hangs has a thirtieth remove that does not come back, with the lock held.
-type Hangs struct {
+// Stops has a remove, the thirtieth if not said, that does not come back, with the lock held.
+type Stops struct {
 	*MySet
-	removes int
+	last         func()
+	due, removes int
 }
 
-func (it *Hangs) Remove(key uint32) bool {
+func stops(last func()) func() *Stops {
+	return func() *Stops { return &Stops{MySet: NewMySet(), last: last, due: 30} }
+}
+
+func (it *Stops) Remove(key uint32) bool {
 	it.lock.Lock()
 	defer it.lock.Unlock()
-	if it.removes++; it.removes == 30 {
-		select {}
+	if it.removes++; it.removes == it.due {
+		it.last()
 	}
 	was := it.keys[key]
 	delete(it.keys, key)
 	return was
 }
 
-type FindsAllAndHangs struct{ *Hangs }
+type FindsAllAndStops struct{ *Stops }
 
-func (FindsAllAndHangs) Contains(uint32) bool { return true }
+func (FindsAllAndStops) Contains(uint32) bool { return true }
 
-func hangs[S Set](t *testing.T, make func() S, judged string) {
-	var hung *NotEnded
+// failing is a test that may fail.
+type failing struct {
+	*testing.T
+	why error
+}
+
+func (it *failing) Fatal(why ...any) { it.why = why[0].(error) }
+
+// failed is why a Check fails.
+func failed[S Set](t *testing.T, make func() S, how Options) error {
+	it := &failing{T: t}
+	Check(it, make, how)
+	return it.why
+}
+
+func ofSeconds(seconds int) Options {
 	how := Usual()
-	how.Seconds = 1
-	if _, err := Judge(make, how); !errors.As(err, &hung) {
+	how.Seconds = seconds
+	return how
+}
+
+func stopped(t *testing.T, err error, how, judged string) {
+	var found *NotEnded
+	if !errors.As(err, &found) {
 		t.Fatal(err)
 	}
-	text, err := os.ReadFile(hung.File)
-	if !strings.HasPrefix(hung.Said, "the set hung: no call began or ended for 1 s\nunder way:\ncall ") || string(text) != hung.Recording {
-		t.Fatal(hung, err)
+	text, err := os.ReadFile(found.File)
+	if !strings.HasPrefix(found.Said, how) || !strings.Contains(found.Said, "\nunder way:\ncall ") || string(text) != found.Recording {
+		t.Fatal(found, err)
 	}
-	// (what was under way stands there too, beside a remove of each key)
-	if strings.Count(hung.Recording, " - - -\n") <= strings.Count(hung.Said, " - - -\n") {
-		t.Fatal(hung.Recording)
+	// (what was under way stands there too)
+	if strings.Count(found.Recording, " - - -\n") != strings.Count(found.Said, " - - -\n") || !strings.HasSuffix(found.Recording, "\ncut\n") {
+		t.Fatal(found.Recording)
 	}
-	if !strings.Contains(hung.Said, "\nup to there: "+judged) {
-		t.Fatal(hung)
+	if !strings.Contains(found.Said, "\nup to there: "+judged) {
+		t.Fatal(found)
 	}
 }
 
+const hung = "the set hung: no call began or ended for 1 s\n"
+
 func TestWhatHangsIsJudgedUpToThere(t *testing.T) {
-	hangs(t, func() *Hangs { return &Hangs{MySet: NewMySet()} }, "some order explains the calls")
-	hangs(t, func() FindsAllAndHangs { return FindsAllAndHangs{&Hangs{MySet: NewMySet()}} }, "not linearizable\n")
+	hangs := stops(func() { select {} })
+	_, err := Judge(hangs, ofSeconds(1))
+	stopped(t, err, hung, "some order explains the calls")
+	_, err = Judge(func() FindsAllAndStops { return FindsAllAndStops{hangs()} }, ofSeconds(1))
+	stopped(t, err, hung, "not linearizable\n")
+	stopped(t, failed(t, hangs, ofSeconds(1)), hung, "some order explains the calls")
+}
+
+func TestWhatCrashesIsJudgedUpToThere(t *testing.T) {
+	exits := stops(func() { os.Exit(3) })
+	t.Run("exits", func(t *testing.T) {
+		stopped(t, failed(t, exits, Usual()), "the set ended its process with the status 3\n", "some order explains the calls")
+	})
+	t.Run("finds all", func(t *testing.T) {
+		findsAll := func() FindsAllAndStops { return FindsAllAndStops{exits()} }
+		stopped(t, failed(t, findsAll, Usual()), "the set ended its process with the status 3\n", "not linearizable\n")
+	})
+	t.Run("panics", func(t *testing.T) {
+		panics := stops(func() { go panic("no more"); select {} })
+		stopped(t, failed(t, panics, Usual()), "the set crashed: panic: no more\n", "some order explains the calls")
+	})
+	t.Run("unlocks", func(t *testing.T) {
+		unlocks := stops(func() { new(sync.Mutex).Unlock() })
+		stopped(t, failed(t, unlocks, Usual()), "the set crashed: fatal error: sync: unlock of unlocked mutex\n", "some order explains the calls")
+	})
+}
+
+func filesIn(t *testing.T, folder string) []string {
+	found, err := filepath.Glob(filepath.Join(folder, "*"))
+	if err != nil {
+		t.Fatal(err)
+	}
+	return found
+}
+
+// keysOf gives the keys of the lines of a recording that begin with a word.
+func keysOf(recording, word string) (found []string) {
+	for _, line := range strings.Split(recording, "\n") {
+		if strings.HasPrefix(line, word+" ") {
+			found = append(found, line[len(word)+1:])
+		}
+	}
+	return found
+}
+
+func TestALongRunIsKeptInParts(t *testing.T) {
+	how := Options{Threads: 8, Calls: 8000, Keys: 4, Runs: 1, Seed: 1, Record: filepath.Join(os.TempDir(), "recorded")}
+	isRight(t, NewMySet, how)
+	how.Calls = 6000
+	Check(t, NewMySet, how)
+	var calls []int
+	var left []string
+	for i, file := range filesIn(t, how.Record) {
+		text, err := os.ReadFile(file)
+		if opening := keysOf(string(text), "opening"); err != nil || !reflect.DeepEqual(opening, left) {
+			t.Fatal("part", i, "opens with", opening, "and not with", left, err)
+		}
+		left, calls = keysOf(string(text), "key"), append(calls, len(keysOf(string(text), "call")))
+	}
+	if !reflect.DeepEqual(calls, []int{20000, 20000, 8000}) {
+		t.Fatal(calls)
+	}
+}
+
+// endsIn has a run fail in a part, whose file the failure names.
+func endsIn(t *testing.T, it Failed, how Options, said string, parts int) {
+	files := filesIn(t, how.Record)
+	if !strings.HasPrefix(it.Said, said) || len(files) != parts || files[parts-1] != it.File {
+		t.Fatal(it.Said, it.File, files)
+	}
+	if text, err := os.ReadFile(it.File); err != nil || string(text) != it.Recording {
+		t.Fatal(it.File, err)
+	}
+}
+
+func TestALongRunEndsWithThePartThatFailed(t *testing.T) {
+	var crashed *NotEnded
+	var refused *NotLinearizable
+	how := Options{Threads: 8, Calls: 8000, Keys: 4, Runs: 1, Seed: 1, Record: filepath.Join(os.TempDir(), "crashed")}
+	exits := func() *Stops { return &Stops{MySet: NewMySet(), last: func() { os.Exit(3) }, due: 10000} }
+	if err := failed(t, exits, how); !errors.As(err, &crashed) {
+		t.Fatal(err)
+	}
+	endsIn(t, crashed.Failed, how, "the set ended its process with the status 3\nunder way:\ncall ", 2)
+	how.Record = filepath.Join(os.TempDir(), "refused")
+	if _, err := Judge(func() FindsAll { return FindsAll{NewMySet()} }, how); !errors.As(err, &refused) {
+		t.Fatal(err)
+	}
+	endsIn(t, refused.Failed, how, "not linearizable\n", 1)
+}
+
+func TestACheckThatIsNotComeToAgain(t *testing.T) {
+	if os.Getenv(checkName) != "" {
+		t.Skip("in a process of its own")
+	}
+	err := failed(t, NewMySet, Usual())
+	if err == nil || err.Error() != t.Name()+" did not come to this Check again in a process of its own: set InProcess" {
+		t.Fatal(err)
+	}
+	how := Usual()
+	how.InProcess = true
+	Check(t, NewMySet, how)
 }
 
 // FailsToAdd panics.
 type FailsToAdd struct{ *MySet }
 
 func (FailsToAdd) Add(uint32) bool { panic("no memory") }
+
+func TestACallThatPanicsIsJudgedUpToThere(t *testing.T) {
+	fails := func() FailsToAdd { return FailsToAdd{NewMySet()} }
+	_, err := Judge(fails, Usual())
+	stopped(t, err, "a call of the set panicked: no memory\n", "some order explains the calls")
+	stopped(t, failed(t, fails, Usual()), "a call of the set panicked: no memory\n", "some order explains the calls")
+}
+
+func TestACrashIsJudgedWhateverTheKeys(t *testing.T) {
+	how := Usual()
+	how.Keys = 64
+	exits := stops(func() { os.Exit(3) })
+	stopped(t, failed(t, exits, how), "the set ended its process with the status 3\n", "some order explains the calls")
+}
+
+func TestEachRecordingHasItsFile(t *testing.T) {
+	file := func() string {
+		var found *NotLinearizable
+		_, err := Judge(func() FindsAll { return FindsAll{NewMySet()} }, Options{Threads: 1, Calls: 50, Keys: 4, Runs: 1, Seed: 1})
+		if !errors.As(err, &found) {
+			t.Fatal(err)
+		}
+		return found.File
+	}
+	if file() == file() {
+		t.Fatal("one file of two recordings")
+	}
+}
 
 func TestWhatGivesNoVerdictIsOneSentence(t *testing.T) {
 	says := func(words string, err error) {
@@ -230,15 +386,20 @@ func TestWhatGivesNoVerdictIsOneSentence(t *testing.T) {
 	}
 	of := func(how Options) error { _, err := Judge(NewMySet, how); return err }
 	few := Options{Threads: 2, Calls: 9, Keys: 4, Runs: 1}
-	says("Threads is 65, and has to be 1 to 64", of(Options{65, 9, 4, 20, 1, 1, 10}))
-	says("Calls is 0, and has to be 1 to 1000000", of(Options{2, 0, 4, 20, 1, 1, 10}))
-	says("Threads times Calls is 1000002, and has to be 1 to 1000000", of(Options{2, 500001, 4, 20, 1, 1, 10}))
-	says("Keys is 0, and has to be 1 to 1048576", of(Options{2, 9, 0, 20, 1, 1, 10}))
-	says("Pauses is 101, and has to be 0 to 100", of(Options{2, 9, 4, 101, 1, 1, 10}))
-	says("Runs is 0, and has to be 1 to 1000000", of(Options{2, 9, 4, 20, 0, 1, 10}))
-	says("Seconds is 3601, and has to be 1 to 3600", of(Options{2, 9, 4, 20, 1, 1, 3601}))
+	with := func(change func(*Options)) error { how := few; change(&how); return of(how) }
+	says("Threads is 65, and has to be 1 to 64", with(func(it *Options) { it.Threads = 65 }))
+	says("Calls is 0, and has to be 1 to 1000000", with(func(it *Options) { it.Calls = 0 }))
+	says("Threads times Calls is 1000002, and has to be 1 to 1000000", with(func(it *Options) { it.Calls = 500001 }))
+	says("Keys is 0, and has to be 1 to 1048576", with(func(it *Options) { it.Keys = 0 }))
+	says("Pauses is 101, and has to be 0 to 100", with(func(it *Options) { it.Pauses = 101 }))
+	says("Runs is 0, and has to be 1 to 1000000", with(func(it *Options) { it.Runs = 0 }))
+	says("Seconds is 3601, and has to be 1 to 3600", with(func(it *Options) { it.Seconds = 3601 }))
+	says("Threads times Calls is 1000000002, and has to be 1 to 1000000000",
+		with(func(it *Options) { it.Calls, it.Record = 500000001, "." }))
+	says("Record is /dev/null/x, which is no folder and cannot be made one: name another",
+		with(func(it *Options) { it.Record = "/dev/null/x" }))
 	_, err := Judge(func() *MySet { panic("no room") }, few)
 	says("the set could not be made: no room", err)
-	_, err = Judge(func() FailsToAdd { return FailsToAdd{NewMySet()} }, few)
-	says("a call of the set failed: no memory", err)
+	_, err = Judge(func() Set { return nil }, few)
+	says("the set could not be made: it is nil", err)
 }

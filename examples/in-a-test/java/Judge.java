@@ -1,19 +1,30 @@
+import java.io.ByteArrayOutputStream;
+import java.io.File;
 import java.io.IOException;
+import java.io.ObjectInputStream;
+import java.io.ObjectOutputStream;
+import java.io.Serializable;
+import java.lang.invoke.MethodHandles;
+import java.lang.invoke.VarHandle;
+import java.net.URISyntaxException;
+import java.nio.ByteBuffer;
+import java.nio.ByteOrder;
+import java.nio.channels.FileChannel;
+import java.nio.charset.StandardCharsets;
 import java.nio.file.Files;
 import java.nio.file.Path;
+import java.nio.file.StandardOpenOption;
 import java.util.ArrayList;
 import java.util.Comparator;
-import java.util.HashMap;
 import java.util.List;
-import java.util.Map;
 import java.util.Set;
 import java.util.SplittableRandom;
-import java.util.TreeSet;
-import java.util.concurrent.atomic.AtomicInteger;
-import java.util.concurrent.atomic.AtomicIntegerArray;
-import java.util.concurrent.atomic.AtomicReference;
+import java.util.concurrent.locks.LockSupport;
 import java.util.function.BiPredicate;
+import java.util.function.BooleanSupplier;
 import java.util.function.Supplier;
+import java.util.regex.Matcher;
+import java.util.regex.Pattern;
 
 /**
  * Whether runs of a concurrent set of your own are linearizable, in one line of a test (Java 16):
@@ -23,12 +34,14 @@ import java.util.function.Supplier;
  * MySet is a {@code Set<Integer>}; any other set is called by three method references. Threads call fresh sets, and the begin and the
  * end of each call are recorded. {@code listset judge FILE} says whether any order of the calls explains their replies: the environment
  * variable LISTSET names this program, else it is {@code listset} of PATH. LISTSET may also name the page's listset.js, which node
- * runs. A set that hangs is judged up to there.
+ * runs. The sets have a JVM of their own, if the method references can be passed on to one and a set be made there: so a set that ends
+ * its JVM is judged up to there, as one that hangs.
  */
 public final class Judge {
     private static final int QUOTA = 16_384; // the most adds that answered true, of one thread number of a recording
     private static final int NUMBERS = 64; // of threads, of a recording
     private static final int LONGEST = 100; // looks at the counter, of a pause
+    private static final int PART = 20_000; // calls of all threads from one rest to the next, of a run that is kept
 
     private Judge() { }
 
@@ -36,31 +49,57 @@ public final class Judge {
      * How a set is called.
      *
      * @param threads that call a set at once: 1 to 64
-     * @param calls of each thread: 1 or more, and 1,000,000 at most of all threads
+     * @param calls of each thread: 1 or more, and 1,000,000 at most of all threads, or with {@code record} 1,000,000,000
      * @param keys calls are on the keys below this: 1 to 1,048,576. On few keys more calls meet
      * @param pauses before how many of 100 calls a thread pauses, for some microseconds at most: 0 to 100
      * @param runs fresh sets that are called: 1 to 1,000,000
      * @param seed what calls, keys and pauses of the first run are drawn from; the next run has the next seed
      * @param seconds a run in which no call begins or ends for so long is ended: 1 to 3,600
+     * @param ownProcess false: in this JVM, which then ends with the set (for a debugger, or for coverage)
+     * @param record a folder that keeps each run, in parts of 20,000 calls: after each, threads rest until it is judged; null is none
      */
-    public record Options(int threads, int calls, int keys, int pauses, int runs, long seed, int seconds) {
-        public Options() { this(8, 1000, 4, 20, 20, 1, 10); }
+    public record Options(int threads, int calls, int keys, int pauses, int runs, long seed, int seconds, boolean ownProcess, String record)
+            implements Serializable {
+        public Options() { this(8, 1000, 4, 20, 20, 1, 10, true, null); }
 
-        public Options ofSize(int threads, int calls, int keys) { return new Options(threads, calls, keys, pauses, runs, seed, seconds); }
+        public Options ofSize(int threads, int calls, int keys) {
+            return new Options(threads, calls, keys, pauses, runs, seed, seconds, ownProcess, record);
+        }
 
-        public Options ofRuns(int runs, long seed) { return new Options(threads, calls, keys, pauses, runs, seed, seconds); }
+        public Options ofRuns(int runs, long seed) {
+            return new Options(threads, calls, keys, pauses, runs, seed, seconds, ownProcess, record);
+        }
 
-        public Options ofPauses(int pauses) { return new Options(threads, calls, keys, pauses, runs, seed, seconds); }
+        public Options ofPauses(int pauses) {
+            return new Options(threads, calls, keys, pauses, runs, seed, seconds, ownProcess, record);
+        }
 
-        public Options ofSeconds(int seconds) { return new Options(threads, calls, keys, pauses, runs, seed, seconds); }
+        public Options ofSeconds(int seconds) {
+            return new Options(threads, calls, keys, pauses, runs, seed, seconds, ownProcess, record);
+        }
+
+        public Options ofOwnProcess(boolean ownProcess) {
+            return new Options(threads, calls, keys, pauses, runs, seed, seconds, ownProcess, record);
+        }
+
+        public Options ofRecord(String record) {
+            return new Options(threads, calls, keys, pauses, runs, seed, seconds, ownProcess, record);
+        }
+
+        private int rows() { return record == null ? calls : Math.min(calls, PART / threads); }
 
         private void check() {
             check("threads", threads, 1, 64);
-            check("threads times calls", (long) threads * calls, 1, 1_000_000);
+            check("threads times calls", (long) threads * calls, 1, record == null ? 1_000_000 : 1_000_000_000);
             check("keys", keys, 1, 1_048_576);
             check("pauses", pauses, 0, 100);
             check("runs", runs, 1, 1_000_000);
             check("seconds", seconds, 1, 3600);
+            try {
+                if (record != null) Files.createDirectories(Path.of(record));
+            } catch (IOException none) {
+                throw new NoVerdict("record is " + record + ", which is no folder and cannot be made one: name another");
+            }
         }
 
         private static void check(String name, long given, long least, long most) {
@@ -69,12 +108,15 @@ public final class Judge {
     }
 
     /**
-     * What is known if some order explains each run: the calls, those that overlapped a change of their key, and which judge it was, with
-     * whether it says that it is proved. It prints itself.
+     * What is known if some order explains each run: the calls, those that overlapped a change of their key, by the judge, and which judge
+     * it was, with whether it says that it is proved. It prints itself.
      */
     public record Verdict(long calls, long overlapped, String judge) {
+        /** Whether so few calls met that {@code ok} says little. */
+        private boolean isFew() { return overlapped * 100 < calls * 5; }
+
         @Override public String toString() {
-            String few = overlapped * 100 < calls * 5 ? "; that is few: take more threads, fewer keys or a machine that does less" : "";
+            String few = isFew() ? "; that is few: take more threads, fewer keys or a machine that does less" : "";
             return "ok: " + calls + " calls, of which " + overlapped + " overlapped a change of their key" + few + "; judge: " + judge;
         }
     }
@@ -95,49 +137,64 @@ public final class Judge {
 
     /** No order explains the run. */
     public static final class NotLinearizable extends Failed {
-        NotLinearizable(Run run, String said, String recording, Program judge) { super(run.seed, said, recording, kept(recording, run.seed), judge); }
+        NotLinearizable(long seed, String said, String recording, String file, Program judge) { super(seed, said, recording, file, judge); }
     }
 
-    /** The set hung in the run, which was judged up to there. */
+    /** The set ended its JVM, hung or threw in the run, which was judged up to there. */
     public static final class NotEnded extends Failed {
-        NotEnded(Run run, String said, String recording, Program judge) { super(run.seed, said, recording, kept(recording, run.seed), judge); }
+        NotEnded(long seed, String said, String recording, String file, Program judge) { super(seed, said, recording, file, judge); }
     }
 
-    /** Nothing is known of the set: an option is out of range, the set threw, or there is no judge. */
+    /** Nothing is known of the set: an option is out of range, no set could be made, or there is no judge. */
     public static final class NoVerdict extends RuntimeException {
         NoVerdict(String why) { super(why); }
 
         NoVerdict(String why, Throwable cause) { super(why + cause, cause); }
     }
 
-    public static Verdict judge(Supplier<? extends Set<Integer>> make) { return judge(make, new Options()); }
+    /** What makes a set. A method reference or a lambda is one, which is passed on to another JVM unless it refers to what cannot be. */
+    public interface Make<S> extends Supplier<S>, Serializable { }
 
-    public static Verdict judge(Supplier<? extends Set<Integer>> make, Options how) {
+    /** What makes a call of a set, as {@code Make} is passed on. */
+    public interface Call<S> extends BiPredicate<S, Integer>, Serializable { }
+
+    public static Verdict judge(Make<? extends Set<Integer>> make) { return judge(make, new Options()); }
+
+    public static Verdict judge(Make<? extends Set<Integer>> make, Options how) {
         return judge(make, Set::add, Set::remove, Set::contains, how);
     }
 
-    /** Judges any set, by its three calls; throws of the first run that no order explains, or in which the set hangs. */
-    public static <S> Verdict judge(Supplier<? extends S> make, BiPredicate<S, Integer> add, BiPredicate<S, Integer> remove,
-                                    BiPredicate<S, Integer> contains, Options how) {
+    public static <S> Verdict judge(Make<? extends S> make, Call<S> add, Call<S> remove, Call<S> contains) {
+        return judge(make, add, remove, contains, new Options());
+    }
+
+    /** Judges any set, by its three calls; throws of the first run that no order explains, or in which the set hangs, throws or ends its JVM. */
+    public static <S> Verdict judge(Make<? extends S> make, Call<S> add, Call<S> remove, Call<S> contains, Options how) {
         how.check();
         Program program = Program.found();
-        Calls<S> calls = new Calls<>(add, remove, contains);
+        Calls<S> calls = new Calls<>(make, add, remove, contains);
+        Caller child = how.ownProcess ? Child.of(calls, how) : null;
         long count = 0, overlapped = 0;
-        for (long seed = how.seed; seed < how.seed + how.runs; seed++) {
-            Run run = new Area<>(make, calls, how, seed).run();
-            String recording = run.text(), refused = program.refused(recording);
-            if (run.trouble != null) throw new NotEnded(run, run.saidOfTrouble(refused), recording, program);
-            if (refused != null) throw new NotLinearizable(run, refused, recording, program);
-            count += run.rows.size();
-            overlapped += run.overlapped();
+        try (Caller caller = child == null ? new Here<>(calls, new Area(how)) : child) {
+            for (long seed = how.seed; seed < how.seed + how.runs; seed++) {
+                caller.area().begin(seed, caller);
+                for (int part = 1; part <= caller.area().parts; part++) {
+                    if (part > 1) caller.area().goOn();
+                    Run run = caller.area().madePart(caller);
+                    overlapped += run.judge(program, how.record, part);
+                    count += run.rows.size();
+                }
+            }
         }
-        return new Verdict(count, overlapped, program.toString());
+        Verdict verdict = new Verdict(count, overlapped, program.toString());
+        if (verdict.isFew()) System.err.println(verdict); // (a test that passes may show no verdict)
+        return verdict;
     }
 
     /** The file of a recording that failed, which the caller may hand on. */
     private static String kept(String recording, long seed) {
         try {
-            Path file = Path.of(System.getProperty("java.io.tmpdir"), "listset-" + ProcessHandle.current().pid() + "-" + seed + ".calls");
+            Path file = Files.createTempFile("listset-seed-" + seed + "-", ".calls");
             return Files.writeString(file, recording).toString();
         } catch (IOException full) {
             return "no file, as none could be written";
@@ -146,121 +203,297 @@ public final class Judge {
 
     // ---- a run, written down as it goes
 
-    private enum Call { add, remove, contains }
-
-    private record Calls<S>(BiPredicate<S, Integer> add, BiPredicate<S, Integer> remove, BiPredicate<S, Integer> contains) {
-        boolean reply(S set, Call call, int key) {
-            return switch (call) {
-                case add -> add.test(set, key);
-                case remove -> remove.test(set, key);
-                case contains -> contains.test(set, key);
-            };
-        }
+    private record Calls<S>(Make<? extends S> make, Call<S> add, Call<S> remove, Call<S> contains) implements Serializable {
+        boolean reply(S set, int call, int key) { return (call == 0 ? add : call == 1 ? remove : contains).test(set, key); }
     }
 
-    /** The calls of a set, those of each thread in turn. A moment is 0 as long as there is none. */
-    private static final class Area<S> {
-        private final Supplier<? extends S> make;
-        private final Calls<S> calls;
+    /** A run in memory that another JVM may share; of a run in parts that of the part which goes on. */
+    private static final class Area {
+        private static final VarHandle INT = MethodHandles.byteBufferViewVarHandle(int[].class, ByteOrder.nativeOrder());
+        // Where numbers are: the last moment of the parts before is BEFORE, and IS_HERE that another JVM has come.
+        private static final int TICKETS = 0, LOOKS = 4, THERE = 8, DONE = 12, BEGUN = 16, BEFORE = 20, AT = 24, STOPPING = 28, FAILED = 32,
+            LENGTH = 36, IS_HERE = 40, SEED = 48, WHY = 56, MOST_WHY = 240, SLOTS = WHY + MOST_WHY;
+        private static final int BEGIN = 0, END = 4, CALL = 8, KEY = 12, REPLY = 16, SLOT = 20; // of a call, those of each thread in turn
+        private static final int GOING = 1, RESTING = 2, ENDED = 3; // AT
+        private static final String NOT_MADE = "the set could not be made: ", THREW = "a call of the set threw "; // how WHY begins
+
         private final Options how;
-        private final long seed;
-        private final AtomicInteger tickets = new AtomicInteger(), looks = new AtomicInteger(), there = new AtomicInteger();
-        private final AtomicReference<NoVerdict> failed = new AtomicReference<>();
-        private final AtomicIntegerArray begins, ends;
-        private final int[] keys;
-        private final Call[] words;
-        private final boolean[] replies;
-        private volatile boolean[] opening, left;
+        private final int rows, parts; // the calls of each thread in a part, of which the last may have fewer
+        private final int opening, left; // where of each key it is written whether the set had it
+        private final ByteBuffer memory;
 
-        Area(Supplier<? extends S> make, Calls<S> calls, Options how, long seed) {
-            this.make = make;
-            this.calls = calls;
+        Area(Options how) { this(how, ByteBuffer.allocateDirect(sizeOf(how))); }
+
+        Area(Options how, ByteBuffer memory) {
             this.how = how;
-            this.seed = seed;
-            int count = how.threads * how.calls;
-            begins = new AtomicIntegerArray(count);
-            ends = new AtomicIntegerArray(count);
-            keys = new int[count];
-            words = new Call[count];
-            replies = new boolean[count];
-            opening = left = new boolean[0];
+            this.memory = memory.order(ByteOrder.nativeOrder());
+            rows = how.rows();
+            parts = (how.calls - 1) / rows + 1;
+            opening = SLOTS + how.threads * rows * SLOT;
+            left = opening + how.keys;
         }
 
-        /** Makes a set and calls it, until all calls have ended or none goes on. Threads that hang stay. */
-        Run run() {
-            Thread caller = started(this::callAll);
-            boolean isEnded = comesToEnd(caller);
-            if (failed.get() != null) throw failed.get();
-            String trouble = isEnded ? null : "the set hung: no call began or ended for " + how.seconds + " s";
-            List<Row> rows = new ArrayList<>(), pending = new ArrayList<>();
-            for (int at = 0; at < keys.length; at++) {
-                int end = ends.get(at), begin = begins.get(at);
-                if (begin > 0) (end > 0 ? rows : pending).add(new Row(at / how.calls, words[at], keys[at], begin, end, replies[at]));
-            }
-            rows.sort(Comparator.comparingInt(Row::begin));
-            return new Run(seed, keysIn(opening), rows, pending, keysIn(left), trouble);
+        static int sizeOf(Options how) { return SLOTS + how.threads * how.rows() * SLOT + 2 * how.keys; }
+
+        int get(int at) { return (int) INT.getVolatile(memory, at); }
+
+        void set(int at, int number) { INT.setVolatile(memory, at, number); }
+
+        int next(int at) { return (int) INT.getAndAdd(memory, at, 1) + 1; }
+
+        void goOn() { set(AT, GOING); }
+
+        /** Has the run of a seed begin. */
+        void begin(long seed, Caller caller) {
+            for (int at = 0; at < memory.capacity(); at++) memory.put(at, (byte) 0);
+            memory.putLong(SEED, seed);
+            goOn();
+            caller.begin();
         }
 
-        private boolean comesToEnd(Thread caller) {
+        /** Waits until the part is made that goes on, or no call begins or ends for too long. */
+        Run madePart(Caller caller) {
+            String trouble = null;
             int seen = -1;
-            for (long since = System.nanoTime(); caller.isAlive(); join(caller, 1)) {
-                int now = tickets.get() + looks.get();
+            for (long since = System.nanoTime(); trouble == null && get(AT) != RESTING; LockSupport.parkNanos(300_000)) {
+                if (caller.hasEnded()) {
+                    trouble = caller.trouble();
+                    break;
+                }
+                int now = get(TICKETS) + get(LOOKS);
                 if (now != seen) since = System.nanoTime();
                 seen = now;
-                if (System.nanoTime() - since > how.seconds * 1_000_000_000L) return false;
+                boolean isLong = System.nanoTime() - since > how.seconds * 1_000_000_000L;
+                if (isLong) trouble = "the set hung: no call began or ended for " + how.seconds + " s";
             }
-            return true;
+            if (get(FAILED) == 1) trouble = textOf(WHY, get(LENGTH));
+            if (trouble != null && trouble.startsWith(NOT_MADE)) throw new NoVerdict(trouble);
+            return run(trouble);
         }
 
-        private void callAll() {
-            S set = null;
-            try {
-                set = make.get();
-            } catch (Throwable why) {
-                failed.set(new NoVerdict("the set could not be made: ", why));
-            }
-            if (failed.get() == null) callFromThreads(set);
+        private String textOf(int at, int length) {
+            byte[] bytes = new byte[length];
+            memory.get(at, bytes);
+            return new String(bytes, StandardCharsets.UTF_8);
         }
 
-        private void callFromThreads(S set) {
-            tried(() -> opening = lookedUp(set));
-            List<Thread> threads = new ArrayList<>();
-            for (int i = 0; i < how.threads; i++) {
-                int thread = i;
-                threads.add(started(() -> tried(() -> call(set, thread))));
+        private Run run(String trouble) {
+            List<Row> rows = new ArrayList<>(), pending = new ArrayList<>();
+            int before = get(BEFORE);
+            for (int i = 0; i < how.threads * this.rows; i++) {
+                int at = SLOTS + i * SLOT, end = get(at + END), begin = get(at + BEGIN);
+                if (begin <= before) continue; // (it is of a part before)
+                boolean hasEnded = end > begin;
+                Row row = new Row(i / this.rows, get(at + CALL), get(at + KEY), begin, hasEnded ? end : 0, get(at + REPLY) == 1);
+                (hasEnded ? rows : pending).add(row);
             }
-            for (Thread it : threads) join(it, 0);
-            tried(() -> left = lookedUp(set));
+            rows.sort(Comparator.comparingInt(Row::begin));
+            return new Run(memory.getLong(SEED), keysAt(opening), rows, pending, keysAt(left), trouble);
         }
 
-        /** Does this unless something has failed; what it throws is written down, the first alone. */
-        private void tried(Runnable does) {
-            try {
-                if (failed.get() == null) does.run();
-            } catch (Throwable why) {
-                failed.compareAndSet(null, new NoVerdict("a call of the set failed: ", why));
-            }
-        }
-
-        private boolean[] lookedUp(S set) {
-            boolean[] found = new boolean[how.keys];
-            for (int key = 0; key < how.keys; key++, looks.incrementAndGet()) found[key] = calls.contains.test(set, key);
+        private List<Integer> keysAt(int at) {
+            List<Integer> found = new ArrayList<>();
+            for (int key = 0; key < how.keys; key++) if (memory.get(at + key) == 1) found.add(key);
             return found;
         }
 
-        private void call(S set, int thread) {
-            SplittableRandom draw = new SplittableRandom(seed * 64 + thread);
-            there.incrementAndGet();
-            while (there.get() < how.threads) Thread.yield(); // none begins before all are there
-            for (int at = thread * how.calls; at < (thread + 1) * how.calls; at++) {
-                words[at] = Call.values()[draw.nextInt(3)];
-                keys[at] = draw.nextInt(how.keys);
-                for (int pause = draw.nextInt(100) < how.pauses ? draw.nextInt(LONGEST) : 0; pause > 0; pause--) tickets.get();
-                begins.setRelease(at, tickets.incrementAndGet());
-                replies[at] = calls.reply(set, words[at], keys[at]);
-                ends.setRelease(at, tickets.incrementAndGet());
+        /** Makes a set and calls it, to the end. */
+        <S> void callAll(Calls<S> calls) {
+            tried(NOT_MADE, () -> callFromThreads(calls, calls.make.get()));
+            set(AT, ENDED);
+        }
+
+        private <S> void callFromThreads(Calls<S> calls, S set) {
+            List<Thread> threads = new ArrayList<>();
+            for (int i = 0; i < how.threads; i++) {
+                int thread = i;
+                threads.add(started(() -> tried(THREW, () -> callInParts(calls, set, thread))));
+            }
+            tried(THREW, () -> lead(calls, set));
+            for (Thread it : threads) join(it);
+        }
+
+        /** Does this; what it throws is written down, the first alone. */
+        private void tried(String words, Runnable does) {
+            try {
+                does.run();
+            } catch (Throwable why) {
+                if (next(STOPPING) > 1) return;
+                byte[] text = (words + why).getBytes(StandardCharsets.UTF_8);
+                int length = Math.min(text.length, MOST_WHY);
+                memory.put(WHY, text, 0, length);
+                set(LENGTH, length);
+                set(FAILED, 1);
+                why.printStackTrace();
             }
         }
+
+        /** Waits, as a thread that rests; false if the run stops. */
+        private boolean waits(BooleanSupplier isDone) {
+            while (!isDone.getAsBoolean() && get(STOPPING) == 0) LockSupport.parkNanos(100_000);
+            return get(STOPPING) == 0;
+        }
+
+        /** Has the threads make each part, and rests after it until it has been read. */
+        private <S> void lead(Calls<S> calls, S set) {
+            lookUp(calls, set, opening);
+            for (int i = 1; i <= parts; i++) {
+                int part = i;
+                if (part > 1) {
+                    set(AT, RESTING);
+                    if (!waits(() -> get(AT) == GOING)) return;
+                    set(BEFORE, get(TICKETS));
+                    for (int key = 0; key < how.keys; key++) memory.put(opening + key, memory.get(left + key));
+                }
+                set(BEGUN, part);
+                if (!waits(() -> get(DONE) == part * how.threads)) return;
+                lookUp(calls, set, left);
+            }
+        }
+
+        private <S> void lookUp(Calls<S> calls, S set, int at) {
+            for (int key = 0; key < how.keys; key++, next(LOOKS)) memory.put(at + key, (byte) (calls.contains.test(set, key) ? 1 : 0));
+        }
+
+        /** The calls of one thread. */
+        private <S> void callInParts(Calls<S> calls, S set, int thread) {
+            SplittableRandom draw = new SplittableRandom(memory.getLong(SEED) * 64 + thread);
+            for (int i = 0; i < parts; i++) {
+                int part = i;
+                if (!waits(() -> get(BEGUN) > part)) return;
+                next(THERE);
+                while (get(THERE) < how.threads * (part + 1)) Thread.yield(); // none begins before all are there
+                call(calls, set, SLOTS + thread * rows * SLOT, Math.min(rows, how.calls - part * rows), draw);
+                next(DONE);
+            }
+        }
+
+        private <S> void call(Calls<S> calls, S set, int first, int count, SplittableRandom draw) {
+            for (int at = first; at < first + count * SLOT; at += SLOT) {
+                int call = draw.nextInt(WORDS.length), key = draw.nextInt(how.keys);
+                memory.putInt(at + CALL, call).putInt(at + KEY, key);
+                for (int pause = draw.nextInt(100) < how.pauses ? draw.nextInt(LONGEST) : 0; pause > 0; pause--) get(TICKETS);
+                INT.setRelease(memory, at + BEGIN, next(TICKETS));
+                memory.putInt(at + REPLY, calls.reply(set, call, key) ? 1 : 0);
+                INT.setRelease(memory, at + END, next(TICKETS));
+            }
+        }
+    }
+
+    /** What has the runs of an area made. */
+    private interface Caller extends AutoCloseable {
+        Area area();
+
+        void begin();
+
+        /** Whether nothing more comes of the run; then how it went wrong, or null. */
+        boolean hasEnded();
+
+        String trouble();
+
+        @Override void close();
+    }
+
+    /** Threads of this JVM. Those that hang stay. */
+    private record Here<S>(Calls<S> calls, Area area) implements Caller {
+        @Override public void begin() { Judge.started(() -> area.callAll(calls)); }
+
+        @Override public boolean hasEnded() { return area.get(Area.AT) == Area.ENDED; }
+
+        @Override public String trouble() { return null; }
+
+        @Override public void close() { area.next(Area.STOPPING); }
+    }
+
+    /** A JVM that is given the calls. It ends if its input does, and so with this one. */
+    private record Child(Area area, Process process) implements Caller {
+        private static final long STARTING = 60_000_000_000L; // the most nanoseconds until it has come
+
+        /** None if the calls cannot be passed on, or no set be made there. */
+        static Child of(Calls<?> calls, Options how) {
+            try {
+                ByteArrayOutputStream bytes = new ByteArrayOutputStream();
+                try (ObjectOutputStream out = new ObjectOutputStream(bytes)) {
+                    out.writeObject(how);
+                    out.writeObject(calls);
+                }
+                return started(calls, how, bytes);
+            } catch (IOException | URISyntaxException | SecurityException cannot) {
+                return null;
+            }
+        }
+
+        private static Child started(Calls<?> calls, Options how, ByteArrayOutputStream given) throws IOException, URISyntaxException {
+            Path file = Files.createTempFile("listset-", ".area");
+            try {
+                Area area = shared(how, file);
+                ProcessBuilder words = new ProcessBuilder(Path.of(System.getProperty("java.home"), "bin", "java").toString(),
+                    Judge.class.desiredAssertionStatus() ? "-ea" : "-da", "-cp", path(calls), Child.class.getName(), file.toString());
+                Child made = new Child(area, words.redirectOutput(ProcessBuilder.Redirect.DISCARD).redirectError(ProcessBuilder.Redirect.INHERIT).start());
+                given.writeTo(made.process.getOutputStream());
+                made.process.getOutputStream().flush();
+                long since = System.nanoTime();
+                while (area.get(Area.IS_HERE) == 0 && made.process.isAlive() && System.nanoTime() - since < STARTING) LockSupport.parkNanos(1_000_000);
+                if (area.get(Area.IS_HERE) == 1) return made;
+                made.close();
+                return null;
+            } finally {
+                file.toFile().delete();
+            }
+        }
+
+        private static Area shared(Options how, Path file) throws IOException {
+            try (FileChannel channel = FileChannel.open(file, StandardOpenOption.READ, StandardOpenOption.WRITE)) {
+                return new Area(how, channel.map(FileChannel.MapMode.READ_WRITE, 0, Area.sizeOf(how)));
+            }
+        }
+
+        /** Where the classes are that a JVM of its own needs. */
+        private static String path(Calls<?> calls) throws URISyntaxException {
+            StringBuilder path = new StringBuilder(System.getProperty("java.class.path"));
+            for (Class<?> it : List.of(Judge.class, calls.make.getClass(), calls.add.getClass())) {
+                path.append(File.pathSeparator).append(Path.of(it.getProtectionDomain().getCodeSource().getLocation().toURI()));
+            }
+            return path.toString();
+        }
+
+        public static void main(String[] words) {
+            try {
+                ObjectInputStream in = new ObjectInputStream(System.in);
+                Options how = (Options) in.readObject();
+                Calls<?> calls = (Calls<?>) in.readObject();
+                calls.make.get();
+                Judge.started(Child::endWithInput);
+                serve(shared(how, Path.of(words[0])), calls);
+            } catch (Exception | LinkageError cannot) {
+                System.exit(1); // (what cannot be made here is made in the other JVM)
+            }
+        }
+
+        private static void endWithInput() {
+            try {
+                while (System.in.read() >= 0) continue;
+            } catch (IOException closed) {
+                // (as at its end)
+            }
+            Runtime.getRuntime().halt(1);
+        }
+
+        private static void serve(Area area, Calls<?> calls) {
+            for (area.set(Area.IS_HERE, 1);; LockSupport.parkNanos(100_000)) {
+                if (area.get(Area.AT) == Area.GOING) area.callAll(calls);
+            }
+        }
+
+        @Override public void begin() { }
+
+        @Override public boolean hasEnded() { return area.get(Area.AT) == Area.ENDED || !process.isAlive(); }
+
+        @Override public String trouble() {
+            return area.get(Area.AT) == Area.ENDED ? null : "the set ended its process with the status " + process.exitValue();
+        }
+
+        @Override public void close() { process.destroyForcibly(); }
     }
 
     private static Thread started(Runnable does) {
@@ -270,54 +503,58 @@ public final class Judge {
         return made;
     }
 
-    /** Waits for so many milliseconds at most, or, for 0, as long as the thread goes on. */
-    private static void join(Thread thread, int milliseconds) {
+    private static void join(Thread thread) {
         try {
-            thread.join(milliseconds);
+            thread.join();
         } catch (InterruptedException why) {
             throw new NoVerdict("the test was interrupted: ", why);
         }
     }
 
-    private static List<Integer> keysIn(boolean[] there) {
-        List<Integer> found = new ArrayList<>();
-        for (int key = 0; key < there.length; key++) if (there[key]) found.add(key);
-        return found;
-    }
-
     // ---- a run, as it is judged
 
-    private record Row(int thread, Call call, int key, int begin, int end, boolean reply) {
-        boolean isChange() { return reply && call != Call.contains; }
+    private static final String[] WORDS = {"add", "remove", "contains"};
 
-        String line(int number) { return "call " + number + " " + call + " " + key + " " + begin + " - " + (end > 0 ? end + " " + reply : "- -") + "\n"; }
+    private record Row(int thread, int call, int key, int begin, int end, boolean reply) {
+        boolean isAdd() { return reply && call == 0; }
+
+        String line(int number) {
+            return "call " + number + " " + WORDS[call] + " " + key + " " + begin + " - " + (end > 0 ? end + " " + reply : "- -") + "\n";
+        }
     }
 
-    /** The calls of one set by their begins, those that did not end, and the keys before and after; of a set that hung the last are unknown. */
+    /**
+     * The calls of one set by their begins, those that did not end, and the keys before and after; of a run in parts those of a part. Of
+     * a set that hung or ended its JVM the last are unknown.
+     */
     private record Run(long seed, List<Integer> opening, List<Row> rows, List<Row> pending, List<Integer> left, String trouble) {
-        String saidOfTrouble(String refused) {
+        /** How many calls overlapped a change of their key; throws if it failed: as this part of a run, which the folder {@code record} keeps. */
+        long judge(Program program, String record, int part) {
+            String recording = text(), file = keep(record, part, recording);
+            Judgement judged = trouble == null ? program.judged(recording) : program.judgedUpTo(recording);
+            if (judged.refused == null && trouble == null) return judged.overlapped;
+            if (file == null) file = kept(recording, seed);
+            if (trouble != null) throw new NotEnded(seed, saidOfTrouble(judged.refused), recording, file, program);
+            throw new NotLinearizable(seed, judged.refused, recording, file, program);
+        }
+
+        /** The file that keeps a part of a run; null without a folder. Parts of an earlier run go at the first. */
+        private String keep(String record, int part, String recording) {
+            if (record == null) return null;
+            try {
+                for (int old = 1; part == 1 && Files.deleteIfExists(file(record, old)); old++) continue;
+                return Files.writeString(file(record, part), recording).toString();
+            } catch (IOException none) {
+                throw new NoVerdict("record is " + record + ", where no file can be written: name another folder");
+            }
+        }
+
+        private Path file(String record, int part) { return Path.of(record, String.format("seed-%d-part-%06d.calls", seed, part)); }
+
+        private String saidOfTrouble(String refused) {
             StringBuilder underWay = new StringBuilder();
             for (Row it : pending) underWay.append(it.line(it.thread));
             return trouble + "\nunder way:\n" + underWay + "up to there: " + (refused == null ? "some order explains the calls" : refused);
-        }
-
-        /** How many calls overlapped a change of their key. */
-        long overlapped() {
-            Map<Integer, List<Integer>> openOf = new HashMap<>(); // of each key the calls that have begun, while they may be open
-            boolean[] isMet = new boolean[rows.size()];
-            for (int i = 0; i < isMet.length; i++) {
-                Row it = rows.get(i);
-                List<Integer> open = openOf.computeIfAbsent(it.key, none -> new ArrayList<>());
-                open.removeIf(other -> rows.get(other).end < it.begin);
-                for (int other : open) {
-                    isMet[i] |= rows.get(other).isChange();
-                    isMet[other] |= it.isChange();
-                }
-                open.add(i);
-            }
-            long count = 0;
-            for (boolean it : isMet) if (it) count++;
-            return count;
         }
 
         List<Row> all() {
@@ -337,30 +574,21 @@ public final class Judge {
                     number[it.thread] = next++;
                     adds[it.thread] = QUOTA;
                 }
-                if (it.call == Call.add && it.reply) adds[it.thread]--;
+                if (it.isAdd()) adds[it.thread]--;
                 text.append(it.line(number[it.thread]));
             }
-            if (trouble != null) text.append(removesOfUnknown(next));
-            else for (int key : left) text.append("key ").append(key).append('\n');
+            if (trouble != null) return text.append("cut\n").toString();
+            for (int key : left) text.append("key ").append(key).append('\n');
             return text.append("end\n").toString();
-        }
-
-        /** Of each key that has calls or was there a remove that did not end, and so may have taken effect: so the key may be left or not. */
-        private String removesOfUnknown(int first) {
-            Set<Integer> keys = new TreeSet<>(opening);
-            int last = 0, number = first;
-            for (Row it : all()) {
-                keys.add(it.key);
-                last = Math.max(last, Math.max(it.begin, it.end));
-            }
-            if (first + keys.size() > NUMBERS) throw new NoVerdict(trouble + "; what came before is judged only of 64 keys and threads at most");
-            StringBuilder text = new StringBuilder();
-            for (int key : keys) text.append(new Row(0, Call.remove, key, ++last, 0, false).line(number++));
-            return text.toString();
         }
     }
 
     // ---- the judge
+
+    /** What the judge says of a recording that no order explains, or null; and how many calls overlapped a change of their key. */
+    private record Judgement(String refused, long overlapped) {
+        private static final Pattern OK = Pattern.compile("ok [0-9]+ calls\n([0-9]+) of them.*", Pattern.DOTALL);
+    }
 
     /** The program that judges: its name, the command to which words are added, and what it says of its proof. It prints itself. */
     private record Program(String name, List<String> command, String proof) {
@@ -382,20 +610,29 @@ public final class Judge {
             return new Program(name, command, proof);
         }
 
-        /** What the judge says of a recording that no order explains, or null if one does. */
-        String refused(String recording) {
+        Judgement judged(String recording) {
             Path file = null;
             try {
                 file = Files.writeString(Files.createTempFile("listset-", ".calls"), recording);
                 Answer answer = ran(command, "judge", file.toString());
-                if (answer.status == 0 && answer.said.startsWith("ok ")) return null;
-                if (answer.status == 1 && answer.said.startsWith("not linearizable")) return answer.said;
+                Matcher ok = Judgement.OK.matcher(answer.said);
+                if (answer.status == 0 && ok.matches()) return new Judgement(null, Long.parseLong(ok.group(1)));
+                if (answer.status == 1 && answer.said.startsWith("not linearizable")) return new Judgement(answer.said, 0);
                 String first = answer.said.isEmpty() ? "nothing" : answer.said.lines().findFirst().get();
-                throw new NoVerdict(name + " gave no verdict, but said: " + first + ". Take a listset that has the word judge");
+                throw new NoVerdict(name + " gave no verdict, but said: " + first + ". Take a newer listset");
             } catch (IOException why) {
                 throw new NoVerdict("the judge could not be asked: ", why);
             } finally {
                 if (file != null) file.toFile().delete();
+            }
+        }
+
+        /** The same of a run that came to no end, of which an older judge knows nothing to say. */
+        Judgement judgedUpTo(String recording) {
+            try {
+                return judged(recording);
+            } catch (NoVerdict why) {
+                return new Judgement(why.getMessage(), 0);
             }
         }
 

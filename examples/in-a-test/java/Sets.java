@@ -94,19 +94,42 @@ final class Sets {
         @Override public boolean contains(Object key) { return true; }
     }
 
-    /** Its thirtieth remove hangs, with the lock of all others. */
-    static class Hangs extends ConcurrentSkipListSet<Integer> {
+    /** A remove, the thirtieth, does not come back, with the lock of all others. */
+    abstract static class Stops extends ConcurrentSkipListSet<Integer> {
         private int removes = 0;
 
+        int due() { return 30; }
+
+        abstract void stop();
+
         @Override public synchronized boolean remove(Object key) {
-            removes++;
-            while (removes >= 30) LockSupport.park();
+            if (++removes == due()) stop();
             return super.remove(key);
         }
     }
 
+    static class Hangs extends Stops {
+        @Override void stop() { for (;;) LockSupport.park(); }
+    }
+
     static final class FindsAllAndHangs extends Hangs {
         @Override public boolean contains(Object key) { return true; }
+    }
+
+    static class Exits extends Stops {
+        @Override void stop() { Runtime.getRuntime().halt(3); }
+    }
+
+    static final class FindsAllAndExits extends Exits {
+        @Override public boolean contains(Object key) { return true; }
+    }
+
+    static final class ExitsLate extends Exits {
+        @Override int due() { return 10_000; }
+    }
+
+    static final class Overflows extends Stops {
+        @Override void stop() { stop(); }
     }
 
     static final class FailsToAdd extends ConcurrentSkipListSet<Integer> {

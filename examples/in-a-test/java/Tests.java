@@ -1,30 +1,37 @@
 import java.io.IOException;
 import java.nio.file.Files;
 import java.nio.file.Path;
+import java.util.List;
 import java.util.Set;
 import java.util.concurrent.ConcurrentHashMap;
 import java.util.concurrent.ConcurrentSkipListSet;
 import java.util.function.Supplier;
+import java.util.stream.Stream;
 
-/** The tests as a program of their own: {@code javac Judge.java Sets.java Tests.java && java Tests}; or {@code java Tests first}, one. */
+/**
+ * The tests as a program of their own: {@code javac Judge.java Sets.java Tests.java && java Tests}; or {@code java Tests first}, one; or
+ * {@code java Tests crash}.
+ */
 final class Tests {
     private static final Judge.Options ALL = new Judge.Options(), FEW = ALL.ofSize(2, 9, 4).ofRuns(1, 1);
     private static boolean hasFailed;
 
-    private static Judge.Verdict isRight(String name, Supplier<? extends Set<Integer>> make, Judge.Options how) {
+    private static Judge.Verdict isRight(String name, Judge.Make<? extends Set<Integer>> make, Judge.Options how) {
         Judge.Verdict verdict = Judge.judge(make, how);
         System.out.println(name + ": " + verdict);
         if (verdict.calls() != (long) how.threads() * how.calls() * how.runs()) fail(name);
         return verdict;
     }
 
-    private static String recordingOf(long seed) {
+    private static Judge.NotLinearizable refusedOf(long seed) {
         try {
-            return Judge.judge(Sets.FindsAll::new, ALL.ofSize(1, 50, 4).ofRuns(1, seed)).toString();
+            throw new IllegalStateException(Judge.judge(Sets.FindsAll::new, ALL.ofSize(1, 50, 4).ofRuns(1, seed).ofOwnProcess(false)).toString());
         } catch (Judge.NotLinearizable refused) {
-            return refused.recording;
+            return refused;
         }
     }
+
+    private static String recordingOf(long seed) { return refusedOf(seed).recording; }
 
     private static void isRefused(String name, Supplier<Judge.Verdict> judged) {
         try {
@@ -35,17 +42,19 @@ final class Tests {
         }
     }
 
-    private static void hangs(Supplier<? extends Set<Integer>> make, String judged) {
+    private static void stops(Judge.Make<? extends Set<Integer>> make, Judge.Options how, String words, String judged) {
         try {
-            fail("hangs: " + Judge.judge(make, ALL.ofSeconds(1)));
-        } catch (Judge.NotEnded hung) {
-            System.out.println(hung.getMessage());
-            boolean isSaid = hung.said.startsWith("the set hung: no call began or ended for 1 s\nunder way:\ncall ");
-            // (what was under way stands there too, beside a remove of each key)
-            if (hung.recording.split(" - - -\n").length <= hung.said.split(" - - -\n").length) fail("under way");
-            if (!isSaid || !hung.said.contains("\nup to there: " + judged) || !hung.recording.equals(textOf(hung.file))) fail("hangs");
+            fail(words + ": " + Judge.judge(make, how));
+        } catch (Judge.NotEnded found) {
+            System.out.println(found.getMessage());
+            // (what was under way stands there too)
+            if (openCalls(found.recording) != openCalls(found.said) || !found.recording.endsWith("\ncut\n")) fail("under way");
+            boolean isSaid = found.said.startsWith(words + "\nunder way:\ncall ");
+            if (!isSaid || !found.said.contains("\nup to there: " + judged) || !found.recording.equals(textOf(found.file))) fail(words);
         }
     }
+
+    private static long openCalls(String text) { return text.lines().filter(it -> it.endsWith(" - - -")).count(); }
 
     private static String textOf(String file) {
         try {
@@ -55,7 +64,47 @@ final class Tests {
         }
     }
 
-    private static void says(String words, Supplier<? extends Set<Integer>> make, Judge.Options how) {
+    private static String folder(String name) { return Path.of(System.getProperty("java.io.tmpdir"), name).toString(); }
+
+    private static List<String> filesIn(String folder) {
+        try (Stream<Path> found = Files.list(Path.of(folder))) {
+            return found.map(Path::toString).sorted().toList();
+        } catch (IOException why) {
+            return List.of();
+        }
+    }
+
+    /** The keys of the lines of a recording that begin with a word. */
+    private static List<String> keysOf(String recording, String word) {
+        return recording.lines().filter(it -> it.startsWith(word + " ")).map(it -> it.substring(word.length() + 1)).toList();
+    }
+
+    /** A run in three parts, each of which opens with the keys that the one before left. */
+    private static void isKept() {
+        Judge.Options how = ALL.ofRuns(1, 1).ofPauses(0).ofRecord(folder("recorded"));
+        isRight("in four parts", ConcurrentSkipListSet::new, how.ofSize(8, 8000, 4).ofOwnProcess(false));
+        isRight("in three parts", ConcurrentSkipListSet::new, how.ofSize(8, 6000, 4));
+        List<String> left = List.of(), texts = filesIn(how.record()).stream().map(Tests::textOf).toList();
+        if (!texts.stream().map(it -> keysOf(it, "call").size()).toList().equals(List.of(20_000, 20_000, 8000))) fail("calls of parts");
+        for (String it : texts) {
+            if (!keysOf(it, "opening").equals(left)) fail("a part opens with the keys that were left");
+            left = keysOf(it, "key");
+        }
+    }
+
+    /** A run that ends with the part that failed. */
+    private static void endsIn(int parts, String words, Judge.Make<? extends Set<Integer>> make, boolean ownProcess) {
+        Judge.Options how = ALL.ofSize(8, 8000, 4).ofPauses(0).ofOwnProcess(ownProcess).ofRecord(folder(ownProcess ? "exited" : "refused"));
+        try {
+            fail(words + ": " + Judge.judge(make, how));
+        } catch (Judge.Failed found) {
+            List<String> files = filesIn(how.record());
+            boolean isLast = files.size() == parts && files.get(parts - 1).equals(found.file);
+            if (!found.said.startsWith(words) || !isLast || !textOf(found.file).equals(found.recording)) fail(found.getMessage() + files);
+        }
+    }
+
+    private static void says(String words, Judge.Make<? extends Set<Integer>> make, Judge.Options how) {
         try {
             fail(words + ": " + Judge.judge(make, how));
         } catch (Judge.NoVerdict why) {
@@ -70,34 +119,54 @@ final class Tests {
 
     private static Set<Integer> notMade() { throw new IllegalStateException("no room"); }
 
+    private static Judge.Make<Set<Integer>> notPassedOn(Object it) {
+        return () -> new ConcurrentSkipListSet<>(it.hashCode() == 0 ? Set.of(1) : Set.of());
+    }
+
     private static void all() {
         isRight("ConcurrentSkipListSet", ConcurrentSkipListSet::new, ALL);
-        isRight("ConcurrentHashMap", ConcurrentHashMap::newKeySet, ALL);
+        isRight("ConcurrentHashMap", ConcurrentHashMap::newKeySet, ALL.ofRuns(3, 1));
         isRight("OpensWithKeys", Sets.OpensWithKeys::new, ALL.ofRuns(3, 1));
         if (isRight("Slow", Sets.Slow::new, ALL.ofRuns(3, 1)).overlapped() == 0) fail("calls that wait overlap");
         Judge.Options longer = ALL.ofSize(1, 120_000, 1).ofRuns(1, 1);
         if (isRight("past a quota", ConcurrentSkipListSet::new, longer).overlapped() > 0) fail("calls in turn do not overlap");
         if (!recordingOf(1).equals(recordingOf(1)) || recordingOf(1).equals(recordingOf(2))) fail("a seed gives the same calls again");
+        if (refusedOf(1).file.equals(refusedOf(1).file)) fail("each recording has its file");
         isRefused("CheckThenAct", () -> Judge.judge(Sets.CheckThenAct::new));
-        isRefused("LostLock", () -> Judge.judge(Sets.LostLock::new, Sets.LostLock::add, Sets.LostLock::remove, Sets.LostLock::contains, ALL));
+        isRefused("LostLock", () -> Judge.judge(Sets.LostLock::new, Sets.LostLock::add, Sets.LostLock::remove, Sets.LostLock::contains));
         isRefused("DoubleRemove", () ->
             Judge.judge(Sets.DoubleRemove::new, Sets.DoubleRemove::add, Sets.DoubleRemove::remove, Sets.DoubleRemove::contains, ALL));
-        hangs(Sets.Hangs::new, "some order explains the calls");
-        hangs(Sets.FindsAllAndHangs::new, "not linearizable\n");
+        String hung = "the set hung: no call began or ended for 1 s", exited = "the set ended its process with the status 3";
+        stops(Sets.Hangs::new, ALL.ofSeconds(1).ofOwnProcess(false), hung, "some order explains the calls");
+        stops(Sets.FindsAllAndHangs::new, ALL.ofSeconds(1), hung, "not linearizable\n");
+        stops(Sets.Exits::new, ALL, exited, "some order explains the calls");
+        stops(Sets.Exits::new, ALL.ofSize(8, 1000, 64), exited, "some order explains the calls");
+        stops(Sets.FindsAllAndExits::new, ALL, exited, "not linearizable\n");
+        isKept();
+        endsIn(2, exited + "\nunder way:\ncall ", Sets.ExitsLate::new, true);
+        endsIn(1, "not linearizable\n", Sets.FindsAll::new, false);
+        isRight("that cannot be passed on", notPassedOn(new Object()), ALL.ofRuns(1, 1));
         says("threads is 65, and has to be 1 to 64", ConcurrentSkipListSet::new, FEW.ofSize(65, 9, 4));
         says("threads times calls is 0, and has to be 1 to 1000000", ConcurrentSkipListSet::new, FEW.ofSize(2, 0, 4));
         says("keys is 0, and has to be 1 to 1048576", ConcurrentSkipListSet::new, FEW.ofSize(2, 9, 0));
         says("pauses is 101, and has to be 0 to 100", ConcurrentSkipListSet::new, FEW.ofPauses(101));
         says("runs is 0, and has to be 1 to 1000000", ConcurrentSkipListSet::new, FEW.ofRuns(0, 1));
         says("seconds is 0, and has to be 1 to 3600", ConcurrentSkipListSet::new, FEW.ofSeconds(0));
+        Judge.Options tooMany = FEW.ofSize(2, 500_000_001, 4).ofRecord(".");
+        says("threads times calls is 1000000002, and has to be 1 to 1000000000", ConcurrentSkipListSet::new, tooMany);
+        String noFolder = "record is /dev/null/x, which is no folder and cannot be made one: name another";
+        says(noFolder, ConcurrentSkipListSet::new, FEW.ofRecord("/dev/null/x"));
+        stops(Sets.Overflows::new, ALL, "a call of the set threw java.lang.StackOverflowError", "some order explains the calls");
         says("the set could not be made: java.lang.IllegalStateException: no room", Tests::notMade, FEW);
-        says("a call of the set failed: java.lang.IllegalStateException: no memory", Sets.FailsToAdd::new, FEW);
+        String threw = "a call of the set threw java.lang.IllegalStateException: no memory";
+        for (boolean own : List.of(true, false)) stops(Sets.FailsToAdd::new, ALL.ofOwnProcess(own), threw, "some order explains the calls");
     }
 
     public static void main(String[] words) {
         try {
-            if (words.length > 0) isRight("ConcurrentSkipListSet", ConcurrentSkipListSet::new, ALL);
-            else all();
+            if (words.length == 0) all();
+            else if (words[0].equals("first")) isRight("ConcurrentSkipListSet", ConcurrentSkipListSet::new, ALL);
+            else stops(Sets.Exits::new, ALL, "the set ended its process with the status 3", "some order explains the calls");
         } catch (RuntimeException | AssertionError why) {
             fail(why.getMessage());
         }

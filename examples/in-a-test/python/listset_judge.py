@@ -11,6 +11,7 @@ crashes or hangs is judged up to there.
 """
 
 import collections
+import contextlib
 import ctypes
 import functools
 import itertools
@@ -18,6 +19,7 @@ import mmap
 import os
 import pathlib
 import random
+import re
 import signal
 import struct
 import subprocess
@@ -25,28 +27,33 @@ import sys
 import tempfile
 import threading
 import time
+import warnings
 
 QUOTA = 16_384  # the most adds that answered true, of one thread number of a recording
-NUMBERS = 64  # of threads, of a recording
+PART = 20_000  # calls of all threads from one rest to the next, of a run that is kept
+GOING, RESTING, STOPPING, ENDED = range(4)
 WORDS = ADD, REMOVE, CONTAINS = "add", "remove", "contains"
+OVERLAPPED = re.compile("ok [0-9]+ calls\n([0-9]+) of them")
 Row = collections.namedtuple("Row", "begin end thread call key reply")
 
 
 class Verdict(collections.namedtuple("Verdict", "calls overlapped judge")):
-    """What is known if some order explains each run: the calls, those that overlapped an add or a remove of their key that answered
-    True, and which judge it was, with whether it says that it is proved. It prints itself."""
+    """What is known if some order explains each run: the calls, those that overlapped a change of their key, by the judge, and which
+    judge it was, with whether it says that it is proved. It prints itself."""
+
+    def few(self):
+        """What is to be done if so few calls met that `ok` says little; else nothing."""
+        return "; that is few: take more threads, fewer keys or a machine that does less" * (self.overlapped * 100 < self.calls * 5)
 
     def __str__(self):
-        is_few = self.overlapped * 100 < self.calls * 5
-        few = "; that is few: take more threads, fewer keys or a machine that does less" * is_few
-        return f"ok: {self.calls} calls, of which {self.overlapped} overlapped a change of their key{few}; judge: {self.judge}"
+        return f"ok: {self.calls} calls, of which {self.overlapped} overlapped a change of their key{self.few()}; judge: {self.judge}"
 
 
 class Failed(AssertionError):
     """What the judge said of the run of the seed `seed`, `said`; the recording that it judged, `recording`; the file that has it."""
 
-    def __init__(self, seed, said, recording, judge):
-        self.seed, self.said, self.recording, self.file = seed, said, recording, kept(recording, seed)
+    def __init__(self, seed, said, recording, file, judge):
+        self.seed, self.said, self.recording, self.file = seed, said, recording, file or kept(recording, seed)
         super().__init__(f"seed {seed}: {said}\nrecorded in {self.file}; judge: {judge}")
 
 
@@ -55,33 +62,40 @@ class NotLinearizable(Failed):
 
 
 class NotEnded(Failed):
-    """The set crashed or hung in the run, which was judged up to there."""
+    """The set crashed, hung or raised in the run, which was judged up to there."""
 
 
 class NoVerdict(Exception):
-    """Nothing is known of the set: an option is out of range, the set raised, or there is no judge."""
+    """Nothing is known of the set: an option is out of range, no set could be made, it has not the three calls, or there is no judge."""
 
 
-def judge(make, *, threads=8, calls=1000, keys=4, pauses=20, runs=20, seed=1, seconds=10, own_process=True):
+def judge(make, *, threads=8, calls=1000, keys=4, pauses=20, runs=20, seed=1, seconds=10, own_process=True, record=None):
     """The Verdict of so many sets that `make` makes; raises NotLinearizable of the first that no order explains, and NotEnded of one
     that crashes or hangs.
 
     threads -- that call a set at once: 1 to 64
-    calls -- of each thread: 1 or more, and 1,000,000 at most of all threads
+    calls -- of each thread: 1 or more, and 1,000,000 at most of all threads, or with `record` 1,000,000,000
     keys -- calls are on the keys below this: 1 to 1,048,576. On few keys more calls meet
     pauses -- before how many of 100 lines of the set a thread lets others go on: 0 to 100
     runs -- fresh sets that are called: 1 to 1,000,000
     seed -- what calls, keys and pauses of the first run are drawn from; the next run has the next seed
     seconds -- a run in which no call begins or ends for so long is ended: 1 to 3,600
     own_process -- False: in this process, which then crashes with the set (for a debugger, or for coverage)
+    record -- a folder that keeps each run, in parts of 20,000 calls: after each, threads rest until it is judged
     """
-    check(threads=(threads, 1, 64), calls=(calls, 1, 1_000_000), keys=(keys, 1, 1_048_576), pauses=(pauses, 0, 100), runs=(runs, 1, 1_000_000))
-    check(**{"threads times calls": (threads * calls, 1, 1_000_000), "seconds": (seconds, 1, 3600)})
+    __tracebackhide__ = True  # (pytest shows the line of the test alone)
+    most_calls = 1_000_000 if record is None else 1_000_000_000
+    check(threads=(threads, 1, 64), calls=(calls, 1, most_calls), keys=(keys, 1, 1_048_576), pauses=(pauses, 0, 100), runs=(runs, 1, 1_000_000))
+    check(**{"threads times calls": (threads * calls, 1, most_calls), "seconds": (seconds, 1, 3600)})
+    make_folder(record)
     by, judged = Judge(), []
     for one in range(seed, seed + runs):
         is_own = own_process and hasattr(os, "fork") and threading.active_count() == 1
-        judged.append(judged_run(make, Run(threads, calls, keys, pauses, one, seconds), by, is_own))
-    return Verdict(*map(sum, zip(*judged)), str(by))
+        judged.append(judged_run(make, Run(threads, calls, keys, pauses, one, seconds, record), by, is_own))
+    verdict = Verdict(*map(sum, zip(*judged)), str(by))
+    if verdict.few():
+        warnings.warn(str(verdict), RuntimeWarning, stacklevel=2)  # (a test that passes may show no verdict)
+    return verdict
 
 
 def check(**ranges):
@@ -90,29 +104,42 @@ def check(**ranges):
             raise NoVerdict(f"{name} is {given}, and has to be {least} to {most}")
 
 
+def make_folder(record):
+    try:
+        if record is not None:
+            pathlib.Path(record).mkdir(parents=True, exist_ok=True)
+    except OSError:
+        raise NoVerdict(f"record is {record}, which is no folder and cannot be made one: name another") from None
+
+
 def judged_run(make, run, by, is_own):
-    """How many calls a run has, and how many of them overlapped a change of their key."""
-    trouble = run.in_child(make) if is_own else run.in_this(make)
-    run.read(trouble)
-    recording = run.text()
-    refused = by.refused(recording)
-    if trouble:
-        under_way = "".join(f"{line_of(it.thread, it)}\n" for it in run.pending)
-        said = f"{trouble}\nunder way:\n{under_way}up to there: {refused or 'some order explains the calls'}"
-        raise NotEnded(run.seed, said, recording, by)
-    if refused:
-        raise NotLinearizable(run.seed, refused, recording, by)
-    return len(run.rows), run.overlapped()
+    """How many calls a run has, and how many of them overlapped a change of their key. Each part is judged as it is made."""
+    __tracebackhide__ = True
+    calls = overlapped = 0
+    with contextlib.closing(run.in_child(make) if is_own else run.in_this(make)) as parts:
+        for part, trouble in enumerate(parts, 1):
+            run.read(trouble)
+            recording = run.text()
+            file = run.keep(part, recording)
+            met, refused = by.judged_up_to(recording) if run.trouble else by.judged(recording)
+            if run.trouble:
+                under_way = "".join(f"{line_of(it.thread, it)}\n" for it in run.pending)
+                said = f"{run.trouble}\nunder way:\n{under_way}up to there: {refused or 'some order explains the calls'}"
+                raise NotEnded(run.seed, said, recording, file, by)
+            if refused:
+                raise NotLinearizable(run.seed, refused, recording, file, by)
+            calls, overlapped = calls + len(run.rows), overlapped + met
+    return calls, overlapped
 
 
 def kept(recording, seed):
     """The file of a recording that failed, which the caller may hand on."""
-    path = pathlib.Path(tempfile.gettempdir(), f"listset-{os.getpid()}-{seed}.calls")
     try:
-        path.write_text(recording)
+        with tempfile.NamedTemporaryFile("w", prefix=f"listset-seed-{seed}-", suffix=".calls", delete=False) as file:
+            file.write(recording)
     except OSError:
         return "no file, as none could be written"
-    return path
+    return pathlib.Path(file.name)
 
 
 # ---- a run, recorded
@@ -120,43 +147,56 @@ def kept(recording, seed):
 
 class Run:
     """The calls of one set by their begins, `rows`, and those that did not end, `pending`, with the keys before and after, `opening`
-    and `left`. They are written down as the run goes, in memory that a process of its own shares with this one."""
+    and `left`; of a run in parts those of one part. They are written down as the run goes, in memory that a process of its own shares
+    with this one."""
 
     SLOT, COUNT = struct.Struct("=IIIBB"), struct.Struct("=I")  # of a call: begin, end or 0, key, word, reply; how far a thread is
-    WHY = 240  # bytes of what was raised
+    WHY, RAISED = 240, "a call of the set raised "  # the bytes of what was raised, and how they begin if a call under way raised it
 
-    def __init__(self, threads, calls, keys, pauses, seed, seconds):
+    def __init__(self, threads, calls, keys, pauses, seed, seconds, record):
         self.threads, self.calls, self.keys, self.pauses, self.seed, self.seconds = threads, calls, keys, pauses, seed, seconds
-        self.tickets, self.there = itertools.count(1), threading.Barrier(threads)
-        # what was raised; whether all is done; how far each thread is, and the looks; of each key whether the set had it; the calls
-        self.at_keys = self.WHY + 1 + (threads + 1) * self.COUNT.size
+        self.record, self.tickets, self.there = record, itertools.count(1), threading.Barrier(threads + 1)
+        # of each thread the most calls of a part, and the parts
+        self.most = calls if record is None else min(calls, PART // threads)
+        self.parts = -(-calls // self.most)
+        # what was raised; whether it goes on; how far each thread is, the looks, and the last moment of the parts before; of each key
+        # whether the set had it; the calls
+        self.at_keys = self.WHY + 1 + (threads + 2) * self.COUNT.size
         self.at_slots = self.at_keys + 2 * keys
-        self.slots = mmap.mmap(-1, self.at_slots + threads * calls * self.SLOT.size)
+        self.slots = mmap.mmap(-1, self.at_slots + threads * self.most * self.SLOT.size)
 
-    def count(self, thread, number):
-        self.COUNT.pack_into(self.slots, self.WHY + 1 + thread * self.COUNT.size, number)
+    def count(self, at, number):
+        self.COUNT.pack_into(self.slots, self.WHY + 1 + at * self.COUNT.size, number)
 
-    def fail(self, words, why):
+    def before(self):
+        return self.COUNT.unpack_from(self.slots, self.at_keys - self.COUNT.size)[0]
+
+    def fail(self, said):
         """Writes down what was raised; the first stays."""
         if not self.slots[0]:
-            said = f"{words}: {why}".encode()[: self.WHY]
+            said = said.encode()[: self.WHY]
             self.slots[: len(said)] = said
 
-    def is_ended(self):
-        return self.slots[self.WHY] == 1
+    @property
+    def at(self):
+        return self.slots[self.WHY]
+
+    @at.setter
+    def at(self, it):
+        self.slots[self.WHY] = it
 
     def make_and_call(self, make):
         """Makes a set and calls it, to the end."""
         words = "the set could not be made"
         try:
             made, words = make(), "a call of the set failed"
-            self.record(made)
+            self.call_from_threads(made)
         except Exception as why:
-            self.fail(words, why)
-        self.slots[self.WHY] = 1
+            self.fail(f"{words}: {why}")
+        self.at = ENDED
 
     def in_child(self, make):
-        """Has the run made in a process of its own; gives how it came to no end, if it did not."""
+        """Has the run made in a process of its own; gives, of each part in turn, how it came to no end, if it did not."""
         child, status = os.fork(), []
         if child == 0:
             try:
@@ -165,23 +205,41 @@ class Run:
             finally:
                 os._exit(0)
 
-        def is_done():
+        def has_ended():
             pid, found = os.waitpid(child, os.WNOHANG)
             return status.append(found) or True if pid else False
 
-        if not self.comes_to_end(is_done):
-            os.kill(child, signal.SIGKILL)
-            os.waitpid(child, 0)
-            return self.hung()
-        if os.WIFSIGNALED(status[0]):
-            return f"the set crashed: {signal.Signals(os.WTERMSIG(status[0])).name}"
-        return "" if self.is_ended() else f"the set ended its process with the status {os.WEXITSTATUS(status[0])}"
+        try:
+            for trouble in self.made(has_ended):
+                yield trouble or self.crash(status)
+        finally:
+            if not status:
+                os.kill(child, signal.SIGKILL)
+                os.waitpid(child, 0)
 
     def in_this(self, make):
         """The same in this process, where threads that hang stay."""
         caller = threading.Thread(target=self.make_and_call, args=(make,), daemon=True)
         caller.start()
-        return "" if self.comes_to_end(lambda: not caller.is_alive()) else self.hung()
+        try:
+            yield from self.made(lambda: not caller.is_alive())
+        finally:
+            self.at = STOPPING
+
+    def made(self, has_ended):
+        """Lets the parts be made; gives, of each in turn, whether it hung."""
+        for part in range(self.parts):
+            if part:
+                self.at = GOING
+            yield "" if self.comes_to_end(lambda: self.at == RESTING or has_ended()) else self.hung()
+
+    def crash(self, status):
+        """How the process of the run ended, if it was too soon."""
+        if not status or self.at == ENDED:
+            return ""
+        if os.WIFSIGNALED(status[0]):
+            return f"the set crashed: {signal.Signals(os.WTERMSIG(status[0])).name}"
+        return f"the set ended its process with the status {os.WEXITSTATUS(status[0])}"
 
     def hung(self):
         return f"the set hung: no call began or ended for {self.seconds} s"
@@ -202,66 +260,102 @@ class Run:
         """What changes as long as the run goes on."""
         return self.slots[self.WHY : self.at_keys]
 
-    def record(self, made):
+    def call_from_threads(self, made):
         contains = made.contains if hasattr(made, CONTAINS) else made.__contains__
         replies_of = made.add, made.remove, contains
         before = sys.getswitchinterval()
         self.look_up(contains, False)
         sys.setswitchinterval(1e-6)
-        started = [threading.Thread(target=self.call, args=(replies_of, i), daemon=True) for i in range(self.threads)]
+        started = [threading.Thread(target=self.call_in_parts, args=(replies_of, i), daemon=True) for i in range(self.threads)]
         try:
             for it in started:
                 it.start()
+            self.lead(contains)
             for it in started:
                 it.join()
         finally:
             sys.setswitchinterval(before)
-        if not self.slots[0]:
-            self.look_up(contains, True)
+
+    def lead(self, contains):
+        """Has the threads make each part, and rests after it until it has been read."""
+        try:
+            for part in range(self.parts):
+                if part and not self.goes_on():
+                    return
+                self.there.wait()  # none begins before all are there
+                self.there.wait()
+                self.look_up(contains, True)
+        except threading.BrokenBarrierError:
+            pass
+        finally:
+            self.there.abort()
+
+    def goes_on(self):
+        self.at = RESTING
+        while self.at == RESTING:
+            time.sleep(0.0005)
+        self.count(self.threads + 1, next(self.tickets))
+        self.slots[self.at_keys : self.at_keys + self.keys] = self.slots[self.at_keys + self.keys : self.at_slots]
+        return self.at == GOING
 
     def look_up(self, contains, is_left):
         for key in range(self.keys):
             self.slots[self.at_keys + is_left * self.keys + key] = bool(contains(key))
             self.count(self.threads, is_left * self.keys + key)
 
-    def call(self, replies_of, thread):
+    def call_in_parts(self, replies_of, thread):
         """The calls of one thread."""
         draw = random.Random(self.seed * 64 + thread)
-        self.there.wait()  # none begins before all are there
+        try:
+            for done in range(0, self.calls, self.most):
+                self.there.wait()
+                self.call(replies_of, thread, min(self.most, self.calls - done), draw)
+                self.there.wait()
+        except threading.BrokenBarrierError:
+            pass
+        except Exception as why:
+            self.fail(str(why) if isinstance(why, NoVerdict) else f"{self.RAISED}{type(why).__qualname__}: {why}")
+            self.there.abort()
+
+    def call(self, replies_of, thread, calls, draw):
         sys.settrace(pausing(self.pauses, random.Random(draw.random())) if self.pauses else None)
         try:
-            for at in range(thread * self.calls, (thread + 1) * self.calls):
+            for at in range(thread * self.most, thread * self.most + calls):
                 word, key, at_slot = draw.randrange(3), draw.randrange(self.keys), self.at_slots + at * self.SLOT.size
                 self.count(thread, at)
                 begin = next(self.tickets)  # (one step of the interpreter)
                 self.SLOT.pack_into(self.slots, at_slot, begin, 0, key, word, 0)
                 reply = replies_of[word](key)
                 self.SLOT.pack_into(self.slots, at_slot, begin, next(self.tickets), key, word, is_true(WORDS[word], reply))
-        except Exception as why:
-            self.fail("a call of the set failed", why)
         finally:
             sys.settrace(None)
 
     def read(self, trouble):
         """Takes in what was written down."""
-        if self.slots[0]:
-            raise NoVerdict(self.slots[: self.WHY].rstrip(b"\0").decode(errors="replace"))
-        self.trouble, self.rows, self.pending = trouble, [], []
+        why = self.slots[: self.WHY].rstrip(b"\0").decode(errors="replace")
+        if why and not why.startswith(self.RAISED):
+            raise NoVerdict(why)
+        self.trouble, self.rows, self.pending = why or trouble, [], []
         self.opening, self.left = ([key for key in range(self.keys) if self.slots[at + key]] for at in (self.at_keys, self.at_keys + self.keys))
-        for at in range(self.threads * self.calls):
+        before = self.before()  # (calls that began by then are of parts before)
+        for at in range(self.threads * self.most):
             begin, end, key, word, reply = self.SLOT.unpack_from(self.slots, self.at_slots + at * self.SLOT.size)
-            if begin:
-                (self.rows if end else self.pending).append(Row(begin, end, at // self.calls, WORDS[word], key, bool(reply)))
+            if begin > before:
+                (self.rows if end else self.pending).append(Row(begin, end, at // self.most, WORDS[word], key, bool(reply)))
         self.rows.sort()
 
-    def overlapped(self):
-        """How many calls overlapped a change of their key."""
-        open_of, met = collections.defaultdict(list), set()  # of each key the calls that have begun, while they may be open
-        for it in self.rows:
-            open_of[it.key] = beside = [other for other in open_of[it.key] if other.end > it.begin]
-            met.update(one.begin for other in beside for one, that in ((it, other), (other, it)) if that.reply and that.call != CONTAINS)
-            beside.append(it)
-        return len(met)
+    def keep(self, part, recording):
+        """The file that keeps a part, in the folder `record`; None without it. Parts of an earlier run go at the first."""
+        if self.record is None:
+            return None
+        name, folder = f"seed-{self.seed}-part-", pathlib.Path(self.record)
+        try:
+            for old in folder.glob(f"{name}*.calls") if part == 1 else ():
+                old.unlink()
+            (folder / f"{name}{part:06}.calls").write_text(recording)
+        except OSError:
+            raise NoVerdict(f"record is {self.record}, where no file can be written: name another folder") from None
+        return folder / f"{name}{part:06}.calls"
 
     def text(self):
         """The recording that `listset judge` reads. A thread whose quota is used goes on under another number."""
@@ -272,17 +366,8 @@ class Run:
                 number[it.thread], added[it.thread] = next(numbers), 0
             added[it.thread] += it.call == ADD and it.reply
             lines.append(line_of(number[it.thread], it))
-        left = self.removes_of_unknown(next(numbers)) if self.trouble else [f"key {key}" for key in self.left]
-        return "\n".join([*lines, *left, "end", ""])
-
-    def removes_of_unknown(self, first):
-        """Of each key that has calls or was there a remove that did not end, and so may have taken effect: so the key may be left or
-        not."""
-        all_calls = [*self.rows, *self.pending]
-        keys, last = sorted({*self.opening, *(it.key for it in all_calls)}), max((max(it[:2]) for it in all_calls), default=0)
-        if first + len(keys) > NUMBERS:
-            raise NoVerdict(f"{self.trouble}; what came before is judged only of {NUMBERS} keys and threads at most")
-        return [line_of(first + i, Row(last + 1 + i, 0, 0, REMOVE, key, False)) for i, key in enumerate(keys)]
+        rest = ["cut"] if self.trouble else [*(f"key {key}" for key in self.left), "end"]
+        return "\n".join([*lines, *rest, ""])
 
 
 def end_with_parent():
@@ -296,7 +381,7 @@ def line_of(number, it):
 
 def is_true(call, reply):
     if reply is None:
-        raise TypeError(f"{call} answered None, and has to answer True or False")
+        raise NoVerdict(f"{call} answered None, and has to answer True or False")
     return bool(reply)
 
 
@@ -330,15 +415,24 @@ class Judge:
     def __str__(self):
         return f"{self.name}, {self.proof}"
 
-    def refused(self, recording):
-        """What the judge says of a recording that no order explains, or None if one does."""
+    def judged(self, recording):
+        """How many calls of a recording overlapped a change of their key, and None; or 0, and what the judge says if no order explains
+        it."""
         status, said = self.ask(recording)
-        if status == 0 and said.startswith("ok "):
-            return None
+        met = OVERLAPPED.match(said)
+        if status == 0 and met:
+            return int(met[1]), None
         if status == 1 and said.startswith("not linearizable"):
-            return said
+            return 0, said
         first = said.partition("\n")[0] or "nothing"
-        raise NoVerdict(f"{self.name} gave no verdict, but said: {first}. Take a listset that has the word judge")
+        raise NoVerdict(f"{self.name} gave no verdict, but said: {first}. Take a newer listset")
+
+    def judged_up_to(self, recording):
+        """The same of a run that came to no end, of which an older judge knows nothing to say."""
+        try:
+            return self.judged(recording)
+        except NoVerdict as why:
+            return 0, str(why)
 
 
 def asked(said, recording):

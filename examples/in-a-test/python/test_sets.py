@@ -4,7 +4,9 @@ python3 -m unittest test_sets
 """
 
 import os
+import pathlib
 import signal
+import tempfile
 import threading
 import time
 import unittest
@@ -104,11 +106,11 @@ class FindsAll(MySet):
 class Stops(MySet):
     """Its thirtieth remove does not come back."""
 
-    removes, forever = 0, 1 << 20
+    removes, due, forever = 0, 30, 1 << 20
 
     def remove(self, key):
         self.removes += 1
-        if self.removes == 30:
+        if self.removes >= self.due:  # (two threads may count at once)
             self.last()
         return super().remove(key)
 
@@ -124,6 +126,10 @@ class Crashes(Stops):
         signal.raise_signal(signal.SIGSEGV)
 
 
+class CrashesLate(Crashes):
+    due = 10_000
+
+
 class FindsAllAndExits(Stops):
     def __contains__(self, key):
         return True
@@ -135,6 +141,11 @@ class FindsAllAndExits(Stops):
 class FailsToAdd(MySet):
     def add(self, key):
         raise MemoryError("no memory")
+
+
+class AnswersNone(MySet):
+    def add(self, key):
+        super().add(key)
 
 
 def cannot_be_made():
@@ -149,7 +160,8 @@ class Sets(unittest.TestCase):
         self.assertGreater(verdict.overlapped, 0)
 
     def test_a_thread_goes_on_past_its_quota(self):
-        verdict = listset_judge.judge(MySet, threads=1, calls=120_000, keys=1, pauses=0, runs=1)
+        with self.assertWarnsRegex(RuntimeWarning, "that is few"):
+            verdict = listset_judge.judge(MySet, threads=1, calls=120_000, keys=1, pauses=0, runs=1)
         self.assertEqual(verdict.overlapped, 0)
         self.assertIn("that is few", str(verdict))
 
@@ -190,11 +202,56 @@ class Sets(unittest.TestCase):
             self.assertTrue(found.exception.said.startswith(f"{how}\nunder way:\ncall "), found.exception)
             self.assertIn(f"\nup to there: {judged}", found.exception.said)
             self.assertEqual(found.exception.file.read_text(), found.exception.recording)
-            # (what was under way stands there too, beside a remove of each key)
-            self.assertGreater(found.exception.recording.count(" - - -\n"), found.exception.said.count(" - - -\n"))
+            # (what was under way stands there too)
+            self.assertEqual(found.exception.recording.count(" - - -\n"), found.exception.said.count(" - - -\n"))
+            self.assertTrue(found.exception.recording.endswith("\ncut\n"))
+
+    def test_a_crash_is_judged_whatever_the_keys(self):
+        with self.assertRaisesRegex(listset_judge.NotEnded, "up to there: some order explains the calls"):
+            listset_judge.judge(Crashes, keys=64)
+
+    def test_a_call_that_raises_is_judged_up_to_there(self):
+        for own_process in (True, False):
+            with self.assertRaises(listset_judge.NotEnded) as found:
+                listset_judge.judge(FailsToAdd, own_process=own_process, **FEW)
+            said = found.exception.said
+            self.assertTrue(said.startswith("a call of the set raised MemoryError: no memory\nunder way:\ncall "), said)
+            self.assertTrue(said.endswith("\nup to there: some order explains the calls"), said)
+
+    def test_each_recording_has_its_file(self):
+        files = set()
+        for _ in range(2):
+            with self.assertRaises(listset_judge.NotLinearizable) as refused:
+                listset_judge.judge(FindsAll, threads=1, calls=50, runs=1)
+            files.add(refused.exception.file)
+        self.assertEqual(len(files), 2)
 
     def test_in_this_process(self):
         listset_judge.judge(MySet, threads=2, calls=100, runs=2, own_process=False)
+
+    def test_a_long_run_is_kept_in_parts(self):
+        folder = pathlib.Path(tempfile.gettempdir(), "recorded")
+        for calls, own_process in ((15_500, False), (11_000, True)):
+            how = {"threads": 4, "calls": calls, "pauses": 0, "runs": 1, "own_process": own_process}
+            self.assertEqual(listset_judge.judge(MySet, **how, record=folder).calls, 4 * calls)
+        parts = [[it.split() for it in file.read_text().splitlines()] for file in sorted(folder.iterdir())]
+        opening, left, calls = ([[it[1] for it in part if it[0] == word] for part in parts] for word in ("opening", "key", "call"))
+        self.assertEqual([len(it) for it in calls], [20_000, 20_000, 4000])
+        self.assertEqual(opening, [[], *left[:-1]])
+
+    def test_a_long_run_ends_with_the_part_that_failed(self):
+        for make, raised, said, parts in (
+            (CrashesLate, listset_judge.NotEnded, "the set crashed: SIGSEGV\nunder way:\ncall ", 2),
+            (FindsAll, listset_judge.NotLinearizable, "not linearizable", 1),
+        ):
+            with self.subTest(said), tempfile.TemporaryDirectory() as folder:
+                with self.assertRaises(raised) as found:
+                    listset_judge.judge(make, threads=2, calls=20_000, pauses=0, record=folder)
+                self.assertTrue(found.exception.said.startswith(said), found.exception)
+                names = [f"seed-1-part-{part:06}.calls" for part in range(1, parts + 1)]
+                self.assertEqual(sorted(os.listdir(folder)), names)
+                self.assertEqual(found.exception.file, pathlib.Path(folder, names[-1]))
+                self.assertEqual(found.exception.file.read_text(), found.exception.recording)
 
     def test_what_gives_no_verdict_is_one_sentence(self):
         for make, how, said in (
@@ -205,9 +262,10 @@ class Sets(unittest.TestCase):
             (MySet, {"pauses": 101}, "pauses is 101, and has to be 0 to 100"),
             (MySet, {"runs": 0}, "runs is 0, and has to be 1 to 1000000"),
             (MySet, {"seconds": 0}, "seconds is 0, and has to be 1 to 3600"),
+            (MySet, {"calls": 500_000_001, "record": "."}, "threads times calls is 1000000002, and has to be 1 to 1000000000"),
+            (MySet, {"record": "/dev/null/x"}, "record is /dev/null/x, which is no folder and cannot be made one: name another"),
             (cannot_be_made, {}, "the set could not be made: no room"),
-            (FailsToAdd, {}, "a call of the set failed: no memory"),
-            (set, {"keys": 1}, "a call of the set failed: "),
+            (AnswersNone, {"calls": 99}, "add answered None, and has to answer True or False"),
             (object, {}, "a call of the set failed: 'object' object has no attribute"),
         ):
             with self.subTest(said), self.assertRaises(listset_judge.NoVerdict) as found:

@@ -92,7 +92,7 @@ pub fn draft(draft: impl AsRef<[u8]>) -> Result<String, Wrong> {
     of_text(calls::listset_draft, draft.as_ref())
 }
 
-/// The picture of a schedule or a report.
+/// The picture of a schedule, a report or recorded calls.
 pub fn show(text: impl AsRef<[u8]>, window: Window) -> Result<String, Wrong> {
     of_two_texts(calls::listset_show, text.as_ref(), options(window).as_bytes())
 }

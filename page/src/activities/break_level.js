@@ -1,7 +1,7 @@
 // Break, a level: a story and three hints, the verdict on the schedule, and once the list is broken the question what it lacks. Only
-// when that is answered it is told where the whole list departs. A break that was shown, and not found, does not count.
+// when that is answered the page says where the whole list does something else. A break that was shown, and not found, does not count.
 import { CLASSICS, LACKING } from "../../made/classics.js";
-import { addressOfLevel, fillBreaks, numberOf, openLevel, ORDER, titleOfLevel, wordOf } from "./break_map.js";
+import { addressOfLevel, fillBreaks, numberOf, openLevel, ORDER, titleOfLevel, whyWrong, wordOf } from "./break_map.js";
 import { brokenLines, isNamed, isShownBreak, keepBrokenLine, keepNamed, noteShown } from "./broken_kept.js";
 import { beginJudging } from "./judging.js";
 import { BREAK_LEVELS, GRADES } from "../data/levels.js";
@@ -134,7 +134,7 @@ function drawWin({ lacks, total, calls }) {
   const { shortest } = BREAK_LEVELS[lacks];
   const own = `${total} events, ${calls.length} ${calls.length === 1 ? "call" : "calls"}`;
   const isShorter = shortest !== null && total < shortest[0];
-  const best = shortest === null ? "" : isShorter ? `Shorter than the known one, of ${shortest[0]}.` : `The known one has ${shortest[0]}.`;
+  const best = shortest === null ? "" : isShorter ? `That is shorter than the shortest one known, of ${shortest[0]} events.` : `The shortest one known has ${shortest[0]} events.`;
   byId("break-count").innerHTML = `You did it with <b>${own}</b>. ${best}`;
   const next = ORDER[ORDER.indexOf(lacks) + 1];
   byId("break-next").hidden = next === undefined;
@@ -146,7 +146,7 @@ function drawWin({ lacks, total, calls }) {
 // What it lacks is asked, of the checks of its list.
 function drawAsk(name) {
   const kin = ORDER.filter((other) => LACKING[other] === LACKING[name]);
-  const words = [...new Set([...kin.map(wordOf), ...(BREAK_LEVELS[name].others ?? [])])].sort();
+  const words = [...new Set([...kin.map(wordOf), ...Object.keys(BREAK_LEVELS[name].others ?? {})])].sort();
   const isTold = isNamed(name);
   const button = (word) => {
     const kind = isTold ? "right" : level.wrong.has(word) ? "wrong" : "";
@@ -163,7 +163,7 @@ function answerAsk(word) {
   if (word === wordOf(name)) keepNamed(name);
   else level.wrong.add(word);
   drawBreaking(page.trace, page.verdict);
-  if (!isNamed(name)) byId("break-told").textContent = "No, it does that. Look for the line of the code at which it does something else.";
+  if (!isNamed(name)) byId("break-told").textContent = whyWrong(name, word);
 }
 
 // ---- what the buttons do
@@ -189,5 +189,6 @@ export function listenToBreaking() {
   byId("break-hint").onclick = () => {
     level.hints = Math.min(level.hints + 1, BREAK_LEVELS[page.lacks].hints.length);
     drawLevel(page.trace, page.verdict);
+    byId("break-hints").scrollIntoView({ block: "nearest" });
   };
 }

@@ -18,6 +18,12 @@ export const numberOf = (name) => ORDER.indexOf(name) + 1;
 export const addressOfLevel = (name) => `#break=${numberOf(name)}`;
 export const wordOf = (name) => BREAK_LEVELS[name].lacks ?? LACKS_IN_WORDS[name];
 
+// What a wrong answer to the question what a list lacks is answered.
+export function whyWrong(name, word) {
+  const why = BREAK_LEVELS[name].others?.[word] ?? "that is not so in this list";
+  return `No: ${why}. Look for the line of the code at which this list does something else.`;
+}
+
 // What stands above a level: its number and grade; of the last one, that it is no task.
 export function titleOfLevel(name) {
   const grade = GRADES[BREAK_LEVELS[name].grade];
@@ -38,7 +44,7 @@ export function drawBreakMap() {
   const group = (title, names) => `<h2>${title}</h2>${tag("ol", { class: "cards" }, ...names.map(card))}`;
   const groups = GRADES.map((title, grade) => group(title, ORDER.filter((name) => BREAK_LEVELS[name].grade === grade)));
   const rest = group("To think about", ORDER.filter((name) => !counted.includes(name)));
-  byId("map-break").innerHTML = `<h1>Break a list</h1><p class="lead">Each of these lists lacks one check of the whole one. Move the threads
+  byId("map-break").innerHTML = `<h1>Break a list</h1><p class="lead">Each of these lists lacks one check that the whole list makes. Move the threads
     until no order of the calls explains what they answered. Then say what is missing.</p>${groups.join("")}${rest}`;
 }
 

@@ -6,8 +6,8 @@ import { byId, redraw } from "../page/dom.js";
 import { toggleLecture } from "../page/keys.js";
 import { askNow, page } from "../page/now.js";
 import { goToPlace, where } from "../page/places.js";
-import { copied, keepAddressOf } from "../page/visit.js";
-import { addressOf, readAddress } from "../run/address.js";
+import { copied, keepAddressOf, linkTo } from "../page/visit.js";
+import { addressOf, readAddress, warningOf } from "../run/address.js";
 import { chipOf, escaped, tag } from "../run/markup.js";
 import { momentAt, sentenceOf } from "../run/sentences.js";
 import { ProgramFault, programText, readProgram, Sides } from "../run/sides.js";
@@ -142,9 +142,9 @@ function openSides({ sides, calls, turns = "", quota = "4", opening = "" }) {
 }
 
 async function copySides() {
-  const link = location.href.replace(/#.*$/, "") + addressOfSides();
+  const link = linkTo(addressOfSides());
   const isCopied = await copied(link);
-  sidesPart("told").innerHTML = `${isCopied ? "The link is copied" : "Copy this link"}: <code>${escaped(link)}</code>`;
+  sidesPart("told").innerHTML = `${isCopied ? "The link is copied" : "Copy this link"}: <code>${escaped(link)}</code>${warningOf(link)}`;
 }
 
 export function listenToSides() {

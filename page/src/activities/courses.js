@@ -7,15 +7,16 @@ import { triedCourse } from "../course/lesson.js";
 import { saveText } from "../page/files.js";
 import { askNow, page } from "../page/now.js";
 import { goToPlace } from "../page/places.js";
-import { copied } from "../page/visit.js";
-import { AddressFault } from "../run/address.js";
+import { copied, linkTo } from "../page/visit.js";
+import { AddressFault, warningOf } from "../run/address.js";
+import { counted } from "../run/markup.js";
 
 // Takes the text of a course: its lessons are shown, or its faults by their lines. Whether it is one.
 function takeCourseText(panel, text) {
   const course = triedCourse(askNow, text);
   const { faults, name, lessons } = course;
   const lines = faults.map(({ line, fault }) => `line ${line}: ${fault}`);
-  lessonPart("faults").textContent = lines.length > 0 ? lines.join("\n") : `${name}: ${lessons.length} lessons, all good.`;
+  lessonPart("faults").textContent = lines.length > 0 ? lines.join("\n") : `${name}: ${counted(lessons.length, "lesson")}, all good.`;
   if (faults.length > 0) return false;
   panel.takeCourse(course);
   drawLearnMap();
@@ -45,13 +46,13 @@ async function copyCourseLink(panel) {
   const address = await courseAddress(panel.course.text);
   const tooLong = "This course is too long for a link: save it, and hand out the file.";
   if (address === null) return (lessonPart("faults").textContent = tooLong);
-  const link = location.href.replace(/#.*$/, "") + address;
+  const link = linkTo(address);
   const box = lessonPart("link-text");
   box.value = link;
   box.hidden = false;
   box.select();
   const isCopied = await copied(link);
-  lessonPart("faults").textContent = `${isCopied ? "The link is copied" : "Copy the link below"}: it opens "${panel.course.name}".`;
+  lessonPart("faults").textContent = `${isCopied ? "The link is copied" : "Copy the link below"}: it opens "${panel.course.name}".${warningOf(link)}`;
 }
 
 export function listenToCourses(panel) {

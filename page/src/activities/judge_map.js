@@ -1,5 +1,7 @@
-// Judge: choose a run, an example by its question or any number, and say what each call answers and where it takes effect.
+// Judge: choose a run, an example by its question or any number, and say what each call answers and where it takes effect; or let the
+// judge decide on calls that were recorded.
 import { JUDGED } from "./judging.js";
+import { drawRecordedBox, listenToRecorded } from "./recorded.js";
 import { listenToSeedForm, questionsByList, seedForm } from "./watch.js";
 import { byId } from "../page/dom.js";
 import { keptUnder } from "../page/kept.js";
@@ -9,7 +11,8 @@ export function drawJudgeMap() {
   const isDone = (example) => judged.some((run) => run.startsWith(`${example} `));
   byId("map-judge").innerHTML = `<h1>Judge a run yourself</h1><p class="lead">You see a run without its replies. Say what each call
     answers, and put a point where it takes effect. The proved <code>check</code> judges your order: any order that explains the run
-    is right.</p><h2>A run of its own for everyone</h2>${seedForm("judge-seed", "Judge a run")}<h2>Or one that turns on something</h2>
+    is right.</p><h2>A run by its number</h2>${seedForm("judge-seed", "Judge a run")}${drawRecordedBox()}<h2>Or one that turns on something</h2>
     ${questionsByList("&judge", isDone)}`;
   listenToSeedForm("judge-seed", "&judge");
+  listenToRecorded();
 }

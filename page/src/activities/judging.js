@@ -97,6 +97,7 @@ class Judging {
     if (this.verdict.isRight && this.exercise.isWhole) this.keep();
     this.answer.isNone = false;
     this.draw();
+    judgePart("verdict").scrollIntoView({ block: "nearest" });
   }
 
   // What is handed in of a run that was judged right: it goes with the solutions of the lessons.

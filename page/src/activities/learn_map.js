@@ -1,4 +1,5 @@
 // Learn: the lessons of a course as levels with their progress; the strip of levels above the lesson that is open.
+import { BOOK_NAME } from "../../made/book.js";
 import { LISTS } from "../../made/rows.js";
 import { learning } from "./kept_lessons.js";
 import { byId } from "../page/dom.js";
@@ -25,10 +26,18 @@ export function drawLearnMap() {
     tag("h1", {}, escaped(course.name)),
     tag("p", { class: "lead" }, lead),
     progressOf(course),
-    tag("p", { class: "line" }, linkToNext(course)),
+    tag("p", { class: "line" }, linkToNext(course), course.name === BOOK_NAME ? "" : BACK),
     tag("ol", { class: "cards" }, ...course.lessons.map(cardOf)),
   ];
   box.querySelector(".drawn").innerHTML = parts.join("");
+  if (course.name !== BOOK_NAME) byId("lesson-book").onclick = takeBook;
+}
+
+const BACK = tag("button", { id: "lesson-book" }, "Back to the twelve lessons of the book");
+
+function takeBook() {
+  panel().takeBook();
+  drawLearnMap();
 }
 
 function progressOf(course) {
@@ -72,8 +81,8 @@ export function drawStrip() {
 
 // Opens a lesson: where it was left, else at its start.
 export function openLesson(name, text, event) {
-  const lesson = panel().course.lessons.find((one) => one.name === name);
-  if (lesson === undefined) throw new AddressFault(`this course has no lesson "${name}"`);
+  const lesson = panel().lessonNamed(name);
+  if (lesson === undefined) throw new AddressFault(`no course that is kept here has a lesson "${name}"`);
   panel().choose(lesson);
   if (text !== null) openText(text, event, panel().ownWorkOf(text) ?? works.newName(panel().workName()), "", lesson.lacks);
   else if (panel().ownWork() !== null) openWork(panel().ownWork());

@@ -14,7 +14,7 @@ import { isText, keepWork, keptUnder, works } from "../page/kept.js";
 import { askNow, on, page } from "../page/now.js";
 import { copied } from "../page/visit.js";
 import { forgetBefore, openText, openWork } from "../page/work.js";
-import { escaped, tag } from "../run/markup.js";
+import { counted, escaped, tag } from "../run/markup.js";
 import { eventsAsked, scheduleOfTrace } from "../run/schedule_text.js";
 
 class LessonsOnPage {
@@ -59,6 +59,23 @@ class LessonsOnPage {
     lessonPart("course").replaceChildren(...names.map((name) => new Option(name, name)));
     lessonPart("course").value = course.name;
     this.choose(course.lessons.find(({ name }) => name === this.own.chosen) ?? course.lessons[0]);
+  }
+
+  takeBook() {
+    this.takeCourse(triedCourse(askNow, BOOK));
+  }
+
+  // The lesson of this name: of the course that is open, else of the book, else of a course that is kept, which is opened.
+  lessonNamed(name) {
+    const find = ({ lessons }) => lessons.find((lesson) => lesson.name === name);
+    if (find(this.course) !== undefined) return find(this.course);
+    for (const text of [BOOK, ...this.kept.courses.values()]) {
+      const course = triedCourse(askNow, text);
+      if (course.faults.length > 0 || find(course) === undefined) continue;
+      this.takeCourse(course);
+      return find(course);
+    }
+    return undefined;
   }
 
   choose(lesson) {
@@ -232,8 +249,8 @@ class LessonsOnPage {
     box.hidden = false;
     box.focus();
     box.select();
-    const solved = `${solutions.length} solution${solutions.length === 1 ? "" : "s"}`;
-    const count = `${solved}, ${orders.length} judged orders and ${broken.length} broken lists`;
+    const more = `${counted(orders.length, "judged order")} and ${counted(broken.length, "broken list")}`;
+    const count = `${counted(solutions.length, "solution")}, ${more}`;
     const isCopied = await copied(box.value);
     lessonPart("told").textContent = isCopied ? `The text with ${count} is copied.` : `Copy this text: it has ${count}.`;
   }

@@ -8,6 +8,7 @@ import { beginJudging } from "./judging.js";
 import { learning } from "./kept_lessons.js";
 import { drawLearnMap, drawStrip, openLesson, showTaskOfLearn } from "./learn_map.js";
 import { drawReadMap } from "./read.js";
+import { showRecorded } from "./recorded.js";
 import { drawWatchMap, FIRST, openSeed, seedAddress, showTaskOfWatch } from "./watch.js";
 import { drawCode } from "../draw/code_column.js";
 import { placeMoves } from "../page/controls.js";
@@ -91,6 +92,13 @@ function openSidesOfAddress(sides) {
   return openCompare(sides);
 }
 
+// Recorded calls that were opened as a file are judged at the map of that activity.
+export function openRecorded(text) {
+  history.pushState(null, "", "#judge");
+  showMap("judge");
+  showRecorded(text);
+}
+
 // A run is opened from a map: below it the questions stand again.
 function leaveMapOfRuns() {
   if (!isAtMap()) return;
@@ -153,7 +161,8 @@ function firstVisit() {
   pickExample(FIRST.example, isMoved ? page.count : FIRST.from);
   if (isMoved) return;
   if (isTold || wantsLessMotion()) goTo(FIRST.to);
-  else startPlay(FIRST.to);
+  else startPlay(FIRST.to, FIRST.says);
+  if (!isTold) tell(page.count === FIRST.to ? FIRST.says.there : FIRST.says.before);
 }
 
 // What the address names; else the reader's last work; else an example.
@@ -167,7 +176,7 @@ export async function openFirst() {
   if (!isNamed && last !== undefined && page.engine !== null) openWork(last);
   else if (!isNamed) firstVisit();
   else bringBack();
-  if (!isNamed) tell(said);
+  if (!isNamed && said !== "") tell(said);
   forgetBefore();
 }
 

@@ -2,10 +2,11 @@
 import { byId } from "../page/dom.js";
 import { escaped, tag } from "../run/markup.js";
 
-const PAGES = [
+export const PAGES = [
   ["how-it-works.html", "How it works", "The five lists, from one lock to none, each with the runs that show why."],
   ["classic.html", "The examples", "Eighteen runs with their question, what they turn on, and what goes wrong without it."],
   ["tables.html", "The tables", "Each list row by row: what a step reads, writes, and where it goes on."],
+  ["tables.html#progress", "Progress: blocking, lock-free, wait-free", "Which calls of each list may have to wait, and within how many steps a call ends."],
 ];
 const TERMS = {
   event: "One step of one thread: it reads or writes one word, or begins a call.",

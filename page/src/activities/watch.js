@@ -12,7 +12,15 @@ import { anotherSeed, partsOfSeed, scheduleOfSeed, seedOf } from "../run/seed.js
 const seeds = { shown: null };
 
 // The first example, and the events that a first visit plays: as long as one looks at a picture, and then it waits for the reader.
-export const FIRST = { example: "marked-in-chain", from: 15, to: 20 };
+export const FIRST = {
+  example: "marked-in-chain",
+  from: 15,
+  to: 20,
+  says: {
+    before: "It plays up to event 20, at which the question arises.",
+    there: "The play stops here, since the question is about this moment. It is your turn: press Step, or go another way.",
+  },
+};
 
 const kindsOfExamples = () => {
   const kinds = {};

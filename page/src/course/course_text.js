@@ -24,6 +24,15 @@ const LESSON_WORDS = {
 };
 const WORDS = Object.keys(LESSON_WORDS);
 
+// The lines of a text, without the spaces that all but the first one begin with: a course that was copied out of a page is indented.
+function withoutIndent(text) {
+  const lines = text.replace(/^\ufeff/, "").split("\n").map((line) => line.replaceAll("\t", "  ").trimEnd());
+  const first = lines.findIndex((line) => line !== "");
+  const indents = lines.filter((line, index) => index > first && line !== "").map((line) => line.search(/\S/));
+  const most = Math.min(...indents);
+  return lines.map((line, index) => (index === first ? line.trimStart() : line.slice(Math.min(most, line.search(/\S|$/)))));
+}
+
 // The lines of a course, one after another: its name, the parts of each lesson by their words, and the faults.
 class CourseReader {
   constructor(text) {
@@ -31,8 +40,7 @@ class CourseReader {
     this.name = "";
     this.lessons = [];
     this.block = null; // the part to which lines belong that begin with two spaces
-    const given = text.replace(/^\ufeff/, "").split("\n");
-    const lines = given.map((line, index) => ({ line: line.replaceAll("\t", "  ").trimEnd(), number: index + 1 }));
+    const lines = withoutIndent(text).map((line, index) => ({ line, number: index + 1 }));
     const [title, ...rest] = lines.filter(({ line }) => line !== "" && !line.startsWith("#"));
     if (title?.line !== COURSE_TITLE) return this.fault(title?.number ?? 1, `"${COURSE_TITLE}" is due here`);
     rest.forEach(({ line, number }) => this.take(line, number));

@@ -13,12 +13,15 @@ export const BREAK_LEVELS = {
       "Stop t0 just before it writes pred.next. Let t1 do its whole add. Then let t0 end.",
     ],
     lacks: "It goes on although another thread has the lock.",
-    others: ["It gives the lock back before it writes the link.", "It writes the link of pred before that of its own node."],
+    others: {
+      "It releases the lock before it writes the link.": "it releases the lock only after that",
+      "It writes the link of pred before that of its own node.": "it writes the link of its own node first",
+    },
     shortest: [20, 2],
   },
   "mark-in-remove": {
     grade: 0,
-    story: "Two threads take out one key. One of them should be told that it came too late.",
+    story: "Two threads take out one key. One of them should answer that it came too late.",
     hints: [
       "Two removes of the same key, 3.",
       "Let both threads find the node of 3 before either of them marks it.",
@@ -151,7 +154,7 @@ export const BREAK_LEVELS = {
 // What a list lacks, in words, where the level has no words of its own.
 export const LACKS_IN_WORDS = {
   "second-lock": "A remove locks pred alone, and not the node that it takes out.",
-  "hand-over-hand": "A walk gives one lock back before it has the next.",
+  "hand-over-hand": "A walk releases one lock before it has the next.",
   "second-walk": "After the locks it does not walk again: pred may be out of the list.",
   "same-node": "The second walk looks for the key of pred, and not for the node itself.",
   "marks-in-validation": "The validation does not look at the marks.",

@@ -2,7 +2,7 @@
 // each line stand the threads that make it next. All of it follows from the rows of the table at which the threads stand.
 import { LISTS } from "../../made/rows.js";
 import { BOOK_CODE, IDEAS } from "../data/book_code.js";
-import { chipOf, escaped, tag } from "../run/markup.js";
+import { chipOf, colourOf, escaped, tag } from "../run/markup.js";
 
 const KEYWORDS = /\b(while|if|else|return|loop|until|unlock|lock|find|validate|CAS|mark|new|add|remove|contains|ceiling)\b/g;
 
@@ -13,6 +13,17 @@ function linesFor(kind, operations) {
 }
 
 const operationsOf = (trace) => [...new Set(trace.calls.map(({ operation }) => operation))];
+
+const LETTERS = 7; // that stand left of a line, the edge of a chip for one more each
+
+// The chips of the threads at a line: in full, or their numbers alone, or the first of them and how many more.
+export function drawWho(threads) {
+  const numbers = threads.map(String);
+  const cut = numbers.map((_, at) => [...numbers.slice(0, -1 - at), `+${at + 1}`]);
+  const lettersOf = (texts) => texts.reduce((sum, text) => sum + text.length + 1, 0);
+  const texts = [numbers.map((number) => `t${number}`), numbers, ...cut].find((form) => lettersOf(form) <= LETTERS);
+  return texts.map((text, at) => tag("span", { class: text.startsWith("+") ? "chip" : `chip ${colourOf(threads[at])}` }, text)).join("");
+}
 
 function drawLine(line, number, { made, next }) {
   const { text, rows = [] } = line;
@@ -26,7 +37,7 @@ function drawLine(line, number, { made, next }) {
   return tag(
     "li",
     { class: kind.filter((word) => word !== "").join(" "), ...(rows.length > 0 ? { title: `row ${rows.join(", ")} of the table` } : {}) },
-    tag("span", { class: "who", "aria-hidden": "true" }, threads.slice(0, 3).map(chipOf).join("")),
+    tag("span", { class: "who", "aria-hidden": "true" }, drawWho(threads)),
     tag("code", { style: `padding-left:${depth * 0.45}em` }, words, told),
   );
 }

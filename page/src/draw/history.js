@@ -5,6 +5,7 @@ import { contentsIn } from "../run/state.js";
 export const HISTORY_LEFT = 50;
 const HISTORY_RIGHT = 16;
 const LEAST_STEP = 7; // pixels of one event
+const BEHIND = 7; // pixels of a label behind the end of its bar, and so behind the line of the event
 
 // The events that are drawn: all where there is room for them, else a window that moves by thirds.
 function windowOf(total, count, room) {
@@ -72,18 +73,21 @@ function drawBar(call, scale) {
   );
 }
 
-// The call and its reply, left of the point or right of it, where there is room; where the rest of the bar is hidden, over its end.
+// The call and its reply, left of the point or right of it, where there is room; where the rest of the bar is hidden, behind its end.
 function drawBarText(call, scale, left, right, y) {
   const isTold = call.reply !== null && call.ended <= scale.now;
   const text = `${callText(call)}${isTold ? ` ${call.reply}` : ""}`;
   const wide = 8 * text.length;
   const point = call.at === null || !isShown(call, scale) ? -99 : scale.x(call.at) - left;
   const start = point > wide + 14 || point < -8 ? 6 : point + 13;
-  const room = scale.now < (call.ended ?? Infinity) ? scale.edge - left : right - left;
-  if (room <= wide + start) return drawShortText(call, scale, left, room, y, isTold);
+  const isCut = scale.now < (call.ended ?? Infinity);
+  const isInside = right - left > wide + start;
+  if (!isInside && !(isCut && scale.edge - right > wide + BEHIND)) {
+    return drawShortText(call, scale, left, (isCut ? scale.edge : right) - left, y, isTold);
+  }
   const done = call.ended !== null && call.ended <= scale.count;
   const reply = isTold ? tag("tspan", { class: done ? "reply" : "reply later" }, ` ${call.reply}`) : "";
-  return tag("text", { x: left + start, y: y + 5 }, callText(call), reply);
+  return tag("text", { x: isInside ? left + start : right + BEHIND, y: y + 5 }, callText(call), reply);
 }
 
 // Where a bar has no room for its call, a short form above it: +5, -5, 5? and its reply by one letter; nothing where that has none.
@@ -142,7 +146,7 @@ export function drawCalls(trace, scale) {
   const begun = shown.filter((call) => call.begun <= scale.count);
   const words = begun.length === 0 ? "no call has begun" : begun.slice(-20).map((call) => callInWords(call, scale.now)).join("; ");
   const frame = { width, height, role: "img", "aria-label": `the history of the calls: ${words}` };
-  return tag("svg", frame, ...lanes, ...bars, ...points, drawCursor(scale, height));
+  return tag("svg", frame, ...lanes, drawCursor(scale, height), ...bars, ...points);
 }
 
 function drawContent(part, scale) {
@@ -177,8 +181,8 @@ export function drawContents(trace, scale) {
   const now = told.findLast((part) => part.from <= Math.max(scale.count, scale.first));
   const x = Math.min(Math.max(scale.x(scale.count), HISTORY_LEFT + 12), scale.width - 44);
   const number = scale.count > 0 ? label({ class: "number", x, y: 42 }, `event ${scale.count}`) : "";
-  const name = label({ class: "name", x: 6, y: 17 }, trace.lacks === null ? "set" : "told");
-  const what = trace.lacks === null ? "the set" : "what the calls tell of the set";
+  const name = label({ class: "name", x: 6, y: 17 }, "set");
+  const what = trace.lacks === null ? "the set" : "the set by the points of the calls";
   const words = `${what} after event ${scale.count}: {${now.keys.slice(0, 40).join(", ")}}`;
   const frame = { width: scale.width, height: 50, role: "img", "aria-label": words };
   return tag("svg", frame, name, ...parts, drawCursor(scale, 24), number, drawWindow(scale, trace.total, x));

@@ -7,6 +7,7 @@ const JUDGE_LEFT = 50;
 const JUDGE_RIGHT = 20;
 const JUDGE_LANE = 54;
 const SLOT_WIDTH = 60; // of the words of a point
+const SIGN = 7.8; // pixels of a letter above a bar
 
 // Where a moment stands, and a thread's lane.
 export function judgeScale({ last, threads }, width) {
@@ -23,19 +24,52 @@ export function judgeScale({ last, threads }, width) {
 
 const momentInWords = (at) => (Number.isInteger(at) ? `at ${at}` : `after ${Math.floor(at)}`);
 
-function drawJudgedLane(scale, thread) {
-  const y = scale.y(thread);
+function drawJudgedLane(scale, place, thread = place) {
+  const y = scale.y(place);
   const badge = tag("rect", { x: 2, y: y - 10, width: 38, height: 20, rx: 4 }) + label({ x: 21, y: y + 5 }, `t${thread}`);
   const lane = { class: "lane", x1: JUDGE_LEFT - 6, x2: scale.width - JUDGE_RIGHT, y1: y, y2: y };
   return tag("line", lane) + tag("g", { class: `badge ${colourOf(thread)}` }, badge);
 }
 
-function drawJudgedCall(call, { answer, exercise, verdict, scale }) {
+const leftOf = (call, scale) => scale.x(call.begun) - scale.step / 2;
+
+// The call and its reply above a bar: in words if the bar is as wide, else short, up to the next bar of the thread or, if that is too
+// near, from what is written before up to the end of the bar; or else without the reply.
+function placedLabel(call, reply, { left, right, next, taken }) {
+  const short = SHORT[call.operation](call.key);
+  const texts = [`${callText(call)} ${reply}`, `${short} ${SHORT_REPLY[reply] ?? reply}`, short];
+  for (const text of texts.slice(SIGN * texts[0].length > right - left ? 1 : 0)) {
+    const wide = SIGN * text.length;
+    if (left + 2 + wide <= next) return { text, x: left + 2 };
+    if (right - wide >= taken) return { text, x: right - wide };
+  }
+  return { text: short, x: left + 2 };
+}
+
+// Of each call where its label stands, those of a thread one after the other.
+function labelsOf(calls, { answer, exercise, scale }) {
+  const labels = new Map();
+  const taken = {};
+  for (const call of calls) {
+    const next = calls.find((other) => other.thread === call.thread && other.begun > call.begun);
+    const left = leftOf(call, scale);
+    const right = scale.x(lastMoment(exercise, call)) + scale.step / 2;
+    const free = { left, right, next: next === undefined ? scale.width : leftOf(next, scale), taken: taken[call.thread] ?? 0 };
+    const placed = placedLabel(call, saidOf(call, answer), free);
+    taken[call.thread] = placed.x + SIGN * placed.text.length;
+    labels.set(call.id, placed);
+  }
+  return labels;
+}
+
+const saidOf = (call, answer) => (call.ended === null ? "(open)" : (answer.replyOf(call) ?? "?"));
+
+function drawJudgedCall(call, { answer, exercise, verdict, scale }, { text, x }) {
   const y = scale.y(call.thread);
-  const left = scale.x(call.begun) - scale.step / 2;
+  const left = leftOf(call, scale);
   const right = scale.x(lastMoment(exercise, call)) + scale.step / 2;
   const point = answer.points.get(call.id);
-  const reply = call.ended === null ? "(open)" : (answer.replyOf(call) ?? "?");
+  const reply = saidOf(call, answer);
   const isClash = verdict?.clash === call.id;
   const where = point === undefined ? "not placed yet" : momentInWords(point.at);
   const slider = {
@@ -49,11 +83,33 @@ function drawJudgedCall(call, { answer, exercise, verdict, scale }) {
     "aria-valuetext": `${where}${isClash ? ", and clashes there" : ""}`,
     class: `bar own ${colourOf(call.thread)}${isClash ? " clash" : ""}${call.ended === null ? " open" : ""}`,
   };
-  const bar = tag("rect", { x: left, y: y - 15, width: Math.max(right - left, 12), height: 30, rx: 4 });
-  const isNarrow = 8 * (callText(call).length + reply.length + 1) > right - left;
-  const text = isNarrow ? `${SHORT[call.operation](call.key)} ${SHORT_REPLY[reply] ?? reply}` : `${callText(call)} ${reply}`;
-  const name = label({ class: "call", x: left + 2, y: y - 19 }, text);
-  return tag("g", slider, bar, name, point === undefined ? "" : drawOwnPoint(call, point.at, y, scale));
+  const bar = drawJudgedBar(left, right, y, { text, x });
+  return tag("g", slider, bar, point === undefined ? "" : drawOwnPoint(call, point.at, y, scale));
+}
+
+const drawJudgedBar = (left, right, y, { text, x }) =>
+  tag("rect", { x: left, y: y - 15, width: Math.max(right - left, 12), height: 30, rx: 4 }) +
+  label({ class: "call", x, y: y - 19 }, text);
+
+// Recorded calls as bars, each thread's in a lane and their moments one after the other: a clock may leave any room between two.
+export function drawRecorded(calls, width) {
+  const inOrder = (numbers) => [...new Set(numbers)].sort((one, other) => one - other);
+  const threads = inOrder(calls.map(({ thread }) => thread));
+  const moments = inOrder(calls.flatMap(({ begun, ended }) => (ended === null ? [begun] : [begun, ended])));
+  const momentOf = (at) => (at === null ? null : moments.indexOf(at) + 1);
+  const placed = calls.map((call) => ({ ...call, begun: momentOf(call.begun), ended: momentOf(call.ended) }));
+  const exercise = { calls: placed, last: moments.length + 1 };
+  const scale = judgeScale({ last: exercise.last, threads: threads.length }, width);
+  const answer = { replyOf: ({ reply }) => reply };
+  const labels = labelsOf(placed, { answer, exercise, scale });
+  const bars = placed.map((call) => {
+    const right = scale.x(lastMoment(exercise, call)) + scale.step / 2;
+    const bar = drawJudgedBar(leftOf(call, scale), right, scale.y(threads.indexOf(call.thread)), labels.get(call.id));
+    return tag("g", { class: `bar own still ${colourOf(call.thread)}${call.ended === null ? " open" : ""}` }, bar);
+  });
+  const lanes = threads.map((thread, at) => drawJudgedLane(scale, at, thread));
+  const frame = { width: scale.width, height: scale.height, role: "img", "aria-label": calls.map(nameOfCall).join(", ") };
+  return tag("svg", frame, ...lanes, ...bars);
 }
 
 function drawOwnPoint(call, at, y, scale) {
@@ -70,7 +126,8 @@ export function drawJudged(judged) {
   const at = exercise.level === "claim" ? moment : judged.count;
   const line = { class: "cursor", x1: scale.x(at), x2: scale.x(at), y1: 0, y2: scale.height };
   const frame = { width: scale.width, height: scale.height, role: "group", "aria-label": "the calls, each with a point to place" };
-  const calls = exercise.calls.map((call) => drawJudgedCall(call, judged));
+  const labels = labelsOf(exercise.calls, judged);
+  const calls = exercise.calls.map((call) => drawJudgedCall(call, judged, labels.get(call.id)));
   return tag("svg", frame, ...lanes, at === 0 ? "" : tag("line", line), ...calls);
 }
 

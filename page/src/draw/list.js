@@ -5,10 +5,14 @@ import { ownerIn } from "../run/sentences.js";
 import { isWritten, keyNumber, linkTarget, ownerOf } from "../run/state.js";
 import { NODE_REGISTERS } from "../run/trace.js";
 
-export const NODE_WIDTH = 94;
+// The widths of a node and of the gap behind it: on a phone the chain of a lesson or of a level is to be seen whole.
+const WIDE = { node: 94, gap: 48, least: 420, scale: 0.8 };
+const COMPACT = { node: 76, gap: 32, least: 340, scale: 0.65 };
+const NARROW = 480; // pixels
+export const shapeFor = (room) => (room < NARROW ? COMPACT : WIDE);
+
 const NODE_HEIGHT = 54;
 const LINK_WIDTH = 24;
-const GAP = 48;
 const LEAST_GAP = 12; // between nodes that are not in the chain
 const FOLD_WIDTH = 84;
 const TOP = 58;
@@ -59,16 +63,16 @@ function foldedChain(chain, important) {
 }
 
 // The places of the chain's nodes; the nodes of a fold have the fold's place.
-function placesOfChain(items) {
+function placesOfChain(items, shape) {
   const places = {};
   let x = 16;
   for (const item of items) {
     item.x = x;
-    const width = item.folded ? FOLD_WIDTH : NODE_WIDTH;
-    for (const name of item.folded ?? [item.name]) places[name] = { x, y: TOP, width, folded: !!item.folded };
-    x += width + GAP;
+    const width = item.folded ? FOLD_WIDTH : shape.node;
+    for (const name of item.folded ?? [item.name]) places[name] = { x, y: TOP, width, gap: shape.gap, folded: !!item.folded };
+    x += width + shape.gap;
   }
-  return { places, width: x - GAP + 16 };
+  return { places, width: x - shape.gap + 16 };
 }
 
 // Which nodes outside the chain are drawn: those of interest, the threads' own, and of those taken out the last.
@@ -82,18 +86,19 @@ function nodesAside(state, chain, important) {
 
 // Each node aside stands below the place that its key has in the chain, or right of it where that is taken.
 function placeAside(state, chain, shown, places, y) {
+  const { width, gap } = places.head;
   const taken = [];
   const byKey = [...shown].sort((one, other) => keyNumber(state.nodes[one].key) - keyNumber(state.nodes[other].key));
   for (const name of byKey) {
     const key = keyNumber(state.nodes[name].key);
     const before = chain.filter((other) => keyNumber(state.nodes[other].key) < key);
     const place = places[before[before.length - 1] ?? "head"];
-    let x = place.x + (place.width + GAP) / 2;
-    while (taken.some((other) => Math.abs(other - x) < NODE_WIDTH + LEAST_GAP)) x += NODE_WIDTH + 16;
-    places[name] = { x, y, width: NODE_WIDTH, aside: true, lane: taken.length % 3 };
+    let x = place.x + (place.width + gap) / 2;
+    while (taken.some((other) => Math.abs(other - x) < width + LEAST_GAP)) x += width + 16;
+    places[name] = { x, y, width, gap, aside: true, lane: taken.length % 3 };
     taken.push(x);
   }
-  return taken.length === 0 ? 0 : Math.max(...taken) + NODE_WIDTH + 16;
+  return taken.length === 0 ? 0 : Math.max(...taken) + width + 16;
 }
 
 // What a node is: one of the chain, a thread's own that is not in it yet, or one that was taken out.
@@ -107,32 +112,37 @@ function nodeInWords(node, name, kind) {
   return `${name}: key ${keyText(node.key)}, link ${said(node.link)}, lock ${node.lock}${where}`;
 }
 
+// Behind the key that the event reads. (A line below it would make ±∞ of +∞.)
+const KEY_FRAME = { class: "read", height: NODE_HEIGHT - 4, rx: 4 };
+
 function drawNode(state, name, place, event) {
   const node = state.nodes[name];
-  const { x, y } = place;
+  const { x, y, width } = place;
   const kind = kindOf(state, name, place);
   const isMarked = node.link.endsWith("*");
   const [hot, field] = event?.word?.split(".") ?? [];
-  const size = { x, y, width: NODE_WIDTH, height: NODE_HEIGHT, rx: 5 };
+  const isRead = hot === name && field === "key";
+  const size = { x, y, width, height: NODE_HEIGHT, rx: 5 };
   const box = isMarked ? { ...size, class: "box marked", style: "fill:url(#hatch)" } : { ...size, class: "box" };
-  const side = x + NODE_WIDTH - LINK_WIDTH;
+  const side = x + width - LINK_WIDTH;
   return tag(
     "g",
     { class: `node ${kind}`, "data-part": `node ${name}`, "data-x": x, "data-y": y },
     title(nodeInWords(node, name, kind)),
-    hot === name ? drawHot(x, y) : "",
+    hot === name ? drawHot(place) : "",
     tag("rect", box),
+    isRead ? tag("rect", { ...KEY_FRAME, x: x + 2, y: y + 2, width: width - LINK_WIDTH - 3 }) : "",
     tag("line", { class: "side", x1: side, x2: side, y1: y, y2: y + NODE_HEIGHT }),
-    drawKey(node, (x + side) / 2, y + 34, hot === name && field === "key"),
+    drawKey(node, (x + side) / 2, y + 34, isRead),
     label({ class: "name", x: x + 2, y: y - 10 }, name),
     isMarked ? label({ class: "cross", x: side + LINK_WIDTH / 2, y: y + 34 }, "✗") : "",
-    node.lock === "free" ? "" : drawLock(node.lock, x + NODE_WIDTH - 38, y - 28),
+    node.lock === "free" ? "" : drawLock(node.lock, x + width - 38, y - 28),
   );
 }
 
 // The frame of the node that the event touches.
-const drawHot = (x, y) =>
-  tag("rect", { "data-hot": x, class: "hot", x: x - 6, y: y - 6, width: NODE_WIDTH + 12, height: NODE_HEIGHT + 12, rx: 9 });
+const drawHot = ({ x, y, width }) =>
+  tag("rect", { "data-hot": x, class: "hot", x: x - 6, y: y - 6, width: width + 12, height: NODE_HEIGHT + 12, rx: 9 });
 
 function drawKey(node, x, y, isTouched) {
   const text = keyText(node.key);
@@ -174,7 +184,7 @@ function drawLink(state, name, places, event) {
   if (!to || from.folded || name === "tail" || (target === "head" && !reached)) return "";
   const kind = event?.word === `${name}.link` ? "hot" : from.aside ? "out" : "in";
   const isMarked = link.endsWith("*");
-  const x = from.x + NODE_WIDTH - (isMarked ? 1 : LINK_WIDTH / 2);
+  const x = from.x + from.width - (isMarked ? 1 : LINK_WIDTH / 2);
   const y = from.y + NODE_HEIGHT / 2;
   return tag(
     "g",
@@ -187,7 +197,7 @@ function drawLink(state, name, places, event) {
 
 function pathOf(from, to, x1, y1) {
   if (from.aside && !to.aside) return pathUp(from, to, x1, y1);
-  const isNext = to.x > from.x && to.x - from.x < 2 * (NODE_WIDTH + LEAST_GAP);
+  const isNext = to.x > from.x && to.x - from.x < 2 * (from.width + LEAST_GAP);
   if (from.aside && !isNext) return pathOver(from, to, x1, y1);
   return `M${x1} ${y1} L${to.x - 3} ${to.y + NODE_HEIGHT / 2}`;
 }
@@ -205,26 +215,26 @@ function bent(start, ...turns) {
 // From a node below the chain to one in it: along under the registers, and up through the gap left of the node into its side. No
 // register is written there.
 function pathUp(from, to, x1, y1) {
-  const beside = from.x + NODE_WIDTH + 8;
+  const beside = from.x + from.width + 8;
   const under = from.y - 34 - 6 * from.lane;
-  const gap = to.x - 32 + 7 * from.lane;
+  const gap = to.x - (2 * to.gap) / 3 + ((7 * to.gap) / 48) * from.lane;
   const y2 = to.y + NODE_HEIGHT - (to.folded ? 14 : 7) - 6 * from.lane;
   return bent([x1, y1], beside, under, gap, y2, to.x - 3);
 }
 
 // From a node below the chain to one beside which others stand: along above these, and down between its name and its lock.
 function pathOver(from, to, x1, y1) {
-  return bent([x1, y1], from.x + NODE_WIDTH + 8, from.y - 34 - 6 * from.lane, to.x + 48, to.y - 3);
+  return bent([x1, y1], from.x + from.width + 8, from.y - 34 - 6 * from.lane, to.x + to.width - 46, to.y - 3);
 }
 
 // Of each node of the chain, the room for labels under it: none of the gap behind it where an arrow comes up there.
-function roomsUnder(state, items, shown) {
+function roomsUnder(state, items, shown, shape) {
   const risen = new Set(shown.map((name) => linkTarget(state.nodes[name].link)));
   const rooms = {};
   items.forEach(({ name }, index) => {
     const next = items[index + 1];
     const isCrossed = next !== undefined && (next.folded ?? [next.name]).some((other) => risen.has(other));
-    rooms[name] = NODE_WIDTH + (isCrossed ? 0 : GAP - 6);
+    rooms[name] = shape.node + (isCrossed ? 0 : shape.gap - 6);
   });
   return rooms;
 }
@@ -254,7 +264,7 @@ function pointerLabels(pointers, places, rooms) {
   for (const { thread, at } of pointers) {
     for (const name in at) {
       if (!places[name] || places[name].folded) continue;
-      for (const text of labelTexts(thread, at[name], rooms[name] ?? NODE_WIDTH)) add(thread, name, text);
+      for (const text of labelTexts(thread, at[name], rooms[name] ?? places[name].width)) add(thread, name, text);
     }
   }
   return labels;
@@ -289,14 +299,14 @@ const DEFINITIONS = tag(
 );
 
 // The places of all nodes that are drawn, of the registers under them, and the size of the whole.
-export function arranged(state, event) {
+export function arranged(state, event, shape = WIDE) {
   const chain = state.chain();
   const pointers = pointersOf(state, event);
   const important = importantNodes(state, event, pointers);
   const items = foldedChain(chain, important);
-  const { places, width } = placesOfChain(items);
+  const { places, width } = placesOfChain(items, shape);
   const { shown, more } = nodesAside(state, chain, important);
-  const rooms = roomsUnder(state, items, shown);
+  const rooms = roomsUnder(state, items, shown, shape);
   const lanesUnder = (labels, row) => Math.max(0, ...labels.filter((own) => own.row === row).map((own) => own.lane + 1));
   const below = TOP + NODE_HEIGHT + 18 * lanesUnder(pointerLabels(pointers, places, rooms), TOP) + 62;
   const right = placeAside(state, chain, shown, places, below);
@@ -304,14 +314,15 @@ export function arranged(state, event) {
   const bottom = shown.length > 0 ? below : TOP;
   const names = [...items.filter((item) => item.name).map((item) => item.name), ...shown];
   const height = bottom + NODE_HEIGHT + 18 * lanesUnder(labels, bottom) + 14;
-  const wide = Math.max(width, right, 420, ...labels.map((own) => own.right));
+  const wide = Math.max(width, right, shape.least, ...labels.map((own) => own.right));
   return { chain, items, places, labels, names, more, width: wide, height };
 }
 
 // The list, in a box so wide and, where that is less than what it takes, so high; with room for the other events of its run.
 // Where several lists are drawn, each has a name for what its arrows and hatches refer to.
 export function drawList(state, event, room, most = Infinity, least = { width: 0, height: 0 }, own = "") {
-  const { chain, items, places, labels, names, more, width: wide, height: high } = arranged(state, event);
+  const shape = shapeFor(room);
+  const { chain, items, places, labels, names, more, width: wide, height: high } = arranged(state, event, shape);
   const width = Math.max(wide, least.width);
   const whole = Math.max(high, least.height);
   const above = state.trace.kind === "coarse" ? -4 : TOP - LOCK_HEIGHT; // the list's own lock stands there
@@ -320,7 +331,7 @@ export function drawList(state, event, room, most = Infinity, least = { width: 0
   const nodes = names.map((name) => drawNode(state, name, places[name], event));
   const links = names.map((name) => drawLink(state, name, places, event));
   const pointers = labels.map((own) => drawPointer(own, places));
-  const scale = Math.max(0.8, Math.min(1.6, (room - 4) / width, most / height));
+  const scale = Math.max(shape.scale, Math.min(1.6, (room - 4) / width, most / height));
   const frame = {
     width: width * scale,
     height: height * scale,

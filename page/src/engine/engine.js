@@ -10,7 +10,8 @@ export class Engine {
   }
 
   static async start() {
-    return new Engine(await WebAssembly.compile(await engineBytes()));
+    const bytes = await engineBytes();
+    return new Engine(await WebAssembly.compile(bytes));
   }
 
   // What an export says of the texts that it takes: the exit status of the program, and what it prints. Those left out are empty.

@@ -57,7 +57,16 @@ function skipToRun() {
   document.querySelector(first[where.screen])?.focus();
 }
 
+// On a phone the controls stay at its foot: what they do is shown above them.
+function bringList() {
+  const { top } = byId("said").getBoundingClientRect();
+  const isSeen = top >= 0 && byId("list").getBoundingClientRect().bottom <= byId("dock").getBoundingClientRect().top;
+  if (innerWidth <= PHONE && !isSeen) scrollTo(0, scrollY + top - 8);
+}
+const PHONE = 560; // pixels, as in the style sheets
+
 export function listenToBar() {
+  byId("dock").addEventListener("click", bringList);
   byId("first").onclick = () => goByHand(0);
   byId("back").onclick = () => goByHand(page.count - 1);
   byId("next").onclick = () => goByHand(page.count + 1);

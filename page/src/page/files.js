@@ -3,7 +3,7 @@ import { byId } from "./dom.js";
 import { chooseExample } from "./example.js";
 import { works } from "./kept.js";
 import { askLong, LONG_TEXT } from "./long_run.js";
-import { askNow, NO_ENGINE, page, show, takeScheduleOfTrace, takeTrace, tellFault } from "./now.js";
+import { announce, askNow, NO_ENGINE, page, show, takeScheduleOfTrace, takeTrace, tellFault } from "./now.js";
 import { keepBefore, openText, takeName } from "./work.js";
 import { askList } from "../run/broken.js";
 import { faultOfTrace } from "../run/check_trace.js";
@@ -24,6 +24,7 @@ export function saveText(name, text) {
 // What a file is, by its first line. A file without a known title is taken for a schedule, so that the engine names its fault.
 function kindOfFile(text) {
   if (text.startsWith("listset-trace")) return "trace";
+  if (text.startsWith("listset-calls")) return "calls";
   return text.startsWith("listset-report") ? "report" : "schedule";
 }
 
@@ -44,8 +45,10 @@ export function comparedTrace(engine, trace) {
 export async function openFile(file) {
   const text = new TextDecoder().decode(new Uint8Array(await file.arrayBuffer()));
   const kind = kindOfFile(text);
+  const isJudged = kind === "report" || kind === "calls";
+  if (isJudged && page.engine === null) return tellFault(page.faultLine, "", NO_ENGINE, !page.isRun);
+  if (kind === "calls") return announce("recorded", text);
   if (kind === "report") {
-    if (page.engine === null) return tellFault(page.faultLine, "", NO_ENGINE, !page.isRun);
     await openReportBox();
     return showReport(text, `The report in ${file.name}:`);
   }

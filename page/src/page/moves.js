@@ -36,10 +36,12 @@ function drawMoves(state, isAble) {
   redraw(byId("moves"), rows);
 }
 
+// A button of a thread; what stands in brackets in its text is left out on a phone.
 function buttonOf(text, deed, title, onclick) {
   const button = document.createElement("button");
-  Object.assign(button, { textContent: text, title, onclick });
-  button.setAttribute("aria-label", `${text}, thread ${title.match(/\d+/)[0]}`);
+  Object.assign(button, { title, onclick });
+  button.innerHTML = text.replace(/\[(.*)\]/, '<span class="roomy">$1</span>');
+  button.setAttribute("aria-label", `${button.textContent}, thread ${title.match(/\d+/)[0]}`);
   button.dataset.deed = deed;
   return button;
 }
@@ -65,13 +67,13 @@ function stepControls(state, thread) {
   next.textContent = `next: ${rows[held.pc]?.step ?? ""}`;
   const untilRow = document.createElement("span");
   const goUntil = () => stepsToRow(thread, Number(row.value));
-  untilRow.append(buttonOf("until row", "until", `thread ${thread} until it stands at this row (the keys r ${thread})`, goUntil), row);
+  untilRow.append(buttonOf("until[ row]", "until", `thread ${thread} until it stands at this row (the keys r ${thread})`, goUntil), row);
   const call = document.createElement("span");
   Object.assign(call, { className: "call", textContent: callText(held.call) });
   return [
     call,
-    buttonOf("one step", "one", `go ${thread} 1 (the key ${thread})`, () => oneStep(thread)),
-    buttonOf("to its end", "end", `thread ${thread} to the end of its call (the keys e ${thread})`, () => stepsToEnd(thread)),
+    buttonOf("[one ]step", "one", `go ${thread} 1 (the key ${thread})`, () => oneStep(thread)),
+    buttonOf("to [its ]end", "end", `thread ${thread} to the end of its call (the keys e ${thread})`, () => stepsToEnd(thread)),
     untilRow,
     next,
   ];

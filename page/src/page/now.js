@@ -31,8 +31,9 @@ export const page = {
 };
 
 // Who is told, in the order in which they asked for it: `shown`, with the moment that is shown; `taken`, with the trace that is going
-// to be; `ran`, that a text was run or refused; `kept`, that the works or the example have changed.
-const listeners = { shown: [], taken: [], ran: [], kept: [] };
+// to be; `ran`, that a text was run or refused; `kept`, that the works or the example have changed; `recorded`, with the text of
+// recorded calls that was opened.
+const listeners = { shown: [], taken: [], ran: [], kept: [], recorded: [] };
 export const on = (what, ...deeds) => listeners[what].push(...deeds);
 
 export function announce(what, ...given) {

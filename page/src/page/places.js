@@ -36,9 +36,18 @@ export function setProgress(id, done, total) {
   byId(id).setAttribute("aria-label", `${done} of ${total}`);
 }
 
+// How large a slide is drawn: as large as the window has room for; on a phone, where it is scrolled, as everything else.
+export function slideZoom(width, height) {
+  if (width <= 560) return 1;
+  return Math.max(0.75, Math.min(3, width / 1280, height / 720));
+}
+
+export const fitSlide = () => document.body.style.setProperty("--slide", slideZoom(innerWidth, innerHeight));
+
 // A view shows one thing alone: for a lecture the list, the sentence and the history, or one of them for a frame.
 export function setView(view) {
   page.view = view;
+  fitSlide();
   document.body.classList.remove("view", "lecture", "list", "history");
   if (view !== null) document.body.classList.add("view", view);
 }

@@ -1,11 +1,12 @@
 // Play: one event after the other, in three speeds, until the end or a pause. Who asks the system for less motion begins slow.
 import { CLASSICS } from "../../made/classics.js";
 import { byId } from "./dom.js";
-import { goTo, page } from "./now.js";
+import { goTo, page, tell } from "./now.js";
 
 const SPEEDS = { slow: 1600, medium: 700, fast: 200 }; // milliseconds of one event
 let playing = null;
 let playsTo = Infinity; // the event at which it stops by itself
+let says = { before: "", there: "" }; // and what is said until there, and there
 
 export const wantsLessMotion = () => matchMedia("(prefers-reduced-motion: reduce)").matches;
 
@@ -22,8 +23,8 @@ export function stopPlay() {
 }
 
 // Plays on from here, and from the start where nothing is left.
-export function startPlay(last = Infinity) {
-  playsTo = last;
+export function startPlay(last = Infinity, said = { before: "", there: "" }) {
+  [playsTo, says] = [last, said];
   if (page.trace.total === 0) return;
   if (page.count === page.trace.total) goTo(0);
   playing = setInterval(playOn, SPEEDS[byId("speed").value]);
@@ -32,6 +33,7 @@ export function startPlay(last = Infinity) {
 
 function playOn() {
   goTo(page.count + 1);
+  tell(page.count === playsTo ? says.there : says.before);
   if (page.count === page.trace.total || page.count === playsTo) stopPlay();
 }
 

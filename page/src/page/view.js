@@ -2,43 +2,48 @@
 import { LISTS } from "../../made/rows.js";
 import { glide } from "../draw/glide.js";
 import { drawCalls, drawContents, drawOrder, scaleOf } from "../draw/history.js";
-import { arranged, drawList, NODE_WIDTH } from "../draw/list.js";
+import { arranged, drawList, shapeFor } from "../draw/list.js";
 import { drawListing } from "../draw/listing.js";
-import { roomOf } from "../draw/room.js";
+import { forgetRoom, keptHeight, roomOf } from "../draw/room.js";
 import { drawTable } from "../draw/table.js";
 import { drawThreads, MOST_ROWS } from "../draw/threads.js";
 import { byId, setAble } from "./dom.js";
 import { hiddenOutcomes, isJudging, page } from "./now.js";
-import { isAtWork } from "./places.js";
+import { isAtWork, slideZoom } from "./places.js";
 import { momentAt, sentenceOf } from "../run/sentences.js";
 
 const LINE_HEIGHT = 21;
 
-// The list, the threads, the tables and the history.
+// The list, the threads, the tables and the history. The widths are asked for before anything is drawn: each question after that has
+// the whole page laid out once more.
 export function showRun(moment) {
-  showList(moment);
-  scrollToTouched();
+  const [wide, historyWide] = [byId("list").clientWidth, byId("history").clientWidth];
+  showList(moment, wide);
+  scrollToTouched(wide);
   showThreads(moment.event);
   showTable(moment);
   showListing(moment);
-  if (!isJudging()) showHistory(moment.event);
+  if (!isJudging()) showHistory(moment.event, historyWide);
   scrollToLine(moment.event);
 }
 
 // The list, in the room that the whole run takes; what moves glides there from the event beside this one.
-const glided = { trace: null, count: 0 };
+const glided = { trace: null, count: 0, shape: null };
 
-function showList({ state, event }) {
+function showList({ state, event }, wide) {
   const { trace, count } = page;
-  const wide = byId("list").clientWidth;
   if (wide === 0) return; // it is not there: a map is shown, or the history alone
-  const sizeAt = (number) => arranged(state, momentAt(state, number).event);
-  const room = roomOf(trace, sizeAt, arranged(state, event), wide, isAtWork());
+  const shape = shapeFor(wide);
+  if (glided.shape !== shape) forgetRoom(); // the page is as narrow as a phone now, or no longer
+  const sizeAt = (number) => arranged(state, momentAt(state, number).event, shape);
+  const room = roomOf(trace, sizeAt, arranged(state, event, shape), wide, isAtWork());
   state.moveTo(count);
   const isNear = glided.trace === trace && Math.abs(glided.count - count) === 1 && byId("speed").value !== "fast";
-  Object.assign(glided, { trace, count });
+  Object.assign(glided, { trace, count, shape });
   const draw = () => (byId("list").innerHTML = drawList(state, event, wide, listHeight(), room));
   glide(byId("list"), draw, isNear);
+  const isKept = isAtWork() && page.view === null;
+  byId("list").style.minHeight = isKept ? `${keptHeight(Number(byId("list").firstElementChild.getAttribute("height")), wide)}px` : "";
 }
 
 const MOST_MEASURED = 300; // events of a run whose sentences are measured
@@ -102,15 +107,17 @@ function showListing(moment) {
   if (y < box.scrollTop + 40 || y > box.scrollTop + box.clientHeight - 80) box.scrollTop = y - box.clientHeight / 2;
 }
 
-function showHistory(event) {
+const ALL_LANES = 400; // pixels: a history that is no higher does not scroll
+
+function showHistory(event, wide) {
   const { trace, count, hides } = page;
-  const scale = scaleOf(trace, count, Math.max(300, byId("history").clientWidth), hides);
+  const scale = scaleOf(trace, count, Math.max(300, wide), hides);
   byId("calls").innerHTML = drawCalls(trace, scale);
   byId("contents").innerHTML = drawContents(trace, scale);
   byId("order").innerHTML = drawOrder(trace, count, hides);
   page.scale = scale;
   const box = byId("calls");
-  if (event === null || box.scrollHeight <= box.clientHeight) return;
+  if (event === null || scale.height <= ALL_LANES || box.scrollHeight <= box.clientHeight) return;
   const y = scale.y(event.thread);
   if (y < box.scrollTop + 20 || y > box.scrollTop + box.clientHeight - 20) box.scrollTop = y - box.clientHeight / 2;
 }
@@ -118,25 +125,33 @@ function showHistory(event) {
 // Where the page is as wide as a table, controls, list and history stand on one screen: what is above and below the list leaves so
 // many pixels for it.
 function listHeight() {
-  if (page.view === "list" || page.view === "history" || innerWidth <= 940) return Infinity;
-  if (page.view === "lecture") return Math.max(200, innerHeight / 1.5 - 294 - byId("bar").clientHeight - byId("question-box").clientHeight);
+  if (page.view === "list" || page.view === "history" || innerWidth <= 560) return Infinity;
+  if (page.view === "lecture") return slideHeight();
   const isAtWork = byId("moves-box").parentElement.id === "moves-wide";
-  const below = isJudging() ? 430 : byId("bar").clientHeight + 76 + 42 * Math.min(page.trace.threads, 6) + (isAtWork ? 0 : 30);
+  const below = isJudging() ? 430 : byId("bar").clientHeight + 96 + 42 * Math.min(page.trace.threads, 6) + (isAtWork ? 0 : 30);
   return Math.max(isJudging() ? 190 : 260, innerHeight - byId("list").getBoundingClientRect().top - scrollY - below);
 }
 
+// What a slide of a lecture leaves for the list.
+function slideHeight() {
+  const threads = Math.min(page.trace.threads, 6);
+  const below = isJudging() ? 214 + 54 * threads : 66 + 42 * threads;
+  const others = ["task", "said", "bar"].reduce((sum, name) => sum + byId(name).clientHeight, 0);
+  return Math.max(150, innerHeight / slideZoom(innerWidth, innerHeight) - others - below - 54);
+}
+
 // Keeps the node of the event in sight where the list is wider than the page.
-function scrollToTouched() {
+function scrollToTouched(wide) {
   const box = byId("list");
   const touched = box.querySelector("[data-hot]");
-  if (touched === null) return;
   const drawn = box.firstElementChild;
-  const x = (Number(touched.dataset.hot) + NODE_WIDTH / 2) * (drawn.clientWidth / drawn.viewBox.baseVal.width);
+  if (touched === null || Number(drawn.getAttribute("width")) <= wide) return;
+  const x = (touched.x.baseVal.value + touched.width.baseVal.value / 2) * (drawn.clientWidth / drawn.viewBox.baseVal.width);
   if (x < box.scrollLeft + 60 || x > box.scrollLeft + box.clientWidth - 60) box.scrollLeft = x - box.clientWidth / 2;
 }
 
 // Whether the box of the schedule is in sight. If it is not, nothing is asked of its layout: that of 10,000 lines takes 0.3 s.
-const editor = { isSeen: true };
+const editor = { isSeen: false };
 
 export function watchEditor() {
   const look = ([{ isIntersecting }]) => {

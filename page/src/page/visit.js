@@ -2,7 +2,7 @@
 import { keepWork } from "./kept.js";
 import { page, tell } from "./now.js";
 import { isAtMap, where } from "./places.js";
-import { addressOf, exampleAddress } from "../run/address.js";
+import { addressOf, exampleAddress, warningOf } from "../run/address.js";
 import { escaped } from "../run/markup.js";
 
 const MOMENT = 400; // milliseconds: the bar follows once nothing has moved for so long, since browsers refuse quick changes of it
@@ -50,13 +50,16 @@ function setAddress() {
   }
 }
 
+export const linkTo = (address) => location.href.replace(/#.*$/, "") + address;
+
 // A link to what is shown: it is told, and copied if the browser lets a page do that.
 export async function copyLink() {
   const address = page.isRun ? ownAddress() : null;
   if (address === null) return tell("This schedule has no link: it is refused, or too long for an address. Save it as a file.");
-  const link = location.href.replace(/#.*$/, "") + address;
-  tell(`Copy this link: <code>${escaped(link)}</code>`);
-  if (await copied(link)) tell(`The link is copied: <code>${escaped(link)}</code>`);
+  const link = linkTo(address);
+  const shown = `<code>${escaped(link)}</code>${warningOf(link)}`;
+  tell(`Copy this link: ${shown}`);
+  if (await copied(link)) tell(`The link is copied: ${shown}`);
 }
 
 // Whether a text is copied, if the browser lets a page do that.

@@ -122,3 +122,7 @@ function textOfParts(parts) {
   const title = `listset-schedule ${parts.version ?? neededVersion(lines)}`;
   return [title, `list ${parts.list}`, `threads ${parts.threads}`, `quota ${parts.quota}`, ...lines, ""].join("\n");
 }
+
+// What is said of a link that leads to a page on the reader's own disk.
+export const warningOf = (link) =>
+  link.startsWith("file:") ? " Others cannot open it, since it leads to a file on this computer: copy it from a page on a web server." : "";

@@ -15,5 +15,6 @@ export const colourOf = (thread) => `thread-${thread % 8}`;
 export const chipOf = (thread) => tag("span", { class: `chip ${colourOf(thread)}` }, `t${thread}`);
 export const keyText = (key) => String(key).replace("-inf", "−∞").replace("+inf", "+∞");
 export const said = (value) => (value.endsWith("*") ? `${value.slice(0, -1)}, marked` : keyText(value));
+export const counted = (count, word) => `${count} ${word}${count === 1 ? "" : "s"}`;
 export const callText = (call) => `${call.operation}(${call.key})`;
 export const openReply = "true"; // an open call that stands in the order has changed the set

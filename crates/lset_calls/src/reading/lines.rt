@@ -32,13 +32,14 @@ pub enum Section {
     Done,
 }
 
-/// A line after the header: an opening key, a call, a key, or the end.
+/// A line after the header: an opening key, a call, a key, the end, or where the recording was cut off.
 #[derive(Clone, Copy)]
 pub enum Line {
     Opening(u32),
     Call(TimedCall),
     Key(u32),
     End,
+    Cut,
 }
 
 impl Line {
@@ -50,7 +51,7 @@ impl Line {
             Line::Opening(_) => Section::Opening,
             Line::Call(_) => Section::Calls,
             Line::Key(_) => Section::Keys,
-            Line::End => Section::Done,
+            Line::End | Line::Cut => Section::Done,
         }
     }
 }
@@ -221,6 +222,9 @@ fn opening_or_key(section: Section, word: &[u8], key: &[u8]) -> Result<Line, Cal
 fn end(section: Section, word: &[u8]) -> Result<Line, CallsCause>
     ensures { result ≡ first_of Two causes (kinds section) (word.now ∷ []) }
 {
+    if section.takes_calls() && word == b"cut".as_slice() {
+        return Ok(Line::Cut);
+    }
     if !section.takes_keys() || word != b"end".as_slice() {
         return Err(CallsCause::Line);
     }

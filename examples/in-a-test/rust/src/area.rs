@@ -4,11 +4,16 @@ use std::panic::{catch_unwind, resume_unwind, AssertUnwindSafe};
 use std::slice::from_raw_parts;
 use std::sync::atomic::Ordering::{Acquire, Release, SeqCst};
 use std::sync::atomic::{AtomicBool, AtomicU32, AtomicU8};
+use std::time::Duration;
 
 use crate::{child, no_verdict, words_of, Failure, Options};
 
 const LONGEST: u32 = 100; // looks at the counter, of a pause
+const PART: u32 = 20_000; // calls of all threads from one rest to the next, of a run that is kept
 pub const WORDS: [&str; 3] = ["add", "remove", "contains"];
+
+/// How it is said that there was no set to call.
+pub const NOT_MADE: &str = "the set could not be made: ";
 
 /// What was thrown where a set was made or called stands in so many bytes.
 const MOST_WHY: usize = 240;
@@ -26,6 +31,12 @@ struct Head {
     tickets: AtomicU32,
     looks: AtomicU32,
     there: AtomicU32,
+    done: AtomicU32,
+    /// The parts, and the last moment of those before this one.
+    begun: AtomicU32,
+    before: AtomicU32,
+    is_resting: AtomicBool,
+    is_stopping: AtomicBool,
     is_failing: AtomicBool,
     is_ended: AtomicBool,
     why: [AtomicU8; MOST_WHY],
@@ -44,12 +55,15 @@ impl<S> CallsOf<'_, S> {
     }
 }
 
-/// The memory of a run. All in it are atomics, of which zero bytes are values.
+/// The memory of a run; of a run in parts that of the part which goes on. All in it are atomics, of which zero bytes are values.
 pub struct Area {
     place: *mut u8,
     layout: Layout,
     pub options: Options,
-    seed: u64,
+    pub seed: u64,
+    /// Calls of each thread in a part, of which the last may have fewer.
+    pub rows: u32,
+    pub parts: u32,
 }
 
 // SAFETY: what stands in the memory is shared by references to atomics alone.
@@ -57,15 +71,16 @@ unsafe impl Sync for Area {}
 
 impl Area {
     pub fn new(options: &Options, seed: u64) -> Result<Area, Failure> {
-        let calls = options.threads as usize * options.calls as usize;
-        let size = size_of_head() + calls * std::mem::size_of::<Slot>() + 2 * options.keys as usize;
+        let rows = if options.record.is_some() { options.calls.min(PART / options.threads) } else { options.calls };
+        let slots = options.threads as usize * rows as usize;
+        let size = size_of_head() + slots * std::mem::size_of::<Slot>() + 2 * options.keys as usize;
         let layout = Layout::from_size_align(size, 64).expect("a million calls have room");
         // SAFETY: the layout is not empty.
         let place = if options.own_process { child::shared(size) } else { unsafe { alloc_zeroed(layout) } };
         if place.is_null() {
             return no_verdict("there is no memory for the calls of a run".to_string());
         }
-        Ok(Area { place, layout, options: options.clone(), seed })
+        Ok(Area { place, layout, options: options.clone(), seed, rows, parts: (options.calls - 1) / rows + 1 })
     }
 
     fn head(&self) -> &Head {
@@ -75,9 +90,9 @@ impl Area {
 
     /// The slots of each thread in turn.
     pub fn slots(&self) -> &[Slot] {
-        let calls = self.options.threads as usize * self.options.calls as usize;
+        let slots = self.options.threads as usize * self.rows as usize;
         // SAFETY: they stand behind the head, and were counted for the layout.
-        unsafe { from_raw_parts(self.place.add(size_of_head()).cast::<Slot>(), calls) }
+        unsafe { from_raw_parts(self.place.add(size_of_head()).cast::<Slot>(), slots) }
     }
 
     fn keys(&self) -> &[AtomicBool] {
@@ -101,6 +116,34 @@ impl Area {
         self.head().tickets.load(SeqCst).wrapping_add(self.head().looks.load(SeqCst))
     }
 
+    /// The last moment of the parts before: calls that began by then are theirs.
+    pub fn before(&self) -> u32 {
+        self.head().before.load(SeqCst)
+    }
+
+    pub fn is_resting(&self) -> bool {
+        self.head().is_resting.load(SeqCst)
+    }
+
+    /// Lets a run that rests go on.
+    pub fn go_on(&self) {
+        self.head().is_resting.store(false, SeqCst);
+    }
+
+    /// Rests until the run may go on.
+    pub fn rest(&self) -> bool {
+        self.head().is_resting.store(true, SeqCst);
+        self.waits(|| !self.is_resting())
+    }
+
+    /// Waits, as a thread that rests; false if the run stops.
+    fn waits(&self, is_done: impl Fn() -> bool) -> bool {
+        while !is_done() && !self.head().is_stopping.load(SeqCst) {
+            std::thread::sleep(Duration::from_micros(100));
+        }
+        !self.head().is_stopping.load(SeqCst)
+    }
+
     pub fn is_ended(&self) -> bool {
         self.head().is_ended.load(SeqCst)
     }
@@ -118,27 +161,47 @@ impl Area {
         }
     }
 
-    /// Makes a set and calls it, to the end.
-    pub fn call_all<S: Sync>(&self, make: &dyn Fn() -> S, calls_of: &CallsOf<S>) {
+    /// Makes a set and calls it, to the end; between two parts for as long as `at_rest` gives true.
+    pub fn call_all<S: Sync>(&self, make: &dyn Fn() -> S, calls_of: &CallsOf<S>, at_rest: &dyn Fn() -> bool) {
         match catch_unwind(AssertUnwindSafe(make)) {
-            Err(why) => self.fail(format!("the set could not be made: {}", words_of(why))),
+            Err(why) => self.fail(format!("{NOT_MADE}{}", words_of(why))),
             Ok(set) => {
-                let called = catch_unwind(AssertUnwindSafe(|| self.call_from_threads(&set, calls_of)));
-                called.unwrap_or_else(|why| self.fail(format!("a call of the set failed: {}", words_of(why))));
+                let called = catch_unwind(AssertUnwindSafe(|| self.call_from_threads(&set, calls_of, at_rest)));
+                called.unwrap_or_else(|why| self.fail(format!("a call of the set panicked: {}", words_of(why))));
             }
         }
         self.head().is_ended.store(true, SeqCst);
     }
 
-    fn call_from_threads<S: Sync>(&self, set: &S, calls_of: &CallsOf<S>) {
-        let (opening, left) = self.keys().split_at(self.options.keys as usize);
-        self.look_up(set, calls_of, opening);
+    fn call_from_threads<S: Sync>(&self, set: &S, calls_of: &CallsOf<S>, at_rest: &dyn Fn() -> bool) {
         std::thread::scope(|scope| {
-            let started: Vec<_> = (0..self.options.threads).map(|it| scope.spawn(move || self.call(set, calls_of, it))).collect();
+            let started: Vec<_> = (0..self.options.threads).map(|it| scope.spawn(move || self.call_in_parts(set, calls_of, it))).collect();
+            self.lead(set, calls_of, at_rest);
             let ended: Vec<_> = started.into_iter().map(|it| it.join()).collect();
             ended.into_iter().for_each(|it| it.unwrap_or_else(|why| resume_unwind(why)));
         });
-        self.look_up(set, calls_of, left);
+    }
+
+    /// Has the threads make each part.
+    fn lead<S>(&self, set: &S, calls_of: &CallsOf<S>, at_rest: &dyn Fn() -> bool) {
+        let head = self.head();
+        let _stop = Stop(&head.is_stopping);
+        let (opening, left) = self.keys().split_at(self.options.keys as usize);
+        self.look_up(set, calls_of, opening);
+        for part in 1..=self.parts {
+            if part > 1 && !at_rest() {
+                return;
+            }
+            if part > 1 {
+                head.before.store(head.tickets.load(SeqCst), SeqCst);
+                opening.iter().zip(left).for_each(|(to, from)| to.store(from.load(SeqCst), SeqCst));
+            }
+            head.begun.store(part, SeqCst);
+            if !self.waits(|| head.done.load(SeqCst) == part * self.options.threads) {
+                return;
+            }
+            self.look_up(set, calls_of, left);
+        }
     }
 
     fn look_up<S>(&self, set: &S, calls_of: &CallsOf<S>, keys: &[AtomicBool]) {
@@ -149,15 +212,28 @@ impl Area {
     }
 
     /// The calls of one thread.
-    fn call<S>(&self, set: &S, calls_of: &CallsOf<S>, thread: u32) {
-        let Head { tickets, there, .. } = self.head();
+    fn call_in_parts<S>(&self, set: &S, calls_of: &CallsOf<S>, thread: u32) {
+        let Head { begun, there, done, is_stopping, .. } = self.head();
         let mut draws = Draws((self.seed << 6) + u64::from(thread));
-        there.fetch_add(1, SeqCst);
-        while there.load(SeqCst) < self.options.threads {
-            std::thread::yield_now(); // none begins before all are there
+        for part in 0..self.parts {
+            if !self.waits(|| begun.load(SeqCst) > part) {
+                return;
+            }
+            there.fetch_add(1, SeqCst);
+            while there.load(SeqCst) < (part + 1) * self.options.threads {
+                std::thread::yield_now(); // none begins before all are there
+            }
+            let stop = Stop(is_stopping);
+            let calls = self.rows.min(self.options.calls - part * self.rows);
+            self.call(set, calls_of, &self.slots()[(thread * self.rows) as usize..][..calls as usize], &mut draws);
+            std::mem::forget(stop); // (it panicked in no call)
+            done.fetch_add(1, SeqCst);
         }
-        let calls = self.options.calls as usize;
-        for slot in &self.slots()[thread as usize * calls..][..calls] {
+    }
+
+    fn call<S>(&self, set: &S, calls_of: &CallsOf<S>, slots: &[Slot], draws: &mut Draws) {
+        let tickets = &self.head().tickets;
+        for slot in slots {
             let (word, key) = (draws.below(3) as u8, draws.below(self.options.keys));
             let pause = if draws.below(100) < self.options.pauses { draws.below(LONGEST) } else { 0 };
             slot.word.store(word, Release);
@@ -171,10 +247,19 @@ impl Area {
 }
 
 impl Slot {
-    /// Its moments; the second is 0 if the call has not ended.
+    /// Its moments; the second is 0 if the call has not ended, of which the end is one of a part before.
     pub fn moments(&self) -> (u32, u32) {
-        let end = self.end.load(Acquire);
-        (self.begin.load(Acquire), end)
+        let (end, begin) = (self.end.load(Acquire), self.begin.load(Acquire));
+        (begin, if end > begin { end } else { 0 })
+    }
+}
+
+/// Has a run stop, where it goes out of scope.
+struct Stop<'a>(&'a AtomicBool);
+
+impl Drop for Stop<'_> {
+    fn drop(&mut self) {
+        self.0.store(true, SeqCst);
     }
 }
 

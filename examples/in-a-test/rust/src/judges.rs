@@ -13,6 +13,14 @@ pub struct Judge {
     command: Vec<String>,
 }
 
+/// What a judge says of a recording.
+pub enum Judged {
+    /// Some order explains it, and so many calls overlapped a change of their key.
+    Ok { overlapped: u64 },
+    /// None does, in the judge's words.
+    Refused(String),
+}
+
 impl fmt::Display for Judge {
     fn fmt(&self, f: &mut fmt::Formatter<'_>) -> fmt::Result {
         write!(f, "{}, {}", self.name, self.proof)
@@ -38,19 +46,23 @@ impl Judge {
         }
     }
 
-    /// What the judge says of a recording that no order explains, or `None` if one does.
-    pub fn refused(&self, recording: &str) -> Result<Option<String>, Failure> {
+    pub fn judged(&self, recording: &str) -> Result<Judged, Failure> {
         let answer = if self.command.is_empty() { library::judge(recording) } else { ran(&self.command, &["judge", "-"], recording) };
-        match answer {
-            Ok((Some(0), said)) if said.starts_with("ok ") => Ok(None),
-            Ok((Some(1), said)) if said.starts_with("not linearizable") => Ok(Some(said)),
-            other => {
-                let said = other.map_or_else(|fault| fault.to_string(), |it| it.1);
+        let (status, said) = answer.unwrap_or_else(|fault| (None, fault.to_string()));
+        match (status, overlapped_in(&said)) {
+            (Some(0), Some(overlapped)) => Ok(Judged::Ok { overlapped }),
+            (Some(1), _) if said.starts_with("not linearizable") => Ok(Judged::Refused(said)),
+            _ => {
                 let first = said.lines().next().unwrap_or("nothing");
-                no_verdict(format!("{} gave no verdict, but said: {first}. Take a listset that has the word judge", self.name))
+                no_verdict(format!("{} gave no verdict, but said: {first}. Take a newer listset", self.name))
             }
         }
     }
+}
+
+/// The number of the second line, below the word `ok`.
+fn overlapped_in(said: &str) -> Option<u64> {
+    said.strip_prefix("ok ")?.lines().nth(1)?.split(" of them").next()?.parse().ok()
 }
 
 /// The line in which a judge says whether it is proved.

@@ -20,12 +20,15 @@ mod run;
 
 use std::any::Any;
 use std::fmt;
+use std::io::Write;
+use std::path::PathBuf;
 
-use area::{Area, CallsOf};
+use area::{Area, CallsOf, NOT_MADE};
 use judges::Judge;
 use run::Run;
 
 const MOST_CALLS: u64 = 1_000_000; // of a recording
+const MOST_CALLS_KEPT: u64 = 1_000_000_000; // of one in parts
 const FEW: u64 = 5; // of 100 calls
 
 /// How the set is called. Each field is checked before the first set is made.
@@ -33,7 +36,7 @@ const FEW: u64 = 5; // of 100 calls
 pub struct Options {
     /// Threads that call a set at once: 1 to 64.
     pub threads: u32,
-    /// Calls of each thread: 1 or more, and 1,000,000 at most of all threads.
+    /// Calls of each thread: 1 or more, and 1,000,000 at most of all threads, or with `record` 1,000,000,000.
     pub calls: u32,
     /// Calls are on the keys below this: 1 to 1,048,576. On few keys more calls meet.
     pub keys: u32,
@@ -48,11 +51,13 @@ pub struct Options {
     /// If false, sets are called in this process, which then crashes or hangs with them. That is for a debugger, for coverage, and for
     /// a set that needs threads which this process has started.
     pub own_process: bool,
+    /// A folder that keeps each run, in parts of 20,000 calls: after each, threads rest until it is judged.
+    pub record: Option<PathBuf>,
 }
 
 impl Default for Options {
     fn default() -> Self {
-        Options { threads: 8, calls: 1000, keys: 4, pauses: 20, runs: 20, seed: 1, seconds: 10, own_process: true }
+        Options { threads: 8, calls: 1000, keys: 4, pauses: 20, runs: 20, seed: 1, seconds: 10, own_process: true, record: None }
     }
 }
 
@@ -60,17 +65,23 @@ impl Default for Options {
 #[derive(Debug)]
 pub struct Verdict {
     pub calls: u64,
-    /// Calls that overlapped an `add` or a `remove` of their key that answered `true`.
+    /// Calls that overlapped a change of their key, by the judge.
     pub overlapped: u64,
     /// Which judge it was, and whether it says that it is proved.
     pub judge: String,
 }
 
+impl Verdict {
+    /// Whether so few calls met that `ok` says little.
+    fn is_few(&self) -> bool {
+        self.overlapped * 100 < self.calls * FEW
+    }
+}
+
 impl fmt::Display for Verdict {
     fn fmt(&self, f: &mut fmt::Formatter<'_>) -> fmt::Result {
         write!(f, "ok: {} calls, of which {} overlapped a change of their key", self.calls, self.overlapped)?;
-        let is_few = self.overlapped * 100 < self.calls * FEW;
-        write!(f, "{}", if is_few { "; that is few: take more threads, fewer keys or a machine that does less" } else { "" })?;
+        write!(f, "{}", if self.is_few() { "; that is few: take more threads, fewer keys or a machine that does less" } else { "" })?;
         write!(f, "; judge: {}", self.judge)
     }
 }
@@ -91,9 +102,9 @@ pub struct Failed {
 pub enum Failure {
     /// No order explains the run.
     NotLinearizable(Failed),
-    /// The set crashed or hung in the run, which was judged up to there.
+    /// The set crashed, hung or panicked in the run, which was judged up to there.
     NotEnded(Failed),
-    /// Nothing is known of the set: an option is out of range, the set panicked, or there is no judge.
+    /// Nothing is known of the set: an option is out of range, no set could be made, or there is no judge.
     NoVerdict(String),
 }
 
@@ -141,14 +152,21 @@ pub fn judge<S: Sync>(
     let mut verdict = Verdict { calls: 0, overlapped: 0, judge: judge.to_string() };
     for seed in (u64::from(options.seed)..).take(options.runs as usize) {
         let area = Area::new(&options, seed)?;
-        let trouble = child::run(&area, &|| area.call_all(&make, &calls_of))?;
-        if let Some(why) = area.why_it_failed() {
-            return Err(Failure::NoVerdict(why));
-        }
-        let run = Run::of(&area, trouble);
-        run.judged(&judge, seed)?;
-        verdict.calls += run.rows.len() as u64;
-        verdict.overlapped += run.overlapped();
+        let mut part = 0;
+        child::run(&area, &|at_rest| area.call_all(&make, &calls_of, at_rest), &mut |trouble| {
+            let why = area.why_it_failed();
+            if let Some(why) = why.as_ref().filter(|it| it.starts_with(NOT_MADE)) {
+                return no_verdict(why.clone());
+            }
+            let run = Run::of(&area, why.or(trouble));
+            part += 1;
+            verdict.overlapped += run.judged(&judge, &area, part)?;
+            verdict.calls += run.rows.len() as u64;
+            Ok(())
+        })?;
+    }
+    if verdict.is_few() {
+        let _ = writeln!(std::io::stderr(), "{verdict}"); // (which a test that passes shows, unlike what `eprintln!` prints)
     }
     Ok(verdict)
 }
@@ -158,15 +176,20 @@ impl Options {
         let all_calls = u64::from(self.threads) * u64::from(self.calls);
         let ranges = [
             ("threads", u64::from(self.threads), 1, 64),
-            ("threads times calls", all_calls, 1, MOST_CALLS),
+            ("threads times calls", all_calls, 1, if self.record.is_some() { MOST_CALLS_KEPT } else { MOST_CALLS }),
             ("keys", u64::from(self.keys), 1, 1_048_576),
             ("pauses", u64::from(self.pauses), 0, 100),
             ("runs", u64::from(self.runs), 1, 1_000_000),
             ("seconds", u64::from(self.seconds), 1, 3600),
         ];
-        match ranges.iter().find(|(_, given, least, most)| !(least..=most).contains(&given)) {
-            Some((name, given, least, most)) => no_verdict(format!("{name} is {given}, and has to be {least} to {most}")),
-            None => Ok(()),
+        if let Some((name, given, least, most)) = ranges.iter().find(|(_, given, least, most)| !(least..=most).contains(&given)) {
+            return no_verdict(format!("{name} is {given}, and has to be {least} to {most}"));
+        }
+        match &self.record {
+            Some(it) if std::fs::create_dir_all(it).is_err() => {
+                no_verdict(format!("record is {}, which is no folder and cannot be made one: name another", it.display()))
+            }
+            _ => Ok(()),
         }
     }
 }

@@ -1,14 +1,15 @@
 //! A run, as it is judged.
-use std::collections::{BTreeSet, HashMap};
+use std::collections::HashMap;
 use std::fmt::Write;
-use std::sync::atomic::Ordering::Acquire;
+use std::path::Path;
+use std::sync::atomic::AtomicU32;
+use std::sync::atomic::Ordering::{Acquire, SeqCst};
 
 use crate::area::{Area, Slot, WORDS};
-use crate::judges::Judge;
+use crate::judges::{Judge, Judged};
 use crate::{no_verdict, Failed, Failure};
 
 const QUOTA: u32 = 16_384; // the most adds that answered true, of one thread number of a recording
-const MOST_NUMBERS: usize = 64; // of threads of a recording
 
 pub struct Row {
     thread: usize,
@@ -19,12 +20,8 @@ pub struct Row {
 }
 
 impl Row {
-    fn is_change(&self) -> bool {
-        self.word != "contains" && matches!(self.end, Some((_, true)))
-    }
-
-    fn is_before(&self, moment: u32) -> bool {
-        self.end.map_or(false, |(end, _)| end < moment)
+    fn has_added(&self) -> bool {
+        self.word == "add" && matches!(self.end, Some((_, true)))
     }
 
     fn line(&self, number: usize) -> String {
@@ -36,7 +33,7 @@ impl Row {
     }
 }
 
-/// The calls of one set by their begins, those that did not end, and the keys before and after.
+/// The calls of one set by their begins, those that did not end, and the keys before and after; of a run in parts those of a part.
 pub struct Run {
     opening: Vec<u32>,
     pub rows: Vec<Row>,
@@ -52,7 +49,7 @@ impl Run {
             let (begin, end) = slot.moments();
             let end = (end > 0).then(|| (end, slot.reply.load(Acquire)));
             let (word, key) = (WORDS[usize::from(slot.word.load(Acquire))], slot.key.load(Acquire));
-            (begin > 0).then_some(Row { thread: i / area.options.calls as usize, word, key, begin, end })
+            (begin > area.before()).then_some(Row { thread: i / area.rows as usize, word, key, begin, end })
         };
         let begun = area.slots().iter().enumerate().filter_map(of_slot);
         let (mut rows, pending): (Vec<Row>, Vec<Row>) = begun.partition(|it| it.end.is_some());
@@ -60,43 +57,31 @@ impl Run {
         Run { opening: area.opening(), rows, pending, left: area.left(), trouble }
     }
 
-    /// What is wrong with it, by the judge.
-    pub fn judged(&self, judge: &Judge, seed: u64) -> Result<(), Failure> {
-        let recording = self.text()?;
-        let refused = judge.refused(&recording)?;
-        let failed = |said: String| {
-            let file = kept(&recording, seed);
-            Failed { seed, said, recording: recording.clone(), file, judge: judge.to_string() }
+    /// How many calls overlapped a change of their key, by the judge; or what is wrong with it: with this part of a run.
+    pub fn judged(&self, judge: &Judge, area: &Area, part: u32) -> Result<u64, Failure> {
+        let recording = self.text();
+        let file = area.options.record.as_ref().map(|it| keep(it, area.seed, part, &recording)).transpose()?;
+        let judged = match judge.judged(&recording) {
+            Err(Failure::NoVerdict(why)) if self.trouble.is_some() => Judged::Refused(why), // (an older judge knows no `cut`)
+            other => other?,
         };
-        match (&self.trouble, refused) {
-            (None, None) => Ok(()),
-            (None, Some(said)) => Err(Failure::NotLinearizable(failed(said))),
-            (Some(trouble), said) => {
+        let failed = |said: String| {
+            let file = file.clone().unwrap_or_else(|| kept(&recording, area.seed));
+            Failed { seed: area.seed, said, recording: recording.clone(), file, judge: judge.to_string() }
+        };
+        match (&self.trouble, judged) {
+            (None, Judged::Ok { overlapped }) => Ok(overlapped),
+            (None, Judged::Refused(said)) => Err(Failure::NotLinearizable(failed(said))),
+            (Some(trouble), judged) => {
                 let under_way: String = self.pending.iter().map(|it| it.line(it.thread)).collect();
-                let said = said.unwrap_or_else(|| "some order explains the calls".to_string());
+                let said = if let Judged::Refused(said) = judged { said } else { "some order explains the calls".to_string() };
                 Err(Failure::NotEnded(failed(format!("{trouble}\nunder way:\n{under_way}up to there: {said}"))))
             }
         }
     }
 
-    /// How many calls overlapped a change of their key.
-    pub fn overlapped(&self) -> u64 {
-        let mut open_of = HashMap::<u32, Vec<usize>>::new(); // of each key the calls that have begun, while they may be open
-        let mut is_met = vec![false; self.rows.len()];
-        for (i, it) in self.rows.iter().enumerate() {
-            let open = open_of.entry(it.key).or_default();
-            open.retain(|&other| !self.rows[other].is_before(it.begin));
-            for &other in open.iter() {
-                is_met[i] |= self.rows[other].is_change();
-                is_met[other] |= it.is_change();
-            }
-            open.push(i);
-        }
-        is_met.iter().filter(|&&it| it).count() as u64
-    }
-
     /// The recording that `listset judge` reads. A thread whose quota is used goes on under another number.
-    fn text(&self) -> Result<String, Failure> {
+    fn text(&self) -> String {
         let mut text = format!("listset-calls 2\nlist lazy\nthreads 64\nquota {QUOTA}\n");
         let (mut numbers, mut next) = (HashMap::<usize, (usize, u32)>::new(), 0);
         self.opening.iter().for_each(|key| writeln!(text, "opening {key}").unwrap());
@@ -105,33 +90,35 @@ impl Run {
             if *added == QUOTA {
                 (*number, *added, next) = (next, 0, next + 1);
             }
-            *added += u32::from(it.word == "add" && it.is_change());
+            *added += u32::from(it.has_added());
             text += &it.line(*number);
         }
-        match self.trouble {
-            None => self.left.iter().for_each(|key| writeln!(text, "key {key}").unwrap()),
-            Some(_) => text += &self.removes_of_unknown(next)?,
+        if self.trouble.is_some() {
+            return text + "cut\n";
         }
-        Ok(text + "end\n")
+        self.left.iter().for_each(|key| writeln!(text, "key {key}").unwrap());
+        text + "end\n"
     }
+}
 
-    /// Of each key that has calls or was there a remove that did not end, and so may have taken effect: so the key may be left or not.
-    fn removes_of_unknown(&self, first: usize) -> Result<String, Failure> {
-        let all = || self.rows.iter().chain(&self.pending);
-        let keys: BTreeSet<u32> = all().map(|it| it.key).chain(self.opening.iter().copied()).collect();
-        let last = all().map(|it| it.end.map_or(it.begin, |(end, _)| end)).max().unwrap_or(0);
-        if keys.len() + first > MOST_NUMBERS {
-            let trouble = self.trouble.as_deref().unwrap_or_default();
-            return no_verdict(format!("{trouble}; what came before is judged only of 64 keys and threads at most"));
-        }
-        let removes = keys.into_iter().zip(first..).zip(last + 1..);
-        Ok(removes.map(|((key, number), begin)| format!("call {number} remove {key} {begin} - - -\n")).collect())
+/// The file that keeps a part of a run, in the folder `record`. Parts of an earlier run go at the first.
+fn keep(folder: &Path, seed: u64, part: u32, recording: &str) -> Result<String, Failure> {
+    let file = |part: u32| folder.join(format!("seed-{seed}-part-{part:06}.calls"));
+    if part == 1 {
+        let mut old = 1..;
+        while old.next().is_some_and(|it| std::fs::remove_file(file(it)).is_ok()) {}
+    }
+    match std::fs::write(file(part), recording) {
+        Ok(()) => Ok(file(part).display().to_string()),
+        Err(_) => no_verdict(format!("record is {}, where no file can be written: name another folder", folder.display())),
     }
 }
 
 /// The file of a recording that failed, which the caller may hand on.
 fn kept(recording: &str, seed: u64) -> String {
-    let path = std::env::temp_dir().join(format!("listset-{}-{seed}.calls", std::process::id()));
+    static FILES: AtomicU32 = AtomicU32::new(0);
+    let name = format!("listset-seed-{seed}-{}-{}.calls", std::process::id(), FILES.fetch_add(1, SeqCst) + 1);
+    let path = std::env::temp_dir().join(name);
     match std::fs::write(&path, recording) {
         Ok(()) => path.display().to_string(),
         Err(_) => "no file, as none could be written".to_string(),

@@ -1,6 +1,8 @@
 //! A right set, and three wrong ones that have to be refused.
 use listset_judge::{judge, Failure, Options};
 use std::collections::BTreeSet;
+use std::fs;
+use std::path::{Path, PathBuf};
 use std::sync::atomic::{AtomicBool, AtomicU64, Ordering::SeqCst};
 use std::sync::{Mutex, RwLock};
 use std::thread::yield_now;
@@ -68,11 +70,12 @@ fn a_seed_gives_the_same_calls_again() {
     let of = |seed| {
         let options = Options { threads: 1, calls: 50, runs: 1, seed, ..Options::default() };
         match listset_judge::judge(MySet::new, MySet::add, MySet::remove, |_, _| true, options) {
-            Err(Failure::NotLinearizable(it)) => it.recording,
+            Err(Failure::NotLinearizable(it)) => (it.recording, it.file),
             other => panic!("{other:?}"),
         }
     };
-    assert!(of(1) == of(1) && of(1) != of(2));
+    let (first, again, other) = (of(1), of(1), of(2));
+    assert!(first.0 == again.0 && first.0 != other.0 && first.1 != again.1);
 }
 
 fn is_refused(judged: Result<listset_judge::Verdict, Failure>) {
@@ -154,9 +157,9 @@ fn a_double_remove_is_refused() {
     is_refused(judge!(DoubleRemove));
 }
 
-/// Its thirtieth call hangs with the lock held, or crashes.
+/// A remove, the thirtieth, hangs with the lock held, or crashes.
 #[cfg(target_os = "linux")]
-struct Stops { set: MySet, calls: AtomicU64, at_last: fn() }
+struct Stops { set: MySet, due: u64, removes: AtomicU64, at_last: fn() }
 
 #[cfg(target_os = "linux")]
 impl Stops {
@@ -164,7 +167,7 @@ impl Stops {
     fn add(&self, key: u32) -> bool { self.set.add(key) }
     fn remove(&self, key: u32) -> bool {
         let mut keys = self.set.0.lock().unwrap();
-        if self.calls.fetch_add(1, SeqCst) == 30 { (self.at_last)() }
+        if self.removes.fetch_add(1, SeqCst) == self.due { (self.at_last)() }
         keys.remove(&key)
     }
 }
@@ -173,11 +176,12 @@ impl Stops {
 #[test]
 fn what_hangs_or_crashes_is_judged_up_to_there() {
     let said = |seconds, at_last: fn(), contains: fn(&Stops, u32) -> bool| {
-        let make = move || Stops { set: MySet::new(), calls: AtomicU64::new(0), at_last };
-        match listset_judge::judge(make, Stops::add, Stops::remove, contains, Options { seconds, ..Options::default() }) {
+        let make = move || Stops { set: MySet::new(), due: 30, removes: AtomicU64::new(0), at_last };
+        match listset_judge::judge(make, Stops::add, Stops::remove, contains, Options { seconds, keys: 64, ..Options::default() }) {
             Err(Failure::NotEnded(it)) if std::fs::read_to_string(&it.file).unwrap() == it.recording => {
-                // (what was under way stands there too, beside a remove of each key)
-                assert!(it.recording.matches(" - - -\n").count() > it.said.matches(" - - -\n").count(), "{}", it.recording);
+                // (what was under way stands there too)
+                assert_eq!(it.recording.matches(" - - -\n").count(), it.said.matches(" - - -\n").count(), "{}", it.recording);
+                assert!(it.recording.ends_with("\ncut\n"), "{}", it.recording);
                 it.said
             }
             other => panic!("{other:?}"),
@@ -196,6 +200,61 @@ fn what_hangs_or_crashes_is_judged_up_to_there() {
 #[test]
 fn a_set_may_be_called_in_this_process() {
     judge!(MySet, Options { runs: 2, own_process: false, ..Options::default() }).unwrap();
+}
+
+/// The keys of the lines of a recording that begin with a word.
+fn keys_of<'a>(recording: &'a str, word: &'a str) -> Vec<&'a str> {
+    recording.lines().filter_map(|it| it.strip_prefix(word)?.strip_prefix(' ')).collect()
+}
+
+fn files_in(folder: &Path) -> Vec<PathBuf> {
+    let mut found: Vec<PathBuf> = fs::read_dir(folder).unwrap().map(|it| it.unwrap().path()).collect();
+    found.sort();
+    found
+}
+
+fn long(calls: u32, name: &str, own_process: bool) -> Options {
+    Options { calls, pauses: 0, runs: 1, own_process, record: Some(std::env::temp_dir().join(name)), ..Options::default() }
+}
+
+#[test]
+fn a_long_run_is_kept_in_parts() {
+    judge!(MySet, long(8000, "recorded", false)).unwrap();
+    assert_eq!(judge!(MySet, long(6000, "recorded", true)).unwrap().calls, 48_000);
+    let files = files_in(&std::env::temp_dir().join("recorded"));
+    let texts: Vec<String> = files.iter().map(|it| fs::read_to_string(it).unwrap()).collect();
+    let counts: Vec<usize> = texts.iter().map(|it| keys_of(it, "call").len()).collect();
+    assert_eq!(counts, [20_000, 20_000, 8000]);
+    let opening: Vec<_> = texts.iter().map(|it| keys_of(it, "opening")).collect();
+    let left: Vec<_> = texts.iter().map(|it| keys_of(it, "key")).collect();
+    assert!(opening[0].is_empty() && opening[1..] == left[..2], "{opening:?} {left:?}");
+}
+
+/// A run fails in its last part, whose file the failure names.
+fn ends_with(judged: Result<listset_judge::Verdict, Failure>, folder: &str, parts: usize, how: &str) {
+    let (Err(Failure::NotEnded(it)) | Err(Failure::NotLinearizable(it))) = judged else { panic!("it has to fail: {judged:?}") };
+    let files = files_in(&std::env::temp_dir().join(folder));
+    assert!(it.said.starts_with(how) && files.len() == parts && files[parts - 1].display().to_string() == it.file, "{}", it.said);
+    assert_eq!(fs::read_to_string(&it.file).unwrap(), it.recording);
+}
+
+#[cfg(target_os = "linux")]
+#[test]
+fn a_long_run_ends_with_the_part_that_crashed() {
+    let make = || Stops { set: MySet::new(), due: 10_000, removes: AtomicU64::new(0), at_last: || std::process::abort() };
+    let judged = listset_judge::judge(make, Stops::add, Stops::remove, Stops::contains, long(8000, "crashed", true));
+    ends_with(judged, "crashed", 2, "the set crashed: signal 6, SIGABRT\nunder way:\ncall ");
+}
+
+#[test]
+fn a_long_run_ends_with_the_part_that_is_refused() {
+    let judged = |own_process| {
+        let calls = AtomicU64::new(0);
+        let seldom = |set: &MySet, key| set.contains(key) || calls.fetch_add(1, SeqCst) > 8000;
+        listset_judge::judge(MySet::new, MySet::add, MySet::remove, seldom, long(8000, "refused", own_process))
+    };
+    ends_with(judged(false), "refused", 3, "not linearizable\n");
+    ends_with(judged(true), "refused", 3, "not linearizable\n");
 }
 
 /// It cannot be made, or its `add` fails.
@@ -218,7 +277,24 @@ fn what_gives_no_verdict_is_one_sentence() {
     assert_eq!(said(judge!(MySet, Options { pauses: 101, ..few() })), "pauses is 101, and has to be 0 to 100");
     assert_eq!(said(judge!(MySet, Options { runs: 0, ..few() })), "runs is 0, and has to be 1 to 1000000");
     assert_eq!(said(judge!(MySet, Options { seconds: 0, ..few() })), "seconds is 0, and has to be 1 to 3600");
+    let kept = |record: &str| Options { record: Some(record.into()), ..few() };
+    let too_many = said(judge!(MySet, Options { calls: 500_000_001, ..kept(".") }));
+    assert_eq!(too_many, "threads times calls is 1000000002, and has to be 1 to 1000000000");
+    let no_folder = said(judge!(MySet, kept("/dev/null/x")));
+    assert_eq!(no_folder, "record is /dev/null/x, which is no folder and cannot be made one: name another");
     assert_eq!(said(judge!(Fails, few())), "the set could not be made: no room");
-    let failing = listset_judge::judge(|| Fails, Fails::add, Fails::remove, Fails::contains, few());
-    assert_eq!(said(failing), "a call of the set failed: no memory");
+}
+
+#[test]
+fn a_call_that_panics_is_judged_up_to_there() {
+    for own_process in [true, false] {
+        let options = Options { own_process, ..Options::default() };
+        match listset_judge::judge(|| Fails, Fails::add, Fails::remove, Fails::contains, options) {
+            Err(Failure::NotEnded(it)) => {
+                assert!(it.said.starts_with("a call of the set panicked: no memory\nunder way:\ncall "), "{}", it.said);
+                assert!(it.said.ends_with("\nup to there: some order explains the calls"), "{}", it.said);
+            }
+            other => panic!("{other:?}"),
+        }
+    }
 }

@@ -1,39 +1,35 @@
-use Rattle.std.proofs.Common.{◌+◌, inl, ⊎_elim, arith, rules}
-use Rattle.std.proofs.lemmas.Bool.{MatchBool-at_true, MatchBool-at_false}
+use Rattle.std.proofs.Common.{◌≡◌, ⊎_elim, subst, sym, arith, rules}
 use Rattle.lset_calls.specs.Clashes.{ClashesAt}
-use Rattle.lset_calls.specs.Moments.{Somewhere, Nowhere}
-use Rattle.lset_calls.proofs.ClashLaws.{last_of}
 use Rattle.lset_calls.proofs.clashes.refusal.Goals as goal
 
-pub returns-then-has_clash : goal.returns-then-has_clash
-returns-then-has_clash c =
-    let calls = c.args.calls.now.calls.items in
-    let index = c.first_refused-index.result in
+pub returns-then-passed-clash : goal.returns-then-passed-clash
+returns-then-passed-clash c =
+    let clash = c.first_clash-clash.ensures in
+    let passed = c.first_passed-passed.ensures in
+    let less = c.if-passed-clash.true in
     record {
-      index = index;
-      known = search rules;
+      index = c.first_passed-passed.result;
+      known = omega (arith, clash.within);
       line_is = search rules;
-      why = last_of (ClashesAt calls) index (index + 1) (omega arith)
-          (MatchBool-at_true (Somewhere (ClashesAt calls) (index + 1)) (Nowhere (ClashesAt calls) (index + 1)) c.if-has_clash.true
-          c.has_clash.ensures)
-          (λ i l p. c.first_refused-index.ensures.first i l (inl p));
-      first = c.first_refused-index.ensures.first;
+      why = (clash.none c.first_passed-passed.result less, passed.some less);
+      first = λ i l r. ⊎_elim (λ p. clash.none i (omega arith) p) (λ p. passed.none i l p) r;
+    }
+
+pub returns-then-clash-count : goal.returns-then-clash-count
+returns-then-clash-count c =
+    let clash = c.first_clash-clash.ensures in
+    let passed = c.first_passed-passed.ensures in
+    let same : c.first_passed-passed.result ≡ c.first_clash-clash.result = omega (arith, passed.within) in
+    record {
+      index = c.first_passed-passed.result;
+      known = omega (arith, same);
+      line_is = search rules;
+      why = subst (λ z. ClashesAt c.args.calls.now.calls.items z) (sym same) (clash.some c.if-clash-count.true);
+      first = λ i l r. ⊎_elim (λ p. clash.none i (omega arith) p) (λ p. passed.none i l p) r;
     }
 
 pub returns : goal.returns
 returns c =
-    let calls = c.args.calls.now.calls.items in
-    let index = c.first_refused-index.result in
-    let none = MatchBool-at_false (Somewhere (ClashesAt calls) (index + 1)) (Nowhere (ClashesAt calls) (index + 1))
-    c.if-has_clash.false c.has_clash.ensures in
-    record {
-      index = index;
-      known = search rules;
-      line_is = search rules;
-      why = (
-        λ p. none index (omega arith) p,
-        ⊎_elim (λ p. absurd (none index (omega arith) p)) (λ p. p)
-            c.first_refused-index.ensures.refused,
-      );
-      first = c.first_refused-index.ensures.first;
-    }
+    let clash = c.first_clash-clash.ensures in
+    let passed = c.first_passed-passed.ensures in
+    λ i l r. ⊎_elim (λ p. clash.none i (omega arith) p) (λ p. passed.none i (omega arith) p) r

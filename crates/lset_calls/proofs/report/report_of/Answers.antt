@@ -75,7 +75,7 @@ returns-clause-told c =
       room = room;
       least = λ h k. least h.opening h.words k;
     }) in
-    reported (view c.args.calls) xs c.requires turn (R c.from_calls.result) has refl (ap (λ (h : HistoryValue). h.opening) is) refl
+    reported (view c.args.calls) xs c.requires turn c.if-calls.false (R c.from_calls.result) has refl (ap (λ (h : HistoryValue). h.opening) is) refl
     (ap (λ (h : HistoryValue). h.calls) is ∙ c.in_ok-records.ensures
     ∙ ap (λ (ys : List TimedCall). map (λ x. record_of (traced x)) ys) c.deref-3.ensures.value)
     (subst (λ (ys : List TimedCall). (last : ℕ) → All (IsUpTo last) (map traced ys)

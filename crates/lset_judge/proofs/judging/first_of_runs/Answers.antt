@@ -1,18 +1,19 @@
-use Rattle.std.proofs.Common.{◌∙◌, ap, arith}
+use Rattle.std.proofs.Common.{◌∙◌, ap, arith, refl}
+use Rattle.std.specs.Prelude.{option_copied}
 use Rattle.lset_history.specs.History.{latest_moment}
-use Rattle.lset_judge.specs.Marks.{IsRunEnd}
+use Rattle.lset_judge.specs.Marks.{IsRunEnd, keys_left}
 use Rattle.lset_judge.proofs.Refusals.{still_apart, so_far, weaker, each_marked}
 use Rattle.lset_judge.proofs.judging.first_of_runs.Goals as goal
 
 pub loop-start-preserved : goal.loop-start-preserved
 loop-start-preserved c =
-    let h = c.args.history.now in let keys = c.args.keys.now in let marks = c.args.marks.now in
+    let h = c.args.history.now in let left = option_copied c.args.left in let keys = keys_left h left in let marks = c.args.marks.now in
     let run : IsRunEnd marks c.loop-start.start c.run_end-end.result = c.run_end-end.ensures in
     record {
       inside = run.inside;
       apart = still_apart h.calls marks c.requires.marks c.loop-start.start c.run_end-end.result run c.loop-start.invariant.apart;
       judged = so_far h keys c.calls-calls.ensures.history marks c.requires.marks c.loop-start.start c.run_end-end.result run c.loop-start.invariant.apart
-          c.latest_moment-latest.result
+          left refl c.latest_moment-latest.result
           (c.latest_moment-latest.ensures ∙ ap latest_moment c.calls-calls.ensures.value) c.loop-start.first c.in_ok-found.found c.earlier-first.result
           c.earlier-first.ensures c.loop-start.invariant.judged c.in_ok-found.ensures.judged c.in_ok-found.ensures.key
           c.in_ok-found.ensures.at;
@@ -20,7 +21,7 @@ loop-start-preserved c =
 
 pub returns : goal.returns
 returns c =
-    let h = c.args.history.now in let keys = c.args.keys.now in let marks = c.args.marks.now in
+    let h = c.args.history.now in let left = option_copied c.args.left in let keys = keys_left h left in let marks = c.args.marks.now in
     weaker h keys _ _ c.loop-start.first
     (λ each. each_marked h keys marks (λ i low. each i (let past = c.loop-start-test.false in omega (arith, low, past))))
     c.loop-start.invariant.judged

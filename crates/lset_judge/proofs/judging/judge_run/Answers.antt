@@ -4,7 +4,7 @@ use Rattle.lset_words.specs.SequentialSet.{has_key}
 use Rattle.lset_judge.specs.Marks.{noted_at, FailsAt}
 use Rattle.lset_judge.specs.Rule.{opened}
 use Rattle.lset_judge.specs.Code.{state_of}
-use Rattle.lset_judge.proofs.Noting.{fails_there, goes_on_to}
+use Rattle.lset_judge.proofs.Noting.{fails_there, goes_on}
 use Rattle.lset_judge.proofs.judging.judge_run.Goals as goal
 
 pub returns-in-Some-clause-judged : goal.returns-in-Some-clause-judged
@@ -15,25 +15,23 @@ returns-in-Some-clause-judged c =
     (ap (λ calls. map (noted_at c.args.latest calls) c.args.run.now) c.calls.ensures.value) c.in_ok-moment.ensures.walked
     c.in-Some.moment _ c.in-Some.is
 
-pub returns-then-settle-clause-judged : goal.returns-then-settle-clause-judged
-returns-then-settle-clause-judged c =
-    sym c.if-settle.true ∙
-    goes_on_to c.is_among.result _ (state_of c.opened-state.result) (state_of c.walk.new.state)
+pub returns-then-may_end-clause-judged : goal.returns-then-may_end-clause-judged
+returns-then-may_end-clause-judged c =
+    sym c.if-may_end.true ∙
+    goes_on c.is_among.result _ (state_of c.opened-state.result) (state_of c.walk.new.state)
     (map (noted_at c.args.latest c.calls.result.now) c.args.run.now) _ c.in_ok-moment.field-0 c.opened-state.ensures
     (c.is_among.ensures ∙ ap (has_key _) c.opening.ensures.value)
     (ap (λ calls. map (noted_at c.args.latest calls) c.args.run.now) c.calls.ensures.value) c.in_ok-moment.ensures.walked
-    c.settle.result c.is_among-in-None.result _ (state_of c.settle.new.self) c.from.result c.args.latest c.in-None.is c.is_among-in-None.ensures c.from.ensures
-    c.settle.ensures
+    c.may_end.result _ c.in-None.is c.may_end.ensures
 
 pub returns-clause-judged : goal.returns-clause-judged
 returns-clause-judged c =
-    sym c.if-settle.false ∙
-    goes_on_to c.is_among.result _ (state_of c.opened-state.result) (state_of c.walk.new.state)
+    sym c.if-may_end.false ∙
+    goes_on c.is_among.result _ (state_of c.opened-state.result) (state_of c.walk.new.state)
     (map (noted_at c.args.latest c.calls.result.now) c.args.run.now) _ c.in_ok-moment.field-0 c.opened-state.ensures
     (c.is_among.ensures ∙ ap (has_key _) c.opening.ensures.value)
     (ap (λ calls. map (noted_at c.args.latest calls) c.args.run.now) c.calls.ensures.value) c.in_ok-moment.ensures.walked
-    c.settle.result c.is_among-in-None.result _ (state_of c.settle.new.self) c.from.result c.args.latest c.in-None.is c.is_among-in-None.ensures c.from.ensures
-    c.settle.ensures
+    c.may_end.result _ c.in-None.is c.may_end.ensures
 
 pub returns-in-Some-clause-at : goal.returns-in-Some-clause-at
 returns-in-Some-clause-at c =

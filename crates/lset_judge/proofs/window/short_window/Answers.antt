@@ -11,7 +11,7 @@ use Rattle.lset_judge.proofs.window.short_window.Goals as goal
 pub marks_of-requires-clause-history : goal.marks_of-requires-clause-history
 marks_of-requires-clause-history c =
     let is = subst (λ o. IfSome o (λ (v : Vec CallRecord Global). AreChosen c.calls-calls.result.now c.deref.result.now c.args.refusal.key v.items))
-    c.in-Some.is c.in_ok-own.ensures in
+    c.in-Some.is c.in_ok-own.ensures.are in
     let threads = c.args.history.now.opening.threads in (
       threads,
       subst (IsHistory threads) (sym c.deref-2.ensures.value)
@@ -22,7 +22,7 @@ marks_of-requires-clause-history c =
 pub marks_of-requires-clause-few : goal.marks_of-requires-clause-few
 marks_of-requires-clause-few c =
     let is = subst (λ o. IfSome o (λ (v : Vec CallRecord Global). AreChosen c.calls-calls.result.now c.deref.result.now c.args.refusal.key v.items))
-    c.in-Some.is c.in_ok-own.ensures in
+    c.in-Some.is c.in_ok-own.ensures.are in
     let few = chosen_few c.calls-calls.result.now c.deref.result.now c.args.refusal.key c.in-Some.own.items is in
     let same = ap length c.deref-2.ensures.value in
     let all = c.calls-calls.ensures.few in let calls = ap length c.calls-calls.ensures.value in

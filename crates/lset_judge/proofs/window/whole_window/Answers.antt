@@ -23,5 +23,6 @@ returns c =
     (c.moment_or-moment.ensures ∙ ap (λ n. moment_or n r.moment) (c.latest_moment.ensures ∙ ap latest_moment c.calls-calls.ensures.value))
     refl refl (c.is_among-there.ensures ∙ ap (has_key r.key.0) c.opening.ensures.value) c.left_as-left.ensures
     (subst (λ cs. All (λ n. n < length cs) numbers) c.calls-calls.ensures.value c.in_ok-numbers.ensures.known)
+    c.in_ok-numbers.ensures.rising
     (subst (λ cs. calls_numbered cs numbers ≡ calls_by r.key.0 moment cs) c.calls-calls.ensures.value c.in_ok-numbers.ensures.are)
     c.requires.refused

@@ -2,7 +2,7 @@ use Rattle.std.proofs.Common.{◌≡◌, ◌<◌, sym, subst, add-one, arith}
 use Rattle.lset_schedule.specs.declared.TheConstants.{MOST_EVENTS}
 use Rattle.lset_replay.specs.Events.{events_from}
 use Rattle.lset_replay.specs.Follows.{HasFollowed}
-use Rattle.lset_replay.specs.Trace.{MayFollow, trace_of, trace_after, entry_told}
+use Rattle.lset_replay.specs.Trace.{MayRecord, trace_of, trace_after, entry_told}
 use Rattle.lset_replay.proofs.Followed.{tells_keys}
 use Rattle.lset_replay.proofs.EventLists.{comes_next, few_behind, line_done}
 use Rattle.lset_replay.proofs.EventSteps.{ready, followed, stopped}
@@ -31,7 +31,7 @@ follow-requires g c =
     let there = comes_next c.args.first c.args.lines.now c.loop-index.index c.loop-done._done c.loop-done.events
     c.event_of-times.result.1
     c.event_of-times.result.0 c.loop-index-test.true c.event_of-times.ensures c.loop-done-test.true c.loop-done.invariant.count in
-    subst (λ m. MayFollow c.loop-done.recorder m c.event_of-times.result.0.event c.in-Ok.told) (sym (add-one c.loop-done.events))
+    subst (λ m. MayRecord c.loop-done.recorder m c.event_of-times.result.0.event c.in-Ok.told) (sym (add-one c.loop-done.events))
     (ready g.M.Machine.table (tells_keys g.M.Machine.table c.has_account.ensures c.listed_content.ensures)
     c.args.recorder.now.history.opening (events_from c.args.first c.args.lines.now)
     c.loop-done.events c.loop-done.world c.loop-done.recorder c.loop-done.invariant.followed c.event_of-times.result.0.event

@@ -1,11 +1,26 @@
-use Rattle.std.proofs.Common.{refl}
-use Rattle.tool_parts.proofs.Adding.{is_refused}
+use Rattle.std.proofs.Common.{List, ℕ, sym, subst}
+use Rattle.lset_judge.specs.Verdict.{IsRefused}
+use Rattle.tool_base.specs.Tools.{AnswerValue}
+use Rattle.tool_judge.specs.Judging.{IsRefusedAnswer}
+use Rattle.tool_parts.proofs.Adding.{refused_part, is_refused}
 use Rattle.tool_parts.proofs.kept.judge_behind.Goals as goal
+
+pub refused_answer-requires-clause-refused : goal.refused_answer-requires-clause-refused
+refused_answer-requires-clause-refused c =
+    let told = c.args.told.now in
+    let refusal = c.in-Ok-NotLinearizable.refusal in
+    let part = refused_part c.args.parts.now c.judge.new.self told c.deref.result.now c.latest-since.result _ refusal c.deref.ensures.value
+    c.latest-since.ensures c.in-Ok-NotLinearizable.field-0-is c.in-Ok-NotLinearizable.ensures.verdict in
+    subst (λ (ks : List ℕ). IsRefused told.history ks refusal) (sym c.deref-in-Ok-NotLinearizable.ensures.value) part.0.refused
 
 pub returns-in_ok-text-in-Ok-NotLinearizable-clause-found : goal.returns-in_ok-text-in-Ok-NotLinearizable-clause-found
 returns-in_ok-text-in-Ok-NotLinearizable-clause-found c =
-    let answer = c.in_ok-text-in-Ok-NotLinearizable.field-0 in
-    is_refused c.args.parts.now c.judge.new.self c.args.told.now c.deref.result.now c.latest-since.result _ c.in-Ok-NotLinearizable.refusal
-    answer.text.items c.is_at_rest.result (record { text = answer.text.items; status = answer.status }) c.deref.ensures.value
-    c.latest-since.ensures c.in-Ok-NotLinearizable.field-0-is c.in-Ok-NotLinearizable.ensures.verdict
-    c.in_ok-text-in-Ok-NotLinearizable.ensures.answer refl c.is_at_rest.ensures
+    let told = c.args.told.now in
+    let refusal = c.in-Ok-NotLinearizable.refusal in
+    let made = c.in_ok-text-in-Ok-NotLinearizable.field-0 in
+    let answer : AnswerValue = record { text = made.text.items; status = made.status } in
+    let part = refused_part c.args.parts.now c.judge.new.self told c.deref.result.now c.latest-since.result _ refusal c.deref.ensures.value
+    c.latest-since.ensures c.in-Ok-NotLinearizable.field-0-is c.in-Ok-NotLinearizable.ensures.verdict in
+    is_refused c.args.parts.now c.judge.new.self told refusal c.is_at_rest.result answer part
+    (subst (λ (ks : List ℕ). IsRefusedAnswer told.history ks refusal answer) c.deref-in-Ok-NotLinearizable.ensures.value
+    c.in_ok-text-in-Ok-NotLinearizable.ensures.answer) c.is_at_rest.ensures

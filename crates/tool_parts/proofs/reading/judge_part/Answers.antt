@@ -4,7 +4,7 @@ use Rattle.tool_parts.proofs.reading.judge_part.Goals as goal
 pub returns-in-None : goal.returns-in-None
 returns-in-None c =
     only_ok c.args.asked c.args.bytes.now c.new-kept.result c.judge_text.new.kept c.in_ok-found.found _ c.requires.taken c.new-kept.ensures
-    c.in_ok-found.ensures c.in-None.is c.in_ok-ok_text-in-None.ensures
+    c.in_ok-found.ensures c.in-None.is c.in_ok-ok_line-in-None.ensures
 
 pub returns : goal.returns
 returns c =

@@ -2,12 +2,13 @@ use Rattle.std.proofs.Common.{refl, subst, inr}
 use Rattle.lset_history.specs.Faults.{Explains}
 use Rattle.lset_judge.specs.Verdict.{IsUnexplained}
 use Rattle.lset_order.specs.Found.{IsFound}
-use Rattle.tool_report.specs.Reporting.{AreKeysOf}
+use Rattle.tool_judge.specs.Judging.{AreKeysOf}
 use Rattle.tool_report.proofs.reporting.report_by_order.Goals as goal
 
 pub returns-in-Order-clause-made : goal.returns-in-Order-clause-made
 returns-in-Order-clause-made c =
     let found = subst (IsFound c.in_ok-history.field-0.history c.deref.result.now) c.in-Order.is c.in_ok-order.ensures in inr (record {
+      whole = c.in_ok-history.ensures.whole;
       lacking = (c.args.lacking, c.requires.lacking);
       version_is = refl;
       kind_is = refl;
@@ -19,10 +20,11 @@ returns-in-Order-clause-made c =
 pub returns-in-NoOrder-clause-made : goal.returns-in-NoOrder-clause-made
 returns-in-NoOrder-clause-made c =
     let none = subst (IsFound c.in_ok-history.field-0.history c.deref.result.now) c.in-NoOrder.is c.in_ok-order.ensures in record {
+      whole = c.in_ok-history.ensures.whole;
       lacking = (c.args.lacking, c.requires.lacking);
       history = c.in_ok-history.field-0.history;
       left = c.keys_of-left.result.items;
       history_is = c.in_ok-history.ensures.told;
       left_is = subst (λ lines. AreKeysOf lines c.keys_of-left.result.items) c.in_ok-history.ensures.keys c.keys_of-left.ensures;
-      unexplained = subst (IsUnexplained c.in_ok-history.field-0.history) c.deref.ensures.value none;
+      unexplained = subst (IsUnexplained c.in_ok-history.field-0.history) c.deref.ensures.value none.0;
     }

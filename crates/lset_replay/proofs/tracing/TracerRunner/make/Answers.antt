@@ -7,7 +7,7 @@ use Rattle.lset_steps.specs.Worlds.{Refused}
 use Rattle.lset_schedule.specs.declared.TheConstants.{MOST_EVENTS}
 use Rattle.lset_replay.specs.Events.{only_events}
 use Rattle.lset_replay.specs.Follows.{HasFollowed}
-use Rattle.lset_replay.specs.Trace.{MayFollow, trace_after}
+use Rattle.lset_replay.specs.Trace.{MayRecord, trace_after}
 use Rattle.lset_replay.specs.Tracer.{KeepsChain, MadeEvent, NotesChain}
 use Rattle.lset_replay.specs.Tracing.{TellsEvent}
 use Rattle.lset_replay.proofs.EventSteps.{ready, stopped}
@@ -29,7 +29,7 @@ trace_event-requires-clause-few g c =
 pub trace_event-requires-clause-may : goal.trace_event-requires-clause-may
 trace_event-requires-clause-may g c =
     let there = c.requires in
-    λ enabled. subst (λ m. MayFollow c.args.self.now.recorder m c.args.next.event
+    λ enabled. subst (λ m. MayRecord c.args.self.now.recorder m c.args.next.event
     (told g.M.Machine.table c.args.self.now.world.state c.args.next.event)) (sym there.moment_is)
     (ready g.M.Machine.table (tells_keys g.M.Machine.table c.has_account.ensures c.listed_content.ensures)
     there.first.recorder.history.opening there.events there.behind c.args.self.now.world c.args.self.now.recorder there.made.1

@@ -1,0 +1,99 @@
+"""The benches: programs in Rattle that the gate does not prove. They are proved and built in a tree of their own, beside the
+libraries below them; here their files end in `_`, since rt takes no .rt or .antt that is not a crate's of the tree."""
+
+import os
+import pathlib
+import shutil
+import subprocess
+import sys
+import tempfile
+
+BENCH = pathlib.Path(__file__).resolve().parent
+TOP = BENCH.parent
+sys.path.insert(0, str(TOP / "build"))
+import toolchain  # noqa: E402
+
+SOURCES = BENCH / "crates"
+BUILT = BENCH / "out"  # git does not track it
+NAMES = sorted(it.name for it in SOURCES.iterdir() if it.is_dir())
+
+
+def rows():
+    """The lines of crates.txt and those of the benches, by the crate's name."""
+    lines = f"{(TOP / 'crates.txt').read_text()}\n{(SOURCES / 'rows.txt').read_text()}".splitlines()
+    lines = [line.partition("#")[0].strip() for line in lines]
+    return {line.partition(":")[0].split()[0]: line for line in lines if line}
+
+
+def needed(names):
+    """These crates and those of the repository below them, lowest first."""
+    all_rows, found = rows(), set(names)
+    for name in reversed(all_rows):
+        if name in found:
+            found.update(it for it in all_rows[name].partition(":")[2].split() if it in all_rows)
+    return [name for name in all_rows if name in found]
+
+
+def lay_out(room, names):
+    """Makes a tree of these benches and the libraries below them in a folder."""
+    wanted = needed(names)
+    (room / "crates.txt").write_text("".join(f"{rows()[it]}\n" for it in wanted))
+    shutil.copy2(TOP / "HANDLES", room)
+    for it in wanted:
+        source = SOURCES / it if it in NAMES else TOP / "crates" / it
+        shutil.copytree(source, room / "crates" / it, ignore=shutil.ignore_patterns("out"))
+        for file in (room / "crates" / it).rglob("*_"):
+            file.rename(str(file).removesuffix("_"))
+
+
+def is_old(name):
+    """Whether a bench is not built, or of other sources than there are now."""
+    sources = [it for made_of in needed([name]) for it in [SOURCES / made_of, TOP / "crates" / made_of]]
+    files = [file for it in sources for part in ("src", "specs", "proofs") for file in (it / part).rglob("*") if file.is_file()]
+    program = BUILT / name
+    return not program.exists() or any(it.stat().st_mtime > program.stat().st_mtime for it in files)
+
+
+def program_of(name):
+    """The built program of a bench. Where it is old, all that are old are proved and built first, by `rt ci`, which takes what it
+    has kept of the libraries: after a gate on this machine only the benches are proved."""
+    old = [it for it in NAMES if is_old(it)]
+    if name in old:
+        print(f"bench: proving and building {', '.join(old)}, once", file=sys.stderr)
+        toolchain.folder()
+        with tempfile.TemporaryDirectory(prefix="bench-") as room:
+            lay_out(pathlib.Path(room), old)
+            if subprocess.run(["rt", "ci"], cwd=room, stdin=subprocess.DEVNULL, stdout=sys.stderr).returncode:
+                sys.exit(f"bench: {', '.join(old)}: not proved")
+            BUILT.mkdir(exist_ok=True)
+            for it in old:
+                shutil.copy2(pathlib.Path(room, "crates", it, "out", it), BUILT / it)
+                os.utime(BUILT / it)
+    return str(BUILT / name)
+
+
+def by_rustc(source, room):
+    """The program of a Rust file of bench/, built by rustc."""
+    if not shutil.which("rustc"):
+        sys.exit(f"bench: the command rustc is missing: {toolchain.NEEDS['rustc']}")
+    program = f"{room}/{source.removesuffix('.rs')}"
+    subprocess.run(["rustc", "--edition", "2021", "-O", f"{BENCH}/{source}", "-o", program], check=True)
+    return program
+
+
+def read(over=None):
+    """Reads each bench, without a proof, over the libraries that `rt ci` has just built in the repository `over`: that names and types
+    still fit. Gives the status."""
+    if not over or not pathlib.Path(over, "crates.txt").is_file():
+        sys.exit("bench: --read takes the folder of a repository in which rt ci has built the libraries")
+    failed, checks = 0, toolchain.Checks(pathlib.Path(over).resolve())
+    with tempfile.TemporaryDirectory(prefix="bench-") as room:
+        lay_out(pathlib.Path(room), NAMES)
+        (pathlib.Path(room) / ".git").mkdir()
+        for name in NAMES:
+            status, said = checks.reads(pathlib.Path(room), name)
+            if status:
+                print(f"{said[-3000:].rstrip()}\nbench: {name} is not read")
+                failed += 1
+    print(f"{len(NAMES) - failed} passed, {failed} failed")
+    return 1 if failed else 0

@@ -1,0 +1,77 @@
+"""Processes that scripts start, which end with the script, however that ends; the folders that one that was killed leaves; free memory."""
+
+import os
+import pathlib
+import re
+import shutil
+import signal
+import subprocess
+import sys
+import tempfile
+import threading
+
+
+def script(main):
+    """Runs a script's main and ends with its status. A signal that ends the script leaves what it is in, so that its folders go."""
+    for it in (signal.SIGTERM, signal.SIGHUP):
+        signal.signal(it, lambda number, _: sys.exit(128 + number))
+    try:
+        sys.exit(main())
+    except KeyboardInterrupt:
+        sys.exit(128 + signal.SIGINT)
+
+
+def _group():
+    """The process group of a shell that ends all in it once this process does not hold its pipe any more."""
+    ends, held = os.pipe()
+    how = {"stdin": ends, "stdout": subprocess.DEVNULL, "stderr": subprocess.DEVNULL}
+    guard = subprocess.Popen(["sh", "-c", "read _; kill -9 0"], preexec_fn=os.setpgrp, **how)
+    os.close(ends)
+    return guard, held
+
+
+_guarding, _lock = {}, threading.Lock()
+
+
+def guarded():
+    """The words before a command by which it ends, with what it started, however this process ends."""
+    with _lock:
+        if os.getpid() not in _guarding:
+            _guarding[os.getpid()] = _group()
+        guard = _guarding[os.getpid()][0]
+    # (Python ignores these two signals, and the command would too)
+    joins = f"import os, sys, signal as s; os.setpgid(0, {guard.pid}); [s.signal(it, s.SIG_DFL) for it in (s.SIGPIPE, s.SIGXFSZ)]"
+    return [sys.executable, "-ISc", f"{joins}; os.execvp(sys.argv[1], sys.argv[1:])"]
+
+
+def sweep(*kinds, folder=None):
+    """Removes what runs that were killed left in a folder, or among the temporary files: folders KIND-PROCESS-.."""
+    for it in pathlib.Path(folder or tempfile.gettempdir()).glob("*-*-*"):
+        found = re.match(r"([.a-z-]+)-(\d+)-", it.name)
+        if found and found[1] in kinds and not os.path.exists(f"/proc/{found[2]}"):
+            shutil.rmtree(it, ignore_errors=True)
+
+
+def free_memory():
+    """The bytes of memory that are free."""
+    found = re.search(r"MemAvailable: +(\d+)", pathlib.Path("/proc/meminfo").read_text())
+    return int(found[1]) * 1024
+
+
+def ran(words, cwd, **environment):
+    """Runs a command to its end; gives its status and what it said on both its outputs."""
+    how = {"stdin": subprocess.DEVNULL, "stdout": subprocess.PIPE, "stderr": subprocess.STDOUT, "errors": "replace"}
+    made = subprocess.run([*guarded(), *map(str, words)], cwd=cwd, env={**os.environ, **environment}, **how)
+    return made.returncode, made.stdout
+
+
+class Failed(Exception):
+    """A command ended with another status than 0: the command, the status, and the end of what it said."""
+
+
+def output_of(*words, cwd=None):
+    """Runs a command to its end; gives what it said on both its outputs, and raises Failed if its status is not 0."""
+    status, said = ran(words, cwd)
+    if status:
+        raise Failed(f"{words[0]} ended with status {status}\n{said[-3000:].rstrip()}")
+    return said

@@ -1,0 +1,23 @@
+use Rattle.std.proofs.Common.{sym, subst, ◌∙◌}
+use Rattle.std.specs.Prelude.{◌≡◌, IfSome}
+use Rattle.lset_history.specs.History.{HistoryValue}
+use Rattle.lset_judge.specs.Verdict.{IsUnexplained, IsRefused, IsExplained, IsJudged}
+use Rattle.lset_claims.proofs.Seen.{of_key, judged_looks}
+use Rattle.lset_claims.proofs.claim.claim_of.Goals as goal
+
+pub returns-in-Some : goal.returns-in-Some
+returns-in-Some c =
+    let h = c.args.history.now in
+    let keys = c.args.keys.now in
+    let looks = c.in_ok-looks.looks in
+    of_key h looks keys c.in-Some.refusal c.in_ok-window-in-Some.window c.in_ok-looks.ensures
+    (subst (λ o. IfSome o (λ r. IsUnexplained looks keys)) c.in-Some.is c.in_ok-refusal.ensures.refused)
+    (subst (λ o. IfSome o (IsRefused looks keys)) c.in-Some.is c.in_ok-refusal.ensures.told) c.in_ok-window-in-Some.ensures
+
+pub returns-in-None : goal.returns-in-None
+returns-in-None c =
+    let h = c.args.history.now in
+    let keys = c.args.keys.now in
+    let j : IsJudged h = c.is_judged.ensures.0 c.if-is_judged.true in
+    let is : c.in_ok-looks.looks ≡ h = c.in_ok-looks.ensures ∙ judged_looks h j in
+    subst (λ (z : HistoryValue). IsExplained z keys) is (c.in_ok-refusal.ensures.passed c.in-None.is (subst IsJudged (sym is) j))

@@ -1,0 +1,173 @@
+-- The verdict on a stream, when all has happened that its calls tell.
+use Rattle.std.proofs.Common.{◌≡◌, ◌≢◌, ℕ, zero, suc, ◌+◌, ◌<◌, ◌≤◌, ◌⊎◌, Bool, true, false, List, [], ◌∷◌, refl, sym, ap, ◌∙◌, arith, subst, inl, inr}
+use Rattle.std.proofs.Common.{length, get_or}
+use Rattle.std.specs.Prelude.{◌==◌, ◌&&◌, ◌||◌, not, Option, Some, None, is_some, IfSome, MatchOption, All}
+use Rattle.std.specs.List.Sorted.{IsStrictlyIncreasing}
+use Rattle.std.proofs.lemmas.Bool.{cases_Bool, true≢false}
+use Rattle.std.proofs.lemmas.List.{get_or_default}
+use Rattle.std.proofs.lemmas.List.Elements.{All-head, All-tail}
+use Rattle.std.proofs.lemmas.List.Sums.{count_by-le-length}
+use Rattle.lset_words.specs.declared.Reply.{Reply}
+use Rattle.lset_words.specs.declared.history.CallRecord.{CallRecord}
+use Rattle.lset_words.specs.SequentialSet.{has_key}
+use Rattle.lset_words.specs.History.{IsHistory, call_numbered, no_call}
+use Rattle.lset_words.proofs.Numbers.{equal_test}
+use Rattle.lset_history.specs.History.{HistoryValue, latest_moment, moment_of}
+use Rattle.lset_judge.specs.declared.stream.Failed.{Failed}
+use Rattle.lset_judge.specs.declared.stream.Pending.{Pending}
+use Rattle.lset_judge.specs.declared.stream.Stream.{Stream}
+use Rattle.lset_judge.specs.Rule.{Event, State, leaves, same, options, opened, nearest, turned_by, turned_if, settled, open_changes, found, entered, ruled, fits}
+use Rattle.lset_judge.specs.Events.{event_at, events_on, rule_explains, RulePasses}
+use Rattle.lset_judge.specs.Marks.{keys_left, FailsBy}
+use Rattle.lset_judge.specs.Leaving.{has_any, may_be_left}
+use Rattle.lset_judge.specs.Stream.{stream_history, state_after, behind_all, state_for, pending_of, verdict_of_key, IsOver, IsStreamOf, IsStreamVerdict}
+use Rattle.lset_judge.specs.Verdict.{IsExplained, IsUnexplained, IsRefusedBy, with_quota, may_add}
+use Rattle.lset_judge.proofs.After.{judged_after, failed_by}
+use Rattle.lset_judge.proofs.Deciding.{explained, unexplained}
+use Rattle.lset_judge.proofs.Leading.{at_once}
+use Rattle.lset_judge.proofs.Leaving.{passes_with, unknown_rise, has_itself}
+use Rattle.lset_judge.proofs.Placed.{same_flips}
+use Rattle.lset_judge.proofs.Refused.{refused_by, refused_left}
+use Rattle.lset_judge.proofs.Ruled.{settled_none}
+use Rattle.lset_judge.proofs.Streamed.{same_some, until_end, if_some, for_some, none_or_some}
+
+-- ---- how a key may be left
+
+module _ (m : ℕ) (w : Bool) where
+  one_turn : (n : ℕ) (s : State) (os : List ℕ) → same w s.there ≡ false → options s ≡ os → length os ≤ n
+      → is_some (settled n m (leaves w) (Some s)) ≡ has_any os
+  one_turn zero s [] f e low = rw f refl
+  one_turn zero s (x ∷ xs) f e low = absurd (omega (arith, low))
+  one_turn (suc n) s [] f e low = rw f (ap (λ (os : List ℕ). is_some (settled n m (leaves w) (turned_if m s os))) e ∙ ap is_some (settled_none n m (leaves w)))
+  one_turn (suc n) s (x ∷ xs) f e low =
+      rw f (ap (λ (os : List ℕ). is_some (settled n m (leaves w) (turned_if m s os))) e
+      ∙ ap is_some (at_once n m (leaves w) (turned_by m (nearest x xs) s) (turns (cases_Bool s.there))))
+    where
+      turns : (s.there ≡ true) ⊎ (s.there ≡ false) → same w (turned_by m (nearest x xs) s).there ≡ true
+      turns (inl t) = rw t (ap (same w) (sym (ap not t)) ∙ same_flips w s.there f)
+      turns (inr t) = rw t (ap (same w) (sym (ap not t)) ∙ same_flips w s.there f)
+
+  few : (s : State) → length (options s) ≤ open_changes s
+  few s = elim (cases_Bool s.there) [ inl t ↦ rw t (omega arith) | inr t ↦ rw t (omega arith) ]
+
+  pub leaves_so : (s : State) → is_some (ruled m (Some s) (leaves w ∷ [])) ≡ may_be_left w s
+  leaves_so s = kept (found m (leaves w) s) ∙ elim (cases_Bool (same w s.there)) [
+    | inl t ↦ ap is_some (at_once (open_changes s) m (leaves w) s t) ∙ sym (either (same w s.there) (has_any (options s)) t)
+    | inr f ↦ one_turn (open_changes s) s (options s) f refl (few s) ∙ sym (neither (same w s.there) (has_any (options s)) f)
+  ]
+    where
+      kept : (o : Option State) → is_some (ruled (suc m) (entered (leaves w) o) []) ≡ is_some o
+      kept None = refl
+      kept (Some t) = refl
+
+      either : (a b : Bool) → a ≡ true → (a || b) ≡ true
+      either true b e = refl
+      either false b e = absurd (true≢false (sym e))
+
+      neither : (a b : Bool) → a ≡ false → (a || b) ≡ b
+      neither true b e = absurd (true≢false e)
+      neither false b e = refl
+
+pub as_it_is : (s : State) → may_be_left s.there s ≡ true
+as_it_is s = of s.there (has_any (options s))
+  where
+    of : (w b : Bool) → (same w w || b) ≡ true
+    of true b = refl
+    of false b = refl
+
+-- ---- no moment is later
+
+latest_upto : (G : ℕ) (xs : List CallRecord) → All (λ (x : CallRecord). (x.begun ≤ G) × IfSome x.ended (λ (e : ℕ × Reply). e.0 ≤ G)) xs → latest_moment xs ≤ G
+latest_upto G [] a = omega arith
+latest_upto G (x ∷ xs) a =
+    let P : CallRecord → Type 0 = λ x. (x.begun ≤ G) × IfSome x.ended (λ (e : ℕ × Reply). e.0 ≤ G) in
+    let here = All-head P x xs a in
+    let rest = latest_upto G xs (All-tail P x xs a) in
+    let b = here.0 in let e = upto x.ended here.1 in omega (arith, b, e, rest)
+  where
+    upto : (o : Option (ℕ × Reply)) → IfSome o (λ (e : ℕ × Reply). e.0 ≤ G) → moment_of o ≤ G
+    upto None h = omega arith
+    upto (Some e) h = h
+
+-- ---- THE VERDICT
+
+module _ (threads : ℕ) (opening : List ℕ) (calls : List CallRecord) (s : Stream) (is : IsStreamOf threads opening calls s)
+    (met : All (λ (p : Pending). behind_all ≤ p.end) s.pending.items) where
+  abbrev h : HistoryValue
+  h = stream_history threads opening calls
+
+  all_over : (n : ℕ) → n < length calls → IfSome (call_numbered calls n).ended (λ (e : ℕ × Reply). e.0 ≤ s.moment)
+  all_over n low = for_some (λ (e : ℕ × Reply). e.0 ≤ s.moment) (call_numbered calls n).ended (λ e q. elim (is.pending.kept n low) [
+    | inl over ↦ (let u = over.2 in let same = ap (λ (z : ℕ × Reply). z.0) (same_some (call_numbered calls n).ended e over.0 q over.1) in omega (arith, same, u))
+    | inr c ↦ absurd (
+        let d : Pending = pending_of (call_numbered calls n) in
+        let f = met c.0 d c.1 in let g = ap (λ (p : Pending). p.end) c.2 in
+        let u : d.end ≡ e.0 = until_end behind_all (call_numbered calls n).begun (call_numbered calls n).ended e q in
+        let b = if_some (λ (z : ℕ × Reply). z.0 < behind_all) (call_numbered calls n).ended e q (is.before n no_call low).1 in
+        omega (arith, f, g, u, b))
+  ])
+
+  latest : latest_moment calls ≤ s.moment
+  latest = latest_upto s.moment calls (λ n d low.
+      subst (λ (x : CallRecord). (x.begun ≤ s.moment) × IfSome x.ended (λ (e : ℕ × Reply). e.0 ≤ s.moment)) (sym (get_or_is n d low))
+      (is.begun n no_call low, all_over n low))
+    where
+      get_or_is : (n : ℕ) (d : CallRecord) → n < length calls → get_or calls n d ≡ get_or calls n no_call
+      get_or_is n d low = get_or_default calls n d no_call low
+
+  behind : latest_moment calls ≤ behind_all
+  behind = let a = latest in let b = is.moment in omega (arith, a, b)
+
+  upto : s.moment ≤ behind_all
+  upto = let b = is.moment in omega (arith, b)
+
+  module _ (judged : (k : ℕ) → state_after (event_at behind_all k calls) (has_key k opening) s.moment ≡ Some (state_for s.states k)) where
+    pub left_judged : (keys : List ℕ) (k : ℕ) → rule_explains h keys k ≡ may_be_left (has_key k keys) (state_for s.states k)
+    left_judged keys k =
+        judged_after h is.history behind_all behind k keys s.moment latest upto
+        ∙ ap (λ (o : Option State). is_some (ruled behind_all o (leaves (has_key k keys) ∷ []))) (judged k)
+        ∙ leaves_so behind_all (has_key k keys) (state_for s.states k)
+
+    explained_by : (keys : List ℕ) → IsStrictlyIncreasing keys → RulePasses h keys → IsExplained h keys
+    explained_by keys rise passes = explained h keys is.history is.opens (record {
+      plain = is.plain;
+      room = λ t. count_by-le-length (λ (x : CallRecord). may_add x.call x.ended && x.thread == t) calls;
+    }) rise passes
+
+    stream_explained : (keys : List ℕ) → IsStrictlyIncreasing keys → ((k : ℕ) → may_be_left (has_key k keys) (state_for s.states k) ≡ true)
+        → IsExplained h keys
+    stream_explained keys rise may = explained_by keys rise (λ k. left_judged keys k ∙ may k)
+
+    stream_left : (keys : List ℕ) (k : ℕ) → may_be_left (has_key k keys) (state_for s.states k) ≡ false
+        → ((quota : ℕ) → IsUnexplained (with_quota quota h) keys) × IsRefusedBy h keys k None
+    stream_left keys k wrong =
+        let fails : rule_explains h keys k ≡ false = left_judged keys k ∙ wrong in (
+          (λ quota. unexplained (with_quota quota h) keys is.history k fails),
+          refused_left h is.history k (latest_moment calls) keys refl fails,
+        )
+
+    pub stream_closed : (keys : List ℕ) → IsStrictlyIncreasing keys → (found : Option ℕ)
+        → MatchOption found ((k : ℕ) → may_be_left (has_key k keys) (state_for s.states k) ≡ true)
+        (λ (k : ℕ). may_be_left (has_key k keys) (state_for s.states k) ≡ false)
+        → IsStreamVerdict h keys (verdict_of_key found)
+    stream_closed keys rise None may = stream_explained keys rise may
+    stream_closed keys rise (Some k) wrong = stream_left keys k wrong
+
+    pub stream_cut_off : (keys : List ℕ) × IsExplained h keys
+    stream_cut_off = (keys_left h None, explained_by (keys_left h None) (unknown_rise h) (λ k. passes k (cases_Bool (state_for s.states k).there)))
+      where
+        passes : (k : ℕ) → ((state_for s.states k).there ≡ true) ⊎ ((state_for s.states k).there ≡ false) → rule_explains h (keys_left h None) k ≡ true
+        passes k (inl t) = passes_with h (k ∷ []) k (left_judged (k ∷ []) k
+            ∙ ap (λ b. may_be_left b (state_for s.states k)) (has_itself h k ∙ sym t) ∙ as_it_is (state_for s.states k))
+        passes k (inr f) = passes_with h [] k (left_judged [] k
+            ∙ ap (λ b. may_be_left b (state_for s.states k)) (sym f) ∙ as_it_is (state_for s.states k))
+
+  pub stream_refused : (f : Failed) → state_after (event_at behind_all f.key.0 calls) (has_key f.key.0 opening) f.moment ≡ None
+      → (keys : List ℕ) → ((quota : ℕ) → IsUnexplained (with_quota quota h) keys) × IsRefusedBy h keys f.key.0 (Some f.moment)
+  stream_refused f none keys =
+      let by : FailsBy h f.key.0 f.moment = failed_by h is.history behind_all behind f.key.0 f.moment none in
+      let fails : rule_explains h keys f.key.0 ≡ false =
+      ap is_some (by (event_at (latest_moment calls) f.key.0 calls) (has_key f.key.0 keys) (λ m low. refl)) in (
+        (λ quota. unexplained (with_quota quota h) keys is.history f.key.0 fails),
+        (λ quota left. refused_by h is.history f.key.0 f.moment by quota left),
+      )

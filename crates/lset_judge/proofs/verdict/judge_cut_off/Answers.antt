@@ -1,0 +1,18 @@
+use Rattle.std.proofs.Common.{None, subst}
+use Rattle.std.specs.Prelude.{MatchOption}
+use Rattle.lset_judge.specs.Events.{RulePasses}
+use Rattle.lset_judge.specs.Marks.{keys_left, Refuses}
+use Rattle.lset_judge.proofs.CutOff.{cut_off_refused, cut_off_explained}
+use Rattle.lset_judge.proofs.verdict.judge_cut_off.Goals as goal
+
+pub returns-in-Some : goal.returns-in-Some
+returns-in-Some c =
+    let h = c.args.history.now in
+    cut_off_refused h c.first_failure.ensures.history c.in-Some.refusal
+    (subst (λ o. MatchOption o (RulePasses h (keys_left h None)) (Refuses h (keys_left h None))) c.in-Some.is c.in_ok-refused.ensures.judged)
+
+pub returns-in-None-2 : goal.returns-in-None-2
+returns-in-None-2 c =
+    let h = c.args.history.now in
+    cut_off_explained h c.first_failure.ensures.history c.first_failure.ensures.opens (c.is_plain.ensures.0 c.if-not-is_plain.false)
+    (subst (λ o. MatchOption o (RulePasses h (keys_left h None)) (Refuses h (keys_left h None))) c.in-None-2.is c.in_ok-refused.ensures.judged)

@@ -1,0 +1,159 @@
+-- A STREAM OF CALLS, judged as they come: what is kept of the calls so far, and what the verdict says of them.
+use Rattle.std.specs.Prelude.{◌≡◌, ◌≢◌, ℕ, zero, suc, ◌+◌, ◌<◌, ◌≤◌, ◌^◌, ◌⊎◌, Bool, true, false, List, length, Option, Some, None}
+use Rattle.std.specs.Prelude.{All, AllPairs, Contains, IfSome, ◌-◌, slice_index_or, [], ◌∷◌}
+use Rattle.std.specs.List.Sorted.{IsStrictlyIncreasing}
+use Rattle.std.specs.Ordering.{nat_cmp}
+use Rattle.std.specs.BTreeMap.{BTreeMap, get}
+use Rattle.lset_words.specs.declared.Reply.{Reply}
+use Rattle.lset_words.specs.declared.history.CallRecord.{CallRecord}
+use Rattle.lset_words.specs.Words.{key_of}
+use Rattle.lset_words.specs.SequentialSet.{has_key}
+use Rattle.lset_words.specs.History.{IsHistory, call_numbered}
+use Rattle.lset_history.specs.History.{HistoryValue}
+use Rattle.lset_judge.specs.declared.rule.KeyState.{KeyState}
+use Rattle.lset_judge.specs.declared.stream.StreamCall.{StreamCall}
+use Rattle.lset_judge.specs.declared.stream.StreamVerdict.{StreamVerdict}
+use Rattle.lset_judge.specs.declared.stream.StreamVerdict.TheVariants.{Linearizable, NotLinearizable}
+use Rattle.lset_judge.specs.declared.stream.Failed.{Failed}
+use Rattle.lset_judge.specs.declared.stream.Pending.{Pending}
+use Rattle.lset_judge.specs.declared.stream.Stream.{Stream}
+use Rattle.lset_judge.specs.Rule.{Event, State, idle, opened, found, entered}
+use Rattle.lset_judge.specs.Code.{state_of}
+use Rattle.lset_judge.specs.Events.{kind_if, until_if, end_event, event_at}
+use Rattle.lset_judge.specs.Verdict.{IsPlain, IsExplained, IsUnexplained, IsRefusedBy, is_plain, with_quota}
+
+-- a call of a stream as one of a history
+abbrev pub record_of : StreamCall → CallRecord
+record_of x = record { thread = x.thread; call = x.call; begun = x.begun; ended = x.ended }
+
+-- the calls of a stream, of a set without a quota
+abbrev pub stream_history : ℕ → List ℕ → List CallRecord → HistoryValue
+stream_history threads opening calls = record {
+  opening = record { threads = threads; quota = length calls; keys = opening };
+  calls = calls;
+}
+
+-- ---- the rule, one moment after another
+
+-- what happens at the moment after one, to the state up to it; none if the rule has failed
+abbrev pub stepped : ℕ → Event → Option State → Option State
+stepped m v None = None
+stepped m v (Some s) = entered v (found m v s)
+
+-- the state of a key after a moment
+abbrev pub state_after : (ℕ → Event) → Bool → ℕ → Option State
+state_after ev opening zero = Some (opened opening)
+state_after ev opening (suc m) = stepped m (ev (suc m)) (state_after ev opening m)
+
+-- ---- what is kept
+
+-- the moment behind all moments
+abbrev pub behind_all : ℕ
+behind_all = 2 ^ 63
+
+-- of a key without a state, the key is not there
+abbrev pub state_or : Option KeyState → State
+state_or None = opened false
+state_or (Some s) = state_of s
+
+abbrev pub state_for : BTreeMap ℕ KeyState → ℕ → State
+state_for states k = state_or (get nat_cmp states k)
+
+-- of a call that has not ended
+abbrev pub pending_of : CallRecord → Pending
+pending_of x = record {
+  end = until_if behind_all x.begun x.ended;
+  thread = x.thread;
+  key = (key_of x.call).0;
+  event = end_event (kind_if x.call x.ended) x.begun;
+}
+
+-- the call has ended by a moment
+abbrev pub IsOver : ℕ → CallRecord → Type 0
+IsOver moment x = (end : ℕ × Reply) × (x.ended ≡ Some end) × (end.0 ≤ moment)
+
+-- its moments are before the moment behind all
+abbrev pub IsBefore : CallRecord → Type 0
+IsBefore x = (x.begun < behind_all) × IfSome x.ended (λ (end : ℕ × Reply). end.0 < behind_all)
+
+-- the pending calls up to a moment
+pub record ArePending (calls : List CallRecord) (moment : ℕ) (pending : List Pending) : Type 0 where
+  pub known : All (λ (p : Pending). (n : ℕ) × (n < length calls) × (p ≡ pending_of (call_numbered calls n))) pending
+  pub kept : (n : ℕ) → n < length calls → IsOver moment (call_numbered calls n) ⊎ Contains pending (pending_of (call_numbered calls n))
+  pub apart : AllPairs (λ (p q : Pending). p.end ≢ q.end) pending
+  pub later : All (λ (p : Pending). moment < p.end) pending
+
+-- the state of each key after a moment, or a key and a moment by which the rule has failed on it
+abbrev pub IsJudgedTo : List ℕ → List CallRecord → ℕ → BTreeMap ℕ KeyState → Option Failed → Type 0
+IsJudgedTo opening calls moment states None =
+    (k : ℕ) → state_after (event_at behind_all k calls) (has_key k opening) moment ≡ Some (state_for states k)
+IsJudgedTo opening calls moment states (Some f) = (f.moment ≤ moment)
+    × (state_after (event_at behind_all f.key.0 calls) (has_key f.key.0 opening) f.moment ≡ None)
+
+-- THE CALLS OF THE STREAM so far are these, of a set that opens with these keys, and this is kept of them: the state of each key after a
+-- moment before which they all began, and the calls pending; or a key and a moment by which the rule has failed on it
+pub record IsStreamOf (threads : ℕ) (opening : List ℕ) (calls : List CallRecord) (s : Stream) : Type 0 where
+  pub opens : IsStrictlyIncreasing opening
+  pub history : IsHistory threads calls
+  pub plain : IsPlain calls
+  pub before : All IsBefore calls
+  pub begun : All (λ (x : CallRecord). x.begun ≤ s.moment) calls
+  pub moment : s.moment < behind_all
+  pub pending : ArePending calls s.moment s.pending.items
+  pub judged : IsJudgedTo opening calls s.moment s.states s.failed
+
+-- ---- WHAT A CALL HAS TO BE to come next
+
+pub record MayCome (pending : List Pending) (moment : ℕ) (x : CallRecord) : Type 0 where
+  pub begins : moment < x.begun
+  pub ends : IfSome x.ended (λ (end : ℕ × Reply). x.begun < end.0)
+  pub before : IsBefore x
+  pub plain : IfSome x.ended (λ (end : ℕ × Reply). is_plain x.call end.1 ≡ true)
+  -- no pending call ends at its begin or its end,
+  pub apart : All (λ (p : Pending). (p.end ≢ x.begun) × IfSome x.ended (λ (end : ℕ × Reply). p.end ≢ end.0)) pending
+  -- and none of its thread is pending then
+  pub free : All (λ (p : Pending). p.thread ≡ x.thread → p.end ≤ x.begun) pending
+
+-- ---- WHAT THE VERDICT SAYS
+
+-- some order explains the calls and leaves the keys; or none does under any quota, since those of one key have none
+abbrev pub IsStreamVerdict : HistoryValue → List ℕ → StreamVerdict → Type 0
+IsStreamVerdict h keys Linearizable = IsExplained h keys
+IsStreamVerdict h keys (NotLinearizable refusal) =
+    ((quota : ℕ) → IsUnexplained (with_quota quota h) keys) × IsRefusedBy h keys refusal.key.0 refusal.moment
+
+-- of a recording that was cut off: with some keys left, or whatever keys are left
+abbrev pub IsStreamVerdictCutOff : HistoryValue → StreamVerdict → Type 0
+IsStreamVerdictCutOff h Linearizable = (keys : List ℕ) × IsStreamVerdict h keys Linearizable
+IsStreamVerdictCutOff h (NotLinearizable refusal) = (keys : List ℕ) → IsStreamVerdict h keys (NotLinearizable refusal)
+
+-- ---- what the functions on the way say
+
+abbrev pub no_pending : Pending
+no_pending = record { end = 0; thread = 0; key = 0; event = idle }
+
+-- the place has the nearest of the ends, and it is before a moment
+abbrev pub IsNearest : ℕ → List Pending → ℕ → Type 0
+IsNearest moment pending place = ((slice_index_or pending place no_pending).end < moment)
+    × All (λ (p : Pending). (slice_index_or pending place no_pending).end ≤ p.end) pending
+
+-- what happens of a key at a moment has happened
+abbrev pub IsMetBy : BTreeMap ℕ KeyState → ℕ → ℕ → Event → BTreeMap ℕ KeyState → Option Failed → Option Failed → Type 0
+IsMetBy before key moment event after (Some f) failed = failed ≡ Some f
+IsMetBy before key moment event after None None =
+    (entered event (found (moment - 1) event (state_for before key)) ≡ Some (state_for after key))
+    × ((k : ℕ) → k ≢ key → state_for after k ≡ state_for before k)
+IsMetBy before key moment event after None (Some f) = (f.key.0 ≡ key) × (f.moment ≡ moment)
+    × (entered event (found (moment - 1) event (state_for before key)) ≡ None)
+
+pub record IsMet (old : Stream) (key moment : ℕ) (event : Event) (new : Stream) : Type 0 where
+  pub pending : new.pending.items ≡ old.pending.items
+  pub at_moment : new.moment ≡ moment
+  pub by : IsMetBy old.states key moment event new.states old.failed new.failed
+
+abbrev pub failed_verdict : Failed → StreamVerdict
+failed_verdict f = NotLinearizable (record { key = f.key; moment = Some f.moment })
+
+abbrev pub verdict_of_key : Option ℕ → StreamVerdict
+verdict_of_key None = Linearizable
+verdict_of_key (Some k) = NotLinearizable (record { key = record { 0 = k }; moment = None })

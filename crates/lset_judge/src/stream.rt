@@ -1,0 +1,470 @@
+//! A stream of calls, judged as they come: what is kept is the state of each key and the calls that are pending.
+
+ghost use Rattle.std.specs.Prelude.{◌≡◌, ◌≢◌, ◌↔◌, ◌<◌, ◌≤◌, ◌+◌, ◌++◌, ◌∷◌, [], ℕ, IsTrue, All, List, length, false, true, None, Some, IfOk, OnOk, IfErr, IfSome, MatchOption, if◌then◌else◌};
+ghost use Rattle.std.specs.Prelude.{Contains, IsSome, slice_index_or};
+ghost use Rattle.std.specs.List.{remove};
+ghost use Rattle.std.specs.List.Sorted.{IsStrictlyIncreasing};
+ghost use Rattle.std.specs.Ordering.{nat_cmp};
+ghost use Rattle.std.specs.BTreeMap.{get};
+ghost use Rattle.lset_words.specs.declared.history.CallRecord.{CallRecord as RecordedCall};
+ghost use Rattle.lset_words.specs.SequentialSet.{has_key};
+ghost use Rattle.lset_judge.specs.Rule.{entered, found, opened};
+ghost use Rattle.lset_judge.specs.Events.{kind_if, until_if, begin_event, end_event};
+ghost use Rattle.lset_judge.specs.Leaving.{may_be_left};
+ghost use Rattle.lset_judge.specs.Stream.{record_of, stream_history, behind_all, state_for, pending_of, no_pending, IsBefore, IsNearest, IsMet, IsStreamOf, MayCome, failed_verdict, verdict_of_key, IsStreamVerdict, IsStreamVerdictCutOff};
+ghost use Rattle.lset_judge.specs.Verdict.{is_plain};
+
+use crate::event::{Event, Kind, begin_event, end_event, ended_kind, open_kind};
+use crate::judged::is_answer;
+use crate::keys::is_among;
+use crate::rule::KeyState;
+use lset_words::{Call, Key, Reply};
+use std::alloc::{AllocError, Global};
+use std::collections::BTreeMap;
+use thiserror::Error;
+
+/// A call of a stream: its thread, any number; the moment at which it began, 1 to `LAST_MOMENT`; and the moment at which it ended, after
+/// that, with its reply. A call without an end is pending to the end of the stream.
+#[derive(Clone, Copy, Debug, PartialEq, Eq)]
+pub struct StreamCall {
+    pub thread: u32,
+    pub call: Call,
+    pub begun: u64,
+    pub ended: Option<(u64, Reply)>,
+}
+
+/// The last moment of a stream, 2^63 - 1.
+pub const LAST_MOMENT: u64 = (1 << 63) - 1;
+
+/// The moment behind all moments.
+const BEHIND_ALL: u64 = 1 << 63;
+
+/// Why a call cannot come next. They are looked for in this order.
+#[derive(Clone, Copy, Debug, PartialEq, Eq, Error)]
+pub enum StreamFault {
+    /// It does not begin after each call before it, or a moment of it is above `LAST_MOMENT`.
+    #[error("it begins no later than a call before it, or a moment is too large")]
+    Early,
+    /// It does not end after its begin.
+    #[error("it does not end after its begin")]
+    Ends,
+    /// It is a `ceiling`, or ended with a reply other than true or false.
+    #[error("it is a ceiling, or its reply is not true or false")]
+    NotPlain,
+    /// A call before it ends at its begin or at its end.
+    #[error("a call before it ends at one of its moments")]
+    Taken,
+    /// A call before it is of its thread, and has not ended when it begins.
+    #[error("its thread has a call pending")]
+    Busy,
+    /// There was no memory.
+    #[error("out of memory")]
+    Memory,
+}
+
+/// What the stream says.
+#[derive(Clone, Copy, Debug, PartialEq, Eq)]
+pub enum StreamVerdict {
+    /// Some order explains the calls, from the opening keys, and leaves the keys.
+    Linearizable,
+    /// No order does.
+    NotLinearizable(StreamRefusal),
+}
+
+/// Why no order explains the calls of a stream: a key, and how far its calls go.
+#[derive(Clone, Copy, Debug, PartialEq, Eq)]
+pub struct StreamRefusal {
+    /// The key whose calls have no order.
+    pub key: Key,
+    /// The moment: the calls of the key that begin by then, with all their replies, have no order, whichever keys it leaves. `None` if
+    /// no order of all calls of the key leaves it as it is left.
+    pub moment: Option<u64>,
+}
+
+/// The key on which the rule has failed, and the moment by which it has.
+#[derive(Clone, Copy)]
+pub(crate) struct Failed {
+    pub(crate) key: Key,
+    pub(crate) moment: u64,
+}
+
+/// A call that has not ended yet: before which moment it takes effect, its thread, and what its end is to its key.
+#[derive(Clone, Copy)]
+pub(crate) struct Pending {
+    pub(crate) end: u64,
+    pub(crate) thread: u32,
+    pub(crate) key: u32,
+    pub(crate) event: Event,
+}
+
+impl StreamCall {
+    fn kind(self) -> Kind
+        ensures { result ≡ kind_if self.call self.ended }
+    {
+        match self.ended {
+            None => open_kind(self.call),
+            Some((_, reply)) => ended_kind(self.call, reply),
+        }
+    }
+
+    fn until(self) -> u64
+        requires { self.begun < behind_all }
+        ensures { result ≡ until_if behind_all self.begun self.ended }
+    {
+        match self.ended {
+            None => BEHIND_ALL + self.begun,
+            Some((end, _)) => end,
+        }
+    }
+
+    fn pending(self) -> Pending
+        requires { self.begun < behind_all }
+        ensures { result ≡ pending_of (record_of self) }
+    {
+        Pending {
+            end: self.until(),
+            thread: self.thread,
+            key: self.call.key().0,
+            event: end_event(self.kind(), self.begun),
+        }
+    }
+
+    fn is_plain(self) -> bool
+        ensures { IsTrue result ↔ IfSome self.ended (λ end. is_plain self.call end.1 ≡ true) }
+    {
+        match self.ended {
+            Some((_, reply)) => is_answer(self.call, reply),
+            None => true,
+        }
+    }
+
+    fn ends_later(self) -> bool
+        ensures { IsTrue result ↔ IfSome self.ended (λ end. self.begun < end.0) }
+    {
+        match self.ended {
+            Some((end, _)) => self.begun < end,
+            None => true,
+        }
+    }
+
+    fn is_before(self) -> bool
+        ensures { IsTrue result ↔ IsBefore (record_of self) }
+    {
+        match self.ended {
+            Some((end, _)) => self.begun <= LAST_MOMENT && end <= LAST_MOMENT,
+            None => self.begun <= LAST_MOMENT,
+        }
+    }
+}
+
+impl Pending {
+    fn is_apart(self, call: StreamCall) -> bool
+        ensures { IsTrue result ↔ ((self.end ≢ call.begun) × IfSome call.ended (λ end. self.end ≢ end.0)) }
+    {
+        match call.ended {
+            Some((end, _)) => self.end != call.begun && self.end != end,
+            None => self.end != call.begun,
+        }
+    }
+
+    fn is_free(self, call: StreamCall) -> bool
+        ensures { IsTrue result ↔ (self.thread ≡ call.thread → self.end ≤ call.begun) }
+    {
+        self.thread != call.thread || self.end <= call.begun
+    }
+}
+
+/// Lets happen what happens of a key at the moment after `before`: whether the rule goes on.
+fn meet_key(
+    states: &mut BTreeMap<u32, KeyState>,
+    alloc: Global,
+    key: u32,
+    before: u64,
+    event: Event,
+) -> Result<bool, AllocError>
+    ensures met { IfOk result (λ goes_on. entered event (found before event (state_for states.old key))
+        ≡ (if goes_on then Some (state_for states.new key) else None)) }
+    ensures others { IfOk result (λ goes_on. (k : ℕ) → k ≢ key → state_for states.new k ≡ state_for states.old k) }
+{
+    if let Some(state) = states.get_mut(&key) {
+        let goes_on = state.meet(before, event)?;
+        return Ok(goes_on);
+    }
+    let mut state = KeyState::opened(alloc, false);
+    let goes_on = state.meet(before, event)?;
+    states.insert(key, state)?;
+    Ok(goes_on)
+}
+
+/// The pending call whose end is nearest, if it is before a moment.
+fn nearest_end(pending: &[Pending], before: u64) -> Option<usize>
+    ensures inside { IfSome result (λ place. place < length pending.now) }
+    ensures nearest { MatchOption result (All (λ p. before ≤ p.end) pending.now)
+        (λ place. IsNearest before pending.now place) }
+{
+    if pending.is_empty() {
+        return None;
+    }
+    let mut place = 0;
+    for i in 1..pending.len() {
+        if pending[i].end < pending[place].end {
+            place = i;
+        }
+    }
+    if pending[place].end < before {
+        Some(place)
+    } else {
+        None
+    }
+}
+
+/// The states of a set that opens with these keys.
+fn opening_states(alloc: Global, opening: &[u32]) -> Result<BTreeMap<u32, KeyState>, AllocError>
+    ensures { IfOk result (λ states. (k : ℕ) → state_for states k ≡ opened (has_key k opening.now)) }
+{
+    let mut states = BTreeMap::new(alloc);
+    for key in opening {
+        states.insert(*key, KeyState::opened(alloc, true))?;
+    }
+    Ok(states)
+}
+
+impl Failed {
+    fn verdict(self) -> StreamVerdict
+        ensures { result ≡ failed_verdict self }
+    {
+        StreamVerdict::NotLinearizable(StreamRefusal {
+            key: self.key,
+            moment: Some(self.moment),
+        })
+    }
+}
+
+/// What is said by a key that is left as its calls cannot leave it, if there is one.
+fn verdict_of_key(key: Option<u32>) -> StreamVerdict
+    ensures { result ≡ verdict_of_key key }
+{
+    match key {
+        Some(key) => StreamVerdict::NotLinearizable(StreamRefusal {
+            key: Key(key),
+            moment: None,
+        }),
+        None => StreamVerdict::Linearizable,
+    }
+}
+
+/// A stream of calls of a set, judged as they come. It keeps the state of each key and the calls that are pending, so its memory does not
+/// grow with the number of calls.
+///
+/// Calls come in the order of their begins. Whether some order explains them is told by `close`, or by `close_cut_off`. (The rule is that
+/// of `judge`: it goes over the moments of each key once, so it needs no moment again.)
+#[derive(Drop)]
+pub struct Stream {
+    alloc: Global,
+    states: BTreeMap<u32, KeyState>,
+    pending: Vec<Pending>,
+    moment: u64,
+    failed: Option<Failed>,
+}
+
+impl Stream {
+    /// No calls yet, of a set that opens with these keys; they rise.
+    pub fn new(alloc: Global, opening: &[u32]) -> Result<Stream, AllocError>
+        requires { IsStrictlyIncreasing opening.now }
+        ensures { IfOk result (λ s. (threads : ℕ) → IsStreamOf threads opening.now [] s) }
+    {
+        Ok(Stream {
+            alloc,
+            states: opening_states(alloc, opening)?,
+            pending: Vec::new(alloc),
+            moment: 0,
+            failed: None,
+        })
+    }
+
+    /// Why a call cannot come next, if it cannot.
+    fn find_fault(&self, call: StreamCall) -> Option<StreamFault>
+        ensures { MatchOption result (MayCome self.now.pending.items self.now.moment (record_of call))
+            (λ fault. MayCome self.now.pending.items self.now.moment (record_of call) → ⊥) }
+    {
+        if call.begun <= self.moment || !call.is_before() {
+            Some(StreamFault::Early)
+        } else if !call.ends_later() {
+            Some(StreamFault::Ends)
+        } else if !call.is_plain() {
+            Some(StreamFault::NotPlain)
+        } else if !self.pending.iter().all(|pending| pending.is_apart(call)) {
+            Some(StreamFault::Taken)
+        } else if !self.pending.iter().all(|pending| pending.is_free(call)) {
+            Some(StreamFault::Busy)
+        } else {
+            None
+        }
+    }
+
+    /// Lets happen what happens of a key at a moment, and goes on to it.
+    fn meet(&mut self, key: u32, moment: u64, event: Event) -> Result<(), AllocError>
+        ensures { OnOk result (IsMet self.old key moment event self.new) }
+    {
+        if self.failed.is_none() {
+            let goes_on = meet_key(
+                &mut self.states,
+                self.alloc,
+                key,
+                moment.saturating_sub(1),
+                event,
+            )?;
+            if !goes_on {
+                self.failed = Some(Failed {
+                    key: Key(key),
+                    moment,
+                });
+            }
+        }
+        self.moment = moment;
+        Ok(())
+    }
+
+    /// Lets the pending call at a place end, the next one to end.
+    fn meet_end(&mut self, place: usize) -> Result<(), AllocError>
+        requires inside { place < length self.old.pending.items }
+        requires nearest { IsNearest behind_all self.old.pending.items place }
+        ensures kept { OnOk result ((threads : ℕ) (opening : List ℕ) (calls : List RecordedCall) → IsStreamOf threads opening calls self.old
+            → IsStreamOf threads opening calls self.new) }
+        ensures moment { OnOk result (self.new.moment ≡ (slice_index_or self.old.pending.items place no_pending).end) }
+        ensures pending { OnOk result (self.new.pending.items ≡ remove self.old.pending.items place) }
+    {
+        let next = self.pending.remove(place);
+        self.meet(next.key, next.end, next.event)?;
+        Ok(())
+    }
+
+    /// Lets all happen that happens before a moment.
+    fn meet_before(&mut self, moment: u64) -> Result<(), AllocError>
+        requires { moment ≤ behind_all }
+        ensures kept { OnOk result ((threads : ℕ) (opening : List ℕ) (calls : List RecordedCall) → IsStreamOf threads opening calls self.old
+            → IsStreamOf threads opening calls self.new) }
+        ensures before { OnOk result (self.old.moment < moment → self.new.moment < moment) }
+        ensures met { OnOk result (All (λ p. moment ≤ p.end) self.new.pending.items) }
+        ensures some { OnOk result (All (Contains self.old.pending.items) self.new.pending.items) }
+    {
+        while let Some(place) = nearest_end(&self.pending, moment) {
+            self.meet_end(place)?;
+        }
+        Ok(())
+    }
+
+    /// Goes on to the begin of a call, when all has happened that happens before.
+    fn begin(&mut self, call: StreamCall) -> Result<(), AllocError>
+        requires may { MayCome self.old.pending.items self.old.moment (record_of call) }
+        requires met { All (λ p. call.begun ≤ p.end) self.old.pending.items }
+        ensures { OnOk result ((threads : ℕ) (opening : List ℕ) (calls : List RecordedCall) → call.thread < threads
+            → IsStreamOf threads opening calls self.old → IsStreamOf threads opening (calls ++ record_of call ∷ []) self.new) }
+    {
+        let pending = call.pending();
+        self.pending.push(pending)?;
+        self.meet(
+            pending.key,
+            call.begun,
+            begin_event(call.kind(), pending.end),
+        )?;
+        Ok(())
+    }
+
+    fn take(&mut self, call: StreamCall) -> Result<(), AllocError>
+        requires { MayCome self.old.pending.items self.old.moment (record_of call) }
+        ensures { OnOk result ((threads : ℕ) (opening : List ℕ) (calls : List RecordedCall) → call.thread < threads
+            → IsStreamOf threads opening calls self.old → IsStreamOf threads opening (calls ++ record_of call ∷ []) self.new) }
+    {
+        self.meet_before(call.begun)?;
+        self.begin(call)?;
+        Ok(())
+    }
+
+    /// Judges a call that begins after all calls before it, so far as it tells something already.
+    ///
+    /// An error but `Memory` says why the call cannot come next, and changes nothing. After `Memory` the stream is of no more use.
+    pub fn add(&mut self, call: StreamCall) -> Result<(), StreamFault>
+        ensures added { OnOk result ((threads : ℕ) (opening : List ℕ) (calls : List RecordedCall) → call.thread < threads
+            → IsStreamOf threads opening calls self.old → IsStreamOf threads opening (calls ++ record_of call ∷ []) self.new) }
+        ensures refused { IfErr result (λ fault. fault ≢ StreamFault.Memory → (MayCome self.old.pending.items self.old.moment (record_of call) → ⊥)
+            × (self.new ≡ self.old)) }
+    {
+        if let Some(fault) = self.find_fault(call) {
+            return Err(fault);
+        }
+        match self.take(call) {
+            Ok(()) => Ok(()),
+            Err(_) => Err(StreamFault::Memory),
+        }
+    }
+
+    /// A key with a state that is not left as its calls may leave it.
+    fn wrongly_left(&self, keys: &[u32]) -> Option<u32>
+        requires { IsStrictlyIncreasing keys.now }
+        ensures { MatchOption result
+            ((k : ℕ) → IsSome (get nat_cmp self.now.states k) → may_be_left (has_key k keys.now) (state_for self.now.states k) ≡ true)
+            (λ k. may_be_left (has_key k keys.now) (state_for self.now.states k) ≡ false) }
+    {
+        for (key, state) in &self.states {
+            if !state.may_be_left(is_among(keys, *key)) {
+                return Some(*key);
+            }
+        }
+        None
+    }
+
+    /// A key that is left, and of which nothing has been heard.
+    fn unknown_left(&self, keys: &[u32]) -> Option<u32>
+        ensures { MatchOption result
+            ((k : ℕ) → has_key k keys.now ≡ true → get nat_cmp self.now.states k ≢ None)
+            (λ k. (has_key k keys.now ≡ true) × (get nat_cmp self.now.states k ≡ None)) }
+    {
+        for key in keys {
+            if !self.states.contains_key(key) {
+                return Some(*key);
+            }
+        }
+        None
+    }
+
+    fn first_left(&self, keys: &[u32]) -> Option<u32>
+        requires { IsStrictlyIncreasing keys.now }
+        ensures { MatchOption result ((k : ℕ) → may_be_left (has_key k keys.now) (state_for self.now.states k) ≡ true)
+            (λ k. may_be_left (has_key k keys.now) (state_for self.now.states k) ≡ false) }
+    {
+        match self.wrongly_left(keys) {
+            Some(key) => Some(key),
+            None => self.unknown_left(keys),
+        }
+    }
+
+    /// Whether some order linearizes all calls of the stream, from the opening keys, and leaves these keys: the answer is `Linearizable`
+    /// exactly if one does, and `NotLinearizable` exactly if none does. The set has no quota.
+    ///
+    /// `keys` are the keys left; they rise. It fails only if memory is refused.
+    pub fn close(mut self, keys: &[u32]) -> Result<StreamVerdict, AllocError>
+        requires { IsStrictlyIncreasing keys.now }
+        ensures { IfOk result (λ verdict. (threads : ℕ) (opening : List ℕ) (calls : List RecordedCall) → IsStreamOf threads opening calls self
+            → IsStreamVerdict (stream_history threads opening calls) keys.now verdict) }
+    {
+        self.meet_before(BEHIND_ALL)?;
+        match self.failed {
+            Some(failed) => Ok(failed.verdict()),
+            None => Ok(verdict_of_key(self.first_left(keys))),
+        }
+    }
+
+    /// As `close`, of a recording that was cut off, so that the keys left are not known: the answer is `Linearizable` exactly if there are
+    /// keys left with which some order explains the calls, and `NotLinearizable` exactly if none does whatever keys are left.
+    pub fn close_cut_off(mut self) -> Result<StreamVerdict, AllocError>
+        ensures { IfOk result (λ verdict. (threads : ℕ) (opening : List ℕ) (calls : List RecordedCall) → IsStreamOf threads opening calls self
+            → IsStreamVerdictCutOff (stream_history threads opening calls) verdict) }
+    {
+        self.meet_before(BEHIND_ALL)?;
+        match self.failed {
+            Some(failed) => Ok(failed.verdict()),
+            None => Ok(StreamVerdict::Linearizable),
+        }
+    }
+}

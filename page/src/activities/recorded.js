@@ -1,0 +1,69 @@
+// Judge, calls recorded from a set of the reader's own: their text is pasted or opened as a file, and the proved judge decides. No
+// points are wanted but for a ceiling or a full.
+import { drawRecorded } from "../draw/judged.js";
+import { byId } from "../page/dom.js";
+import { askLong, LONG_TEXT } from "../page/long_run.js";
+import { tag } from "../run/markup.js";
+import { RECORDED_EXAMPLE, recordedInWords, verdictOnCalls, withNewline } from "../run/recorded.js";
+
+const MOST_DRAWN = 40; // calls that are drawn as bars
+const recorded = { text: "", isOpen: false }; // what stands in the box when another activity is shown
+const recordedPart = (name) => byId(`recorded-${name}`);
+
+const PARTS = `<p class="lead">What judges a set in a test, in <code>examples/in-a-test</code>, writes each call with its begin and its
+    end, and keeps a run that fails. Paste the text, or open the file: the proved <code>judge</code> says whether any order explains the calls.</p>
+  <textarea id="recorded-text" rows="7" spellcheck="false" autocapitalize="off" wrap="off" aria-label="recorded calls"
+    placeholder="listset-calls 2"></textarea>
+  <p class="line"><button id="recorded-judge">Judge these calls</button>
+    <label class="button">Open a file<input type="file" id="recorded-file"></label>
+    <button id="recorded-example">An example</button></p>
+  <p id="recorded-verdict" role="status"></p><ul id="recorded-reasons"></ul><div id="recorded-picture"></div><ol id="recorded-calls"></ol>`;
+
+export const drawRecordedBox = () =>
+  tag("details", { id: "recorded-box", class: "card", ...(recorded.isOpen ? { open: "" } : {}) },
+    tag("summary", {}, "<h2>Calls recorded from your set</h2>"), PARTS);
+
+function showVerdict({ kind, says, reasons, calls }) {
+  recordedPart("verdict").className = kind;
+  recordedPart("verdict").textContent = says;
+  recordedPart("reasons").innerHTML = reasons.map((reason) => tag("li", {}, reason)).join("");
+  const isDrawn = calls.length > 0 && calls.length <= MOST_DRAWN;
+  const width = Math.max(300, recordedPart("reasons").clientWidth);
+  recordedPart("picture").innerHTML = isDrawn ? drawRecorded(calls, Math.min(width, 900)) : "";
+  recordedPart("calls").innerHTML = calls.map((call) => tag("li", {}, recordedInWords(call))).join("");
+}
+
+const nothing = { kind: "", says: "", reasons: [], calls: [] };
+
+async function judgeCalls() {
+  const text = withNewline(recordedPart("text").value);
+  recorded.text = text;
+  if (text === "") return showVerdict({ ...nothing, kind: "fault", says: "Paste the text of recorded calls first, or open a file." });
+  showVerdict({ ...nothing, says: text.length < LONG_TEXT ? "" : "The judge looks at the calls." });
+  const { text: said } = await askLong("listset_judge", text);
+  if (withNewline(recordedPart("text").value) === text) showVerdict(verdictOnCalls(said));
+}
+
+// Shows a text in the box, and what the judge says of it.
+export function showRecorded(text) {
+  recordedPart("box").open = true;
+  recordedPart("text").value = text;
+  judgeCalls();
+}
+
+export function listenToRecorded() {
+  const box = recordedPart("text");
+  box.value = recorded.text;
+  box.oninput = () => {
+    recorded.text = box.value;
+    showVerdict(nothing);
+  };
+  recordedPart("box").ontoggle = () => (recorded.isOpen = recordedPart("box").open);
+  recordedPart("judge").onclick = judgeCalls;
+  recordedPart("example").onclick = () => showRecorded(RECORDED_EXAMPLE);
+  recordedPart("file").onchange = async () => {
+    const text = await recordedPart("file").files[0].text();
+    recordedPart("file").value = "";
+    showRecorded(text);
+  };
+}

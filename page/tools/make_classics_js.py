@@ -1,0 +1,38 @@
+"""What docs/CLASSIC.md says, as made/classics.js: of each example its question, what it turns on, at which events, what goes wrong
+without it, and which lists of its kind lack that check; and the kind of each list that lacks one."""
+import re
+
+from make_rows_js import in_lines, plain
+
+LACKING = re.compile(r"^- `([a-z-]+)` \(([a-z-]+)\): ", re.M)  # a broken list: its name and its kind
+PARAGRAPHS = {"question": "Question.", "turns_on": "Turns on.", "without": "Without it."}
+
+
+def paragraph(section, title):
+    found = re.search(rf"^\*\*{re.escape(title)}\*\* (.*)$", section, re.M)
+    return plain(found[1]) if found else None
+
+
+def turns_of(section):
+    """The numbers of the events at which the example turns: the lines of its trace below the paragraph that says so."""
+    part = section.split("**Turns on.**", 1)[1].split("**Without it.**", 1)[0]
+    return [int(number) for number in re.findall(r"^    event (\d+) line ", part, re.M)]
+
+
+def classics_text(page):
+    """The text of made/classics.js for the text of docs/CLASSIC.md."""
+    lacking = dict(LACKING.findall(page))
+    kinds = {kind.replace("-", ""): kind for kind in lacking.values()}
+    classics = {}
+    for section in page.split("\n## ")[1:]:
+        if "**Question.**" not in section:
+            continue
+        name, kind = re.match(r"([a-z-]+) \((\w+)List\)", section).groups()
+        said = {key: paragraph(section, title) for key, title in PARAGRAPHS.items()}
+        named = re.findall(r"\(`([a-z-]+)`\)", section)
+        lacks = [one for one in named if lacking.get(one) == kinds.get(kind.lower())]
+        classics[name] = {"question": said["question"], "turnsOn": said["turns_on"], "without": said["without"],
+                          "turns": turns_of(section), "lacks": lacks}
+    return ("// What docs/CLASSIC.md says, by page/build: of each example its question, what it turns on, at which events, what goes\n"
+            "// wrong without it, and which lists of its kind lack that check; and the kind of each list that lacks one.\n"
+            f"\nexport const CLASSICS = {in_lines(classics)};\n\nexport const LACKING = {in_lines(lacking)};\n")

@@ -1,0 +1,30 @@
+// node page/tools/make_traces.js: made/traces.js, which has what the page's engine says of the classic examples: the list of their
+// names, and the trace of each. A browser that cannot run the engine shows the examples from it.
+"use strict";
+
+const fs = require("fs");
+const path = require("path");
+const { execFileSync } = require("child_process");
+
+const PAGE = path.dirname(__dirname);
+const asked = (words, input) => execFileSync("node", [path.join(PAGE, "listset.js"), ...words], { input, encoding: "utf8" });
+
+function tracesText() {
+  const list = asked(["example"]);
+  const names = list.trimEnd().split("\n").map((line) => line.split(" ")[0]);
+  const lines = names.map((name) => {
+    const trace = asked(["trace"], asked(["example", name]));
+    return `  ${JSON.stringify(name)}: \`\n${trace}\`.slice(1),\n`;
+  });
+  return (
+    "// What the engine prints of the classic examples, by make_traces.js: shown where a browser cannot run it.\n" +
+    `\nexport const EXAMPLES = \`\n${list}\`.slice(1);\n\nexport const TRACES = {\n${lines.join("")}};\n`
+  );
+}
+
+if (process.argv.length > 2) {
+  process.stderr.write(`make_traces.js: it takes no words, and is given ${process.argv.slice(2).join(" ")}\n`);
+  process.exitCode = 2;
+} else {
+  fs.writeFileSync(path.join(PAGE, "made", "traces.js"), tracesText());
+}

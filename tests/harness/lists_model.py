@@ -1,0 +1,247 @@
+"""A model of the five lists, written apart from the crates, by docs/TABLES.md alone: their tables, and one step of a thread after another."""
+
+import collections
+
+TAIL_KEY = 4294967297
+REGISTERS = ["pred", "curr", "succ", "node", "pkey", "ckey"]
+
+# ---- the five tables, to be laid beside docs/TABLES.md, which says what their words mean
+
+COARSE = """
+ 1 | try list.lock                          | 2
+ 2 | load head.link                         | pred = head, curr = next(s), 3
+ 3 | load curr.key                          | ckey = s; below K: 4; else decide
+ 4 | load curr.link                         | pred = curr, curr = next(s), 3
+ 5 | store K in own.key                     | 6
+ 6 | store curr in own.link                 | 7
+ 7 | store own in pred.link                 | +k, reply true, 10
+ 8 | load curr.link                         | succ = next(s), 9
+ 9 | store succ in pred.link                | -k, reply true, 10
+10 | store 0 in list.lock                   | answers
+"""
+FINE = """
+ 1 | try head.lock                          | pred = head, 2
+ 2 | load head.link                         | curr = next(s), 3
+ 3 | try curr.lock                          | 4
+ 4 | load curr.key                          | ckey = s; below K: 5; else decide
+ 5 | store 0 in pred.lock                   | 6
+ 6 | load curr.link                         | pred = curr, curr = next(s), 3
+ 7 | store K in own.key                     | 8
+ 8 | store curr in own.link                 | 9
+ 9 | store own in pred.link                 | +k, reply true, 12
+10 | load curr.link                         | succ = next(s), 11
+11 | store succ in pred.link                | -k, reply true, 12
+12 | store 0 in curr.lock                   | 13
+13 | store 0 in pred.lock                   | answers
+"""
+OPTIMISTIC = """
+ 1 | load head.link                         | pred = head, pkey = 0, curr = next(s), 2
+ 2 | load curr.key                          | ckey = s; below K: 3; else 4
+ 3 | load curr.link                         | pred = curr, pkey = ckey, curr = next(s), 2
+ 4 | try pred.lock                          | 5
+ 5 | try curr.lock                          | node = head; pred is the head: 8; else 6
+ 6 | load node.link                         | node = next(s), 7
+ 7 | load node.key                          | above pkey: reply none, 14; node is pred: 8; else 6
+ 8 | load pred.link                         | it leads to curr: decide on ckey; else reply none, 14
+ 9 | store K in own.key                     | 10
+10 | store curr in own.link                 | 11
+11 | store own in pred.link                 | +k, reply true, 14
+12 | load curr.link                         | succ = next(s), 13
+13 | store succ in pred.link                | -k, reply true, 14
+14 | store 0 in pred.lock                   | 15
+15 | store 0 in curr.lock                   | without a reply: 1; else answers
+"""
+READS = """
+20 | load curr.link                         | curr = next(s), 21
+21 | load curr.key                          | below K: 20; K: 22; else answers false
+22 | load curr.link                         | marked: answers false; else answers true
+23 | load curr.link                         | curr = next(s), 24
+24 | load curr.key                          | ckey = s; below K: 23; the tail's: answers nothing; else 25
+25 | load curr.link                         | marked: curr = head, 23; else answers the key of ckey
+"""
+LAZY = READS + """
+ 1 | load head.link                         | pred = head, curr = next(s), 2
+ 2 | load curr.key                          | ckey = s; below K: 3; else 4
+ 3 | load curr.link                         | pred = curr, curr = next(s), 2
+ 4 | try pred.lock                          | 5
+ 5 | try curr.lock                          | 6
+ 6 | load pred.link                         | curr, unmarked: 7; else reply none, 13
+ 7 | load curr.link                         | marked: reply none, 13; else succ = next(s), decide on ckey
+ 8 | store K in own.key                     | 9
+ 9 | store curr in own.link                 | 10
+10 | store own in pred.link                 | +k, reply true, 13
+11 | store succ* in curr.link               | -k, 12
+12 | store succ in pred.link                | reply true, 13
+13 | store 0 in curr.lock                   | 14
+14 | store 0 in pred.lock                   | without a reply: 1; else answers
+"""
+LOCK_FREE = READS + """
+ 1 | load head.link                         | pred = head, curr = next(s), 2
+ 2 | load curr.link                         | succ = next(s); marked: 3; else 4
+ 3 | exchange pred.link from curr to succ   | success: curr = succ, 2; else 1
+ 4 | load curr.key                          | below K: pred = curr, curr = succ, 2; else decide
+ 5 | store K in own.key                     | 6
+ 6 | store curr in own.link                 | 7
+ 7 | exchange pred.link from curr to own    | success: +k, answers true; else 1
+ 8 | load curr.link                         | succ = next(s), 9
+ 9 | exchange curr.link from succ to succ*  | success: -k, 10; else 1
+10 | exchange pred.link from curr to succ   | answers true
+"""
+
+Table = collections.namedtuple("Table", "rows reads add remove leave")
+
+
+def table(text, *places):
+    """A table: of each row its step and what follows; whether it has rows that read without locks; where add, remove and leave go."""
+    cells = ([it.strip() for it in line.split("|")] for line in text.strip().splitlines() if line)
+    rows = {int(number): (step.split(), [it.strip() for it in then.split(";")]) for number, step, then in cells}
+    return Table(rows, 20 in rows, *places)
+
+
+TABLES = {
+    "coarse": table(COARSE, 5, 8, 10),
+    "fine": table(FINE, 7, 10, 12),
+    "optimistic": table(OPTIMISTIC, 9, 12, 14),
+    "lazy": table(LAZY, 8, 11, 13),
+    "lock-free": table(LOCK_FREE, 5, 8, None),  # (it leaves by answering)
+}
+
+# what the tests of a table ask of a thread, the value s that its step saw, the key word K, and the value that an exchange expects
+TESTS = {
+    "below K": lambda it, s, key, old: s < key,
+    "K": lambda it, s, key, old: s == key,
+    "the tail's": lambda it, s, key, old: s == TAIL_KEY,
+    "above pkey": lambda it, s, key, old: s > it.pkey,
+    "marked": lambda it, s, key, old: s % 2 == 1,
+    "curr, unmarked": lambda it, s, key, old: s == 2 * it.curr,
+    "it leads to curr": lambda it, s, key, old: s // 2 == it.curr,
+    "pred is the head": lambda it, s, key, old: it.pred == 0,
+    "node is pred": lambda it, s, key, old: it.node == it.pred,
+    "without a reply": lambda it, s, key, old: it.reply is None,
+    "success": lambda it, s, key, old: s == old,
+}
+
+# ---- the list
+
+Call = collections.namedtuple("Call", "number thread word key begun")
+
+
+class Thread:
+    def __init__(self):
+        self.pc, self.used, self.reply, self.call = 0, 0, None, None
+        for it in REGISTERS:
+            setattr(self, it, 0)
+
+
+class List:
+    """The words of a list and its threads, and one step of a thread after another."""
+
+    def __init__(self, kind, threads, quota, opening):
+        self.table, self.quota, self.threads = TABLES[kind], quota, [Thread() for _ in range(threads)]
+        self.first = 2 + threads * quota
+        nodes = self.first + len(opening)
+        self.words = [0] * (3 + 3 * nodes)
+        chain = [0, *range(self.first, nodes), 1]
+        for node, key in zip(chain, [0, *(it + 1 for it in opening), TAIL_KEY]):
+            self.words[3 + 3 * node] = key
+        for node, after in zip(chain, [*chain[1:], 1]):
+            self.words[4 + 3 * node] = 2 * after
+
+    def chain(self):
+        node, told = self.words[4] // 2, []
+        while node != 1:
+            link = self.words[4 + 3 * node]
+            told.append((self.words[3 + 3 * node] - 1, link % 2 == 1))
+            node = link // 2
+        return told
+
+    def begin(self, t, call):
+        it, reads = self.threads[t], {"contains": 20, "ceiling": 23} if self.table.reads else {}
+        it.call, it.reply, it.pc = call, None, reads.get(call.word, 1)
+        for name in REGISTERS:
+            setattr(it, name, 0)
+
+    def node(self, t, name):
+        """The node that a word of a row names."""
+        own = 2 + t * self.quota + self.threads[t].used
+        return {"head": 0, "own": own}[name] if name in ("head", "own") else getattr(self.threads[t], name)
+
+    def index(self, t, name):
+        """The index of the word that a row names."""
+        node, part = name.split(".")
+        return 0 if node == "list" else 3 + 3 * self.node(t, node) + ["key", "link", "lock"].index(part)
+
+    def value(self, t, name):
+        """The value of a word that a row stores, or expects."""
+        if name in ("0", "K"):
+            return 0 if name == "0" else self.threads[t].call.key + 1
+        return 2 * self.node(t, name.rstrip("*")) + name.endswith("*")
+
+    def action(self, t, step):
+        """The access of a row's step."""
+        kind, *words = step
+        if kind == "load":
+            return "load", self.index(t, words[0])
+        if kind == "try":
+            return "exchange", self.index(t, words[0]), 0, t + 1
+        if kind == "store":
+            return "store", self.index(t, words[2]), self.value(t, words[0])
+        return "exchange", self.index(t, words[0]), self.value(t, words[2]), self.value(t, words[4])
+
+    def go(self, t):
+        """One step of a thread: its access, the value that it saw, and its reply where it answers."""
+        it = self.threads[t]
+        step, parts = self.table.rows[it.pc]
+        action = self.action(t, step)
+        seen = self.words[action[1]] if action[0] != "store" else action[2]
+        if action[0] == "store" or action[0] == "exchange" and seen == action[2]:
+            self.words[action[1]] = action[-1]
+        if step[0] == "try" and seen:
+            return action, seen, None
+        return action, seen, self.follow(it, parts, seen, action[2] if action[0] == "exchange" else None)
+
+    def follow(self, it, parts, seen, old):
+        """Does what follows a step, up to the first part whose test holds; gives the reply where the call answers."""
+        for part in parts:
+            test, is_test, then = part.rpartition(": ")
+            if is_test and not TESTS[test](it, seen, it.call.key + 1, old):
+                continue
+            reply = None
+            for done in then.removeprefix("else ").split(", "):
+                reply = self.do(it, done, seen) or reply
+            if is_test or part.startswith("else "):
+                break
+        return reply
+
+    def do(self, it, done, seen):
+        """Does one thing; gives the reply where the call answers. (What is put in or taken out is read off the chain.)"""
+        if done.isdigit():
+            it.pc = int(done)
+        elif " = " in done:
+            name, value = done.split(" = ")
+            values = {"head": 0, "0": 0, "s": seen, "next(s)": seen // 2}
+            setattr(it, name, values[value] if value in values else getattr(it, value))
+        elif done == "+k":
+            it.used += 1
+        elif done.startswith("reply "):
+            it.reply = {"true": "true", "none": None}[done.removeprefix("reply ")]
+        elif done.startswith("decide"):
+            return self.decide(it, it.ckey if done == "decide on ckey" else seen)
+        elif done.startswith("answers"):
+            it.pc = 0
+            return {"answers": it.reply, "answers the key of ckey": f"at-{it.ckey - 1}"}.get(done, done.removeprefix("answers "))
+        return None
+
+    def decide(self, it, found):
+        """Decides on the key word at which a walk has stopped."""
+        word, same = it.call.word, found == it.call.key + 1
+        if word == "add" and not same and it.used < self.quota:
+            it.pc = self.table.add
+        elif word == "remove" and same:
+            it.pc = self.table.remove
+        else:
+            it.reply = {"add": "false" if same else "full", "remove": "false", "contains": "true" if same else "false",
+                        "ceiling": "nothing" if found == TAIL_KEY else f"at-{found - 1}"}[word]
+            it.pc = self.table.leave or 0
+            return None if self.table.leave else it.reply
+        return None

@@ -1,0 +1,138 @@
+"""A model of the run of a schedule on a list (lists_model), and of what `trace` prints of it, by docs/TEXTS.md alone."""
+
+import collections
+
+from harness.lists_model import REGISTERS, TAIL_KEY, Call, List
+
+Schedule = collections.namedtuple("Schedule", "version kind threads quota opening lines")
+# of a run: lines of its trace with chains, calls with their ends, the set at each moment, points of each call, and the refused event
+Run = collections.namedtuple("Run", "trace calls ends sets points refused events")
+
+
+def read_schedule(text):
+    lines = [it.split() for it in text.splitlines()]
+    opening = [int(it[1]) for it in lines[4:] if it[0] == "opening"]
+    events = [(number, it) for number, it in enumerate(lines, 1) if number > 4 and it[0] != "opening"]
+    return Schedule(int(lines[0][1]), lines[1][1], int(lines[2][1]), int(lines[3][1]), opening, events)
+
+
+def node_text(node):
+    return ["head", "tail"][node] if node < 2 else f"n{node}"
+
+
+def key_text(word):
+    return {0: "-inf", TAIL_KEY: "+inf"}.get(word, str(word - 1))
+
+
+def value_text(index, value):
+    if index == 0 or index > 2 and index % 3 == 2:
+        return f"t{value - 1}" if value else "free"
+    return key_text(value) if index % 3 == 0 else node_text(value // 2) + "*" * (value % 2)
+
+
+def name_text(index):
+    return "list.lock" if index == 0 else f"{node_text((index - 3) // 3)}.{['key', 'link', 'lock'][index % 3]}"
+
+
+def access_text(action, seen):
+    index = action[1]
+    told = f"{action[0]} {name_text(index)}"
+    if action[0] == "store":
+        return f"{told} {value_text(index, seen)}"
+    if action[0] == "exchange":
+        told += f" from {value_text(index, action[2])} to {value_text(index, action[3])}"
+    return f"{told} saw {value_text(index, seen)}"
+
+
+def changes_text(before, after):
+    told = [f" {it} {(key_text if it.endswith('key') else node_text)(after[it])}" for it in REGISTERS if before[it] != after[it]]
+    told += [f" used {after['used']}"] if before["used"] != after["used"] else []
+    return "".join(told + ([f" reply {after['reply'] or 'none'}"] if before["reply"] != after["reply"] else []))
+
+
+def fits(call, reply, keys, count, quota):
+    has = call.key in keys
+    if call.word == "ceiling":
+        above = [it for it in keys if it >= call.key]
+        return reply == (f"at-{min(above)}" if above else "nothing")
+    return {"add": reply == "false" and has or reply == "full" and not has and count == quota,
+            "remove": reply == "false" and not has, "contains": reply == ("true" if has else "false")}[call.word]
+
+
+def content(chain):
+    return {key for key, is_marked in chain if not is_marked}
+
+
+class Tracing:
+    """A run under way, and what a Run has of it so far."""
+
+    def __init__(self, plan):
+        self.plan, self.list = plan, List(plan.kind, plan.threads, plan.quota, plan.opening)
+        self.chain, self.counts = self.list.chain(), [0] * plan.threads
+        self.sets, self.tallies = [frozenset(plan.opening)], [tuple(self.counts)]
+        self.lines, self.calls, self.ends, self.points = [], [], {}, {}
+
+    def cause(self, t, is_begin):
+        """Why an event of a thread is refused, or None."""
+        if t >= self.plan.threads:
+            return "NoThread"
+        is_busy = self.list.threads[t].pc != 0
+        return ("Busy" if is_begin else "Idle") if is_busy == is_begin else None
+
+    def event(self, number, pieces):
+        """An event of a line: a begin, or a step."""
+        t, moment = int(pieces[1]), len(self.sets)
+        told = f"event {moment} line {number} thread {t} "
+        if pieces[0] == "begin":
+            call = Call(len(self.calls), t, pieces[2], int(pieces[3]), moment)
+            self.calls.append(call)
+            self.list.begin(t, call)
+            self.lines.append(f"{told}begin {call.word} {call.key} call {call.number} pc {self.list.threads[t].pc}")
+        else:
+            self.step(told, t, moment)
+        self.sets.append(frozenset(content(self.chain)))
+        self.tallies.append(tuple(self.counts))
+
+    def step(self, told, t, moment):
+        it, was = self.list.threads[t], content(self.chain)
+        before = dict(vars(it))
+        action, seen, reply = self.list.go(t)
+        later = self.list.chain()
+        now = content(later)
+        told += f"{access_text(action, seen)} pc {it.pc}{changes_text(before, vars(it))}"
+        for word, keys in [("put", now - was), ("took", was - now)]:
+            for key in keys:
+                told += f" {word} {key}"
+                self.points[it.call.number] = (moment, True)
+                self.counts[t] += word == "put"
+        if reply is not None:
+            self.end(it.call, reply, moment, now)
+            told += f" answer {reply} call {it.call.number} at {self.points[it.call.number][0]}"
+        self.lines.append(told)
+        if later != self.chain:
+            self.lines.append("chain" + "".join(f" {key}{'*' * mark}" for key, mark in later))
+            self.chain = later
+
+    def end(self, call, reply, moment, now):
+        """A call ends: one that has changed nothing has its point at the first moment that its reply fits."""
+        self.ends[call.number] = (moment, reply)
+        if call.number not in self.points:
+            states = zip([*self.sets, frozenset(now)], [*self.tallies, tuple(self.counts)])
+            fit = next(at for at, (held, tally) in enumerate(states)
+                       if at >= call.begun and fits(call, reply, held, tally[call.thread], self.plan.quota))
+            self.points[call.number] = (fit, False)
+
+
+def run_of(plan):
+    """The run of a schedule, up to the first event that is refused."""
+    run = Tracing(plan)
+    events = ((number, pieces) for number, pieces in plan.lines for _ in range(1 if pieces[0] == "begin" else int(pieces[2])))
+    refused = None
+    for number, pieces in events:
+        if cause := run.cause(int(pieces[1]), pieces[0] == "begin"):
+            refused = (number, cause)
+            break
+        run.event(number, pieces)
+    head = ["listset-trace 1", f"list {plan.kind}", f"threads {plan.threads}", f"quota {plan.quota}", *(f"opening {it}" for it in plan.opening)]
+    last = f"refused line {refused[0]} {refused[1]}" if refused else "end"
+    return Run([*head, *run.lines, last], run.calls, run.ends, run.sets, run.points, refused, len(run.sets) - 1)

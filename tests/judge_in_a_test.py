@@ -1,0 +1,210 @@
+"""The judge in a test of one's own: the forms of examples/in-a-test, by their own tests, in each language that is installed.
+
+A right set has to be `ok` there, and three wrong ones refused; what hangs or crashes is judged up to there; a long run is kept in parts,
+which the program judges as one recording, whole and by keys. If there is no judge, or one that answers something else, the first test
+has to fail with a sentence that says so. The page's engine in node is another judge (tests/foreign.py tries the library). Every wait is
+bounded.
+"""
+
+import importlib.util
+import os
+import pathlib
+import shutil
+import subprocess
+import sys
+import unittest
+
+from harness.cases import NEEDS, TOP, Wrong, each, needs
+
+FORMS = TOP / "examples" / "in-a-test"
+SECONDS = 300  # for each compiler, and for each run of tests
+JUNIT = pathlib.Path("/usr/share/java/junit-platform-console-standalone.jar")
+# What is no judge, and what a form has to say then: `{}` is its path.
+NO_VERDICT = "{} gave no verdict, but said: %s. Take a newer listset"
+NO_JUDGES = {
+    "missing": ("", "LISTSET names {}, which cannot be run: build listset, and name it there"),
+    "old": ("#!/bin/sh\necho 'error: unrecognized subcommand' >&2\nexit 2\n", NO_VERDICT % "error: unrecognized subcommand"),
+    "no script": ("#!/no/such/shell\n", "LISTSET names {}, which cannot be run: build listset, and name it there"),
+    "silent": ("#!/bin/sh\nexit 0\n", NO_VERDICT % "nothing"),
+    "before overlaps": ("#!/bin/sh\necho ok 9 calls\n", NO_VERDICT % "ok 9 calls"),
+    "ok that fails": ("#!/bin/sh\necho ok 9 calls; echo 3 of them overlap\nexit 1\n", NO_VERDICT % "ok 9 calls"),
+    "refusal that passes": ("#!/bin/sh\necho not linearizable\n", NO_VERDICT % "not linearizable"),
+}
+NOT_IN_PATH = [
+    ("listset", None, "there is no listset in PATH: build it, and put it there or name it by LISTSET"),
+    ("node", pathlib.Path("/no/such/listset.js"), "node is not in PATH, which runs the /no/such/listset.js that LISTSET names"),
+]
+
+
+def ran(where, words, judge=None, **also):
+    """The status of a command, with this judge or with none and with these variables also, and what it said."""
+    environment = {name: it for name, it in os.environ.items() if name not in ("LISTSET", "RUST_BACKTRACE")}
+    environment |= {"LISTSET": str(judge)} if judge else {}
+    environment |= {"TMPDIR": str(judge.parent)} if judge and judge.parent.exists() else {}
+    environment |= also
+    how = {"stdin": subprocess.DEVNULL, "stdout": subprocess.PIPE, "stderr": subprocess.STDOUT, "text": True, "timeout": SECONDS}
+    done = subprocess.run([*map(str, words)], cwd=where, env=environment, **how)
+    return done.returncode, done.stdout
+
+
+def built(where, *words):
+    status, said = ran(where, words)
+    if status:
+        raise Wrong(f"{words[0]} ended with status {status}\n{said[-3000:]}")
+
+
+def made(path, script):
+    """The path of a script that can be run; if it is empty, of none."""
+    if script:
+        path.write_text(script)
+        path.chmod(0o755)
+    return path
+
+
+# ---- of each language what builds its tests; it gives where they are run, and by which words
+
+
+def rust(room):
+    built(room, "cargo", "test", "--no-run", "--offline", "--locked", "--target-dir", room / "target", "--manifest-path", FORMS / "rust/Cargo.toml")
+    (tests,) = (it for it in (room / "target/debug/deps").glob("sets-*") if not it.suffix)
+    return room, [tests]
+
+
+def cpp(room):
+    built(FORMS / "cpp", "g++", "-O1", "-Wall", "-Wextra", "-Wshadow", "-Werror", "-std=c++17", "-pthread", "tests.cpp", "-o", room / "tests")
+    return room, [room / "tests"]
+
+
+def googletest(room):
+    built(FORMS / "cpp", "g++", "-std=c++17", "-pthread", "googletest.cpp", "-lgtest", "-lgtest_main", "-o", room / "tests")
+    return room, [room / "tests"]
+
+
+def python(_):
+    return FORMS / "python", [sys.executable, "-B", "-m", "unittest", "test_sets", "test_servers"]
+
+
+def pytest(_):
+    return FORMS / "python", [sys.executable, "-B", "-m", "pytest", "-q", "-p", "no:cacheprovider", "test_sets.py"]
+
+
+def java(room):
+    built(FORMS / "java", "javac", "-Xlint:all,-serial", "-Werror", "-d", room, "Judge.java", "Sets.java", "Tests.java")
+    return room, [shutil.which("java"), f"-Djava.io.tmpdir={room}", "-cp", room, "Tests"]
+
+
+def junit(room):
+    built(FORMS / "java", "javac", "-cp", JUNIT, "-d", room, "Judge.java", "Sets.java", "SetsTest.java")
+    return room, ["java", f"-Djava.io.tmpdir={room}", "-jar", JUNIT, "-cp", room, "--scan-classpath", "--disable-banner"]
+
+
+def go(room):
+    shutil.copytree(FORMS / "go", room / "go")
+    built(room / "go", "env", "GOPROXY=off", f"GOCACHE={room / 'cache'}", "go", "test", "-c", "-o", room / "tests")
+    return room, [room / "tests"]
+
+
+LANGUAGES = {"Rust": rust, "C++": cpp, "GoogleTest": googletest, "Python": python, "pytest": pytest, "Java": java, "JUnit": junit, "Go": go}
+TOOLS = {"Rust": ["cargo"], "C++": ["g++"], "GoogleTest": ["g++"], "Java": ["javac", "java"], "JUnit": ["javac", "java"], "Go": ["go"]}
+LIBRARIES = {
+    "GoogleTest": ("Debian's package libgtest-dev", pathlib.Path("/usr/include/gtest/gtest.h").exists),
+    "pytest": ("Debian's package python3-pytest", lambda: importlib.util.find_spec("pytest")),
+    "JUnit": ("Debian's package junit5", JUNIT.exists),
+}
+
+
+def look_for(language):
+    """Skips the case of a language that is not installed."""
+    if missing := [it for it in TOOLS.get(language, []) if not shutil.which(it)]:
+        raise unittest.SkipTest(f"{missing[0]} is not installed: {NEEDS[missing[0]]}")
+    package, is_there = LIBRARIES.get(language, ("", lambda: True))
+    if not is_there():
+        raise unittest.SkipTest(f"{language} is not installed: {package}")
+
+
+# Of each language how its first test alone is run, which prints its verdict
+FIRST = {"Rust": ["my_set_is_linearizable", "--nocapture"], "C++": ["first"], "Java": ["first"]}
+FIRST |= {"Python": ["test_sets.Sets.test_my_set_is_linearizable"], "Go": ["-test.run", "TestIsLinearizable", "-test.v"]}
+# and how a test of a set that crashes is
+CRASH = {"Rust": ["what_hangs", "--nocapture"], "C++": ["crash"], "Java": ["crash"]}
+CRASH |= {"Python": ["test_sets.Sets.test_a_crash_is_judged_whatever_the_keys"], "Go": ["-test.run", "TestACrashIsJudgedWhateverTheKeys", "-test.v"]}
+# What standard error has of the test in which no calls overlap (a Python test asks for its warning itself)
+FEW = {"Rust": "ok: 120000 calls, of which 0 ", "C++": "listset: 0 of 120000 calls ", "Java": "\nok: 120000 calls, of which 0 "}
+FEW |= {"Go": "ok: 120000 calls, of which 0 "}
+# A judge that knows no recording which was cut off
+KNOWS_NO_CUT = """#!/bin/sh
+case $1 in judge) ;; *) exit 0 ;; esac
+echo 'listset: line 9: Line' >&2
+exit 1
+"""
+
+
+def first(words, language, of=FIRST):
+    """The words that run the first test of a language alone; all tests, of what has no word for it."""
+    return [it for it in words if not str(it).startswith("test_")] + of[language] if language in of else words
+
+
+def first_said(where, words, language, judge):
+    """What the first test of a language says, with this judge."""
+    status, said = ran(where, first(words, language), judge)
+    if status:
+        raise Wrong(f"the first test ended with status {status}\n{said[-3000:]}")
+    return said
+
+
+def proof_of(program):
+    """The line in which a program says whether it is proved."""
+    return subprocess.run([program, "--version", "--long"], capture_output=True, text=True, timeout=SECONDS).stdout.splitlines()[3]
+
+
+def tells_judge(said, judge, proof):
+    if f"; judge: {judge}, {proof}" not in said:
+        raise Wrong(f"the judge is not told: {said}")
+
+
+def is_judged_in_parts(case, parts):
+    """Whether the program judges the parts of a long run as one recording, and by keys."""
+    asked = [[], *(["--keys", f"{it}/4"] for it in range(4))]
+    said = [ran(case.room, [case.program, "judge", *it, *parts])[1] for it in asked]
+    counts = [int(it.split()[3]) for it in said if it.startswith(f"ok {len(parts)} parts, ")]
+    if len(parts) < 3 or len(counts) < len(asked) or counts[0] != sum(counts[1:]):
+        raise Wrong(f"of {len(parts)} parts: {said}")
+
+
+@each(LANGUAGES)
+def a_form_judges(case, language):
+    look_for(language)
+    where, words = LANGUAGES[language](case.room)
+    status, said = ran(where, words, made(case.room / "judge", f"#!/bin/sh\necho progress >&2\nexec '{case.program}' \"$@\"\n"))
+    if status:
+        raise Wrong(f"the tests ended with status {status}\n{said[-3000:]}")
+    if FEW.get(language, "") not in said:
+        raise Wrong(f"nothing says that few calls overlapped: {said[-3000:]}")
+    if language in FIRST:
+        is_judged_in_parts(case, sorted((case.room / "recorded").iterdir()))
+        tells_judge(first_said(where, words, language, case.room / "judge"), case.room / "judge", proof_of(case.program))
+        judge = made(case.room / "judge of old", KNOWS_NO_CUT)
+        _, said = ran(where, first(words, language, CRASH), judge)
+        if f"up to there: {judge} gave no verdict, but said: listset: line 9: Line. Take a newer listset" not in said:
+            raise Wrong(f"with an old judge: {said[-3000:]}")
+    for name, judge, due in NOT_IN_PATH if language in FIRST else ():
+        status, said = ran(where, first(words, language), judge, PATH=str(case.room / "empty"))
+        if status == 0 or due not in said:
+            raise Wrong(f"without {name} in PATH: status {status}\n{said[-3000:]}")
+    for name, (script, due) in list(NO_JUDGES.items())[: 1 if language in LIBRARIES else None]:
+        judge = made(case.room / f"judge {name}", script)
+        status, said = ran(where, first(words, language), judge)
+        if status == 0 or due.format(judge) not in said:
+            raise Wrong(f"with a judge that is {name}: status {status}\n{said[-3000:]}")
+
+
+ENGINE = TOP / "page" / "listset.js"
+
+
+@needs("node")
+@each(FIRST)
+def the_engine_in_node_judges(case, language):
+    if "judge" not in subprocess.run(["node", ENGINE, "--words"], capture_output=True, text=True, timeout=SECONDS).stdout.split():
+        raise unittest.SkipTest("page/listset.js has no word judge")
+    look_for(language)
+    tells_judge(first_said(*LANGUAGES[language](case.room), language, ENGINE), ENGINE, "proof unknown")

@@ -1,0 +1,407 @@
+"""What clients of `listset serve` are told, at once and one after another.
+
+For each list: 64 clients on keys that they share, whose answers have to add up, and 64 clients at once, each on keys of its
+own, so that each of its answers is known, and of a ceiling the few that are right; after them, alone, one more client asks
+for the ceiling of each key, which is then known. For one list: 200 clients on 8 seats; one seat and one client after another,
+1,100 of them too; clients that send all their lines before they read an answer; answers that fill their room; a client that
+reads none; and clients that send bytes past the end of their session. On the loopback alone; every wait is bounded, and the
+server is ended by its own number if it does not end.
+"""
+
+import collections
+import contextlib
+import itertools
+import random
+import socket
+import threading
+import time
+
+from harness.cases import KINDS, Wrong, each, test
+from harness.set_server import SECONDS, SOON, Client, asks, have_ended, read_all, resets, serving, takes_turns
+
+TAKES_TURNS = True  # (each has more clients than there are processors)
+ONE_LIST = "lazy"
+CLIENTS = 64
+REQUESTS = 1000
+KEYS = 64
+QUOTA = 400
+ROOM = 16_384
+MANNERS = ["pieces", "bytes", "all at once", "middle of a line", "random bytes", "goes away"]
+BEYOND = 100_000
+LATE = 3
+CEILINGS = [{"NONE", *(f"AT {least}" for least in range(key, KEYS))} for key in range(KEYS)]
+
+
+def ceiling(keys, key):
+    """The answer to a ceiling where just these keys are there."""
+    least = min((other for other in keys if other >= key), default=None)
+    return b"NONE\n" if least is None else b"AT %d\n" % least
+
+
+def asks_each_ceiling(server, keys, span):
+    """A client that asks for the ceiling of each key up to `span`, where just `keys` are there and none changes them. Gives how
+    many calls it makes."""
+    with server.connect() as connection:
+        takes_turns(connection, [(b"CEILING %d\n" % key, [ceiling(keys, key)]) for key in range(span + 1)])
+        asks(connection, b"QUIT\n", b"BYE\n")
+    return span + 1
+
+
+# ---- keys that the clients share
+
+
+def requests_of(draw, reads_only):
+    """The lines of a client, and for each the call that it asks for, or None."""
+    lines = []
+    for _ in range(REQUESTS):
+        word = draw.choice(["CONTAINS", "CEILING"] if reads_only else ["ADD", "REMOVE", "CONTAINS", "CEILING"])
+        key = draw.randrange(KEYS)
+        if draw.random() < 0.05:
+            lines.append((draw.choice([f"{word} 0{key}", f"{word.lower()} {key}", f"{word}  {key}", "", "MOVE 7"]), None))
+        else:
+            lines.append((f"{word} {key}", (word, key)))
+    return lines
+
+
+def can_answer(call, answer):
+    """Whether a call on shared keys may be answered so, whatever the others do."""
+    word, key = call
+    if word == "CEILING":
+        return answer in CEILINGS[key]
+    return answer in ("TRUE", "FALSE") or (answer == "FULL" and word == "ADD")
+
+
+class Sharing(Client):
+    """A client with a manner of its own: it sends its requests in pieces of random size, byte by byte, or all before it
+    reads an answer; it ends with QUIT, in the middle of a line, or with bytes at random; or it goes away and leaves its
+    answers unread. What it saw stands in `told`: each call with its answer."""
+
+    def __init__(self, server, number, seed):
+        super().__init__(server)
+        self.draw, self.manner = random.Random(f"{seed} {number}"), MANNERS[number % len(MANNERS)]
+        self.told, self.unread = [], 0
+
+    def speak(self, connection):
+        goes_away = self.manner == "goes away"
+        lines = requests_of(self.draw, reads_only=goes_away)
+        text = "".join(line + "\n" for line, _ in lines).encode()
+        last = {"middle of a line": b"ADD 6", "random bytes": self.draw.randbytes(40).replace(b"\n", b"?") + b"\n" + b"x" * 65,
+                "goes away": b""}.get(self.manner, b"QUIT\n")
+        ends = {"middle of a line": [], "random bytes": ["BAD", "LONG"]}.get(self.manner, ["BYE"])
+        if goes_away:
+            connection.sendall(text)
+            self.unread = sum(call is not None for _, call in lines)
+            return
+        reader = threading.Thread(target=self.read, args=(connection,), daemon=True)
+        self.bytes = b""
+        if self.manner != "all at once":
+            reader.start()
+        self.send(connection, text + last)
+        connection.shutdown(socket.SHUT_WR)
+        if self.manner == "all at once":
+            reader.start()
+        reader.join(SECONDS)
+        if reader.is_alive():
+            raise TimeoutError("answers do not end")
+        self.compare(lines, ends)
+
+    def send(self, connection, text):
+        if self.manner == "all at once":
+            connection.sendall(text)
+            return
+        most = 1 if self.manner == "bytes" else 300
+        while text:
+            size = self.draw.randint(1, most)
+            connection.sendall(text[:size])
+            text = text[size:]
+
+    def read(self, connection):
+        self.bytes = read_all(connection)
+
+    def compare(self, lines, ends):
+        answers = self.bytes.decode().split("\n")
+        if answers.pop() != "" or len(answers) != len(lines) + len(ends) or answers[len(lines):] != ends:
+            raise Wrong(f"{len(answers)} answers to {len(lines)} lines, the last {answers[-2:]}")
+        for (line, call), answer in zip(lines, answers):
+            if not (can_answer(call, answer) if call else answer == "BAD"):
+                raise Wrong(f"{line!r} is answered {answer!r}")
+            if call:
+                self.told.append((call, answer))
+
+
+@each(KINDS)
+def shared_keys(case, kind):
+    """All answers are there, and what the clients were told adds up with what one more client is told, and with what the server
+    says as it ends."""
+    with serving(case.program, kind, CLIENTS, QUOTA, CLIENTS + 1) as server:
+        clients = [Sharing(server, number, kind) for number in range(CLIENTS)]
+        have_ended(clients)
+        left = collections.Counter()
+        for (word, key), answer in itertools.chain.from_iterable(client.told for client in clients):
+            if answer == "TRUE" and word in ("ADD", "REMOVE"):
+                left[key] += 1 if word == "ADD" else -1
+        if any(count not in (0, 1) for count in left.values()):
+            raise Wrong(f"the clients were told {left}")
+        keys = {key for key in left if left[key]}
+        calls = sum(len(client.told) for client in clients) + asks_each_ceiling(server, keys, KEYS)
+        unread = sum(client.unread for client in clients)
+        server.ends(CLIENTS + 1, calls, calls + unread, keys)
+
+
+# ---- keys of a client's own
+
+
+class Alone(Client):
+    """A client on keys that no other client names. It has its first answer before any client goes on. It sends line after
+    line, each after the answer to the one before, or all before it reads an answer."""
+
+    CALLS, SPAN = 150, 6 * CLIENTS
+
+    def __init__(self, server, number, seed, first_answers):
+        super().__init__(server)
+        self.draw, self.first_answers = random.Random(f"{seed} alone {number}"), first_answers
+        self.manner = ["line after line", "all lines at once"][number % 2]
+        self.keys, self.own = range(number, self.SPAN, CLIENTS), set()
+
+    def ceilings(self, key):
+        """The right answers to a ceiling: the client's own least key from there on, or a key of another client before it. So a
+        key below the one that was asked for is wrong, and one of the client's own that is not there."""
+        least = min((own for own in self.own if own >= key), default=self.SPAN)
+        return {ceiling(self.own, key)} | {b"AT %d\n" % other for other in range(key, least) if other not in self.keys}
+
+    def turn(self):
+        """A line, and its right answers: more than one to a ceiling alone."""
+        word, key = self.draw.choice(["ADD", "ADD", "REMOVE", "CONTAINS", "CEILING", "CEILING"]), self.draw.choice(self.keys)
+        if word == "CEILING":
+            near = max(0, key + self.draw.randint(-2, 1))
+            return b"CEILING %d\n" % near, self.ceilings(near)
+        told = (key in self.own) != (word == "ADD")
+        if word == "ADD":
+            self.own.add(key)
+        elif word == "REMOVE":
+            self.own.discard(key)
+        return f"{word} {key}\n".encode(), {b"TRUE\n" if told else b"FALSE\n"}
+
+    def speak(self, connection):
+        takes_turns(connection, [self.turn()])
+        self.first_answers.wait(SOON)
+        turns = [self.turn() for _ in range(self.CALLS - 1)]
+        for some in [turns] if self.manner == "all lines at once" else [[turn] for turn in turns]:
+            takes_turns(connection, some)
+        asks(connection, b"QUIT\n", b"BYE\n")
+
+
+@each(KINDS)
+def keys_of_their_own(case, kind):
+    """Each answer is the right one, and all clients have their first answer before any goes on. No seat runs out of slots,
+    so `FULL` is wrong."""
+    with serving(case.program, kind, CLIENTS, ROOM, CLIENTS + 1) as server:
+        first_answers = threading.Barrier(CLIENTS)
+        clients = [Alone(server, number, kind, first_answers) for number in range(CLIENTS)]
+        have_ended(clients)
+        keys = set().union(*(client.own for client in clients))
+        calls = CLIENTS * Alone.CALLS + asks_each_ceiling(server, keys, Alone.SPAN)
+        server.ends(CLIENTS + 1, calls, calls, keys)
+
+
+# ---- more clients than seats
+
+
+class Queued(Client):
+    """A client that waits for a seat. Each tenth resets its connection, with answers that it has not read."""
+
+    LINES = b"ADD {0}\nADD {0}\nREMOVE {0}\nCONTAINS {0}\nADD {0}\nCEILING {0}\nQUIT\n"
+    ANSWERS = b"TRUE\nFALSE\nTRUE\nFALSE\nTRUE\nAT {0}\nBYE\n"
+
+    def __init__(self, server, number):
+        super().__init__(server)
+        self.key, self.resets = number, number % 10 == 0
+        self.manner = f"client {number}" + (" (resets)" if self.resets else "")
+
+    def speak(self, connection):
+        if self.resets:
+            connection.sendall(b"CONTAINS %d\n" % self.key * 3)
+            if connection.recv(1) != b"F":
+                raise Wrong("no answer")
+            resets(connection)
+            return
+        asks(connection, *(text.replace(b"{0}", b"%d" % self.key) for text in (self.LINES, self.ANSWERS)))
+
+
+@test
+def queue(case):
+    """More sessions than seats, threads of a set and waiting places; a session that ends with a fault ends no more."""
+    sessions = 200
+    with serving(case.program, ONE_LIST, 8, ROOM, sessions) as server:
+        clients = [Queued(server, number) for number in range(sessions)]
+        have_ended(clients)
+        served = [client.key for client in clients if not client.resets]
+        faulty = sessions - len(served)
+        server.ends(sessions, 6 * len(served) + faulty, 6 * len(served) + 3 * faulty, served)
+
+
+# ---- one seat
+
+
+@test
+def one_after_another(case):
+    """More than a thousand connections, one after another."""
+    sessions = 1100
+    with serving(case.program, ONE_LIST, 1, ROOM, sessions) as server:
+        for key in range(sessions):
+            with server.connect() as connection:
+                asks(connection, b"ADD %d\nCEILING %d\nQUIT\n" % (key, key), b"TRUE\nAT %d\nBYE\n" % key)
+        server.ends(sessions, 2 * sessions, 2 * sessions, range(sessions))
+
+
+def drips(connection, end):
+    """Goes on to send a byte now and then."""
+    with contextlib.suppress(OSError):
+        while not end.wait(0.3):
+            connection.sendall(b"?")
+
+
+@test
+def one_seat(case):
+    """One client after another, on a seat with 2 slots; none from another address; and one more than are served."""
+    with serving(case.program, ONE_LIST, 1, 2, 6) as server:
+        with contextlib.suppress(ConnectionRefusedError):
+            server.connect("127.0.0.2").close()
+            raise Wrong("a connection to 127.0.0.2 is accepted")
+        for lines, answers in [(b"ADD 7\n", b"TRUE\n"), (b"CONTAINS 7\n", b"TRUE\n")]:
+            connection = server.connect()
+            asks(connection, lines, answers)
+            connection.sendall(lines)
+            resets(connection)
+        with server.connect() as connection:
+            asks(connection, b"CEILING 8\nCEILING 7\nREMOVE 7\nCEILING 0\n", b"NONE\nAT 7\nTRUE\nNONE\n")
+            asks(connection, b"ADD 8\nADD 8\nADD 9\nCEILING 7\nQUIT\n", b"TRUE\nFALSE\nFULL\nAT 8\nBYE\n")
+        with server.connect() as slow:
+            asks(slow, b"ADD 9\nQUIT\n", b"FULL\nBYE\n")
+            end = threading.Event()
+            threading.Thread(target=drips, args=(slow, end), daemon=True).start()
+            with server.connect() as connection:
+                connection.settimeout(SOON)
+                asks(connection, b"CONTAINS 9\nQUIT\n", b"FALSE\nBYE\n")
+            end.set()
+        with server.connect() as last:
+            asks(last, b"CONTAINS 8\n", b"TRUE\n")
+            with server.connect() as one_more:
+                one_more.sendall(b"CONTAINS 8\n")
+                asks(last, b"QUIT\n", b"BYE\n")
+                with contextlib.suppress(ConnectionResetError):
+                    if told := one_more.recv(10):
+                        raise Wrong(f"one client more than are served is told {told!r}")
+        server.ends(6, 13, 15, [8])
+
+
+# ---- answers that wait, and a client that does not read them
+
+
+class Burst(Client):
+    """A client that sends a thousand lines, on keys of its own, before it reads an answer. It says good-bye only when it has
+    all answers, so these have to leave although no further line comes."""
+
+    ROUND = b"ADD {0}\nCONTAINS {0}\nREMOVE {0}\nCONTAINS {0}\n", [b"TRUE\n", b"TRUE\n", b"TRUE\n", b"FALSE\n"]
+    ROUNDS = REQUESTS // 4
+
+    def __init__(self, server, number):
+        super().__init__(server)
+        self.manner, self.keys = f"client {number}", range(number * self.ROUNDS, (number + 1) * self.ROUNDS)
+
+    def speak(self, connection):
+        connection.settimeout(SOON)
+        lines, answers = self.ROUND
+        turns = [(line, [answer]) for key in self.keys
+                 for line, answer in zip(lines.replace(b"{0}", b"%d" % key).splitlines(keepends=True), answers)]
+        takes_turns(connection, turns)
+        asks(connection, b"QUIT\n", b"BYE\n")
+
+
+@test
+def all_lines_at_once(case):
+    """The answers to a thousand lines are more than a server holds back, and all of them leave before it waits for the next
+    line."""
+    clients = 8
+    with serving(case.program, ONE_LIST, clients, ROOM, clients) as server:
+        have_ended([Burst(server, number) for number in range(clients)])
+        server.ends(clients, clients * REQUESTS, clients * REQUESTS, [])
+
+
+@test
+def answers_that_fill_their_room(case):
+    """Answers wait in a room of 4,096 bytes: as many as fill it, one fewer, and twice as many leave before the next line comes."""
+    counts = [1023, 1024, 2048]
+    with serving(case.program, ONE_LIST, 1, ROOM, len(counts)) as server:
+        for count in counts:
+            with server.connect() as connection:
+                connection.settimeout(SOON)
+                asks(connection, b"\n" * count, b"BAD\n" * count)
+                asks(connection, b"QUIT\n", b"BYE\n")
+        server.ends(len(counts), 0, 0, [])
+
+
+def sends_until_stuck(connection):
+    """Sends lines and reads no answer, until the system has taken no more of them for a second. Gives how many it took."""
+    line, sent = b"CEILING 0\n", 0
+    with contextlib.suppress(TimeoutError):
+        while True:
+            sent += connection.send(line * 1000)
+    return sent // len(line)
+
+
+@test
+def no_answer_is_read(case):
+    """A client that reads no answer keeps its seat and no more: the others are served, and when it goes away the server ends."""
+    key = 4_294_967_295
+    with serving(case.program, ONE_LIST, 2, ROOM, 5) as server:
+        with server.connect() as connection:
+            asks(connection, b"ADD %d\nQUIT\n" % key, b"TRUE\nBYE\n")
+        with server.connect() as stuck:
+            stuck.setsockopt(socket.SOL_SOCKET, socket.SO_RCVBUF, 4096)
+            stuck.settimeout(1)
+            lines = sends_until_stuck(stuck)
+            for _ in range(3):
+                with server.connect() as connection:
+                    connection.settimeout(SOON)
+                    asks(connection, b"CEILING 0\nQUIT\n", b"AT %d\nBYE\n" % key)
+            resets(stuck)
+        server.ends(5, 4 + 1, 4 + lines, [key])
+
+
+# ---- bytes past the end of a session
+
+
+class Beyond(Client):
+    """A client that sends all, and bytes past the end of its session, before it reads an answer; it begins to read so many
+    seconds late."""
+
+    def __init__(self, server, manner, lines, answers, late=0):
+        super().__init__(server)
+        self.manner, self.lines, self.answers, self.late = manner, lines, answers, late
+
+    def speak(self, connection):
+        connection.sendall(self.lines + b"?" * BEYOND)
+        time.sleep(self.late)
+        told = read_all(connection)
+        if told != self.answers:
+            raise Wrong(f"{told.count(10)} answers of {self.answers.count(10)}, the last {told[-6:]!r}")
+
+
+@test
+def bytes_past_the_end(case):
+    """Every answer arrives, whatever the client has sent behind its last line. One client reads so late that the server has let
+    its connection go: an answer that the system has not handed over by then would be lost with bytes left unread."""
+    few, many = 100, 100_000
+    with serving(case.program, ONE_LIST, 5, ROOM, 5) as server:
+        short = b"REMOVE 1\n" * few + b"QUIT\n", b"FALSE\n" * few + b"BYE\n"
+        clients = [
+            Beyond(server, "QUIT after a few lines", *short),
+            Beyond(server, "the same, read late", *short, late=LATE),
+            Beyond(server, "QUIT after many lines", b"REMOVE 1\n" * many + b"QUIT\n", b"FALSE\n" * many + b"BYE\n"),
+            Beyond(server, "a long line", b"REMOVE 1\n" * many + b"?" * 65, b"FALSE\n" * many + b"LONG\n"),
+            Beyond(server, "a million lines", b"\n" * 1_000_000, b"BAD\n" * 1_000_000 + b"LIMIT\n"),
+        ]
+        have_ended(clients)
+        calls = 2 * few + 2 * many
+        server.ends(5, calls, calls, [])
