@@ -1,4 +1,4 @@
-"""The table of crates in docs/HOW-IT-WORKS.md, made of crates.txt and of what each crate's root file says first."""
+"""The table of docs/CRATES.md, made of crates.txt and of what each crate's root file says first."""
 
 import re
 from pathlib import Path
