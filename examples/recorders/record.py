@@ -1,0 +1,33 @@
+"""Records a run of a set in threads, as text that `listset judge FILE` reads: python3 record.py FILE."""
+import itertools, random, sys, threading
+
+sys.setswitchinterval(1e-6)  # threads change often, so that calls meet
+
+class MySet:  # put your own here
+    def __init__(self): self.keys, self.lock = set(), threading.Lock()
+    def contains(self, key):
+        with self.lock: return key in self.keys
+    def add(self, key):
+        with self.lock: return key not in self.keys and not self.keys.add(key)
+    def remove(self, key):
+        with self.lock: return key in self.keys and not self.keys.remove(key)
+
+def record(made, file, threads=8, calls=1000, keys=4):  # made: a set that is empty
+    tickets, lines = itertools.count(1), [f"listset-calls 2\nlist lazy\nthreads {threads}\nquota 16384"]
+    all_there = threading.Barrier(threads)
+    def run(thread):
+        draw = random.Random(thread)
+        all_there.wait()
+        for _ in range(calls):
+            word, key = draw.choice(["add", "remove", "contains"]), draw.randrange(keys)
+            begin = next(tickets)  # one atomic step
+            reply = getattr(made, word)(key)
+            end = next(tickets)
+            lines.append(f"call {thread} {word} {key} {begin} - {end} {str(reply).lower()}")
+    started = [threading.Thread(target=run, args=[it]) for it in range(threads)]
+    for it in started: it.start()
+    for it in started: it.join()
+    lines += [f"key {it}" for it in range(keys) if made.contains(it)] + ["end\n"]
+    open(file, "w").write("\n".join(lines))
+
+record(MySet(), sys.argv[1])
