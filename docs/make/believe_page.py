@@ -16,7 +16,7 @@ ABBREVIATIONS = {"SVG", "KIND"}
 ROWS = [
     ("`check_order`", lambda crate, function: function == "check_order"),
     ("the laws of all machines (`lset_steps::laws`)", lambda crate, function: crate == "lset_steps" and function.startswith("laws::")),
-    ("the headline law of all machines", lambda crate, function: function == "runs_are_linearizable"),
+    ("the headline, as a law of all machines", lambda crate, function: function == "runs_are_linearizable"),
     ("`replay`, with the tables of the five lists", lambda crate, function: function == "replay"),
     ("a call of a running set (`LiveSet::call`)", lambda crate, function: crate == "lset_live" and function == "LiveSet::call"),
     ("closing a running set (`LiveSet::close`)", lambda crate, function: crate == "lset_live" and function == "LiveSet::close"),
@@ -28,7 +28,7 @@ ROWS = [
 
 
 def table_of_lines(contracts, modules):
-    rows = ["| To understand | lines of definitions | in files |", "|---|---|---|"]
+    rows = ["| To understand | Lines of definitions | In files |", "|---|---|---|"]
     for title, holds in ROWS:
         seeds = set().union(*(seeds for crate, name, _, seeds in contracts if holds(crate, name)))
         reached = closure(seeds, modules)
@@ -100,7 +100,7 @@ def definitions_of(part, _top=TOP):
     for file, names in others.items():
         files.setdefault(", ".join(f"**{it}**" for it in names), []).append(file)
     named = "; ".join(f"{names} {grouped(of)}" for names, of in files.items())
-    return "\n".join(lines) + ("\n\n" if lines and named else "") + (f"{'Further' if lines else 'They are'}: {named}." if named else "")
+    return "\n".join(lines) + ("\n\n" if lines and named else "") + (f"{'Others, by file' if lines else 'By file'}: {named}." if named else "")
 
 
 def grouped(files):
