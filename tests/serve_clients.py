@@ -17,7 +17,7 @@ import threading
 import time
 
 from harness.cases import KINDS, Wrong, each, test
-from harness.set_server import SECONDS, SOON, Client, asks, have_ended, read_all, resets, serving, takes_turns
+from harness.serve_client import SECONDS, SOON, Client, asks, have_ended, read_all, resets, serving, takes_turns
 
 TAKES_TURNS = True  # (each has more clients than there are processors)
 ONE_LIST = "lazy"

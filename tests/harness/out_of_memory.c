@@ -1,4 +1,4 @@
-/* Answers for mutants/out_of_memory whether a function of a program is to want memory: the one whose number WANT has, once it was called
+/* Answers for tests/out_of_memory whether a function of a program is to want memory: the one whose number WANT has, once it was called
    more than PAST times, or is given more than PAST elements. Each function that comes past one of two sizes is written to the file
    REACHED, with the size. */
 

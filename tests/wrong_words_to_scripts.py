@@ -35,7 +35,7 @@ WRONG = {
     "mutants/run gate lset_history/no-such": (2, "gate/lset_history has no no-such; it has "),
     "mutants/run planted no-such": (2, "planted/ has none of no-such; it has those of broken_lists, "),
     "mutants/run fits no-such": (2, "fits looks at all mutants, and takes no names"),
-    "mutants/out_of_memory no-such": (2, "there is no crate no-such; there are broken_lists, "),
+    "tests/out_of_memory no-such": (2, "there is no crate no-such; there are broken_lists, "),
     "bench/run no-such": (2, "there is no no-such; the tables are long, small, "),
     "bench/run --all no-such": (1, "docs/COSTS.md has no such table, but long, small, "),
     "bench/run --read ROOM/no-such": (1, "--read takes the folder of a repository in which rt ci has built the libraries"),
@@ -47,7 +47,7 @@ WRONG = {
 }
 WITHOUT_RT = [
     "build/unproved example", "build/prove_listset", "build/prove_all --in ROOM/all", "foreign/build", "foreign/build --unproved", "page/build",
-    "tests/unproved library_tests", "tests/version --toolchain", "mutants/run gate lset_history", "mutants/out_of_memory", "bench/run long",
+    "tests/unproved library_tests", "tests/version --toolchain", "mutants/run gate lset_history", "tests/out_of_memory", "bench/run long",
     "./gate --quick", "./listset --prove",
 ]
 MISSING_RT = ("the command rt is missing", ": the Rattle toolchain, whose folder bin has to be in PATH")
