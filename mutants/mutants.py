@@ -24,11 +24,11 @@ import sys
 HERE = pathlib.Path(__file__).resolve().parent
 TOP = HERE.parent
 sys.path.insert(0, str(TOP / "build"))
+import crates_txt  # noqa: E402
 from rattle_sources import Source  # noqa: E402
 
 CRATES = TOP / "crates"
 KINDS = {"gate": HERE / "gate", "planted": HERE / "planted"}
-PARTS = ("src", "specs", "proofs")
 NAME = re.compile(r"[a-z][a-z0-9_]*")
 
 # What a check says of a mutant. The first is what is wanted; the second says little of the contract.
@@ -100,7 +100,7 @@ def texts_with(mutant, folder, texts=None):
     """The texts of the files of the crate in this folder that the mutant changes, by their paths; over these, which it changes."""
     texts = {} if texts is None else texts
     for path, old, new in mutant.pairs:
-        if path.split("/")[0] not in PARTS or ".." in path or not (folder / path).is_file():
+        if path.split("/")[0] not in crates_txt.PARTS or ".." in path or not (folder / path).is_file():
             raise Misfit(f"there is no file {path} in src, specs or proofs")
         text = texts.get(path) or (folder / path).read_text(encoding="utf-8")
         if text.count(old) != 1:

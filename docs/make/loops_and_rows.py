@@ -18,6 +18,7 @@ LISTS = {
     "lock_free": ["lset_loops/src/lock_free.rt", READS],
 }
 OF_THE_INTERPRETER = {23, 24, 25}
+BEGINS = ("begin_at_head", "begin_locked")  # the first step of a call
 STEP = re.compile(r"\bcaller\.(\w+)(?:::<N>)?\(place(?:, ([\w.]+))?")
 # What a step does: the beginning of the row's action, or of those of several rows.
 SLOT = ["Store (key_index", "Store (link_index"]

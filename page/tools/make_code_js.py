@@ -6,7 +6,6 @@ import re
 import loops_and_rows
 import rattle_sources
 
-BEGINS = ("begin_at_head", "begin_locked")  # the first step of a call
 HEAD = """// The proved loops of the lists as they stand in crates/, with the rows of its list's table that each line makes, by page/build: for
 // show alone.
 """
@@ -28,7 +27,7 @@ def steps_of(found, lines):
     for number, _, step, _, made in found:
         told = {"line": number, "rows": made}
         if any(rows.count(row) > 1 for row in made):
-            told |= {"begins": step in BEGINS, "answers": step not in BEGINS and is_last(lines, number)}
+            told |= {"begins": step in loops_and_rows.BEGINS, "answers": step not in loops_and_rows.BEGINS and is_last(lines, number)}
         yield told
 
 

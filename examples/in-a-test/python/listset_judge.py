@@ -34,7 +34,7 @@ PART = 20_000  # calls of all threads from one rest to the next, of a run that i
 GOING, RESTING, STOPPING, ENDED = range(4)
 WORDS = ADD, REMOVE, CONTAINS = "add", "remove", "contains"
 OVERLAPPED = re.compile("ok [0-9]+ calls\n([0-9]+) of them")
-Row = collections.namedtuple("Row", "begin end thread call key reply")
+Call = collections.namedtuple("Call", "begin end thread call key reply")
 
 
 class Verdict(collections.namedtuple("Verdict", "calls overlapped judge")):
@@ -341,7 +341,7 @@ class Run:
         for at in range(self.threads * self.most):
             begin, end, key, word, reply = self.SLOT.unpack_from(self.slots, self.at_slots + at * self.SLOT.size)
             if begin > before:
-                (self.rows if end else self.pending).append(Row(begin, end, at // self.most, WORDS[word], key, bool(reply)))
+                (self.rows if end else self.pending).append(Call(begin, end, at // self.most, WORDS[word], key, bool(reply)))
         self.rows.sort()
 
     def keep(self, part, recording):
