@@ -13,6 +13,7 @@ import itertools
 import subprocess
 
 from harness.cases import KINDS, SECONDS, Wrong, each, given, test, usable
+from harness.set_model import SetModel
 
 SEEDS = 20 if given.few else 200
 ALONE = {"threads": 1, "quota": 3, "calls": 60}
@@ -33,28 +34,6 @@ def printed(*words, text=""):
     if made.returncode or made.stderr:
         raise Wrong(f"status {made.returncode}, {made.stderr!r} of {text!r}")
     return made.stdout
-
-
-class SequentialSet:
-    """A set of which each thread's adds may succeed so often."""
-
-    def __init__(self, quota, keys=()):
-        self.keys, self.quota, self.added = set(keys), quota, collections.Counter()
-
-    def reply(self, thread, call, key):
-        """Makes a call; gives its reply as a report has it."""
-        if call == "ceiling":
-            above = [other for other in self.keys if other >= key]
-            return f"at-{min(above)}" if above else "nothing"
-        is_there = key in self.keys
-        if call == "remove":
-            self.keys.discard(key)
-        elif call == "add" and not is_there:
-            if self.added[thread] == self.quota:
-                return "full"
-            self.added[thread] += 1
-            self.keys.add(key)
-        return "true" if is_there != (call == "add") else "false"
 
 
 Call = collections.namedtuple("Call", "thread call key begun ended reply")
@@ -107,7 +86,7 @@ def held(text, opening=(), quota=0):
     report = Report(printed("replay", text=text))
     if report.opening != list(opening):
         raise Wrong(f"the report opens with {report.opening}")
-    report.hold_against(SequentialSet(quota, opening))
+    report.hold_against(SetModel(quota, opening))
     return report
 
 
@@ -262,9 +241,9 @@ def generator(seed):
 
 def outcome(quota, calls, keys, seed, lives=1):
     """What `run` prints of one thread: its calls are drawn anew in each life, and its quota is given again."""
-    opened, counts = SequentialSet(quota), collections.Counter()
+    opened, counts = SetModel(quota), collections.Counter()
     for life in range(lives):
-        opened = SequentialSet(quota, opened.keys)
+        opened = SetModel(quota, opened.keys)
         numbers = generator((seed + 64 * life) % (1 << 64))
         for kind, key in itertools.islice(zip(numbers, numbers), calls):
             counts[opened.reply(0, ("add", "remove", "contains")[kind % 3], key % keys)] += 1

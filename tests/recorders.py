@@ -9,7 +9,7 @@ import collections
 import signal
 import subprocess
 
-from harness import recorded_calls_model
+from harness import points_model
 from harness.cases import SECONDS, TOP, comes, left_of, needs, same, test
 
 HERE = TOP / "examples" / "recorders"
@@ -102,11 +102,11 @@ def due_by_order(case, line, done):
 @test
 def report_is_that_of_a_plain_model(case):
     for seed in range(TEXTS):
-        (case.room / "calls").write_text(text := recorded_calls_model.random_text(seed))
+        (case.room / "calls").write_text(text := points_model.random_text(seed))
         done = ran(case.program, "report", case.room / "calls")
         try:
-            due = recorded_calls_model.due(text)
-        except recorded_calls_model.Lacking as lacking:
+            due = points_model.due(text)
+        except points_model.NoPoint as lacking:
             due = due_by_order(case, *lacking.args, done)
         same((done.returncode, done.stdout, done.stderr), due, f"seed {seed}")
 

@@ -17,7 +17,8 @@ import threading
 import time
 
 from harness.cases import KINDS, Wrong, each, test
-from harness.serve_client import SECONDS, SOON, Client, asks, have_ended, read_all, resets, serving, takes_turns
+from harness.serve_client import SECONDS, SOON, Client, answer_of, asks, have_ended, read_all, resets, serving, takes_turns
+from harness.set_model import SetModel, reply_of
 
 TAKES_TURNS = True  # (each has more clients than there are processors)
 ONE_LIST = "lazy"
@@ -32,17 +33,11 @@ LATE = 3
 CEILINGS = [{"NONE", *(f"AT {least}" for least in range(key, KEYS))} for key in range(KEYS)]
 
 
-def ceiling(keys, key):
-    """The answer to a ceiling where just these keys are there."""
-    least = min((other for other in keys if other >= key), default=None)
-    return b"NONE\n" if least is None else b"AT %d\n" % least
-
-
 def asks_each_ceiling(server, keys, span):
     """A client that asks for the ceiling of each key up to `span`, where just `keys` are there and none changes them. Gives how
     many calls it makes."""
     with server.connect() as connection:
-        takes_turns(connection, [(b"CEILING %d\n" % key, [ceiling(keys, key)]) for key in range(span + 1)])
+        takes_turns(connection, [(b"CEILING %d\n" % key, [answer_of(reply_of("ceiling", key, keys))]) for key in range(span + 1)])
         asks(connection, b"QUIT\n", b"BYE\n")
     return span + 1
 
@@ -161,13 +156,13 @@ class Alone(Client):
         super().__init__(server)
         self.draw, self.first_answers = random.Random(f"{seed} alone {number}"), first_answers
         self.manner = ["line after line", "all lines at once"][number % 2]
-        self.keys, self.own = range(number, self.SPAN, CLIENTS), set()
+        self.keys, self.own = range(number, self.SPAN, CLIENTS), SetModel()
 
     def ceilings(self, key):
         """The right answers to a ceiling: the client's own least key from there on, or a key of another client before it. So a
         key below the one that was asked for is wrong, and one of the client's own that is not there."""
-        least = min((own for own in self.own if own >= key), default=self.SPAN)
-        return {ceiling(self.own, key)} | {b"AT %d\n" % other for other in range(key, least) if other not in self.keys}
+        least = min((own for own in self.own.keys if own >= key), default=self.SPAN)
+        return {answer_of(reply_of("ceiling", key, self.own.keys))} | {b"AT %d\n" % other for other in range(key, least) if other not in self.keys}
 
     def turn(self):
         """A line, and its right answers: more than one to a ceiling alone."""
@@ -175,12 +170,7 @@ class Alone(Client):
         if word == "CEILING":
             near = max(0, key + self.draw.randint(-2, 1))
             return b"CEILING %d\n" % near, self.ceilings(near)
-        told = (key in self.own) != (word == "ADD")
-        if word == "ADD":
-            self.own.add(key)
-        elif word == "REMOVE":
-            self.own.discard(key)
-        return f"{word} {key}\n".encode(), {b"TRUE\n" if told else b"FALSE\n"}
+        return f"{word} {key}\n".encode(), {answer_of(self.own.reply(0, word.lower(), key))}
 
     def speak(self, connection):
         takes_turns(connection, [self.turn()])
@@ -199,7 +189,7 @@ def keys_of_their_own(case, kind):
         first_answers = threading.Barrier(CLIENTS)
         clients = [Alone(server, number, kind, first_answers) for number in range(CLIENTS)]
         have_ended(clients)
-        keys = set().union(*(client.own for client in clients))
+        keys = set().union(*(client.own.keys for client in clients))
         calls = CLIENTS * Alone.CALLS + asks_each_ceiling(server, keys, Alone.SPAN)
         server.ends(CLIENTS + 1, calls, calls, keys)
 

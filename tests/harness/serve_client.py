@@ -50,6 +50,12 @@ def serving(program, kind, seats, quota, sessions):
         process.wait()
 
 
+def answer_of(reply):
+    """The line by which the server answers what a report has as this reply."""
+    word = {"nothing": "none"}.get(reply, reply.replace("at-", "at "))
+    return f"{word.upper()}\n".encode()
+
+
 def read_all(connection):
     """The answers up to the end."""
     pieces = []

@@ -3,6 +3,7 @@
 import collections
 
 from harness.lists_model import REGISTERS, TAIL_KEY, Call, List
+from harness.set_model import fits_without_change
 
 Schedule = collections.namedtuple("Schedule", "version kind threads quota opening lines")
 # of a run: lines of its trace with chains, calls with their ends, the set at each moment, points of each call, and the refused event
@@ -48,15 +49,6 @@ def changes_text(before, after):
     told = [f" {it} {(key_text if it.endswith('key') else node_text)(after[it])}" for it in REGISTERS if before[it] != after[it]]
     told += [f" used {after['used']}"] if before["used"] != after["used"] else []
     return "".join(told + ([f" reply {after['reply'] or 'none'}"] if before["reply"] != after["reply"] else []))
-
-
-def fits(call, reply, keys, count, quota):
-    has = call.key in keys
-    if call.word == "ceiling":
-        above = [it for it in keys if it >= call.key]
-        return reply == (f"at-{min(above)}" if above else "nothing")
-    return {"add": reply == "false" and has or reply == "full" and not has and count == quota,
-            "remove": reply == "false" and not has, "contains": reply == ("true" if has else "false")}[call.word]
 
 
 def content(chain):
@@ -119,7 +111,7 @@ class Tracing:
         if call.number not in self.points:
             states = zip([*self.sets, frozenset(now)], [*self.tallies, tuple(self.counts)])
             fit = next(at for at, (held, tally) in enumerate(states)
-                       if at >= call.begun and fits(call, reply, held, tally[call.thread], self.plan.quota))
+                       if at >= call.begun and fits_without_change(call.word, call.key, reply, held, tally[call.thread] < self.plan.quota))
             self.points[call.number] = (fit, False)
 
 

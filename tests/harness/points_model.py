@@ -1,4 +1,5 @@
-"""A plain model of `listset report`, and texts of calls made at random for it: the slowest thing that could be right.
+"""A plain model of `listset report`, which orders recorded calls by their points, and texts of calls made at random for it: the slowest
+thing that could be right.
 
 The set at a moment is made anew from all points up to it, each moment of a call is asked in turn whether its reply fits, and each
 line whether it may stand below those above.
@@ -7,6 +8,8 @@ line whether it may stand below those above.
 import collections
 import random
 import re
+
+from harness.set_model import CHANGES, SetModel, fits_without_change
 
 MOST = 2**32 - 1
 WORDS = {"add", "remove", "contains", "ceiling"}
@@ -22,7 +25,7 @@ class Refused(Exception):
     """A line, counted from 1, and why."""
 
 
-class Lacking(Exception):
+class NoPoint(Exception):
     """The line of the first change that has no point."""
 
 
@@ -51,7 +54,7 @@ def call_of(pieces):
 
 
 def lacks_point(it):
-    return it.point is None and it.name in ("add", "remove") and it.reply == "true"
+    return it.point is None and it.name in CHANGES and it.reply == "true"
 
 
 def has_point_inside(it):
@@ -88,7 +91,7 @@ def read(text):
 
 def changed(it):
     """The moment at which a call changes the set, if it does."""
-    return it.point if it.name in ("add", "remove") and it.reply in ("true", None) else None
+    return it.point if it.name in CHANGES and it.reply in ("true", None) else None
 
 
 def moments(it):
@@ -109,17 +112,11 @@ def look_beside_each_other(calls, quota, first):
 
 
 def fits(it, moment, calls, opening, quota):
-    there, count = set(opening), 0
+    """Whether a call without a point fits at a moment, on the set that all points up to it make."""
+    there = SetModel(quota, opening)
     for other in sorted((it for it in calls if changed(it) and changed(it) <= moment), key=changed):
-        (there.add if other.name == "add" else there.discard)(other.key)
-        count += other.name == "add" and other.thread == it.thread
-    above = min((key for key in there if key >= it.key), default=None)
-    return it.reply == {
-        "add": "false" if it.key in there else "full" if count == quota else "true, at a point",
-        "remove": "true, at a point" if it.key in there else "false",
-        "contains": "true" if it.key in there else "false",
-        "ceiling": "nothing" if above is None else f"at-{above}",
-    }[it.name]
+        there.change(other.thread, other.name, other.key)
+    return fits_without_change(it.name, it.key, it.reply, there.keys, there.has_room(it.thread))
 
 
 def place(it, calls, opening, quota):
@@ -134,7 +131,7 @@ def report(text):
     look_beside_each_other(found["call"], quota, HEADER + 1 + len(opening))
     for line, it in enumerate(found["call"], HEADER + 1 + len(opening)):
         if lacks_point(it):
-            raise Lacking(line)
+            raise NoPoint(line)
     calls = sorted(found["call"], key=lambda it: it.begin)
     has_new = opening or any(it.name == "ceiling" or (it.reply or "").startswith(("at-", "nothing")) for it in calls)
     yield f"listset-report {2 if has_new else 1}"
@@ -148,7 +145,7 @@ def report(text):
 
 
 def due(text):
-    """The status, and what is printed on output and on standard error. Of calls that lack a point it raises `Lacking`."""
+    """The status, and what is printed on output and on standard error. Of calls that lack a point it raises `NoPoint`."""
     try:
         return 0, "".join(f"{line}\n" for line in report(text)), ""
     except Refused as refused:
@@ -169,7 +166,7 @@ def random_calls(draw, threads):
             begin, point, end = mine[3 * i : 3 * i + 3]
             name = draw.choice(["add", "add", "remove", "remove", "contains", "ceiling"])
             reply = draw.choice(["true", "true", "false", "full" if name == "add" else "false", "nothing", f"at-{draw.randint(0, 3)}"])
-            has_point = name in ("add", "remove") and reply == "true" or draw.random() < 0.3
+            has_point = name in CHANGES and reply == "true" or draw.random() < 0.3
             is_open = i == many - 1 and draw.random() < 0.3
             ending = "- -" if is_open else f"{end} {reply}"
             made.append(f"call {thread} {name} {draw.randint(0, 3)} {begin} {point if has_point else '-'} {ending}")
