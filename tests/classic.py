@@ -4,9 +4,9 @@ goes unread. How its calls show that is compared by page/tests/break_it.js.
 """
 
 import re
-import subprocess
 
 from harness.cases import TOP, Wrong, cases, same, test
+from harness.programs import LONG, ran
 
 PAGE = TOP / "docs" / "CLASSIC.md"
 LACKS = TOP / "examples" / "schedules" / "lacks"
@@ -25,11 +25,10 @@ EXPLAINED = "he order is refused, and another order explains the calls."
 SECTIONS = re.split(r"^## ", PAGE.read_text(), flags=re.M)
 
 
-def printed(program, *words, text="", statuses=(0,)):
+def lines_of(*words, text="", status=0):
     """The lines that the program prints for these words, with the text on its input; those about a trouble where it has one."""
-    done = subprocess.run([program, *words], input=text, capture_output=True, text=True, timeout=600)
-    if done.returncode not in statuses:
-        raise Wrong(f"{' '.join(words)}: status {done.returncode}: {done.stderr}")
+    done = ran(*words, text=text, seconds=LONG)
+    same(done.returncode, status, f"the status of {' '.join(words[1:])}, which says {done.stderr}")
     return (done.stdout + done.stderr).splitlines()
 
 
@@ -47,8 +46,8 @@ def sections():
 
 
 def picture_of(program, name):
-    schedule = "\n".join(printed(program, "example", name)) + "\n"
-    return schedule, printed(program, "show", text=schedule)
+    schedule = "\n".join(lines_of(program, "example", name)) + "\n"
+    return schedule, lines_of(program, "show", text=schedule)
 
 
 @cases(sections)
@@ -58,7 +57,7 @@ def section_of_an_example(case, name, section):
     same(len(blocks), 2, "blocks on the page")
     schedule, picture = picture_of(case.program, name)
     same([*blocks[0], ""], picture[:picture.index("order")], "the picture on the page")
-    stand_in_turn("the trace on the page", blocks[1], printed(case.program, "trace", text=schedule))
+    stand_in_turn("the trace on the page", blocks[1], lines_of(case.program, "trace", text=schedule))
 
 
 def broken_lists():
@@ -71,7 +70,7 @@ def line_of_a_broken_list(case, name, kind, told):
     """Its order is refused, and no order explains its calls, or another one if the page says so."""
     file = LACKS / f"{name}.schedule"
     same(f"\nlist {kind}\n" in file.read_text(), True, f"that {file.name} is of the list {kind}")
-    picture = printed(case.program, "show", "--lacks", name, str(file), statuses=(1,))
+    picture = lines_of(case.program, "show", "--lacks", name, str(file), status=1)
     is_refused = any(line.startswith("refused ") for line in picture)
     due = ANOTHER if told.endswith(EXPLAINED) else NONE
     if not is_refused or due not in picture:
@@ -80,7 +79,7 @@ def line_of_a_broken_list(case, name, kind, told):
 
 @test
 def headings_and_legend(case):
-    examples = [line.split(None, 2) for line in printed(case.program, "example")]
+    examples = [line.split(None, 2) for line in lines_of(case.program, "example")]
     headings = [section.partition("\n")[0] for section in SECTIONS[1:-1]]
     same(headings, [f"{name} ({LISTS[kind]})" for name, kind, _ in examples], "the headings")
     legends = {picture_of(case.program, name)[1][-1] for name, _, _ in examples}
@@ -90,7 +89,7 @@ def headings_and_legend(case):
 @test
 def names_of_the_broken_lists(case):
     names = [it.removeprefix("broken/") for it in broken_lists()]
-    said, = printed(case.program, "replay", "--lacks", "none", text="", statuses=(2,))
+    said, = lines_of(case.program, "replay", "--lacks", "none", text="", status=2)
     same(names, re.split(", | or ", said.partition(" none of ")[2]), "the broken lists")
     same(sorted(names), sorted(file.stem for file in LACKS.iterdir()), "their schedules")
     named = set(re.findall(r"\(`([a-z-]+)`\)", "".join(SECTIONS[1:-1])))

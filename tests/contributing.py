@@ -4,11 +4,11 @@
 
 import re
 import shutil
-import subprocess
 
 from harness.cases import TOP, Wrong, cases, once
+from harness.programs import LONG, ran, well
+from harness.small_clone import small_clone
 
-SECONDS = 600
 COMMAND = re.compile(r"`(rt \w[^`]*|git grep [^`]*|(?:\./gate|\./listset|(?:build|docs/make|mutants|page|tests)/\w+)(?: [^`]+)?)`")
 # what stands in the page for what a reader has
 GIVEN = {"FUNCTION": "half", "WORDS": "example", "PAGE": "words", "--list NAME": "--list transcripts", "the text": "out of memory"}
@@ -34,8 +34,7 @@ def commands():
 
 def steps(_room):
     """What the two gates run."""
-    return "".join(subprocess.run([TOP / "gate", *quick, "--steps"], stdout=subprocess.PIPE, text=True, check=True, timeout=SECONDS).stdout
-                   for quick in ([], ["--quick"]))
+    return "".join(well(TOP / "gate", *quick, "--steps") for quick in ([], ["--quick"]))
 
 
 def copy(room):
@@ -45,13 +44,10 @@ def copy(room):
 
 def small(room):
     """The folder of a small crate, in a repository of its own."""
-    source = room / "small" / "crates" / "half" / "src"
-    source.mkdir(parents=True)
-    (room / "small" / ".git").mkdir()
-    (room / "small" / "crates.txt").write_text("half:\n")
-    (room / "small" / "HANDLES").write_text("Handles allowed: none.\n")
-    (source / "lib.rt").write_text(SMALL)
-    return source.parent
+    texts = {"crates.txt": "half:\n", "HANDLES": "Handles allowed: none.\n", "crates/half/src/lib.rt": SMALL}
+    made = small_clone(room / "small", [], texts)
+    (made / ".git").mkdir()
+    return made / "crates" / "half"
 
 
 def with_program(tree, program):
@@ -72,6 +68,6 @@ def command_of_the_page_runs(case, command):
     if command.startswith("./gate"):
         command += " --steps"
     folder = once(small) if command.startswith("rt ") else TOP if command.startswith("git ") else with_program(once(copy), case.program)
-    done = subprocess.run(["bash", "-c", command], cwd=folder, stdin=subprocess.DEVNULL, capture_output=True, text=True, timeout=SECONDS)
+    done = ran("bash", "-c", command, cwd=folder, seconds=LONG)
     if done.returncode:
         raise Wrong(f"status {done.returncode}: {done.stdout[-1000:]}{done.stderr[-1000:]}")

@@ -4,17 +4,17 @@ of each classic interleaving as its file has it, and `example --broken NAME` its
 """
 
 import itertools
-import subprocess
 
-from harness.cases import SECONDS, TOP, Wrong, cases, same, test
+from harness.cases import TOP, Wrong, cases, same, test
+from harness.programs import ran
 
 EXAMPLES = TOP / "examples" / "schedules"
 
 
-def printed(program, *words):
+def ending(*words):
     """The status, what is printed on standard output, and what on standard error."""
-    made = subprocess.run([program, *map(str, words)], stdin=subprocess.DEVNULL, capture_output=True, timeout=SECONDS)
-    return made.returncode, made.stdout.decode(), made.stderr.decode()
+    done = ran(*words)
+    return done.returncode, done.stdout, done.stderr
 
 
 def lines_alike(one, other):
@@ -25,7 +25,7 @@ def lines_alike(one, other):
 
 def of_schedule(program, file):
     """What is seen of a schedule: nothing where its report is printed."""
-    status, output, faults = printed(program, "replay", file)
+    status, output, faults = ending(program, "replay", file)
     if status:
         return (output + faults).rstrip("\n") if status == 1 else f"status {status}: {output + faults}"
     wanted = file.with_suffix(".report").read_text()
@@ -36,7 +36,7 @@ def of_schedule(program, file):
 
 def of_report(program, file):
     """What is seen of a report: nothing where its order explains it."""
-    status, output, faults = printed(program, "check", file)
+    status, output, faults = ending(program, "check", file)
     if (status, output, faults) == (0, "ok\n", ""):
         return ""
     return (output + faults).rstrip("\n") if status == 1 else f"status {status}: {output + faults}"
@@ -57,13 +57,13 @@ def what_a_file_says_is_so(case, file, due):
 @test
 def examples_of_the_program_are_the_files(case):
     """The texts of the classic interleavings are those of their files, and there are no broken reports of others."""
-    names = [line.split()[0] for line in printed(case.program, "example")[1].splitlines()]
+    names = [line.split()[0] for line in ending(case.program, "example")[1].splitlines()]
     broken = set(EXAMPLES.glob("*.broken.report"))
     for name in names:
-        same(printed(case.program, "example", name), (0, (EXAMPLES / f"{name}.schedule").read_text(), ""), f"example {name}")
+        same(ending(case.program, "example", name), (0, (EXAMPLES / f"{name}.schedule").read_text(), ""), f"example {name}")
         file = EXAMPLES / f"{name}.broken.report"
         due = (0, file.read_text(), "") if file in broken else (2, "", "listset: bad NAME\n")
-        same(printed(case.program, "example", "--broken", name), due, f"example --broken {name}")
+        same(ending(case.program, "example", "--broken", name), due, f"example --broken {name}")
         broken.discard(file)
     if broken:
         raise Wrong(f"no example has the name of {sorted(it.name for it in broken)}")

@@ -7,30 +7,17 @@ import os
 import pathlib
 import re
 import shutil
-import subprocess
 import sys
 
 from harness.cases import TOP, Wrong, given, lacking, needs, test_on, usable
+from harness.programs import LONG, ran, well
 
 FOREIGN, EXAMPLES, FORMS = TOP / "foreign", TOP / "examples" / "schedules", TOP / "examples" / "in-a-test"
 TESTS, PREFIX = FOREIGN / "tests", pathlib.Path(os.environ.get("LISTSET_PREFIX", FOREIGN / "out"))
 TAKES_TURNS = True  # (each has more threads than there are processors)
-SECONDS = 600  # for each compiler and each program
 WARN = ["-Wall", "-Wextra", "-Werror", "-O1", "-g"]
 MEMORY, RACES = "-fsanitize=address,undefined", "-fsanitize=thread"
 WRAPPED = [f"-Wl,--wrap={it}" for it in ("malloc", "realloc", "free")]
-
-
-def well(*words, **how):
-    """What a program says that has to end with the status 0."""
-    done = ran(words, **how)
-    if done.returncode:
-        raise Wrong(f"{words[0]} ended with status {done.returncode}\n{done.stdout[-3000:]}{done.stderr[-3000:]}".strip())
-    return done.stdout
-
-
-def ran(words, **how):
-    return subprocess.run([*map(str, words)], capture_output=True, text=True, timeout=SECONDS, **{"stdin": subprocess.DEVNULL, **how})
 
 
 def texts():
@@ -55,7 +42,7 @@ class Installed:
         """Whether the compiler and this machine have a sanitizer."""
         source, made = self.room / "small.c", self.room / "small"
         source.write_text("int main(void) { return 0; }\n")
-        found = ran(["gcc", sanitizer, source, "-o", made]).returncode == 0 and ran([made]).returncode == 0
+        found = ran("gcc", sanitizer, source, "-o", made, seconds=LONG).returncode == 0 and ran(made).returncode == 0
         if not found:
             print(f"foreign: {sanitizer} does not work here: left out", file=sys.stderr, flush=True)
         return found
@@ -89,7 +76,7 @@ class Installed:
         refused = (TOP / "examples" / "recorders" / "both-true.calls").read_text()
         right = refused.replace("call 1 add 5 2 - 3 true", "call 1 add 5 2 - 3 false")
         for text, status, says in ((right, 0, "ok 3 calls\n"), (refused, 1, "not linearizable\n")):
-            done = ran(words, stdin=None, input=text, **how)
+            done = ran(*words, text=text, seconds=LONG, **how)
             if done.returncode != status or not done.stdout.startswith(says):
                 raise Wrong(f"the program in {language} of docs/FOREIGN.md on {text}: {done}")
 

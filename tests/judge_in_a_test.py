@@ -10,11 +10,11 @@ import importlib.util
 import os
 import pathlib
 import shutil
-import subprocess
 import sys
 import unittest
 
 from harness.cases import NEEDS, TOP, Wrong, each, needs
+from harness.programs import ran
 
 FORMS = TOP / "examples" / "in-a-test"
 SECONDS = 300  # for each compiler, and for each run of tests
@@ -36,19 +36,18 @@ NOT_IN_PATH = [
 ]
 
 
-def ran(where, words, judge=None, **also):
+def judged(where, words, judge=None, **also):
     """The status of a command, with this judge or with none and with these variables also, and what it said."""
     environment = {name: it for name, it in os.environ.items() if name not in ("LISTSET", "RUST_BACKTRACE")}
     environment |= {"LISTSET": str(judge)} if judge else {}
     environment |= {"TMPDIR": str(judge.parent)} if judge and judge.parent.exists() else {}
     environment |= also
-    how = {"stdin": subprocess.DEVNULL, "stdout": subprocess.PIPE, "stderr": subprocess.STDOUT, "text": True, "timeout": SECONDS}
-    done = subprocess.run([*map(str, words)], cwd=where, env=environment, **how)
-    return done.returncode, done.stdout
+    done = ran(*words, cwd=where, env=environment, seconds=SECONDS)
+    return done.returncode, done.stdout + done.stderr
 
 
 def built(where, *words):
-    status, said = ran(where, words)
+    status, said = judged(where, words)
     if status:
         raise Wrong(f"{words[0]} ended with status {status}\n{said[-3000:]}")
 
@@ -146,7 +145,7 @@ def first(words, language, of=FIRST):
 
 def first_said(where, words, language, judge):
     """What the first test of a language says, with this judge."""
-    status, said = ran(where, first(words, language), judge)
+    status, said = judged(where, first(words, language), judge)
     if status:
         raise Wrong(f"the first test ended with status {status}\n{said[-3000:]}")
     return said
@@ -154,7 +153,7 @@ def first_said(where, words, language, judge):
 
 def proof_of(program):
     """The line in which a program says whether it is proved."""
-    return subprocess.run([program, "--version", "--long"], capture_output=True, text=True, timeout=SECONDS).stdout.splitlines()[3]
+    return ran(program, "--version", "--long").stdout.splitlines()[3]
 
 
 def tells_judge(said, judge, proof):
@@ -165,7 +164,7 @@ def tells_judge(said, judge, proof):
 def is_judged_in_parts(case, parts):
     """Whether the program judges the parts of a long run as one recording, and by keys."""
     asked = [[], *(["--keys", f"{it}/4"] for it in range(4))]
-    said = [ran(case.room, [case.program, "judge", *it, *parts])[1] for it in asked]
+    said = [judged(case.room, [case.program, "judge", *it, *parts])[1] for it in asked]
     counts = [int(it.split()[3]) for it in said if it.startswith(f"ok {len(parts)} parts, ")]
     if len(parts) < 3 or len(counts) < len(asked) or counts[0] != sum(counts[1:]):
         raise Wrong(f"of {len(parts)} parts: {said}")
@@ -175,7 +174,7 @@ def is_judged_in_parts(case, parts):
 def a_form_judges(case, language):
     look_for(language)
     where, words = LANGUAGES[language](case.room)
-    status, said = ran(where, words, made(case.room / "judge", f"#!/bin/sh\necho progress >&2\nexec '{case.program}' \"$@\"\n"))
+    status, said = judged(where, words, made(case.room / "judge", f"#!/bin/sh\necho progress >&2\nexec '{case.program}' \"$@\"\n"))
     if status:
         raise Wrong(f"the tests ended with status {status}\n{said[-3000:]}")
     if FEW.get(language, "") not in said:
@@ -184,16 +183,16 @@ def a_form_judges(case, language):
         is_judged_in_parts(case, sorted((case.room / "recorded").iterdir()))
         tells_judge(first_said(where, words, language, case.room / "judge"), case.room / "judge", proof_of(case.program))
         judge = made(case.room / "judge of old", KNOWS_NO_CUT)
-        _, said = ran(where, first(words, language, CRASH), judge)
+        _, said = judged(where, first(words, language, CRASH), judge)
         if f"up to there: {judge} gave no verdict, but said: listset: line 9: Line. Take a newer listset" not in said:
             raise Wrong(f"with an old judge: {said[-3000:]}")
     for name, judge, due in NOT_IN_PATH if language in FIRST else ():
-        status, said = ran(where, first(words, language), judge, PATH=str(case.room / "empty"))
+        status, said = judged(where, first(words, language), judge, PATH=str(case.room / "empty"))
         if status == 0 or due not in said:
             raise Wrong(f"without {name} in PATH: status {status}\n{said[-3000:]}")
     for name, (script, due) in list(NO_JUDGES.items())[: 1 if language in LIBRARIES else None]:
         judge = made(case.room / f"judge {name}", script)
-        status, said = ran(where, first(words, language), judge)
+        status, said = judged(where, first(words, language), judge)
         if status == 0 or due.format(judge) not in said:
             raise Wrong(f"with a judge that is {name}: status {status}\n{said[-3000:]}")
 
@@ -204,7 +203,7 @@ ENGINE = TOP / "page" / "listset.js"
 @needs("node")
 @each(FIRST)
 def the_engine_in_node_judges(case, language):
-    if "judge" not in subprocess.run(["node", ENGINE, "--words"], capture_output=True, text=True, timeout=SECONDS).stdout.split():
+    if "judge" not in ran("node", ENGINE, "--words").stdout.split():
         raise unittest.SkipTest("page/listset.js has no word judge")
     look_for(language)
     tells_judge(first_said(*LANGUAGES[language](case.room), language, ENGINE), ENGINE, "proof unknown")

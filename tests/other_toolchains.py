@@ -10,6 +10,7 @@ import subprocess
 import sys
 
 from harness.cases import TOP, comes, same, test, when_named
+from harness.small_clone import small_clone
 
 SECONDS = 900
 LEAST = TOP / "tests" / "least_kit.txt"
@@ -54,6 +55,15 @@ file: src/lib.rt
 old: if a < b {
 new: if a <= b {
 """
+PARTS = ["build", "mutants", "tests", "HANDLES", "CITATION.cff", "README.md", "crates/lset_command/src/command_line.rt"]
+TEXTS = {
+    "crates.txt": CRATES,
+    "crates/small/src/lib.rt": SMALL,
+    "crates/listset/src/main.rt": PROGRAM,
+    "crates/listset/stdout": "2\n",
+    "mutants/gate/small": GATE,
+    "mutants/planted/small": PLANTED,
+}
 # The stand-ins wrap the kit's own files, which lie beside them under another name.
 RTLIB = """import importlib.machinery, importlib.util, sys
 loader = importlib.machinery.SourceFileLoader("real_rtlib", {real!r})
@@ -97,23 +107,7 @@ class StandIn:
         (self.kit / "bin/rt").write_text(RT.format(real=str(rt), python=os.path.realpath(sys.executable)))
         (self.kit / "bin/rt").chmod(0o755)
         os.chmod(room, 0o711)
-        self.lay_out()
-
-    def lay_out(self):
-        for name in ("build", "mutants", "tests"):
-            shutil.copytree(TOP / name, self.tree / name, ignore=shutil.ignore_patterns("gate", "planted", "tried.tsv", "out"))
-        for name, text in {"small/src/lib.rt": SMALL, "listset/src/main.rt": PROGRAM, "listset/stdout": "2\n"}.items():
-            file = self.tree / "crates" / name
-            file.parent.mkdir(parents=True, exist_ok=True)
-            file.write_text(text)
-        for name, text in {"gate": GATE, "planted": PLANTED}.items():
-            (self.tree / "mutants" / name).mkdir()
-            (self.tree / "mutants" / name / "small").write_text(text)
-        (self.tree / "crates.txt").write_text(CRATES)
-        shutil.copy(TOP / "HANDLES", self.tree)
-        for it in ("CITATION.cff", "README.md", "crates/lset_command/src/command_line.rt"):
-            (self.tree / it).parent.mkdir(parents=True, exist_ok=True)
-            shutil.copy(TOP / it, self.tree / it)
+        small_clone(self.tree, PARTS, TEXTS, without=["gate", "planted", "tried.tsv", "out"])
 
     def begun(self, *words):
         """A script of the repository, begun over the stand-in."""

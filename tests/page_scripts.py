@@ -2,11 +2,11 @@
 for rt, which proves nothing."""
 
 import os
-import shutil
-import subprocess
 
 from harness.browser_stand_in import driving
 from harness.cases import SECONDS, TOP, comes, same, test
+from harness.programs import ran, well
+from harness.small_clone import small_clone
 
 RT = """#!/bin/sh
 case $1 in
@@ -19,12 +19,7 @@ STALE = "the page's module is of other sources than crates/ has now: page/build 
 
 def copy(room):
     """A copy of what page/test and the sum of the module's sources read."""
-    tree = room / "copy"
-    for name in ("build", "page", "docs", "examples"):
-        shutil.copytree(TOP / name, tree / name)
-    shutil.copytree(TOP / "crates", tree / "crates", ignore=shutil.ignore_patterns("out", "proofs"))
-    shutil.copy(TOP / "crates.txt", tree)
-    return tree
+    return small_clone(room / "copy", ["build", "page", "docs", "examples", "crates", "crates.txt"], without=["out", "proofs"])
 
 
 @test
@@ -32,7 +27,7 @@ def page_test_tells_a_stale_module_first(case):
     tree = copy(case.room)
     (tree / "crates/lset_words/src/lib.rt").open("a").write("// edited\n")
     for words in (["--node"], []):
-        done = subprocess.run([tree / "page" / "test", *words], capture_output=True, text=True, timeout=SECONDS)
+        done = ran(tree / "page" / "test", *words)
         line = f"page/test: {STALE}; --parts and --drive try the rest of the page with the module as it is\n"
         same((done.returncode, done.stdout, done.stderr), (1, "", line), f"page/test {words}")
     running = driving(tree, case.room)
@@ -48,7 +43,7 @@ def building(case, wrong):
     (case.room / "rt").write_text(RT.format(room=case.room, wrong=wrong))
     (case.room / "rt").chmod(0o755)
     env = {**os.environ, "PATH": f"{case.room}:{os.environ['PATH']}"}
-    return subprocess.run([tree / "page" / "build"], env=env, capture_output=True, text=True, timeout=SECONDS), tree
+    return ran(tree / "page" / "build", env=env), tree
 
 
 @test
@@ -58,7 +53,7 @@ def page_build_tells_how_far_it_is(case):
     # (a stand-in has no module)
     same(last.endswith("listset.wasm, engine.js and sources.sum stay as they are"), True, f"the last line {last!r}")
     same((tree / "page/sources.sum").read_text(), (TOP / "page/sources.sum").read_text(), "the sum of the module that stays")
-    said = subprocess.run([TOP / "build" / "crates_below", "ffi_page"], stdout=subprocess.PIPE, text=True, check=True).stdout
+    said = well(TOP / "build" / "crates_below", "ffi_page")
     below = {line.split(":")[0].split()[0] for line in said.splitlines()}
     begun = [it.split()[2].rstrip(",") for it in lines if it.startswith("page/build: proving ")]
     ended = [it.split()[1] for it in lines if " proved in " in it]

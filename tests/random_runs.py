@@ -10,9 +10,9 @@ well, and the counts and keys of several add up.
 
 import collections
 import itertools
-import subprocess
 
-from harness.cases import KINDS, SECONDS, Wrong, each, given, test, usable
+from harness.cases import KINDS, Wrong, each, given, test, usable
+from harness.programs import printed, ran
 from harness.set_model import SetModel
 
 SEEDS = 20 if given.few else 200
@@ -23,17 +23,8 @@ ENDS = [0, 1, 5, 2**32 - 2, 2**32 - 1]  # keys in place of those that are drawn,
 OPENINGS = [[], [1, 3], [0, 2**32 - 1]]
 
 
-def tried(*words, text=""):
-    """How a run of the program ends."""
-    return subprocess.run([usable(given.program), *map(str, words)], input=text, capture_output=True, text=True, timeout=SECONDS)
-
-
-def printed(*words, text=""):
-    """What the program prints, with nothing to tell."""
-    made = tried(*words, text=text)
-    if made.returncode or made.stderr:
-        raise Wrong(f"status {made.returncode}, {made.stderr!r} of {text!r}")
-    return made.stdout
+def program():
+    return usable(given.program)
 
 
 Call = collections.namedtuple("Call", "thread call key begun ended reply")
@@ -83,7 +74,7 @@ class Found(collections.Counter):
 
 def held(text, opening=(), quota=0):
     """The report of a schedule, which a set explains that opens with these keys."""
-    report = Report(printed("replay", text=text))
+    report = Report(printed(program(), "replay", text=text))
     if report.opening != list(opening):
         raise Wrong(f"the report opens with {report.opening}")
     report.hold_against(SetModel(quota, opening))
@@ -121,7 +112,7 @@ def without_refused(head, lines):
     kept = 0
     while True:
         text = "\n".join([*head, *lines]) + "\n"
-        made = tried("replay", text=text)
+        made = ran(program(), "replay", text=text)
         if made.returncode == 0:
             return text
         _, line, cause = made.stderr.split(": ")
@@ -140,7 +131,7 @@ def without_refused(head, lines):
 
 def drawn(kind, seed, threads, quota, calls):
     """The schedule that `gen` draws."""
-    return printed("gen", kind, threads, quota, calls, KEYS, seed)
+    return printed(program(), "gen", kind, threads, quota, calls, KEYS, seed)
 
 
 def one_thread(kind, seed, found):
@@ -153,7 +144,7 @@ def one_thread(kind, seed, found):
     calls = [line for line in with_ceilings(text.splitlines()[4:]) if line.startswith("begin")]
     for opening, made in zip(OPENINGS, [calls, calls, [*at_the_ends(calls)]]):
         lines = [*header("draft", kind, opening, **ALONE), *itertools.chain(*((call, "go 0 out") for call in made))]
-        found.look_at(held(printed("draft", text="\n".join(lines) + "\n"), opening, ALONE["quota"]))
+        found.look_at(held(printed(program(), "draft", text="\n".join(lines) + "\n"), opening, ALONE["quota"]))
 
 
 def threads(kind, seed, found):
@@ -174,9 +165,9 @@ def long_report(_case):
     calls = [f"call {number} 0 add {number} {2 * number + 1} {2 * number + 2} true" for number in range(LONG)]
     places, keys = [f"place {number} true" for number in range(LONG)], [f"key {number}" for number in range(LONG)]
     whole, short = ("\n".join([*head, *calls, *there, *keys, "end"]) + "\n" for there in (places, places[:-1]))
-    if printed("check", text=whole) != "ok\n":
+    if printed(program(), "check", text=whole) != "ok\n":
         raise Wrong("it is refused")
-    if (told := tried("check", text=short).stdout) != f"refused Missing {LONG - 1}\n":
+    if (told := ran(program(), "check", text=short).stdout) != f"refused Missing {LONG - 1}\n":
         raise Wrong(f"without its last place: {told!r}")
 
 
@@ -257,13 +248,13 @@ def run_alone(_case, kind):
     ways = [(40, 300, 12, seed) for seed in (1, 2, 3)]
     ways += [(9, 60, 30, seed, lives) for seed, lives in ((5, 3), (2**64 - 64, 3), (6, 1), (7, 20))]
     for way in ways:
-        if (told := printed("run", kind, 1, *way)) != outcome(*way):
+        if (told := printed(program(), "run", kind, 1, *way)) != outcome(*way):
             raise Wrong(f"run {way}: {told!r}")
 
 
 def counts_of(kind, threads, quota, calls, keys, seed, lives=1):
     """The counts of a run of several threads, which have to add up; how many were full, and how many keys are left."""
-    lines = [line.split() for line in printed("run", kind, threads, quota, calls, keys, seed, lives).splitlines()]
+    lines = [line.split() for line in printed(program(), "run", kind, threads, quota, calls, keys, seed, lives).splitlines()]
     names, numbers = [line[0] for line in lines[:5]], [int(line[1]) for line in lines]
     made, true, false, full, left = numbers[:5]
     there = numbers[5:]

@@ -11,6 +11,7 @@ import subprocess
 
 from harness import points_model
 from harness.cases import SECONDS, TOP, comes, left_of, needs, same, test
+from harness.programs import ran
 
 HERE = TOP / "examples" / "recorders"
 TEXTS = 500
@@ -46,10 +47,6 @@ RECORDED = [
     Recorded("keys fall", [ADD, "call 1 1 add 7 4 6 true"], "place 0 true, place 1 true, key 7, key 5", "refused WrongSet", RECORDER),
     Recorded("equal tickets", [ADD, "call 1 1 add 7 3 6 true"], "place 0 true", "listset: line 6: History", RECORDER),
 ]
-
-
-def ran(*words):
-    return subprocess.run([str(it) for it in words], stdin=subprocess.DEVNULL, capture_output=True, text=True, timeout=SECONDS)
 
 
 def report_of(recorded, room):

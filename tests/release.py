@@ -1,6 +1,5 @@
 """The packages of a release, made as a trial of what stands built, unpacked where no toolchain is, and used as their reader would."""
 
-import contextlib
 import os
 import pathlib
 import re
@@ -11,8 +10,9 @@ import sys
 import tarfile
 import unittest
 
-from foreign import ran, well
 from harness.cases import TOP, UNPROVED, each, given, lacking, needs, once, same, test
+from harness.programs import LONG, ran, well
+from harness.small_clone import bare_path, clone_by_git
 
 sys.path.insert(0, str(TOP / "build"))
 import version_stamp  # noqa: E402
@@ -71,7 +71,7 @@ def words_of_trial():
 def dist(room):
     """The packages, in a folder of this room. A machine that cannot make them skips the tests, and so does a clone with nothing built."""
     made = pathlib.Path(room) / "dist"
-    done = ran([*words_of_trial(), made])
+    done = ran(*words_of_trial(), made, seconds=LONG)
     if "install Debian's package" in done.stderr:
         raise unittest.SkipTest(done.stderr.strip())
     if done.returncode:
@@ -96,12 +96,12 @@ def replays(program, enter, **how):
     """That the program of a package gives the bytes of the one that is tested."""
     for name in NAMES:
         text = (SCHEDULES / f"{name}.schedule").read_text()
-        same(well(*enter, "replay", stdin=None, input=text, **how), well(program, "replay", stdin=None, input=text), name)
+        same(well(*enter, "replay", text=text, **how), well(program, "replay", text=text), name)
 
 
 def told_of_broken(program):
     """What a judge says of itself and of a broken report, as the programs here print it."""
-    done = ran([program, "check", SCHEDULES / "snip.broken.report"])
+    done = ran(program, "check", SCHEDULES / "snip.broken.report")
     return f"{version_stamp.told(proof())}{(done.stdout + done.stderr).strip()} {done.returncode}\n"
 
 
@@ -114,28 +114,6 @@ def the_same_bytes_come_twice(case):
     well("sha256sum", "--check", "--strict", "SHA256SUMS", cwd=first)
     told = version_stamp.told(proof())
     same((first / "PROVENANCE").read_text()[: len(told)], told, "PROVENANCE")
-
-
-@contextlib.contextmanager
-def clone(room):
-    """A clone of this repository, with its makers of packages as they are, committed; and the commit."""
-    at = room / "clone"
-    well("git", "clone", "--quiet", "--shared", TOP, at)
-    for name in MAKERS:
-        shutil.copy(TOP / "build" / name, at / "build" / name)
-    git = ["git", "-C", at, "-c", "user.name=n", "-c", "user.email=n@localhost"]
-    well(*git, "add", "build")
-    well(*git, "commit", "--quiet", "--allow-empty", "-m", "tried")
-    yield at, well(*git, "rev-parse", "HEAD").strip()
-
-
-def few_tools(room):
-    """A PATH with little more than Python."""
-    (room / "few").mkdir()
-    for tool in ("git", "python3", "env", "bash", "rt"):
-        if shutil.which(tool):
-            (room / "few" / tool).symlink_to(shutil.which(tool))
-    return str(room / "few")
 
 
 REFUSALS = {
@@ -151,30 +129,30 @@ REFUSALS = {
 @needs("gcc")
 @each(REFUSALS)
 def nothing_is_made(case, name):
-    with clone(case.room) as (at, commit):
-        verdict = f"commit {commit}\nday 2026-01-01\npassed 9\nfailed 0\ncrates/listset/out/listset.o {'0' * 64}\n"
-        path = os.environ["PATH"]
-        if name == "older_gate":
-            verdict = verdict.replace(commit, "1" * 40)
-        elif name == "failed_gate":
-            verdict = verdict.replace("failed 0", "failed 2")
-        elif name == "a_missing_tool":
-            path = few_tools(case.room)
-        elif name == "a_change":
-            (at / "README.md").write_text("changed\n")
-        if name != "no_gate":
-            (at / ".git" / "gate-verdict").write_text(verdict)
-        done = ran([at / "build" / "release"], env={**os.environ, "PATH": path})
-        line = f"build/release: {REFUSALS[name].replace('@', commit[:12])}; nothing was made\n"
-        same((done.returncode, done.stderr, done.stdout), (1, line, ""), "status, error and output")
-        same([*at.glob("dist*"), *at.glob(".dist*")], [], "what is made")
+    at, path = case.room / "clone", os.environ["PATH"]
+    commit = clone_by_git(at, [f"build/{it}" for it in MAKERS])
+    verdict = f"commit {commit}\nday 2026-01-01\npassed 9\nfailed 0\ncrates/listset/out/listset.o {'0' * 64}\n"
+    if name == "older_gate":
+        verdict = verdict.replace(commit, "1" * 40)
+    elif name == "failed_gate":
+        verdict = verdict.replace("failed 0", "failed 2")
+    elif name == "a_missing_tool":
+        path = str(bare_path(case.room / "bare", "git", "rt"))
+    elif name == "a_change":
+        (at / "README.md").write_text("changed\n")
+    if name != "no_gate":
+        (at / ".git" / "gate-verdict").write_text(verdict)
+    done = ran(at / "build" / "release", seconds=LONG, env={**os.environ, "PATH": path})
+    line = f"build/release: {REFUSALS[name].replace('@', commit[:12])}; nothing was made\n"
+    same((done.returncode, done.stderr, done.stdout), (1, line, ""), "status, error and output")
+    same([*at.glob("dist*"), *at.glob(".dist*")], [], "what is made")
 
 
 @test
 def a_folder_that_cannot_be_made_is_told(case):
     file = case.room / "file"
     file.write_text("")
-    done = ran([*words_of_trial(), file / "dist"])
+    done = ran(*words_of_trial(), file / "dist", seconds=LONG)
     same((done.returncode, done.stderr.count("\n"), "nothing was made" in done.stderr), (1, 1, True), f"what comes of {done}")
     same(([*case.room.iterdir()], file.read_text()), ([file], ""), "what is there")
 
@@ -239,7 +217,7 @@ def the_deb_is_installed(case):
 @test
 def the_wheel_is_installed(case):
     file, top = package("*.whl"), case.room / "wheel"
-    if ran([sys.executable, "-m", "pip", "--version"]).returncode:
+    if ran(sys.executable, "-m", "pip", "--version").returncode:
         raise unittest.SkipTest("pip is not installed")
     well(sys.executable, "-m", "pip", "install", "--no-index", "--no-deps", "--quiet", "--target", top, file, env=BARE)
     how = {"env": {**BARE, "PYTHONPATH": str(top)}}

@@ -7,12 +7,12 @@ and each text of calls of tests/transcripts/data; the examples, right and broken
 
 import os
 import shutil
-import subprocess
 import unittest
 
 from classic import sections
 from harness.cases import NEEDS, TOP, Wrong, cases, given, once, usable
 from harness.cases import KINDS as LISTS
+from harness.programs import ran, well
 
 KINDS = [*LISTS, "no-such-list"]
 OF_BOTH = ["show", "show --svg", "show --from 2 --to 9 --width 60"]
@@ -28,10 +28,10 @@ class Program:
         self.name, self.command, self.has = name, [path], None
         if name.endswith(".js"):
             self.command = ["node", path]
-            self.has = subprocess.run([*self.command, "--words"], capture_output=True, text=True, check=True).stdout.split()
+            self.has = well(*self.command, "--words").split()
 
     def said(self, words, text):
-        done = subprocess.run([*self.command, *words], input=text, capture_output=True, cwd=TOP, timeout=SECONDS)
+        done = ran(*self.command, *words, text=text, cwd=TOP, seconds=SECONDS)
         return done.stdout, done.stderr, done.returncode
 
 

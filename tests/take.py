@@ -2,9 +2,10 @@
 
 import filecmp
 import shutil
-import subprocess
 
 from harness.cases import TOP, same, test_on, when_named
+from harness.programs import ran
+from harness.small_clone import small_clone
 
 CRATES = ["lset_history", "lset_words"]
 SECONDS = 1800  # for the proofs, where nothing is kept
@@ -15,17 +16,12 @@ class Two:
 
     def __init__(self, room):
         self.here, self.there = room / "here", room / "there"
-        shutil.copytree(TOP / "build", self.here / "build")
-        for name in CRATES:
-            shutil.copytree(TOP / "crates" / name, self.here / "crates" / name, ignore=shutil.ignore_patterns("out"))
-        for name in ("crates.txt", "HANDLES"):
-            shutil.copy(TOP / name, self.here)
+        small_clone(self.here, ["build", "crates.txt", "HANDLES", *(f"crates/{name}" for name in CRATES)])
         self.take()
 
     def take(self, status=0):
         """Takes them; gives the lines that are told but the last."""
-        words = [self.here / "build" / "take", self.there, "lset_history"]
-        done = subprocess.run(words, capture_output=True, text=True, timeout=60)
+        done = ran(self.here / "build" / "take", self.there, "lset_history")
         same((done.returncode, done.stderr), (status, ""), f"the status, after {done.stdout!r}")
         return done.stdout.splitlines()[:-1]
 
@@ -125,5 +121,5 @@ def what_a_killed_run_left_is_cleared_away(two):
 def is_proved(two):
     """What was taken is proved in the repository that took it, with what `rt ci` has kept of these crates on this machine."""
     (two.there / ".git").mkdir()
-    done = subprocess.run(["rt", "ci"], cwd=two.there, stdin=subprocess.DEVNULL, capture_output=True, text=True, timeout=SECONDS)
+    done = ran("rt", "ci", cwd=two.there, seconds=SECONDS)
     same((done.returncode, done.stdout.splitlines()[-1][:18]), (0, "2 passed, 0 failed"), f"rt ci, after {done.stdout[-900:]!r}")

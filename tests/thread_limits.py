@@ -14,6 +14,7 @@ import subprocess
 import threading
 
 from harness.cases import KINDS, Wrong, each, given, once, usable
+from harness.programs import ran
 
 THREADS = 8
 QUOTA = 16_384
@@ -43,7 +44,7 @@ def outcome_is_whole(text):
 def ended_run(program, kind, limit):
     """How `run` ends under a limit."""
     words = [program, "run", kind, str(THREADS), str(QUOTA), str(CALLS), "8", "1"]
-    made = subprocess.run(limited(limit, words), capture_output=True, text=True, timeout=SECONDS)
+    made = ran(*limited(limit, words), seconds=SECONDS)
     if made.returncode == 0 and made.stderr == "" and outcome_is_whole(made.stdout):
         return "outcome"
     if made.stdout == "" and (made.returncode, made.stderr) in REFUSALS:
@@ -88,8 +89,7 @@ def ended_serve(program, kind, limit):
 
 def begins(program, limit):
     """Whether the program begins at all: its loader needs addresses too."""
-    made = subprocess.run(limited(limit, [program, "example", "full"]), capture_output=True, timeout=SECONDS)
-    return made.returncode == 0
+    return ran(*limited(limit, [program, "example", "full"]), seconds=SECONDS).returncode == 0
 
 
 def limits(_room):

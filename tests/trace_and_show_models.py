@@ -8,14 +8,13 @@ drawn at each width from 20 to 200 (--few: every 20th).
 """
 
 import random
-import subprocess
 
 from harness.cases import KINDS, TOP, Wrong, cases, given
 from harness.lists_model import Call, List
 from harness.pictures_model import Drawn, fitted
+from harness.programs import ran
 from harness.traces_model import read_schedule, run_of
 
-SECONDS = 60
 DRAWN, FEW = 40, 4
 PICTURES = 40
 GREATEST = 4294967295
@@ -70,7 +69,7 @@ class Compared:
         self.passed, self.faults = 0, []
 
     def said(self, *words):
-        done = subprocess.run([self.program, *words], input=self.text.encode(), capture_output=True, timeout=SECONDS)
+        done = ran(self.program, *words, text=self.text.encode())
         return done.stdout.decode().splitlines(), done.returncode
 
     def compare(self, words, due, found):
@@ -127,8 +126,7 @@ def drawn():
 
 @cases(drawn)
 def trace_and_pictures_are_those_of_the_model(case, text, widths):
-    ended = subprocess.run([case.program, "trace"], input=text.encode(), capture_output=True, timeout=SECONDS)
-    if ended.stdout.startswith(b"listset-trace"):  # (else it is no schedule)
+    if ran(case.program, "trace", text=text.encode()).stdout.startswith(b"listset-trace"):  # (else it is no schedule)
         looked = Compared(case.program, case.name, text).all(widths)
         if looked.faults or not looked.passed:
             raise Wrong("; ".join(looked.faults[:5]))

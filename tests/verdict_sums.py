@@ -1,11 +1,11 @@
 """When the verdict on a mutant goes stale: with what its function reaches by names, in each crate, and with nothing else."""
 
 import json
-import shutil
-import subprocess
 import sys
 
-from harness.cases import TOP, Wrong, once, same, test
+from harness.cases import once, same, test
+from harness.programs import well
+from harness.small_clone import small_clone
 
 SUMS = """import json, sys
 sys.dont_write_bytecode = True
@@ -19,18 +19,13 @@ RESULTS = "crates/lset_text/specs/Results.antt"
 
 def tree_of(room):
     """A copy of what the sums are of, and the sums."""
-    tree = room / "tree"
-    for name in ("build", "mutants", "crates"):
-        shutil.copytree(TOP / name, tree / name, ignore=shutil.ignore_patterns("out", "proofs", "__pycache__"))
+    tree = small_clone(room / "tree", ["build", "mutants", "crates"], without=["out", "proofs"])
     return tree, sums(tree)
 
 
 def sums(tree):
     """The sum of each planted mutant."""
-    done = subprocess.run([sys.executable, "-c", SUMS], cwd=tree, capture_output=True, text=True, timeout=300)
-    if done.returncode:
-        raise Wrong(done.stderr[-2000:])
-    return json.loads(done.stdout)
+    return json.loads(well(sys.executable, "-c", SUMS, cwd=tree))
 
 
 def stale_by(path, old, new):

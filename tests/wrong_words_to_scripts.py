@@ -2,12 +2,10 @@
 install it. Nothing is changed, and nothing that takes long is begun before."""
 
 import os
-import pathlib
-import shutil
-import subprocess
-import sys
 
-from harness.cases import SECONDS, TOP, cases, same
+from harness.cases import TOP, cases, same
+from harness.programs import ran
+from harness.small_clone import bare_path
 
 # a script and its words; the status; what standard error has. ROOM is a folder of the case
 WRONG = {
@@ -51,24 +49,12 @@ WITHOUT_RT = [
     "./gate --quick", "./listset --prove",
 ]
 MISSING_RT = ("the command rt is missing", ": the Rattle toolchain, whose folder bin has to be in PATH")
-TOOLS = "sh bash env git sed awk grep cat find sort xargs sha256sum cut dirname readlink date touch ls uname sleep node".split()
 
 
 def ended(words, room, **environment):
     """How a script ends that stands in the repository, if nobody waits for it."""
-    words = [str(TOP / it) if at == 0 else it for at, it in enumerate(words.replace("ROOM", str(room)).split())]
-    how = {"stdin": subprocess.DEVNULL, "capture_output": True, "text": True, "timeout": SECONDS, "cwd": TOP}
-    return subprocess.run(words, env={**os.environ, "TMPDIR": str(room), **environment}, **how)
-
-
-def tools(room):
-    """A folder of few commands, without rt."""
-    folder = room / "bin"
-    folder.mkdir()
-    for it in filter(shutil.which, TOOLS):
-        (folder / it).symlink_to(shutil.which(it))
-    (folder / "python3").symlink_to(pathlib.Path(sys.executable).resolve())
-    return folder
+    script, *words = words.replace("ROOM", str(room)).split()
+    return ran(TOP / script, *words, cwd=TOP, env={**os.environ, "TMPDIR": str(room), **environment})
 
 
 @cases(lambda: {it.replace("/", " "): (it,) for it in WRONG})
@@ -81,7 +67,7 @@ def what_is_there_is_told(case, words):
 
 @cases(lambda: {it.replace("/", " "): (it,) for it in WITHOUT_RT})
 def how_to_install_rt_is_told(case, words):
-    done = ended(words, case.room, PATH=str(tools(case.room)))
+    done = ended(words, case.room, PATH=str(bare_path(case.room / "bare", "git", "ls", "node", "uname")))
     said = done.stderr.splitlines()
     is_told = all(it in done.stderr for it in MISSING_RT)
     same((done.returncode != 0, is_told, "Traceback" in done.stderr), (True, True, False), f"{words}: {done.stderr[-1500:]}")
