@@ -11,6 +11,7 @@ import tempfile
 BENCH = pathlib.Path(__file__).resolve().parent
 TOP = BENCH.parent
 sys.path.insert(0, str(TOP / "build"))
+import checks_over_libraries  # noqa: E402
 import toolchain  # noqa: E402
 
 SOURCES = BENCH / "crates"
@@ -86,7 +87,7 @@ def read(over=None):
     still fit. Gives the status."""
     if not over or not pathlib.Path(over, "crates.txt").is_file():
         sys.exit("bench: --read takes the folder of a repository in which rt ci has built the libraries")
-    failed, checks = 0, toolchain.Checks(pathlib.Path(over).resolve())
+    failed, checks = 0, checks_over_libraries.Checks(pathlib.Path(over).resolve())
     with tempfile.TemporaryDirectory(prefix="bench-") as room:
         lay_out(pathlib.Path(room), NAMES)
         (pathlib.Path(room) / ".git").mkdir()

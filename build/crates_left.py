@@ -6,6 +6,7 @@ import time
 
 import crates_txt
 import processes
+import static_libraries
 import toolchain
 
 MEASURED = toolchain.TOP / "bench/seconds.txt"  # of one processor, for each crate
@@ -59,7 +60,7 @@ def crates_left(names, lanes=1):
 def prove_below(name, tell):
     """Proves and builds, by `rt lib`, what is not built of the libraries below a crate, one after another; tells each, and that the
     crate itself comes next."""
-    names = toolchain.unbuilt_below(name)
+    names = static_libraries.unbuilt_below(name)
     left = crates_left([*names, name])
     for it in names:
         tell(left.begun(it))

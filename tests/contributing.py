@@ -5,11 +5,13 @@
 import re
 import shutil
 
-from harness.cases import TOP, Wrong, cases, once
+from harness.cases import TOP, Wrong, cases, once, same
 from harness.programs import LONG, ran, well
 from harness.small_clone import small_clone
 
 COMMAND = re.compile(r"`(rt \w[^`]*|git grep [^`]*|(?:\./gate|\./listset|(?:build|docs/make|mutants|page|tests)/\w+)(?: [^`]+)?)`")
+# what needs a folder with all proofs, and which test has one
+TRIED_ELSEWHERE = {"build/check_over": "tests/other_toolchains.py"}
 # what stands in the page for what a reader has
 GIVEN = {"FUNCTION": "half", "WORDS": "example", "PAGE": "words", "--list NAME": "--list transcripts", "the text": "out of memory"}
 SMALL = """//! A small crate.
@@ -61,7 +63,11 @@ def with_program(tree, program):
 
 @cases(commands)
 def command_of_the_page_runs(case, command):
-    if re.sub(r" [A-Z/]+$", "", command) in once(steps) and not command.startswith("./gate"):
+    script = command.split()[0]
+    if re.sub(r" [A-Z/]+$", "", command) in once(steps) and script != "./gate":
+        return
+    if script in TRIED_ELSEWHERE:
+        same(script in (TOP / TRIED_ELSEWHERE[script]).read_text(), True, f"{TRIED_ELSEWHERE[script]} tries {script}")
         return
     for word, it in GIVEN.items():
         command = command.replace(word, it)

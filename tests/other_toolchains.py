@@ -134,6 +134,19 @@ def mutants_are_tried(of, over):
     same(of.run("mutants/run", "fits").splitlines()[0], "planted: 2, with 1 fresh verdicts", "what is fresh")
 
 
+def a_crate_is_checked_over(of, proved):
+    """What is the same comes from the folder with all proofs, and what differs is proved first, once."""
+    anew = "build/check_over: small is another one here: proving it"
+    same(anew in (told := of.run("build/check_over", proved, "listset")), False, f"what is proved again, by {told}")
+    source = of.tree / "crates/small/src/lib.rt"
+    source.write_text(SMALL.replace("if a < b { b }", "if a <= b { b }"))
+    same([of.run("build/check_over", proved, "listset").count(anew) for _ in range(2)], [1, 0], "how often an edited library is proved")
+    source.write_text(SMALL.replace("{ b } else { a }", "{ a } else { b }"))
+    told = of.run("build/check_over", proved, "listset", status=1)
+    same("it is not proved that" in told, True, f"an edit that is not proved is told, in {told}")
+    source.write_text(SMALL)
+
+
 def add_faulty_tests(tree):
     """Adds a crate of tests as rt ci would not take it."""
     source = tree / "crates/small_tests/src"
@@ -155,6 +168,7 @@ def over_the_least_kit(case):
     same(of.run("build/prove_all", "--in", proved, "--anew").splitlines()[-1], "2 passed, 0 failed", "rt ci")
     same(of.run("crates/listset/out/listset"), "2\n", "what the proved program says")
     mutants_are_tried(of, ["--over", proved])
+    a_crate_is_checked_over(of, proved)
     same("built in" in of.run("build/unproved"), True, "a program without a proof that stays")
     add_faulty_tests(of.tree)
     told = of.run("tests/unproved", "small_tests", status=1)
