@@ -10,7 +10,7 @@ A heading `## NAME` begins a test. Its lines that are indented by four spaces ar
     LINE          any other: a line of the output
 
 All other lines are prose. The commands of one test run in turn, in one room; tests run side by side. A command that runs for
-60 seconds fails.
+60 seconds fails. None pipes `listset` into `head`, which ends before the program has written all now and then.
 
 In any other page a test is a block of lines that are indented by four spaces, or stand below ```sh, and of which the first is a command.
 Its room has the files of the repository, and ./listset is the program there. Output and then standard error are compared, without the
@@ -25,13 +25,15 @@ import shutil
 import subprocess
 import sys
 
-from harness.cases import TOP, Wrong, cases
+from harness.cases import TOP, Wrong, cases, same, test
 
 PAGES = TOP / "tests" / "transcripts"
 DATA = PAGES / "data"
 OTHER_PAGES = [TOP / "README.md", TOP / "page" / "README.md", TOP / "examples" / "README.md", *sorted((TOP / "docs").glob("*.md"))]
 SHOWN = re.compile(r"(?:^    .*\n|^\n(?=    ))+|^```sh\n(?:.*\n)*?```$", re.MULTILINE)
 LEFT_OUT = ".."
+# (but `head -n -N` reads all)
+INTO_HEAD = re.compile(r"\blistset\b[^|\n]*\|\s*head\b(?! -n -)")
 INDENT = "    "
 SECONDS = 60
 
@@ -73,6 +75,9 @@ def tests_of(page):
     for name, steps in tests.items():
         if not steps:
             sys.exit(f"transcripts: {page.name}: {name} has no command")
+        if step := next((it for it in steps if INTO_HEAD.search("\n".join(it.command))), None):
+            sys.exit(f"transcripts: {page.name}:{step.number}: head may end before listset has written all, which it then says now and then: "
+                     "write to a file, and give head that")
     return tests
 
 
@@ -159,6 +164,19 @@ def commands_print_what_the_page_has(case, page, steps):
     for step, found in zip(steps, answers(case, page, steps)):
         if why := differs(step.told(), found):
             raise Wrong(f"{page.relative_to(TOP)}:{step.number}: {why}")
+
+
+@test
+def a_page_that_pipes_listset_into_head_is_refused(case):
+    page = case.room / "page.md"
+    for command, is_refused in (("listset faults | head -n 5", True), ("cat a |\n    > listset show - | head", True),
+                                ("listset show | head -n -1", False), ("yes | head -n 9 | listset check", False)):
+        page.write_text(f"## a test\n\n    $ {command}\n")
+        try:
+            said = str(tests_of(page)["a test"][0].number)
+        except SystemExit as refusal:
+            said = str(refusal)
+        same("page.md:3: head may end before listset" in said, is_refused, f"whether {command!r} is refused, by {said!r}")
 
 
 def show(case, page, steps):
