@@ -24,7 +24,7 @@ def texts():
     return [*sorted(EXAMPLES.glob("*.schedule")), *sorted(EXAMPLES.glob("*.report"))]
 
 
-class Installed:
+class InstalledLibraries:
     """The libraries as they are installed, and a room for what is made of them."""
 
     def __init__(self, room):
@@ -81,103 +81,103 @@ class Installed:
                 raise Wrong(f"the program in {language} of docs/FOREIGN.md on {text}: {done}")
 
 
-test = test_on(Installed)
+test = test_on(InstalledLibraries)
 
 
 @needs("gcc")
 @test
-def words(it):
+def words(installed):
     """A program in C has the bytes and statuses of the program on the words of same_output, by each library."""
-    shared, run_path = it.room / "shared", f"-Wl,-rpath,{it.library}"
-    well("gcc", "-std=c11", *WARN, it.include, TESTS / "words.c", f"-L{it.library}", "-llistset", run_path, "-o", shared)
-    well(TOP / "tests/run", "--program", usable(given.program), "--beside", it.built("words.c"), "--beside", shared, "same_output")
+    shared, run_path = installed.room / "shared", f"-Wl,-rpath,{installed.library}"
+    well("gcc", "-std=c11", *WARN, installed.include, TESTS / "words.c", f"-L{installed.library}", "-llistset", run_path, "-o", shared)
+    well(TOP / "tests/run", "--program", usable(given.program), "--beside", installed.built("words.c"), "--beside", shared, "same_output")
 
 
 @needs("gcc")
 @test
-def threads(it):
+def threads(installed):
     """The judge in eight threads."""
     for flags in ([], [MEMORY], [RACES]):
-        if all(map(it.works, flags)):
-            well(it.built("threads.c", *flags), *texts())
+        if all(map(installed.works, flags)):
+            well(installed.built("threads.c", *flags), *texts())
 
 
 @needs("gcc")
 @test
-def memory(it):
+def memory(installed):
     """The judge, with each allocation refused in turn."""
     schedule, report = EXAMPLES / "one-add.schedule", EXAMPLES / "one-add.report"
     draft = min((TOP / "tests" / "transcripts" / "data" / "drafts").glob("*.draft"), key=lambda it: it.stat().st_size)
-    flags = [MEMORY] if it.works(MEMORY) else []
+    flags = [MEMORY] if installed.works(MEMORY) else []
     calls = TOP / "tests" / "transcripts" / "data" / "recorded" / "seen.calls"
-    well(it.built("memory.c", *flags, *WRAPPED), schedule, report, draft, calls)
+    well(installed.built("memory.c", *flags, *WRAPPED), schedule, report, draft, calls)
 
 
 @needs("gcc")
 @test
-def sets(it):
+def sets(installed):
     """The lists in threads, beside models and counts, and recorded and judged: with more threads than processors, and a million calls."""
     for flags, sizes in (([], [250_000, 4]), ([], [500, 64]), ([MEMORY], [5_000, 4]), ([RACES], [2_000, 4])):
-        if all(map(it.works, flags)):
-            well(it.built("sets.c", *flags), *sizes)
-    well(it.built("recorded.c"))
+        if all(map(installed.works, flags)):
+            well(installed.built("sets.c", *flags), *sizes)
+    well(installed.built("recorded.c"))
 
 
 @needs("gcc")
 @test
-def misuse(it):
+def misuse(installed):
     """What the sets refuse, and their allocations refused in turn."""
-    flags = [MEMORY] if it.works(MEMORY) else []
-    well(it.built("misuse.c", *flags, *WRAPPED))
+    flags = [MEMORY] if installed.works(MEMORY) else []
+    well(installed.built("misuse.c", *flags, *WRAPPED))
 
 
 @needs("gcc")
 @test
-def c(it):
-    made = it.room / "first"
-    well("gcc", "-std=c99", *WARN, it.page("c", "c"), *it.flags(), "-o", made)
-    it.first_program("c", made)
+def c(installed):
+    made = installed.room / "first"
+    well("gcc", "-std=c99", *WARN, installed.page("c", "c"), *installed.flags(), "-o", made)
+    installed.first_program("c", made)
 
 
 @needs("g++")
 @test
-def cpp(it):
-    made, first, how = it.room / "made", it.room / "first", [MEMORY] if it.works(MEMORY) else []
+def cpp(installed):
+    made, first, how = installed.room / "made", installed.room / "first", [MEMORY] if installed.works(MEMORY) else []
     for name in ("judge.cpp", "sets.cpp", "judged.cpp"):
-        well("g++", "-std=c++17", *WARN, *how, TESTS / name, *it.flags(), "-pthread", "-o", made)
+        well("g++", "-std=c++17", *WARN, *how, TESTS / name, *installed.flags(), "-pthread", "-o", made)
         well(made)
-    well("g++", "-std=c++17", *WARN, it.page("cpp", "cpp", "listset::open"), *it.flags(), "-pthread", "-o", first)
+    well("g++", "-std=c++17", *WARN, installed.page("cpp", "cpp", "listset::open"), *installed.flags(), "-pthread", "-o", first)
     well(first)
-    well("g++", "-std=c++17", *WARN, it.page("cpp", "cpp"), *it.flags(), "-o", first)
-    it.first_program("cpp", first)
+    well("g++", "-std=c++17", *WARN, installed.page("cpp", "cpp"), *installed.flags(), "-o", first)
+    installed.first_program("cpp", first)
 
 
 @needs("cargo")
 @test
-def rust(it):
-    crate, target, cargo = it.share / "rust", ["--target-dir", it.room / "target"], ["cargo", "--offline"]
+def rust(installed):
+    crate, target, cargo = installed.share / "rust", ["--target-dir", installed.room / "target"], ["cargo", "--offline"]
     how = {**os.environ, "LISTSET_EXAMPLES": str(EXAMPLES)}
     said = well(*cargo, "test", "--locked", *target, "--manifest-path", crate / "Cargo.toml", env=how)
     passed = [line for line in said.splitlines() if line.startswith("test result: ok.") and " 0 passed" not in line]
     if len(passed) != 3:
         raise Wrong(f"cargo ran {len(passed)} kinds of tests:\n{said[-2000:]}")
-    manifest, page = it.room / "Cargo.toml", it.page("rust", "rs")
+    manifest, page = installed.room / "Cargo.toml", installed.page("rust", "rs")
     needs = f"[dependencies]\nlistset = {{ path = '{crate}' }}\n\n[[bin]]\nname = 'first'\npath = '{page}'\n"
     manifest.write_text(f"[package]\nname = 'first'\nversion = '0.0.0'\nedition = '2021'\n\n{needs}")
     well(*cargo, "build", *target, "--manifest-path", manifest)
-    it.first_program("rust", it.room / "target" / "debug" / "first")
+    installed.first_program("rust", installed.room / "target" / "debug" / "first")
     first = ["my_set_is_linearizable", "--", "--nocapture"]
-    how = {"env": {**os.environ, "LISTSET_LIB": str(it.library)}}
-    is_judged(well(*cargo, "test", "--locked", *target, "--manifest-path", FORMS / "rust" / "Cargo.toml", *first, **how), it.proof())
+    how = {"env": {**os.environ, "LISTSET_LIB": str(installed.library)}}
+    is_judged(well(*cargo, "test", "--locked", *target, "--manifest-path", FORMS / "rust" / "Cargo.toml", *first, **how), installed.proof())
 
 
 @needs("go", "pkg-config", "gcc")
 @test
-def go(it):
-    how = {**os.environ, "PKG_CONFIG_PATH": str(it.library / "pkgconfig"), "LD_LIBRARY_PATH": str(it.library), "GOPROXY": "off"}
-    shutil.copytree(FORMS / "go", it.room / "go")
+def go(installed):
+    how = {**os.environ, "PKG_CONFIG_PATH": str(installed.library / "pkgconfig"), "LD_LIBRARY_PATH": str(installed.library), "GOPROXY": "off"}
+    shutil.copytree(FORMS / "go", installed.room / "go")
     first = ["go", "test", "-tags", "listset", "-run", "TestIsLinearizable", "-v"]
-    is_judged(well(*first, cwd=it.room / "go", env={**how, "GOCACHE": str(it.room / "cache")}), it.proof())
+    is_judged(well(*first, cwd=installed.room / "go", env={**how, "GOCACHE": str(installed.room / "cache")}), installed.proof())
 
 
 def is_judged(said, proof):
@@ -187,10 +187,10 @@ def is_judged(said, proof):
 
 
 @test
-def python(it):
-    how = {"env": {**os.environ, "PYTHONPATH": str(it.share)}}
+def python(installed):
+    how = {"env": {**os.environ, "PYTHONPATH": str(installed.share)}}
     well(sys.executable, "-B", TESTS / "judge.py", EXAMPLES, **how)
     first = [sys.executable, "-B", "-m", "unittest", "test_sets.Sets.test_my_set_is_linearizable"]
-    is_judged(well(*first, cwd=FORMS / "python", **how), it.proof())
+    is_judged(well(*first, cwd=FORMS / "python", **how), installed.proof())
     well(sys.executable, "-B", TESTS / "sets.py", **how)
-    it.first_program("python", sys.executable, "-B", it.page("python", "py"), **how)
+    installed.first_program("python", sys.executable, "-B", installed.page("python", "py"), **how)

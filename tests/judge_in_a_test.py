@@ -14,7 +14,7 @@ import sys
 import unittest
 
 from harness.cases import NEEDS, TOP, Wrong, each, needs
-from harness.programs import ran
+from harness.programs import ran, well
 
 FORMS = TOP / "examples" / "in-a-test"
 SECONDS = 300  # for each compiler, and for each run of tests
@@ -30,7 +30,7 @@ NO_JUDGES = {
     "ok that fails": ("#!/bin/sh\necho ok 9 calls; echo 3 of them overlap\nexit 1\n", NO_VERDICT % "ok 9 calls"),
     "refusal that passes": ("#!/bin/sh\necho not linearizable\n", NO_VERDICT % "not linearizable"),
 }
-NOT_IN_PATH = [
+JUDGES_NOT_IN_PATH = [
     ("listset", None, "there is no listset in PATH: build it, and put it there or name it by LISTSET"),
     ("node", pathlib.Path("/no/such/listset.js"), "node is not in PATH, which runs the /no/such/listset.js that LISTSET names"),
 ]
@@ -46,13 +46,11 @@ def judged(where, words, judge=None, **also):
     return done.returncode, done.stdout + done.stderr
 
 
-def built(where, *words):
-    status, said = judged(where, words)
-    if status:
-        raise Wrong(f"{words[0]} ended with status {status}\n{said[-3000:]}")
+def build_tests(where, *words):
+    well(*words, cwd=where, seconds=SECONDS)
 
 
-def made(path, script):
+def judge_script(path, script):
     """The path of a script that can be run; if it is empty, of none."""
     if script:
         path.write_text(script)
@@ -64,18 +62,18 @@ def made(path, script):
 
 
 def rust(room):
-    built(room, "cargo", "test", "--no-run", "--offline", "--locked", "--target-dir", room / "target", "--manifest-path", FORMS / "rust/Cargo.toml")
+    build_tests(room, "cargo", "test", "--no-run", "--offline", "--locked", "--target-dir", room / "target", "--manifest-path", FORMS / "rust/Cargo.toml")
     (tests,) = (it for it in (room / "target/debug/deps").glob("sets-*") if not it.suffix)
     return room, [tests]
 
 
 def cpp(room):
-    built(FORMS / "cpp", "g++", "-O1", "-Wall", "-Wextra", "-Wshadow", "-Werror", "-std=c++17", "-pthread", "tests.cpp", "-o", room / "tests")
+    build_tests(FORMS / "cpp", "g++", "-O1", "-Wall", "-Wextra", "-Wshadow", "-Werror", "-std=c++17", "-pthread", "tests.cpp", "-o", room / "tests")
     return room, [room / "tests"]
 
 
 def googletest(room):
-    built(FORMS / "cpp", "g++", "-std=c++17", "-pthread", "googletest.cpp", "-lgtest", "-lgtest_main", "-o", room / "tests")
+    build_tests(FORMS / "cpp", "g++", "-std=c++17", "-pthread", "googletest.cpp", "-lgtest", "-lgtest_main", "-o", room / "tests")
     return room, [room / "tests"]
 
 
@@ -88,24 +86,24 @@ def pytest(_):
 
 
 def java(room):
-    built(FORMS / "java", "javac", "-Xlint:all,-serial", "-Werror", "-d", room, "Judge.java", "Sets.java", "Tests.java")
+    build_tests(FORMS / "java", "javac", "-Xlint:all,-serial", "-Werror", "-d", room, "Judge.java", "Sets.java", "Tests.java")
     return room, [shutil.which("java"), f"-Djava.io.tmpdir={room}", "-cp", room, "Tests"]
 
 
 def junit(room):
-    built(FORMS / "java", "javac", "-cp", JUNIT, "-d", room, "Judge.java", "Sets.java", "SetsTest.java")
+    build_tests(FORMS / "java", "javac", "-cp", JUNIT, "-d", room, "Judge.java", "Sets.java", "SetsTest.java")
     return room, ["java", f"-Djava.io.tmpdir={room}", "-jar", JUNIT, "-cp", room, "--scan-classpath", "--disable-banner"]
 
 
 def go(room):
     shutil.copytree(FORMS / "go", room / "go")
-    built(room / "go", "env", "GOPROXY=off", f"GOCACHE={room / 'cache'}", "go", "test", "-c", "-o", room / "tests")
+    build_tests(room / "go", "env", "GOPROXY=off", f"GOCACHE={room / 'cache'}", "go", "test", "-c", "-o", room / "tests")
     return room, [room / "tests"]
 
 
 LANGUAGES = {"Rust": rust, "C++": cpp, "GoogleTest": googletest, "Python": python, "pytest": pytest, "Java": java, "JUnit": junit, "Go": go}
-TOOLS = {"Rust": ["cargo"], "C++": ["g++"], "GoogleTest": ["g++"], "Java": ["javac", "java"], "JUnit": ["javac", "java"], "Go": ["go"]}
-LIBRARIES = {
+TOOLS_OF_LANGUAGES = {"Rust": ["cargo"], "C++": ["g++"], "GoogleTest": ["g++"], "Java": ["javac", "java"], "JUnit": ["javac", "java"], "Go": ["go"]}
+TEST_LIBRARIES = {
     "GoogleTest": ("Debian's package libgtest-dev", pathlib.Path("/usr/include/gtest/gtest.h").exists),
     "pytest": ("Debian's package python3-pytest", lambda: importlib.util.find_spec("pytest")),
     "JUnit": ("Debian's package junit5", JUNIT.exists),
@@ -114,22 +112,22 @@ LIBRARIES = {
 
 def look_for(language):
     """Skips the case of a language that is not installed."""
-    if missing := [it for it in TOOLS.get(language, []) if not shutil.which(it)]:
+    if missing := [it for it in TOOLS_OF_LANGUAGES.get(language, []) if not shutil.which(it)]:
         raise unittest.SkipTest(f"{missing[0]} is not installed: {NEEDS[missing[0]]}")
-    package, is_there = LIBRARIES.get(language, ("", lambda: True))
+    package, is_there = TEST_LIBRARIES.get(language, ("", lambda: True))
     if not is_there():
         raise unittest.SkipTest(f"{language} is not installed: {package}")
 
 
 # Of each language how its first test alone is run, which prints its verdict
-FIRST = {"Rust": ["my_set_is_linearizable", "--nocapture"], "C++": ["first"], "Java": ["first"]}
-FIRST |= {"Python": ["test_sets.Sets.test_my_set_is_linearizable"], "Go": ["-test.run", "TestIsLinearizable", "-test.v"]}
+FIRST_TESTS = {"Rust": ["my_set_is_linearizable", "--nocapture"], "C++": ["first"], "Java": ["first"]}
+FIRST_TESTS |= {"Python": ["test_sets.Sets.test_my_set_is_linearizable"], "Go": ["-test.run", "TestIsLinearizable", "-test.v"]}
 # and how a test of a set that crashes is
-CRASH = {"Rust": ["what_hangs", "--nocapture"], "C++": ["crash"], "Java": ["crash"]}
-CRASH |= {"Python": ["test_sets.Sets.test_a_crash_is_judged_whatever_the_keys"], "Go": ["-test.run", "TestACrashIsJudgedWhateverTheKeys", "-test.v"]}
+CRASHING_TESTS = {"Rust": ["what_hangs", "--nocapture"], "C++": ["crash"], "Java": ["crash"]}
+CRASHING_TESTS |= {"Python": ["test_sets.Sets.test_a_crash_is_judged_whatever_the_keys"], "Go": ["-test.run", "TestACrashIsJudgedWhateverTheKeys", "-test.v"]}
 # What standard error has of the test in which no calls overlap (a Python test asks for its warning itself)
-FEW = {"Rust": "ok: 120000 calls, of which 0 ", "C++": "listset: 0 of 120000 calls ", "Java": "\nok: 120000 calls, of which 0 "}
-FEW |= {"Go": "ok: 120000 calls, of which 0 "}
+FEW_OVERLAPS = {"Rust": "ok: 120000 calls, of which 0 ", "C++": "listset: 0 of 120000 calls ", "Java": "\nok: 120000 calls, of which 0 "}
+FEW_OVERLAPS |= {"Go": "ok: 120000 calls, of which 0 "}
 # A judge that knows no recording which was cut off
 KNOWS_NO_CUT = """#!/bin/sh
 case $1 in judge) ;; *) exit 0 ;; esac
@@ -138,14 +136,14 @@ exit 1
 """
 
 
-def first(words, language, of=FIRST):
+def first_test_of(words, language, of=FIRST_TESTS):
     """The words that run the first test of a language alone; all tests, of what has no word for it."""
     return [it for it in words if not str(it).startswith("test_")] + of[language] if language in of else words
 
 
 def first_said(where, words, language, judge):
     """What the first test of a language says, with this judge."""
-    status, said = judged(where, first(words, language), judge)
+    status, said = judged(where, first_test_of(words, language), judge)
     if status:
         raise Wrong(f"the first test ended with status {status}\n{said[-3000:]}")
     return said
@@ -174,25 +172,25 @@ def is_judged_in_parts(case, parts):
 def a_form_judges(case, language):
     look_for(language)
     where, words = LANGUAGES[language](case.room)
-    status, said = judged(where, words, made(case.room / "judge", f"#!/bin/sh\necho progress >&2\nexec '{case.program}' \"$@\"\n"))
+    status, said = judged(where, words, judge_script(case.room / "judge", f"#!/bin/sh\necho progress >&2\nexec '{case.program}' \"$@\"\n"))
     if status:
         raise Wrong(f"the tests ended with status {status}\n{said[-3000:]}")
-    if FEW.get(language, "") not in said:
+    if FEW_OVERLAPS.get(language, "") not in said:
         raise Wrong(f"nothing says that few calls overlapped: {said[-3000:]}")
-    if language in FIRST:
+    if language in FIRST_TESTS:
         is_judged_in_parts(case, sorted((case.room / "recorded").iterdir()))
         tells_judge(first_said(where, words, language, case.room / "judge"), case.room / "judge", proof_of(case.program))
-        judge = made(case.room / "judge of old", KNOWS_NO_CUT)
-        _, said = judged(where, first(words, language, CRASH), judge)
+        judge = judge_script(case.room / "judge of old", KNOWS_NO_CUT)
+        _, said = judged(where, first_test_of(words, language, CRASHING_TESTS), judge)
         if f"up to there: {judge} gave no verdict, but said: listset: line 9: Line. Take a newer listset" not in said:
             raise Wrong(f"with an old judge: {said[-3000:]}")
-    for name, judge, due in NOT_IN_PATH if language in FIRST else ():
-        status, said = judged(where, first(words, language), judge, PATH=str(case.room / "empty"))
+    for name, judge, due in JUDGES_NOT_IN_PATH if language in FIRST_TESTS else ():
+        status, said = judged(where, first_test_of(words, language), judge, PATH=str(case.room / "empty"))
         if status == 0 or due not in said:
             raise Wrong(f"without {name} in PATH: status {status}\n{said[-3000:]}")
-    for name, (script, due) in list(NO_JUDGES.items())[: 1 if language in LIBRARIES else None]:
-        judge = made(case.room / f"judge {name}", script)
-        status, said = judged(where, first(words, language), judge)
+    for name, (script, due) in list(NO_JUDGES.items())[: 1 if language in TEST_LIBRARIES else None]:
+        judge = judge_script(case.room / f"judge {name}", script)
+        status, said = judged(where, first_test_of(words, language), judge)
         if status == 0 or due.format(judge) not in said:
             raise Wrong(f"with a judge that is {name}: status {status}\n{said[-3000:]}")
 
@@ -201,7 +199,7 @@ ENGINE = TOP / "page" / "listset.js"
 
 
 @needs("node")
-@each(FIRST)
+@each(FIRST_TESTS)
 def the_engine_in_node_judges(case, language):
     if "judge" not in ran("node", ENGINE, "--words").stdout.split():
         raise unittest.SkipTest("page/listset.js has no word judge")

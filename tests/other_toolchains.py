@@ -86,7 +86,7 @@ sys.exit(rt.main(words))
 """
 
 
-class StandIn:
+class OtherKit:
     """A kit like the one here, whose rt and rtlib have only some names, and a small repository with the scripts of this one."""
 
     def __init__(self, room, is_bare):
@@ -123,26 +123,26 @@ class StandIn:
         return said
 
 
-def mutants_are_tried(of, over):
-    told = of.run("mutants/run", "gate", *over)
+def mutants_are_tried_with(other_kit, over):
+    told = other_kit.run("mutants/run", "gate", *over)
     same(told.splitlines()[-1], "1 passed, 0 failed", "the mutant of the gate")
     same("mutant small/greater_gives_the_less: refused: " in told, True, f"a refusal, in {told}")
-    told = of.run("mutants/run", "planted", *over, status=1)
+    told = other_kit.run("mutants/run", "planted", *over, status=1)
     same(told.splitlines()[-1], "1 passed, 1 failed", "the planted mutants")
-    rows = [line.split("\t") for line in (of.tree / "mutants/tried.tsv").read_text().splitlines()[1:]]
+    rows = [line.split("\t") for line in (other_kit.tree / "mutants/tried.tsv").read_text().splitlines()[1:]]
     same([row[:3] for row in rows], [["small", "greater_asks_in_another_way", "not refused"], ["small", "greater_gives_the_first", "clause"]], "tried.tsv")
-    same(of.run("mutants/run", "fits").splitlines()[0], "planted: 2, with 1 fresh verdicts", "what is fresh")
+    same(other_kit.run("mutants/run", "fits").splitlines()[0], "planted: 2, with 1 fresh verdicts", "what is fresh")
 
 
-def a_crate_is_checked_over(of, proved):
+def a_crate_is_checked_over(other_kit, proved):
     """What is the same comes from the folder with all proofs, and what differs is proved first, once."""
     anew = "build/check_over: small is another one here: proving it"
-    same(anew in (told := of.run("build/check_over", proved, "listset")), False, f"what is proved again, by {told}")
-    source = of.tree / "crates/small/src/lib.rt"
+    same(anew in (told := other_kit.run("build/check_over", proved, "listset")), False, f"what is proved again, by {told}")
+    source = other_kit.tree / "crates/small/src/lib.rt"
     source.write_text(SMALL.replace("if a < b { b }", "if a <= b { b }"))
-    same([of.run("build/check_over", proved, "listset").count(anew) for _ in range(2)], [1, 0], "how often an edited library is proved")
+    same([other_kit.run("build/check_over", proved, "listset").count(anew) for _ in range(2)], [1, 0], "how often an edited library is proved")
     source.write_text(SMALL.replace("{ b } else { a }", "{ a } else { b }"))
-    told = of.run("build/check_over", proved, "listset", status=1)
+    told = other_kit.run("build/check_over", proved, "listset", status=1)
     same("it is not proved that" in told, True, f"an edit that is not proved is told, in {told}")
     source.write_text(SMALL)
 
@@ -159,19 +159,19 @@ def add_faulty_tests(tree):
 @when_named
 @test
 def over_the_least_kit(case):
-    of = StandIn(case.room, is_bare=False)
-    told = of.run("tests/version", "--toolchain")
+    other_kit = OtherKit(case.room, is_bare=False)
+    told = other_kit.run("tests/version", "--toolchain")
     for words in ("rattle-kit-13b", "rt ci keeps nothing between runs", "proves all from nothing"):
         same(words in told, True, f"'{words}' is told, in {told!r}")
-    proved = of.room / "proved"
-    shutil.rmtree(of.tree / "crates/lset_command")
-    same(of.run("build/prove_all", "--in", proved, "--anew").splitlines()[-1], "2 passed, 0 failed", "rt ci")
-    same(of.run("crates/listset/out/listset"), "2\n", "what the proved program says")
-    mutants_are_tried(of, ["--over", proved])
-    a_crate_is_checked_over(of, proved)
-    same("built in" in of.run("build/unproved"), True, "a program without a proof that stays")
-    add_faulty_tests(of.tree)
-    told = of.run("tests/unproved", "small_tests", status=1)
+    proved = other_kit.room / "proved"
+    shutil.rmtree(other_kit.tree / "crates/lset_command")
+    same(other_kit.run("build/prove_all", "--in", proved, "--anew").splitlines()[-1], "2 passed, 0 failed", "rt ci")
+    same(other_kit.run("crates/listset/out/listset"), "2\n", "what the proved program says")
+    mutants_are_tried_with(other_kit, ["--over", proved])
+    a_crate_is_checked_over(other_kit, proved)
+    same("built in" in other_kit.run("build/unproved"), True, "a program without a proof that stays")
+    add_faulty_tests(other_kit.tree)
+    told = other_kit.run("tests/unproved", "small_tests", status=1)
     for words in ("ignored.rt has a test under #[ignore]", "reaches what only the handle Processes gives", "0 passed, 3 failed", "ignored.rt has another layout"):
         same(words in told, True, f"'{words}' is told, in {told!r}")
 
@@ -179,15 +179,15 @@ def over_the_least_kit(case):
 @when_named
 @test
 def over_a_kit_without_rtlib(case):
-    of = StandIn(case.room, is_bare=True)
-    told = of.run("tests/version", "--toolchain")
+    other_kit = OtherKit(case.room, is_bare=True)
+    told = other_kit.run("tests/version", "--toolchain")
     same("no check over the libraries of rt ci" in told, True, f"what is slower is told, in {told!r}")
-    stopped = of.begun("build/prove_listset")
-    comes(lambda: [*of.room.glob("prove-listset-*/proved/crates.txt")], "the copy of a run")
+    stopped = other_kit.begun("build/prove_listset")
+    comes(lambda: [*other_kit.room.glob("prove-listset-*/proved/crates.txt")], "the copy of a run")
     stopped.terminate()
     stopped.communicate(timeout=SECONDS)
-    same([*of.room.glob("prove-listset-*")], [], "what a run that is stopped leaves")
-    told = of.run("build/prove_listset")
+    same([*other_kit.room.glob("prove-listset-*")], [], "what a run that is stopped leaves")
+    told = other_kit.run("build/prove_listset")
     same("listset proved, 2 of 2, none left" in told, True, f"the crates are told, in {told!r}")
-    mutants_are_tried(of, ["--over", of.tree])
-    same("\n2\n" in of.run("build/unproved", "a"), True, "a program by rt try")
+    mutants_are_tried_with(other_kit, ["--over", other_kit.tree])
+    same("\n2\n" in other_kit.run("build/unproved", "a"), True, "a program by rt try")

@@ -15,11 +15,11 @@ from harness.cases import KINDS, Wrong, each, given, test, usable
 from harness.programs import printed, ran
 from harness.set_model import SetModel
 
-SEEDS = 20 if given.few else 200
+DRAWN_SEEDS = 20 if given.few else 200
 ALONE = {"threads": 1, "quota": 3, "calls": 60}
 TOGETHER = {"threads": 4, "quota": 8, "calls": 80}
 KEYS = 5
-ENDS = [0, 1, 5, 2**32 - 2, 2**32 - 1]  # keys in place of those that are drawn, in their order
+LEAST_AND_GREATEST_KEYS = [0, 1, 5, 2**32 - 2, 2**32 - 1]  # keys in place of those that are drawn, in their order
 OPENINGS = [[], [1, 3], [0, 2**32 - 1]]
 
 
@@ -65,14 +65,14 @@ class Report:
             raise Wrong(f"the keys {self.keys} are left, and not {sorted(opened.keys)}")
 
 
-class Found(collections.Counter):
+class RepliesMet(collections.Counter):
     """How many replies of each kind were met, and open calls."""
 
-    def look_at(self, report):
+    def count_replies(self, report):
         self.update("open" if made.reply is None else made.reply[:2] for made in report.calls)
 
 
-def held(text, opening=(), quota=0):
+def report_of_schedule(text, opening=(), quota=0):
     """The report of a schedule, which a set explains that opens with these keys."""
     report = Report(printed(program(), "replay", text=text))
     if report.opening != list(opening):
@@ -81,7 +81,7 @@ def held(text, opening=(), quota=0):
     return report
 
 
-def front(text):
+def first_half(text):
     """The whole lines in the first half of a text."""
     return text[: text.rindex("\n", 0, len(text) // 2) + 1]
 
@@ -98,10 +98,10 @@ def at_the_ends(lines):
     """Each key is that of ENDS."""
     for line in lines:
         *words, key = line.split()
-        yield " ".join([*words, str(ENDS[int(key)])]) if words[0] == "begin" else line
+        yield " ".join([*words, str(LEAST_AND_GREATEST_KEYS[int(key)])]) if words[0] == "begin" else line
 
 
-def header(title, kind, opening, threads, quota, **_):
+def first_lines(title, kind, opening, threads, quota, **_):
     """The first lines of a text of version 2."""
     opened = [f"opening {key}" for key in opening]
     return [f"listset-{title} 2", f"list {kind}", f"threads {threads}", f"quota {quota}", *opened]
@@ -129,30 +129,30 @@ def without_refused(head, lines):
         lines = lines[:at] + rest
 
 
-def drawn(kind, seed, threads, quota, calls):
+def drawn_schedule(kind, seed, threads, quota, calls):
     """The schedule that `gen` draws."""
     return printed(program(), "gen", kind, threads, quota, calls, KEYS, seed)
 
 
-def one_thread(kind, seed, found):
+def one_drawn_thread(kind, seed, replies_met):
     """One thread, with the replies of a set in turn, and all three of them."""
-    text = drawn(kind, seed, **ALONE)
-    report, here = held(text, quota=ALONE["quota"]), Found()
-    here.look_at(report)
+    text = drawn_schedule(kind, seed, **ALONE)
+    report, here = report_of_schedule(text, quota=ALONE["quota"]), RepliesMet()
+    here.count_replies(report)
     if len(report.calls) != ALONE["calls"] or here.keys() != {"tr", "fa", "fu"}:
         raise Wrong(f"{len(report.calls)} calls, and of replies {dict(here)}")
     calls = [line for line in with_ceilings(text.splitlines()[4:]) if line.startswith("begin")]
     for opening, made in zip(OPENINGS, [calls, calls, [*at_the_ends(calls)]]):
-        lines = [*header("draft", kind, opening, **ALONE), *itertools.chain(*((call, "go 0 out") for call in made))]
-        found.look_at(held(printed(program(), "draft", text="\n".join(lines) + "\n"), opening, ALONE["quota"]))
+        lines = [*first_lines("draft", kind, opening, **ALONE), *itertools.chain(*((call, "go 0 out") for call in made))]
+        replies_met.count_replies(report_of_schedule(printed(program(), "draft", text="\n".join(lines) + "\n"), opening, ALONE["quota"]))
 
 
-def threads(kind, seed, found):
+def drawn_threads(kind, seed, replies_met):
     """Several threads, whole and stopped in the middle."""
-    text = drawn(kind, seed, **TOGETHER)
-    if len(held(text, quota=TOGETHER["quota"]).calls) != TOGETHER["calls"]:
+    text = drawn_schedule(kind, seed, **TOGETHER)
+    if len(report_of_schedule(text, quota=TOGETHER["quota"]).calls) != TOGETHER["calls"]:
         raise Wrong("a call is missing")
-    found.look_at(held(front(text), quota=TOGETHER["quota"]))
+    replies_met.count_replies(report_of_schedule(first_half(text), quota=TOGETHER["quota"]))
 
 
 LONG = 16_000
@@ -174,44 +174,44 @@ def long_report(_case):
 ROUNDS = 200  # more steps than a call takes once the others have ended
 
 
-def threads_with_ceilings(kind, seed, found):
+def drawn_threads_with_ceilings(kind, seed, replies_met):
     """The same with ceilings, where at the end each thread ends its call."""
-    lines = [*with_ceilings(drawn(kind, seed, **TOGETHER).splitlines()[4:])]
+    lines = [*with_ceilings(drawn_schedule(kind, seed, **TOGETHER).splitlines()[4:])]
     lines += ROUNDS * [f"go {thread} 1" for thread in range(TOGETHER["threads"])]
     for opening, made in zip(OPENINGS, [lines, lines, [*at_the_ends(lines)]]):
-        text = without_refused(header("schedule", kind, opening, **TOGETHER), made)
-        for part in (text, front(text)):
-            found.look_at(held(part, opening, TOGETHER["quota"]))
+        text = without_refused(first_lines("schedule", kind, opening, **TOGETHER), made)
+        for part in (text, first_half(text)):
+            replies_met.count_replies(report_of_schedule(part, opening, TOGETHER["quota"]))
 
 
 def each_seed(way, kind, seeds, due):
     """Tries a way of calls with each seed; of the replies, these (by their first letters) have to be met."""
-    found = Found()
+    replies_met = RepliesMet()
     for seed in range(seeds):
         try:
-            way(kind, seed, found)
+            way(kind, seed, replies_met)
         except Wrong as wrong:
             raise Wrong(f"seed {seed}: {wrong}") from None
-    if not due <= found.keys():
-        raise Wrong(f"only {dict(found)} are met")
+    if not due <= replies_met.keys():
+        raise Wrong(f"only {dict(replies_met)} are met")
 
 
 @each(KINDS)
 def replay_alone(_case, kind):
-    each_seed(one_thread, kind, SEEDS, {"at", "no"})
+    each_seed(one_drawn_thread, kind, DRAWN_SEEDS, {"at", "no"})
 
 
 @each(KINDS)
 def replay_together(_case, kind):
-    each_seed(threads, kind, SEEDS, {"open"})
+    each_seed(drawn_threads, kind, DRAWN_SEEDS, {"open"})
 
 
 @each(KINDS)
 def replay_together_with_ceilings(_case, kind):
-    each_seed(threads_with_ceilings, kind, SEEDS // 10, {"at", "no", "open"})
+    each_seed(drawn_threads_with_ceilings, kind, DRAWN_SEEDS // 10, {"at", "no", "open"})
 
 
-def generator(seed):
+def pcg32_numbers(seed):
     """The numbers of Pcg32 made from a seed, as the crates rand_pcg and rand_core have them."""
     whole, step, word = (1 << 64) - 1, 6364136223846793005, (1 << 32) - 1
 
@@ -230,12 +230,12 @@ def generator(seed):
         state = (state * step + odd) & whole
 
 
-def outcome(quota, calls, keys, seed, lives=1):
+def outcome_of_run(quota, calls, keys, seed, lives=1):
     """What `run` prints of one thread: its calls are drawn anew in each life, and its quota is given again."""
     opened, counts = SetModel(quota), collections.Counter()
     for life in range(lives):
         opened = SetModel(quota, opened.keys)
-        numbers = generator((seed + 64 * life) % (1 << 64))
+        numbers = pcg32_numbers((seed + 64 * life) % (1 << 64))
         for kind, key in itertools.islice(zip(numbers, numbers), calls):
             counts[opened.reply(0, ("add", "remove", "contains")[kind % 3], key % keys)] += 1
     lines = [f"calls {lives * calls}", *(f"{it} {counts[it]}" for it in ("true", "false", "full")), f"keys {len(opened.keys)}"]
@@ -248,11 +248,11 @@ def run_alone(_case, kind):
     ways = [(40, 300, 12, seed) for seed in (1, 2, 3)]
     ways += [(9, 60, 30, seed, lives) for seed, lives in ((5, 3), (2**64 - 64, 3), (6, 1), (7, 20))]
     for way in ways:
-        if (told := printed(program(), "run", kind, 1, *way)) != outcome(*way):
+        if (told := printed(program(), "run", kind, 1, *way)) != outcome_of_run(*way):
             raise Wrong(f"run {way}: {told!r}")
 
 
-def counts_of(kind, threads, quota, calls, keys, seed, lives=1):
+def counts_of_run(kind, threads, quota, calls, keys, seed, lives=1):
     """The counts of a run of several threads, which have to add up; how many were full, and how many keys are left."""
     lines = [line.split() for line in printed(program(), "run", kind, threads, quota, calls, keys, seed, lives).splitlines()]
     names, numbers = [line[0] for line in lines[:5]], [int(line[1]) for line in lines]
@@ -268,19 +268,19 @@ def counts_of(kind, threads, quota, calls, keys, seed, lives=1):
 @each(KINDS)
 def run_together(_case, kind):
     """Several threads: room for all their adds; ten lives; the most threads."""
-    full, keys = counts_of(kind, 4, 2000, 2000, 50, 7)
+    full, keys = counts_of_run(kind, 4, 2000, 2000, 50, 7)
     if full or len(keys) > 50:
         raise Wrong(f"{full} calls are full, and the keys {keys} left")
-    counts_of(kind, 4, 20, 50, 40, 3, 10)
-    counts_of(kind, 64, 10, 2, 10_000, 1)
+    counts_of_run(kind, 4, 20, 50, 40, 3, 10)
+    counts_of_run(kind, 64, 10, 2, 10_000, 1)
     seed = 2**64 - 1  # which wraps for the second thread; no add has room, so each is full
-    adds = sum(number % 3 == 0 for thread in range(3) for number in itertools.islice(generator((seed + thread) % 2**64), 0, 200, 2))
-    if counts_of(kind, 3, 0, 100, 8, seed) != (adds, []):
+    adds = sum(number % 3 == 0 for thread in range(3) for number in itertools.islice(pcg32_numbers((seed + thread) % 2**64), 0, 200, 2))
+    if counts_of_run(kind, 3, 0, 100, 8, seed) != (adds, []):
         raise Wrong(f"of {adds} adds without room not each is full")
 
 
 @test
 def run_each_number_of_threads(_case):
-    keys = [counts_of("lock-free", threads, 10, 10, 10_000, 1)[1] for threads in range(1, 65)]
+    keys = [counts_of_run("lock-free", threads, 10, 10, 10_000, 1)[1] for threads in range(1, 65)]
     if len(keys[-1]) <= 100:
         raise Wrong(f"{len(keys[-1])} keys are left by 64 threads")

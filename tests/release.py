@@ -18,13 +18,14 @@ sys.path.insert(0, str(TOP / "build"))
 import version_stamp  # noqa: E402
 
 SCHEDULES = TOP / "examples" / "schedules"
-NAMES = ["snip", "opens-with-keys", "read-in-anothers-step", "two-removers"]
-MAKERS = ["release", "gate_verdict.py", "version_stamp.py", "packages.py", "man_page_and_completions.py", "processes.py", "crates_txt.py", "toolchain.py"]
-ROOT = os.environ.get("LISTSET_ROOT")  # a folder with a Debian in it, of debootstrap
+REPLAYED_EXAMPLES = ["snip", "opens-with-keys", "read-in-anothers-step", "two-removers"]
+MAKERS_OF_PACKAGES = ["release", "gate_verdict.py", "version_stamp.py", "packages.py", "man_page_and_completions.py", "processes.py",
+                      "crates_txt.py", "toolchain.py"]
+DEBIAN_ROOT = os.environ.get("LISTSET_ROOT")  # a folder with a Debian in it, of debootstrap
 # no folder of the Rattle toolchain
-PATH = os.pathsep.join(it for it in os.environ["PATH"].split(os.pathsep) if not (pathlib.Path(it) / "rt").exists())
-BARE = {"PATH": PATH, "HOME": os.environ.get("HOME", "/"), "LANG": "C.UTF-8"}
-OF_PYTHON = """import listset, sys
+PATH_WITHOUT_RATTLE = os.pathsep.join(it for it in os.environ["PATH"].split(os.pathsep) if not (pathlib.Path(it) / "rt").exists())
+WITHOUT_RATTLE = {"PATH": PATH_WITHOUT_RATTLE, "HOME": os.environ.get("HOME", "/"), "LANG": "C.UTF-8"}
+PROGRAM_WITH_WHEEL = """import listset, sys
 print(listset.version(), end="")
 listset.check(listset.replay(listset.gen("lazy", 2, 4, 10, 5, 1)))
 try:
@@ -32,7 +33,7 @@ try:
 except listset.Wrong as wrong:
     print(wrong.text.strip(), wrong.status)
 """
-OF_FORM = """import listset_judge, threading
+TEST_WITH_WHEEL = """import listset_judge, threading
 class MySet(set):
     lock = threading.Lock()
     def add(self, key):
@@ -43,7 +44,7 @@ class MySet(set):
             return len(self) > (self.discard(key) or len(self))
 print(listset_judge.judge(MySet, threads=2, calls=50, runs=2))
 """
-OF_RUST = """fn main() {
+PROGRAM_WITH_CRATE = """fn main() {
     print!("{}", listset::version());
     let report = std::fs::read(std::env::args().nth(1).expect("a file")).expect("it is read");
     let wrong = listset::check(report).expect_err("it is broken");
@@ -68,7 +69,7 @@ def words_of_trial():
     return [TOP / "build" / "release", *(["--unproved"] if proof() == version_stamp.NOT_PROVED else []), "--trial"]
 
 
-def dist(room):
+def trial_packages(room):
     """The packages, in a folder of this room. A machine that cannot make them skips the tests, and so does a clone with nothing built."""
     made = pathlib.Path(room) / "dist"
     done = ran(*words_of_trial(), made, seconds=LONG)
@@ -79,22 +80,22 @@ def dist(room):
     return made
 
 
-def package(pattern):
-    found = [*once(dist).glob(pattern)]
+def released_file(pattern):
+    found = [*once(trial_packages).glob(pattern)]
     same(len(found), 1, f"the number of files {pattern}")
     return found[0]
 
 
-def unpacked(pattern, folder):
+def unpacked_release(pattern, folder):
     """The folder of a package that is a .tar.gz."""
-    with tarfile.open(package(pattern)) as archive:
+    with tarfile.open(released_file(pattern)) as archive:
         archive.extractall(folder)
     return folder / f"listset-{version_stamp.version()}"
 
 
 def replays(program, enter, **how):
     """That the program of a package gives the bytes of the one that is tested."""
-    for name in NAMES:
+    for name in REPLAYED_EXAMPLES:
         text = (SCHEDULES / f"{name}.schedule").read_text()
         same(well(*enter, "replay", text=text, **how), well(program, "replay", text=text), name)
 
@@ -107,7 +108,7 @@ def told_of_broken(program):
 
 @test
 def the_same_bytes_come_twice(case):
-    first, again = once(dist), dist(case.room)
+    first, again = once(trial_packages), trial_packages(case.room)
     same(sorted(it.name for it in again.iterdir()), sorted(it.name for it in first.iterdir()), "the files")
     for file in first.iterdir():
         same((again / file.name).read_bytes() == file.read_bytes(), True, f"{file.name} has the same bytes")
@@ -130,7 +131,7 @@ REFUSALS = {
 @each(REFUSALS)
 def nothing_is_made(case, name):
     at, path = case.room / "clone", os.environ["PATH"]
-    commit = clone_by_git(at, [f"build/{it}" for it in MAKERS])
+    commit = clone_by_git(at, [f"build/{it}" for it in MAKERS_OF_PACKAGES])
     verdict = f"commit {commit}\nday 2026-01-01\npassed 9\nfailed 0\ncrates/listset/out/listset.o {'0' * 64}\n"
     if name == "older_gate":
         verdict = verdict.replace(commit, "1" * 40)
@@ -160,7 +161,7 @@ def a_folder_that_cannot_be_made_is_told(case):
 @test
 def the_program_is_alone_in_its_root(case):
     """It replays, runs four threads and serves a session where nothing but its package is."""
-    top = unpacked("*-linux-x86_64.tar.gz", case.room)
+    top = unpacked_release("*-linux-x86_64.tar.gz", case.room)
     if os.geteuid():
         raise unittest.SkipTest("only root may chroot")
     enter = [shutil.which("chroot"), top, "/bin/listset"]
@@ -179,50 +180,50 @@ def the_program_is_alone_in_its_root(case):
 
 @each(["c", "cpp", "rust", "python"])
 def a_language_takes_the_unpacked_library(case, language):
-    how = {"env": {**BARE, "LISTSET_PREFIX": str(unpacked("*-linux-x86_64.tar.gz", case.room))}}
+    how = {"env": {**WITHOUT_RATTLE, "LISTSET_PREFIX": str(unpacked_release("*-linux-x86_64.tar.gz", case.room))}}
     well(TOP / "tests" / "run", "--program", case.program, f"foreign/{language}", **how)
 
 
 @test
 def the_man_page_and_the_completions_are_read(case):
-    top = unpacked("*-linux-x86_64.tar.gz", case.room) / "share"
+    top = unpacked_release("*-linux-x86_64.tar.gz", case.room) / "share"
     if shutil.which("man"):
-        page = well("man", "-l", top / "man/man1/listset.1.gz", env={**BARE, "MANWIDTH": "200"})
+        page = well("man", "-l", top / "man/man1/listset.1.gz", env={**WITHOUT_RATTLE, "MANWIDTH": "200"})
         same("listset serve" in page and "--width <N>" in page, True, f"the man page: {page[:2000]}")
     asked = "COMP_WORDS=(listset show --w); COMP_CWORD=2; _listset listset --w; echo ${COMPREPLY[*]}"
-    same(well("bash", "-c", f"source {top}/bash-completion/completions/listset; {asked}", env=BARE), "--width\n", "a completion")
+    same(well("bash", "-c", f"source {top}/bash-completion/completions/listset; {asked}", env=WITHOUT_RATTLE), "--width\n", "a completion")
     for shell, file in (("zsh", "zsh/vendor-completions/_listset"), ("fish", "fish/vendor_completions.d/listset.fish")):
         if shutil.which(shell):
-            well(shell, "-n", top / file, env=BARE)
+            well(shell, "-n", top / file, env=WITHOUT_RATTLE)
 
 
 @needs("dpkg-deb")
 @test
 def the_deb_is_installed(case):
     """In LISTSET_ROOT, if that is given; else it is unpacked."""
-    file, top = package("*.deb"), case.room / "deb"
+    file, top = released_file("*.deb"), case.room / "deb"
     well("dpkg-deb", "--extract", file, top)
     control = well("dpkg-deb", "--field", file)
     same(f"Version: {version_stamp.version()}\n" in control and "No licence is given" in control, True, f"its control: {control}")
-    same(well(top / "usr/bin/listset", "--version", "--long", env=BARE), version_stamp.told(proof()), "--version --long")
-    if ROOT is None:
+    same(well(top / "usr/bin/listset", "--version", "--long", env=WITHOUT_RATTLE), version_stamp.told(proof()), "--version --long")
+    if DEBIAN_ROOT is None:
         return
-    shutil.copy(file, pathlib.Path(ROOT) / "root")
-    well("chroot", ROOT, "dpkg", "--install", f"/root/{file.name}")
-    replays(case.program, ["chroot", ROOT, "listset"])
-    well("chroot", ROOT, "dpkg", "--remove", "listset")
-    same([str(it) for it in pathlib.Path(ROOT).glob("usr/**/*listset*")], [], "what is left of it")
+    shutil.copy(file, pathlib.Path(DEBIAN_ROOT) / "root")
+    well("chroot", DEBIAN_ROOT, "dpkg", "--install", f"/root/{file.name}")
+    replays(case.program, ["chroot", DEBIAN_ROOT, "listset"])
+    well("chroot", DEBIAN_ROOT, "dpkg", "--remove", "listset")
+    same([str(it) for it in pathlib.Path(DEBIAN_ROOT).glob("usr/**/*listset*")], [], "what is left of it")
 
 
 @test
 def the_wheel_is_installed(case):
-    file, top = package("*.whl"), case.room / "wheel"
+    file, top = released_file("*.whl"), case.room / "wheel"
     if ran(sys.executable, "-m", "pip", "--version").returncode:
         raise unittest.SkipTest("pip is not installed")
-    well(sys.executable, "-m", "pip", "install", "--no-index", "--no-deps", "--quiet", "--target", top, file, env=BARE)
-    how = {"env": {**BARE, "PYTHONPATH": str(top)}}
-    same(well(sys.executable, "-B", "-c", OF_PYTHON, SCHEDULES / "snip.broken.report", **how), told_of_broken(case.program), "the judge")
-    said, proved = well(sys.executable, "-B", "-c", OF_FORM, **how), version_stamp.told(proof()).splitlines()[3]
+    well(sys.executable, "-m", "pip", "install", "--no-index", "--no-deps", "--quiet", "--target", top, file, env=WITHOUT_RATTLE)
+    how = {"env": {**WITHOUT_RATTLE, "PYTHONPATH": str(top)}}
+    same(well(sys.executable, "-B", "-c", PROGRAM_WITH_WHEEL, SCHEDULES / "snip.broken.report", **how), told_of_broken(case.program), "the judge")
+    said, proved = well(sys.executable, "-B", "-c", TEST_WITH_WHEEL, **how), version_stamp.told(proof()).splitlines()[3]
     same((said[:14], said.rpartition("; ")[2]), ("ok: 200 calls,", f"judge: liblistset, {proved}\n"), "the judge in a test")
 
 
@@ -231,14 +232,14 @@ def the_wheel_is_installed(case):
 def the_crate_is_built_offline(case):
     own = case.room / "own"
     (own / "src").mkdir(parents=True)
-    (own / "src" / "main.rs").write_text(OF_RUST)
-    (own / "Cargo.toml").write_text(MANIFEST.replace("@CRATE@", str(unpacked("*.crate", case.room))))
-    well("cargo", "build", "--offline", "--quiet", cwd=own, env=BARE)
-    same(well(own / "target/debug/own", SCHEDULES / "snip.broken.report", env=BARE), told_of_broken(case.program), "the judge")
+    (own / "src" / "main.rs").write_text(PROGRAM_WITH_CRATE)
+    (own / "Cargo.toml").write_text(MANIFEST.replace("@CRATE@", str(unpacked_release("*.crate", case.room))))
+    well("cargo", "build", "--offline", "--quiet", cwd=own, env=WITHOUT_RATTLE)
+    same(well(own / "target/debug/own", SCHEDULES / "snip.broken.report", env=WITHOUT_RATTLE), told_of_broken(case.program), "the judge")
 
 
 @needs("node")
 @test
 def the_page_in_one_file_has_the_engine(case):
-    page, script = package("listset-page-*.html"), TOP / "tests" / "harness" / "one_file.js"
-    replays(case.program, ["node", script, page], env=BARE)
+    page, script = released_file("listset-page-*.html"), TOP / "tests" / "harness" / "one_file.js"
+    replays(case.program, ["node", script, page], env=WITHOUT_RATTLE)

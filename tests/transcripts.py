@@ -30,7 +30,7 @@ from harness.cases import TOP, Wrong, cases, same, test
 PAGES = TOP / "tests" / "transcripts"
 DATA = PAGES / "data"
 OTHER_PAGES = [TOP / "README.md", TOP / "page" / "README.md", TOP / "examples" / "README.md", *sorted((TOP / "docs").glob("*.md"))]
-SHOWN = re.compile(r"(?:^    .*\n|^\n(?=    ))+|^```sh\n(?:.*\n)*?```$", re.MULTILINE)
+SHOWN_BLOCK = re.compile(r"(?:^    .*\n|^\n(?=    ))+|^```sh\n(?:.*\n)*?```$", re.MULTILINE)
 LEFT_OUT = ".."
 # (but `head -n -N` reads all)
 INTO_HEAD = re.compile(r"\blistset\b[^|\n]*\|\s*head\b(?! -n -)")
@@ -38,7 +38,7 @@ INDENT = "    "
 SECONDS = 60
 
 
-class Step:
+class PageCommand:
     """A command, and the lines that the page has of it."""
 
     def __init__(self, command, number):
@@ -61,7 +61,7 @@ def tests_of(page):
                 sys.exit(f"transcripts: {page.name}:{number}: a second {name}")
             tests[name] = []
         elif line.startswith(INDENT + "$ ") and name:
-            tests[name].append(Step(line.removeprefix(INDENT + "$ "), number))
+            tests[name].append(PageCommand(line.removeprefix(INDENT + "$ "), number))
         elif line.startswith(INDENT) and name and tests[name]:
             step, text = tests[name][-1], line.removeprefix(INDENT)
             if text.startswith("> ") and not step.lines:
@@ -84,19 +84,19 @@ def tests_of(page):
 def tests_shown(page):
     """The tests of a page that shows commands for a reader: of each its line and its steps."""
     text = page.read_text(encoding="utf-8")
-    for block in SHOWN.finditer(text):
+    for block in SHOWN_BLOCK.finditer(text):
         shown = re.sub("^```(?:sh)?$|^    ", "", block[0], flags=re.MULTILINE).strip("\n").split("\n")
         number, steps = text.count("\n", 0, block.start()) + 1, []
         for at, line in enumerate(shown):
             if line.startswith("$ "):
-                steps.append(Step(line.removeprefix("$ "), number + at))
+                steps.append(PageCommand(line.removeprefix("$ "), number + at))
             elif steps:
                 steps[-1].lines.append(line)
         if shown[0].startswith("$ "):
             yield f"line {number}", steps
 
 
-def as_lines(run):
+def lines_of_transcript(run):
     """What a run printed, as a page has it."""
     output, faults = (text.decode("utf-8", "backslashreplace") for text in (run.stdout, run.stderr))
     lines = output.split("\n")
@@ -105,7 +105,7 @@ def as_lines(run):
     return [*lines, f"? {run.returncode}"] if run.returncode else lines
 
 
-def as_shown(run):
+def lines_as_shown(run):
     """What a run printed, as a reader sees it."""
     return (run.stdout + run.stderr).decode("utf-8", "backslashreplace").splitlines()
 
@@ -118,7 +118,7 @@ def repository_in(work, program):
     return work
 
 
-def answers(case, page, steps):
+def printed_by_commands(case, page, steps):
     """What each of the steps prints, in one room."""
     room, is_shown = case.room, page.parent != PAGES
     (room / "bin").mkdir()
@@ -127,10 +127,10 @@ def answers(case, page, steps):
     environment = {**os.environ, "PATH": f"{room}/bin:{os.environ['PATH']}", "LC_ALL": "C.UTF-8"}
     how = {"cwd": work, "env": environment, "stdin": subprocess.DEVNULL, "capture_output": True, "timeout": SECONDS}
     for step in steps:
-        yield (as_shown if is_shown else as_lines)(subprocess.run(["bash", "-c", "\n".join(step.command)], **how))
+        yield (lines_as_shown if is_shown else lines_of_transcript)(subprocess.run(["bash", "-c", "\n".join(step.command)], **how))
 
 
-def first_difference(wanted, found):
+def first_line_that_differs(wanted, found):
     """The first line in which they differ."""
     for number in range(max(len(wanted), len(found))):
         one, other = ([*lines, None][min(number, len(lines))] for lines in (wanted, found))
@@ -142,13 +142,13 @@ def first_difference(wanted, found):
 def difference_of_shown(wanted, found):
     """What a page shows that is not printed so, where a line .. stands for any lines."""
     if LEFT_OUT not in wanted:
-        return first_difference(wanted, found)
+        return first_line_that_differs(wanted, found)
     pieces = [re.escape(line) + "\n" if line != LEFT_OUT else "(?:.*\n)*?" for line in wanted]
     is_so = re.fullmatch("".join(pieces), "".join(f"{line}\n" for line in found))
     return None if is_so else "the program prints other lines: " + "\n".join(["", *found])
 
 
-def named():
+def transcripts_by_name():
     """All tests, by their names: of each its page and its steps."""
     found = {}
     for page in sorted(PAGES.glob("*.md")):
@@ -158,10 +158,10 @@ def named():
     return found
 
 
-@cases(named)
+@cases(transcripts_by_name)
 def commands_print_what_the_page_has(case, page, steps):
-    differs = first_difference if page.parent == PAGES else difference_of_shown
-    for step, found in zip(steps, answers(case, page, steps)):
+    differs = first_line_that_differs if page.parent == PAGES else difference_of_shown
+    for step, found in zip(steps, printed_by_commands(case, page, steps)):
         if why := differs(step.told(), found):
             raise Wrong(f"{page.relative_to(TOP)}:{step.number}: {why}")
 
@@ -182,7 +182,7 @@ def a_page_that_pipes_listset_into_head_is_refused(case):
 def show(case, page, steps):
     """Prints the test as its page would have it now."""
     print(f"## {case.name.rpartition('/')[2]}\n")
-    for step, lines in zip(steps, answers(case, page, steps)):
+    for step, lines in zip(steps, printed_by_commands(case, page, steps)):
         print(f"{INDENT}$ " + f"\n{INDENT}> ".join(step.command))
         for line in lines:
             print(INDENT + line if line else "")

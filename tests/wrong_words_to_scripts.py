@@ -8,7 +8,7 @@ from harness.programs import ran
 from harness.small_clone import bare_path
 
 # a script and its words; the status; what standard error has. ROOM is a folder of the case
-WRONG = {
+WRONG_WORDS = {
     "build/crates_below no-such": (2, "there is no crate no-such; the crates are lset_words "),
     "build/crates_below": (2, "the crates are lset_words "),
     "build/sum_of_sources no-such": (2, "there is no crate no-such; the crates are lset_words "),
@@ -54,23 +54,23 @@ WITHOUT_RT = [
 MISSING_RT = ("the command rt is missing", ": the Rattle toolchain, whose folder bin has to be in PATH")
 
 
-def ended(words, room, **environment):
+def script_ended(words, room, **environment):
     """How a script ends that stands in the repository, if nobody waits for it."""
     script, *words = words.replace("ROOM", str(room)).split()
     return ran(TOP / script, *words, cwd=TOP, env={**os.environ, "TMPDIR": str(room), **environment})
 
 
-@cases(lambda: {it.replace("/", " "): (it,) for it in WRONG})
+@cases(lambda: {it.replace("/", " "): (it,) for it in WRONG_WORDS})
 def what_is_there_is_told(case, words):
-    status, told = WRONG[words]
-    done = ended(words, case.room)
+    status, told = WRONG_WORDS[words]
+    done = script_ended(words, case.room)
     same((done.returncode, told in done.stderr, "Traceback" in done.stderr), (status, True, False), f"{words}: {done.stderr[-1500:]}")
     same([*case.room.iterdir()], [], "what is left in the folder for temporary files")
 
 
 @cases(lambda: {it.replace("/", " "): (it,) for it in WITHOUT_RT})
 def how_to_install_rt_is_told(case, words):
-    done = ended(words, case.room, PATH=str(bare_path(case.room / "bare", "git", "ls", "node", "uname")))
+    done = script_ended(words, case.room, PATH=str(bare_path(case.room / "bare", "git", "ls", "node", "uname")))
     said = done.stderr.splitlines()
     is_told = all(it in done.stderr for it in MISSING_RT)
     same((done.returncode != 0, is_told, "Traceback" in done.stderr), (True, True, False), f"{words}: {done.stderr[-1500:]}")
