@@ -1,4 +1,5 @@
-"""What the parts of bench/run share: programs that are built, and runs that are measured."""
+"""What the parts of bench/run share: programs that are built; the processor seconds and the peak memory of runs; rows of tables with the ratio
+of the time to that of the size before."""
 
 import os
 import re

@@ -1,5 +1,5 @@
-"""The packages of a release: files, by their names and bytes, in the forms that tar, dpkg and pip read. The same files make the same
-bytes, by no clock and no owner but those that are given."""
+"""The packages of a release: files, by their names and bytes, as a .tar.gz, a .deb for dpkg, a wheel for pip, and SHA256SUMS. The
+same files make the same bytes, by no clock and no owner but those that are given."""
 
 import base64
 import gzip
@@ -24,23 +24,23 @@ def packed(content):
     return gzip.compress(content, 9, mtime=0)
 
 
-def tar(files, root, when):
+def tar(packed_files, root, when):
     """A .tar.gz of the files below the folder `root`, all of the time `when`, in seconds."""
     made = io.BytesIO()
-    folders = {str(it) for name in files for it in pathlib.PurePosixPath(root + name).parents} - {"."}
+    folders = {str(it) for name in packed_files for it in pathlib.PurePosixPath(root + name).parents} - {"."}
     with tarfile.open(fileobj=made, mode="w", format=tarfile.USTAR_FORMAT) as archive:
         for folder in sorted(folders):
             info = tarfile.TarInfo(folder)
             info.type, info.mode, info.mtime = tarfile.DIRTYPE, 0o755, when
             archive.addfile(info)
-        for name, content in sorted(files.items()):
+        for name, content in sorted(packed_files.items()):
             info = tarfile.TarInfo(root + name)
             info.size, info.mtime, info.mode = len(content), when, 0o755 if name.startswith(PROGRAMS) else 0o644
             archive.addfile(info, io.BytesIO(content))
     return packed(made.getvalue())
 
 
-def deb(files, version, about, when):
+def deb(packed_files, version, about, when):
     """A package of Debian, for amd64: an ar archive of the version of its form, what dpkg is told, and the files below /."""
     control = f"""Package: listset
 Version: {version}
@@ -48,7 +48,7 @@ Architecture: amd64
 Maintainer: Ribdamson maintainers <ribdamson@localhost>
 Section: devel
 Priority: optional
-Installed-Size: {sum(map(len, files.values())) // 1024}
+Installed-Size: {sum(map(len, packed_files.values())) // 1024}
 Depends: libc6 (>= 2.17)
 Suggests: python3, nodejs
 Description: concurrent list sets, and a judge of recorded calls
@@ -57,17 +57,17 @@ Description: concurrent list sets, and a judge of recorded calls
  {about}.
  {NO_LICENCE}
 """
-    sums = "".join(f"{hashlib.md5(content).hexdigest()}  {name}\n" for name, content in sorted(files.items()))
+    sums = "".join(f"{hashlib.md5(content).hexdigest()}  {name}\n" for name, content in sorted(packed_files.items()))
     told = {"control": control, "md5sums": sums, "triggers": "activate-noawait ldconfig\n"}
     inner = tar({name: text.encode() for name, text in told.items()}, "./", when)
-    members = {"debian-binary": b"2.0\n", "control.tar.gz": inner, "data.tar.gz": tar(files, "./", when)}
+    members = {"debian-binary": b"2.0\n", "control.tar.gz": inner, "data.tar.gz": tar(packed_files, "./", when)}
     made = [b"!<arch>\n"]
     for name, content in members.items():
         made += [MEMBER.format(name, when, 0, 0, 100644, len(content)).encode(), content, b"\n" * (len(content) % 2)]
     return b"".join(made)
 
 
-def wheel(files, version, tag, about):
+def wheel(packed_files, version, tag, about):
     """A wheel of Python with these files, for the machines that `tag` names."""
     info = f"listset-{version}.dist-info"
     head = f"Metadata-Version: 2.1\nName: listset\nVersion: {version}\nSummary: Concurrent list sets and a judge of recorded calls\n"
@@ -76,12 +76,12 @@ def wheel(files, version, tag, about):
         "WHEEL": f"Wheel-Version: 1.0\nGenerator: build/release\nRoot-Is-Purelib: false\nTag: {tag}\n",
         "top_level.txt": "listset\nlistset_judge\n",
     }
-    files = {**files, **{f"{info}/{name}": text.encode() for name, text in told.items()}}
-    lines = [f"{name},sha256={sum_in_wheel(content)},{len(content)}\n" for name, content in files.items()]
-    files[f"{info}/RECORD"] = "".join([*lines, f"{info}/RECORD,,\n"]).encode()
+    packed_files = {**packed_files, **{f"{info}/{name}": text.encode() for name, text in told.items()}}
+    lines = [f"{name},sha256={sum_in_wheel(content)},{len(content)}\n" for name, content in packed_files.items()]
+    packed_files[f"{info}/RECORD"] = "".join([*lines, f"{info}/RECORD,,\n"]).encode()
     made = io.BytesIO()
     with zipfile.ZipFile(made, "w", zipfile.ZIP_DEFLATED) as archive:
-        for name, content in files.items():
+        for name, content in packed_files.items():
             entry = zipfile.ZipInfo(name)  # of 1980, the first year that a zip file knows
             entry.external_attr, entry.compress_type = 0o100644 << 16, zipfile.ZIP_DEFLATED
             archive.writestr(entry, content)
@@ -92,6 +92,6 @@ def sum_in_wheel(content):
     return base64.urlsafe_b64encode(hashlib.sha256(content).digest()).rstrip(b"=").decode()
 
 
-def sums(files):
+def sums(packed_files):
     """The file SHA256SUMS of these files, for `sha256sum -c`."""
-    return "".join(f"{hashlib.sha256(content).hexdigest()}  {name}\n" for name, content in sorted(files.items())).encode()
+    return "".join(f"{hashlib.sha256(content).hexdigest()}  {name}\n" for name, content in sorted(packed_files.items())).encode()

@@ -1,4 +1,5 @@
-"""The packages of a release, made as a trial of what stands built, unpacked where no toolchain is, and used as their reader would."""
+"""The packages of a release, made as a trial of what stands built, unpacked where no toolchain is, and used as their reader would:
+the archive, the .deb, the wheel, the crate and the page in one file; and what `build/release` refuses."""
 
 import os
 import pathlib

@@ -1,4 +1,5 @@
-"""What build/take does, from a copy of a few crates of this repository into repositories of their own."""
+"""What build/take does, from a copy of a few crates of this repository into repositories of their own: what is
+taken, what is replaced or left since it was edited here or there, and what is told of it."""
 
 import filecmp
 import shutil

@@ -1,4 +1,5 @@
-"""The rows of docs/TABLES.md, made from the definitions of the lists' tables (`specs/`), but for what they are in the book."""
+"""The rows of docs/TABLES.md, made from the definitions of the lists' tables (`specs/`): for each row the tests of `pc` are taken, and the
+step, what the thread sets after it and where it stands then are said in words. What a row is in the book stands here (`BOOK`)."""
 import functools
 
 from antt_definitions import definitions_in

@@ -1,5 +1,6 @@
 """What a test is: a function of a file in `tests/` with `@test`, `@each` or `@cases` above it. `tests/run` gives it its case, and it
-raises `Wrong` if something is not as it should be. A case is one of unittest."""
+raises `Wrong` if something is not as it should be. A case is one of unittest.
+Besides what many tests need: what is made once for all, a wait until something is so, the processes that are left of a room."""
 
 import contextlib
 import os

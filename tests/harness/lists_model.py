@@ -1,4 +1,5 @@
-"""A model of the five lists, written apart from the crates, by docs/TABLES.md alone: their tables, and one step of a thread after another."""
+"""A model of the five lists, written apart from the crates, by docs/TABLES.md alone: the rows of their tables, the nodes' words (key, link,
+lock), a thread's registers (pred, curr, ..), and one step of a thread after another."""
 
 import collections
 

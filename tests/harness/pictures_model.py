@@ -1,4 +1,5 @@
-"""A model of the picture that `show` draws of a run (traces_model), as a text and as an SVG, by docs/TEXTS.md alone."""
+"""A model of the picture that `show` draws of a run (traces_model), as a text and as an SVG, by docs/TEXTS.md alone: a column
+for each moment, a lane for each thread with its begins, ends and points, the set at each change, and the order below."""
 
 import functools
 

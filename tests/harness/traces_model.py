@@ -1,4 +1,5 @@
-"""A model of the run of a schedule on a list (lists_model), and of what `trace` prints of it, by docs/TEXTS.md alone."""
+"""A model of the run of a schedule on a list (lists_model), and of what `trace` prints of it, by docs/TEXTS.md alone: of each event its
+line and what its step saw, the chain where it changes, and of each call its end and its point."""
 
 import collections
 
