@@ -12,6 +12,7 @@ BENCH = pathlib.Path(__file__).resolve().parent
 TOP = BENCH.parent
 sys.path.insert(0, str(TOP / "build"))
 import checks_over_libraries  # noqa: E402
+import crates_txt  # noqa: E402
 import toolchain  # noqa: E402
 
 SOURCES = BENCH / "crates"
@@ -19,26 +20,20 @@ BUILT = BENCH / "out"  # git does not track it
 NAMES = sorted(it.name for it in SOURCES.iterdir() if it.is_dir())
 
 
-def rows():
+def lines_with_benches():
     """The lines of crates.txt and those of the benches, by the crate's name."""
-    lines = f"{(TOP / 'crates.txt').read_text()}\n{(SOURCES / 'rows.txt').read_text()}".splitlines()
-    lines = [line.partition("#")[0].strip() for line in lines]
-    return {line.partition(":")[0].split()[0]: line for line in lines if line}
+    return crates_txt.lines_of() | crates_txt.lines_by_crate((SOURCES / "rows.txt").read_text())
 
 
-def needed(names):
-    """These crates and those of the repository below them, lowest first."""
-    all_rows, found = rows(), set(names)
-    for name in reversed(all_rows):
-        if name in found:
-            found.update(it for it in all_rows[name].partition(":")[2].split() if it in all_rows)
-    return [name for name in all_rows if name in found]
+def needed(benches):
+    """These benches and the libraries below them, lowest first."""
+    return crates_txt.below(benches, lines=lines_with_benches())
 
 
 def lay_out(room, names):
     """Makes a tree of these benches and the libraries below them in a folder."""
     wanted = needed(names)
-    (room / "crates.txt").write_text("".join(f"{rows()[it]}\n" for it in wanted))
+    (room / "crates.txt").write_text("".join(f"{lines_with_benches()[it]}\n" for it in wanted))
     shutil.copy2(TOP / "HANDLES", room)
     for it in wanted:
         source = SOURCES / it if it in NAMES else TOP / "crates" / it

@@ -12,15 +12,20 @@ LEFT_OUT = shutil.ignore_patterns(".git", "out", "__pycache__")
 OF_CRATES = {"crates", "crates.txt", "HANDLES"}
 
 
-def lines_of(root=TOP):
-    """The lines of crates.txt by the crate's name, lowest first."""
-    lines = [line.partition("#")[0].strip() for line in (root / "crates.txt").read_text().splitlines()]
+def lines_by_crate(text):
+    """The lines of a crates.txt by the crate's name, lowest first."""
+    lines = [line.partition("#")[0].strip() for line in text.splitlines()]
     return {line.partition(":")[0].split()[0]: line for line in lines if line}
 
 
-def below(names, root=TOP):
-    """These crates and those of the repository below them, lowest first."""
-    lines = lines_of(root)
+def lines_of(root=TOP):
+    """Those of crates.txt in a repository."""
+    return lines_by_crate((root / "crates.txt").read_text())
+
+
+def below(names, root=TOP, lines=None):
+    """These crates and those of the repository, or of these lines, below them, lowest first."""
+    lines = lines or lines_of(root)
     libraries = {name: [it for it in line.partition(":")[2].split() if it in lines] for name, line in lines.items()}
     found = {}
 

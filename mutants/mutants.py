@@ -28,7 +28,7 @@ import crates_txt  # noqa: E402
 from rattle_sources import Source  # noqa: E402
 
 CRATES = TOP / "crates"
-KINDS = {"gate": HERE / "gate", "planted": HERE / "planted"}
+FOLDERS_OF_MUTANTS = {"gate": HERE / "gate", "planted": HERE / "planted"}
 NAME = re.compile(r"[a-z][a-z0-9_]*")
 
 # What a check says of a mutant. The first is what is wanted; the second says little of the contract.
@@ -90,7 +90,7 @@ def take_line(crate, found, name, line):
 
 def all_of(kind):
     """The mutants of a kind, by crate and name."""
-    files = sorted(KINDS[kind].iterdir())
+    files = sorted(FOLDERS_OF_MUTANTS[kind].iterdir())
     if folders := [it.name for it in files if it.is_dir()]:
         raise Misfit(f"mutants/{kind}/{folders[0]} is a folder: the mutants of a crate stand in one file")
     return {file.name: read(file) for file in files}
@@ -114,7 +114,7 @@ def texts_with(mutant, folder, texts=None):
 def misfits(crates=CRATES):
     """Why mutants do not fit, each in a line, and how many fit."""
     wrong, fit, names = [], 0, collections.Counter()
-    for kind in KINDS:
+    for kind in FOLDERS_OF_MUTANTS:
         try:
             of_kind = all_of(kind)
         except Misfit as why:

@@ -166,7 +166,7 @@ def outcome(lowering, given):
 
 def tried(folder, in_node):
     """How many passed, and a line for each that failed. `in_node` runs a script in node."""
-    whole, failed, passed, cases = module(FUNCTIONS), [], 0, []
+    whole, failed, passed, lowered_modules = module(FUNCTIONS), [], 0, []
 
     def count(name, is_right):
         nonlocal passed
@@ -174,7 +174,7 @@ def tried(folder, in_node):
         failed.extend([] if is_right else [name])
 
     def case(name, made, is_same):
-        cases.append({"name": name, "wide": encoded(whole), "narrow": encoded(made), "runs": [*runs()], "isSame": is_same})
+        lowered_modules.append({"name": name, "wide": encoded(whole), "narrow": encoded(made), "runs": [*runs()], "isSame": is_same})
 
     for name, given in unknown().items():
         count(f"{name} is refused", outcome(lower_wasm, given) is None)
@@ -192,7 +192,7 @@ def tried(folder, in_node):
         else:
             failed.append(f"a slip: {new}: {made}")
     file = folder / "lowering.json"
-    file.write_text(json.dumps(cases))
+    file.write_text(json.dumps(lowered_modules))
     done = in_node(str(pathlib.Path(__file__).with_name("lowering.js")), str(file))
     return {"passed": passed + done["passed"], "failed": failed + done["failed"]}
 
