@@ -75,7 +75,7 @@ class Checks:
         return processes.ran(["rt", "check", "--jobs", "1", "--only", ""], other / "crates" / name)
 
 
-def sum_of_crate(root, name):
+def sum_of_what_is_proved(root, name):
     """A sum of the texts of a crate and of its line in crates.txt; of a crate that is not there, of nothing."""
     folder, total = root / "crates" / name, hashlib.sha256(crates_txt.lines_of(root).get(name, "").encode())
     for file in sorted(it for part in crates_txt.PARTS for it in (folder / part).rglob("*") if it.is_file()):
@@ -96,7 +96,7 @@ class CheckOver:
 
     def is_of_room(self, it):
         """Whether the room has this library as it would be built here."""
-        is_same = sum_of_crate(toolchain.TOP, it.name) == sum_of_crate(self.room, it.name)
+        is_same = sum_of_what_is_proved(toolchain.TOP, it.name) == sum_of_what_is_proved(self.room, it.name)
         return is_same and not any(one.name in self.sums for one in it.below()) and self.library(it).is_dir()
 
     def library(self, it):
@@ -109,7 +109,7 @@ class CheckOver:
             return 0
         folder = toolchain.TOP / "crates" / it.name
         below = [self.sums[one.name] for one in it.below() if one.name in self.sums]
-        total = self.sums[it.name] = hashlib.sha256(" ".join([sum_of_crate(toolchain.TOP, it.name), *below]).encode()).hexdigest()
+        total = self.sums[it.name] = hashlib.sha256(" ".join([sum_of_what_is_proved(toolchain.TOP, it.name), *below]).encode()).hexdigest()
         made, stamp = folder / "out" / "over" / f"{it.name}.rlib", folder / "out" / "over" / "sources.sum"
         it.rlib = str(made)
         if made.is_dir() and stamp.exists() and stamp.read_text() == total:

@@ -9,14 +9,14 @@ import processes
 import static_libraries
 import toolchain
 
-MEASURED = toolchain.TOP / "bench/seconds.txt"  # of one processor, for each crate
+MEASURED = toolchain.TOP / "bench/seconds.txt"  # of one processor for each crate, and by the wall for each step of a gate
 UNMEASURED = 60
 
 
-def measured():
-    """The seconds of each crate, as they were last measured."""
+def measured_seconds(kind="crate"):
+    """The seconds of each crate, or of each step of a `whole` or `quick` gate, as bench/run --gate last measured them."""
     text = MEASURED.read_text() if MEASURED.exists() else ""
-    return {name: int(seconds) for seconds, name in re.findall(r"^crate +(\d+) +(\w+)$", text, re.M)}
+    return {name: int(seconds) for seconds, name in re.findall(rf"^{kind} +(\d+) +(\S.*)$", text, re.M)}
 
 
 class CratesLeft:
@@ -54,7 +54,7 @@ class CratesLeft:
 
 
 def crates_left(names, lanes=1):
-    return CratesLeft({it: set(crates_txt.below([it])) - {it} for it in names}, measured(), lanes)
+    return CratesLeft({it: set(crates_txt.below([it])) - {it} for it in names}, measured_seconds(), lanes)
 
 
 def prove_below(name, tell):

@@ -21,6 +21,14 @@ def script(main):
         sys.exit(128 + signal.SIGINT)
 
 
+def become(program, words):
+    """Has this process become a program, on these words."""
+    # (Python ignores these, and the program would too)
+    for it in (signal.SIGPIPE, signal.SIGXFSZ):
+        signal.signal(it, signal.SIG_DFL)
+    os.execv(program, [program, *words])
+
+
 def _group():
     """The process group of a shell that ends all in it once this process does not hold its pipe any more."""
     ends, held = os.pipe()
