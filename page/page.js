@@ -1087,64 +1087,83 @@ const isFailed = (event) => event.deed === "exchange" && event.saw !== event.fro
 const ownerIn = (word) => word.split(".")[0];
 const isLinkOf = (event) => event.word?.endsWith(".link");
 
+const lockedBy = (word) => (word === "list.lock" ? "the list" : mono(ownerIn(word)));
+const lockNames = (words) => `the lock${words.length > 1 ? "s" : ""} of ${words.map(ownerIn).join(" and ")}`;
+const setsMark = (event) => isLinkOf(event) && event.to?.endsWith("*") === true;
+
 function deedText(event, row) {
   const word = event.word && mono(event.word);
   if (event.deed === "begin") return `begins ${callText(event.call)}.`;
   if (event.deed === "load") return `reads ${word}: ${said(event.saw)}.`;
-  if (event.deed === "store") return isLock(event.word) ? `gives ${word} back.` : `writes ${word} := ${said(event.to)}.`;
-  const exchange = `${said(event.from)} → ${said(event.to)}`;
-  if (event.saw === event.from) return isLock(event.word) ? `takes ${word}.` : `exchanges ${word}: ${exchange}.`;
-  const where = event.changes.pc === row ? `it stays at row ${row}` : `all the same it goes on to row ${event.changes.pc}`;
-  if (isLock(event.word)) return `tries ${word}, which ${event.saw} has: ${where}.`;
-  return `tries to exchange ${word}: ${exchange}, but finds ${said(event.saw)}.`;
+  if (isLock(event.word)) return lockText(event, row);
+  const change = event.deed === "store" ? `${word} := ${said(event.to)}` : `${word}: ${said(event.from)} → ${said(event.to)}`;
+  const finds = isFailed(event) ? `, but finds ${said(event.saw)}` : "";
+  if (setsMark(event)) return `${isFailed(event) ? "tries to mark" : "marks"} ${mono(ownerIn(event.word))} (${change})${finds}.`;
+  if (event.deed === "store") return `sets ${word} to ${said(event.to)}.`;
+  return `${isFailed(event) ? "tries to change" : "changes"} ${word} from ${said(event.from)} to ${said(event.to)}${finds}.`;
+}
+
+function lockText(event, row) {
+  const name = lockedBy(event.word);
+  if (event.deed === "store") return `unlocks ${name}.`;
+  if (!isFailed(event)) return `locks ${name}.`;
+  const then = event.changes.pc === row ? "It will try again" : `It goes on all the same, to row ${event.changes.pc}`;
+  return `tries to lock ${name}, but ${event.saw} holds it. ${then}.`;
 }
 
 function marksOf(trace) {
   if (trace.marks !== undefined) return trace.marks;
   trace.marks = new Map();
   for (const event of trace.starred.map((number) => trace.event(number))) {
-    if (isLinkOf(event) && event.to?.endsWith("*") && isDone(event)) trace.marks.set(ownerIn(event.word), event);
+    if (setsMark(event) && isDone(event)) trace.marks.set(ownerIn(event.word), event);
   }
   return trace.marks;
 }
 
 function wholeName({ trace, event }, name) {
-  const whose = isOpeningNode(trace, name) ? "the opening node" : `${chipOf(ownerOf(trace, name))}'s node`;
+  const whose = isOpeningNode(trace, name) ? "the node of an opening key" : `${chipOf(ownerOf(trace, name))}'s node`;
   const mark = marksOf(trace).get(name);
-  if (mark === undefined || mark.number > event.number) return `${whose} ${name}`;
-  return `${whose} ${name}, which ${chipOf(mark.thread)} marked at event ${mark.number},`;
+  if (mark === undefined || mark.number > event.number) return `${name}</b>, ${whose}`;
+  return `${name}</b>, ${whose}, which ${chipOf(mark.thread)} marked at event ${mark.number}`;
+}
+
+function isInChain(state, key) {
+  return state.chain().some((name) => String(state.nodes[name].key) === String(key) && !state.nodes[name].link.endsWith("*"));
 }
 
 const OUTCOMES = {
-  change({ trace, state, event, held }) {
-    const hasKey = ({ key, link }, wanted) => String(key) === String(wanted) && !link.endsWith("*");
-    const isIn = (key) => state.chain().some((name) => hasKey(state.nodes[name], key));
-    if (event.put !== undefined && !isIn(event.put))
-      return `<b>This should put ${event.put} into the set, but its node is not in the chain: ${event.put} is lost.</b>`;
-    if (event.took !== undefined && isIn(event.took))
-      return `<b>This should take ${event.took} out of the set, but the chain still has it.</b>`;
-    if (event.put !== undefined) return `<b>This puts ${event.put} into the set</b>, with slot ${held.used} of ${trace.quota}.`;
-    if (event.took !== undefined) return `<b>This takes ${event.took} out of the set.</b>`;
-    return "";
+  change({ trace, state, event, held, hadKey }) {
+    const { put, took } = event;
+    const had = trace.lacks !== null && hadKey;
+    const hasNow = (key) => trace.lacks !== null && isInChain(state, key);
+    if (put !== undefined) {
+      if (had) return `<b>This should add ${put} to the set, but ${put} is in it already.</b>`;
+      if (trace.lacks === null || hasNow(put)) return `<b>This adds ${put} to the set</b>, in slot ${held.used} of ${trace.quota}.`;
+      return `<b>This should add ${put} to the set, but its node is not in the chain: ${put} is lost.</b>`;
+    }
+    if (took === undefined) return "";
+    if (trace.lacks !== null && !had) return `<b>This should remove ${took} from the set, but ${took} is not in it any more.</b>`;
+    return hasNow(took) ? `<b>This should remove ${took} from the set, but the chain still has it.</b>` : `<b>This removes ${took} from the set.</b>`;
   },
 
-  mark({ event }) {
-    if (!isLinkOf(event) || !event.to?.endsWith("*") || !isDone(event)) return "";
-    return `${ownerIn(event.word)} is marked now, and still in the chain.`;
+  mark({ state, event }) {
+    if (!setsMark(event) || !isDone(event)) return "";
+    const owner = ownerIn(event.word);
+    return state.chain().includes(owner) ? `${owner} is still in the chain.` : `${owner} is not in the chain any more.`;
   },
 
   unlink(moment) {
-    const { state, event, before } = moment;
+    const { state, event, before, wasInChain } = moment;
     const gone = before.curr;
-    if (!isLinkOf(event) || !isDone(event) || gone === "tail" || gone === ownerIn(event.word)) return "";
+    if (!wasInChain || !isLinkOf(event) || !isDone(event) || gone === "tail" || gone === ownerIn(event.word)) return "";
     if (state.nodes[gone].link.replace("*", "") !== event.to || state.chain().includes(gone)) return "";
-    return `<b>This takes ${wholeName(moment, gone)} out of the chain.</b>`;
+    return `<b>This unlinks ${wholeName(moment, gone)}.`;
   },
 
   leftInChain({ state, event, before }) {
     if (!isFailed(event) || event.answer === undefined) return "";
-    if (!state.chain().includes(before.curr)) return `${before.curr} is out of the chain already.`;
-    return `<b>${before.curr} is left in the chain, marked,</b> for a later walk to take out.`;
+    if (!state.chain().includes(before.curr)) return `${before.curr} is not in the chain any more.`;
+    return `<b>${before.curr} stays in the chain, marked,</b> for a later walk to unlink.`;
   },
 
   validation({ event, held, row }) {
@@ -1152,19 +1171,19 @@ const OUTCOMES = {
     const owner = ownerIn(event.word);
     let reason = `${owner} leads to ${said(event.saw)} now, not to ${held.curr}`;
     if (event.saw.endsWith("*")) reason = `${owner} is marked`;
-    if (event.word.endsWith(".key")) reason = `the second walk is past the key of ${held.pred} and has not met it`;
-    return `<b>The validation fails:</b> ${reason}. It gives its locks back and walks again.`;
+    if (event.word.endsWith(".key")) reason = `the second walk is past the key of ${held.pred} and has not found it`;
+    return `<b>The validation fails:</b> ${reason}. It will unlock both nodes and start again.`;
   },
 
   valid({ held, row }) {
     if (row?.invalid === undefined || !row.then.includes("decide on")) return "";
-    return held.pc === row.invalid && held.reply === "none" ? "" : "The validation holds.";
+    return held.pc === row.invalid && held.reply === "none" ? "" : "The validation succeeds.";
   },
 
   again({ event, held, row }) {
     if (row?.again === undefined || held.pc !== row.again || event.answer !== undefined) return "";
     const reason = event.saw?.endsWith("*") && event.deed === "load" ? `${ownerIn(event.word)} is marked: it` : "It";
-    return `<b>${reason} begins its walk again${/with the same slot/.test(row.book) ? ", with the same slot" : ""}.</b>`;
+    return `<b>${reason} starts its walk again${/with the same slot/.test(row.book) ? ", with the same slot" : ""}.</b>`;
   },
 
   markMet({ trace, state, event, held, row }) {
@@ -1172,29 +1191,30 @@ const OUTCOMES = {
     const owner = ownerIn(event.word);
     const where = state.chain().includes(owner) ? "and still" : "and no longer";
     if (event.answer !== undefined) return `<b>${owner} is marked</b>, ${where} in the chain.`;
-    if (event.changes.curr !== undefined) return `${owner} is marked, and the walk goes on over it.`;
+    if (event.changes.curr !== undefined) return `${owner} is marked: the walk passes over it.`;
     const next = LISTS[trace.kind].rows[held.pc]?.step ?? "";
-    if (next.startsWith("exchange pred.link")) return `<b>${owner} is marked:</b> it goes on to take it out.`;
-    return next.startsWith("exchange curr.link") ? `<b>${owner} is marked already:</b> its exchange is going to fail.` : "";
+    if (next.startsWith("exchange pred.link")) return `<b>${owner} is marked:</b> the next step tries to unlink it.`;
+    if (!next.startsWith("exchange curr.link")) return "";
+    return `<b>${owner} is marked already:</b> the next step will fail.`;
   },
 
   walk({ trace, event, held, row }) {
     if (event.deed !== "load" || row === undefined) return "";
     if (row.below !== undefined) return walkAtKey(event, held);
-    if (row.then.includes("node = next(s)")) return `The second walk comes to ${held.node}.`;
+    if (row.then.includes("node = next(s)")) return `The second walk reaches ${held.node}.`;
     if (row.then.includes("node is pred")) return secondWalkAtKey(held, row);
     if (!row.then.includes("curr = next(s)")) return "";
     const opening = isOpeningNode(trace, held.curr) ? ", the node of an opening key" : "";
-    return `The walk comes to ${held.curr}${opening}.`;
+    return `The walk reaches ${held.curr}${opening}.`;
   },
 
   decision({ trace, event, held, before }) {
     const { adds, removes } = LISTS[trace.kind];
     if (event.answer !== undefined || held.reply !== "none" || before.pc === held.pc) return "";
     const { operation, key } = held.call;
-    if (operation === "add" && held.pc === adds) return `${key} is not there: it goes on to put it in.`;
-    if (operation === "remove" && held.pc === removes) return `${key} is there: it goes on to take it out.`;
-    return "";
+    const found = event.word?.endsWith(".key") ? "The" : `${held.curr} ${operation === "add" ? "does not have" : "has"} the key ${key}: the`;
+    if (operation === "add" && held.pc === adds) return `${found} add goes ahead.`;
+    return operation === "remove" && held.pc === removes ? `${found} remove goes ahead.` : "";
   },
 
   reply({ trace, event }) {
@@ -1208,7 +1228,8 @@ const OUTCOMES = {
   locks({ state, event }) {
     if (!event.word || !isLock(event.word) || !isDone(event) || event.answer !== undefined) return "";
     const own = state.locks()[`t${event.thread}`];
-    return own === undefined ? "It has no lock now." : `It has ${own.join(" and ")}.`;
+    if (own === undefined) return "It holds no lock now.";
+    return event.deed === "exchange" && own.length === 1 ? "" : `It holds ${lockNames(own)}.`;
   },
 };
 
@@ -1217,15 +1238,15 @@ const isBelow = (saw, key) => keyNumber(saw) < Number(key);
 function walkAtKey(event, held) {
   const owner = ownerIn(event.word);
   const { key } = held.call;
-  if (isBelow(event.saw, key)) return `${keyText(event.saw)} is below ${key}: the walk goes on.`;
+  if (isBelow(event.saw, key)) return `${keyText(event.saw)} is below ${key}: the walk continues.`;
   if (event.saw === String(key)) return `<b>The walk stops at ${owner},</b> which has its key.`;
-  return `<b>The walk stops at ${owner},</b> the first whose key is above ${key}.`;
+  return `<b>The walk stops at ${owner},</b> the first with a key above ${key}.`;
 }
 
 function secondWalkAtKey(held, row) {
   if (held.pc === row.invalid) return "";
-  if (held.node === held.pred) return `The second walk meets pred, ${held.pred}.`;
-  return `It has not met pred, ${held.pred}: the second walk goes on.`;
+  if (held.node === held.pred) return `The second walk reaches pred, ${held.pred}.`;
+  return `This is not pred, ${held.pred}: the second walk continues.`;
 }
 
 const isOpeningNode = (trace, name) => /^n/.test(name) && Number(name.slice(1)) >= firstOpeningNode(trace);
@@ -1243,9 +1264,9 @@ function effectText({ trace, event }, hidden) {
 }
 
 function openingText(trace) {
-  if (trace.opening.length === 0) return "Before the first event the list is empty and every thread is at rest.";
+  if (trace.opening.length === 0) return "Before the first event the list is empty, and every thread is idle.";
   const some = trace.opening.slice(0, 20).join(", ");
-  return `Before the first event the set is {${some}${trace.opening.length > 20 ? ", …" : ""}} and every thread is at rest.`;
+  return `Before the first event the set is {${some}${trace.opening.length > 20 ? ", …" : ""}}, and every thread is idle.`;
 }
 
 function momentAt(state, count) {
@@ -1253,10 +1274,13 @@ function momentAt(state, count) {
   const event = count > 0 ? trace.event(count) : null;
   state.moveTo(Math.max(count - 1, 0));
   const before = event === null ? null : { ...state.threads[event.thread] };
+  const changed = event?.put ?? event?.took;
+  const hadKey = trace.lacks !== null && changed !== undefined && isInChain(state, changed);
+  const wasInChain = trace.lacks === null || before === null || state.chain().includes(before.curr);
   state.moveTo(count);
   if (event === null) return { trace, state, event };
   const row = event.deed === "begin" ? undefined : LISTS[trace.kind].rows[before.pc];
-  return { trace, state, event, before, held: state.threads[event.thread], row };
+  return { trace, state, event, before, hadKey, wasInChain, held: state.threads[event.thread], row };
 }
 
 function sentenceOf(moment, hidden = []) {
@@ -2789,14 +2813,56 @@ function glide(box, draw, isNear) {
 return { glide };
 })();
 
+// draw/labels.js
+const $draw_labels = (() => {
+const { callText } = $run_markup;
+const LETTER = 7.1; // pixels of a letter of a label
+const BOLD = 8; // and of one of a reply
+const BETWEEN = 8; // two labels of a row
+const ROW_HEIGHT = 15;
+
+const widthOf = (text, reply = "") => LETTER * text.length + (reply === "" ? 0 : LETTER + BOLD * reply.length);
+
+function placeIn(taken, { left, right, wide }, edge) {
+  const places = [Math.min(left, edge - wide), Math.min(right, edge) - wide];
+  return places.find((x) => x >= taken) ?? null;
+}
+
+function placeLabels(items, { start, edge, mostRows }) {
+  const taken = Array.from({ length: mostRows }, () => start);
+  return items.map((item) => {
+    for (let row = 0; row < mostRows; row++) {
+      const x = placeIn(taken[row], item, edge);
+      if (x === null) continue;
+      taken[row] = x + item.wide + BETWEEN;
+      return { x, row };
+    }
+    return null;
+  });
+}
+
+const SIGNS = {
+  add: (key) => `+${key}`,
+  remove: (key) => `\u2212${key}`,
+  contains: (key) => `${key}?`,
+  ceiling: (key) => `\u2308${key}\u2309`,
+};
+const SIGNS_IN_WORDS = "+5 add, \u22125 remove, 5? contains, \u23085\u2309 ceiling of 5; more by a click on a bar";
+const signOf = ({ operation, key }) => SIGNS[operation](key);
+const labelWidth = (call) => widthOf(callText(call), call.reply ?? "");
+return { ROW_HEIGHT, widthOf, placeLabels, SIGNS_IN_WORDS, signOf, labelWidth };
+})();
+
 // draw/history.js
 const $draw_history = (() => {
 const { callText, chipOf, colourOf, label, openReply, tag, title } = $run_markup;
 const { contentsIn } = $run_state;
+const { labelWidth, placeLabels, ROW_HEIGHT, signOf, SIGNS_IN_WORDS } = $draw_labels;
 const HISTORY_LEFT = 50;
 const HISTORY_RIGHT = 16;
 const LEAST_STEP = 7; // pixels of one event
-const BEHIND = 7; // pixels of a label behind the end of its bar, and so behind the line of the event
+const BAR = 20; // pixels: the height of a bar
+const BELOW = 6; // pixels between a bar and the labels of the next lane
 
 function windowOf(total, count, room) {
   const most = Math.max(30, Math.floor(room / LEAST_STEP));
@@ -2807,24 +2873,58 @@ function windowOf(total, count, room) {
   return { first, last: first + most - 1 };
 }
 
+const shownIn = ({ calls }, first, last) => calls.filter(({ begun, ended }) => begun <= last && (ended === null || ended >= first));
+
+function formOf(threads) {
+  if (threads > 12) return { bar: 9, below: 1, mostRows: 1 };
+  if (threads > 6) return { bar: 13, below: 4, mostRows: 1 };
+  return { bar: BAR, below: BELOW, mostRows: threads > 3 ? 2 : 3 };
+}
+
+function layLabels(trace, calls, spanOf, edge, mostRows) {
+  const places = new Map();
+  for (let thread = 0; thread < trace.threads; thread++) {
+    const own = calls.filter((call) => call.thread === thread);
+    const items = own.map((call) => ({ ...spanOf(call), wide: labelWidth(call) }));
+    placeLabels(items, { start: HISTORY_LEFT - 6, edge, mostRows }).forEach((place, at) => places.set(own[at].id, place));
+  }
+  const found = [...places.values()].filter((place) => place !== null);
+  return { places, rows: Math.max(1, ...found.map(({ row }) => row + 1)), areWhole: found.length === places.size };
+}
+
 function scaleOf(trace, count, width, hides = false) {
   const { first, last } = windowOf(trace.total, count, width - HISTORY_LEFT - HISTORY_RIGHT);
+  const isWhole = first === 1 && last >= trace.total;
   const step = (width - HISTORY_LEFT - HISTORY_RIGHT) / (last - first + 1);
-  const lane = trace.threads > 12 ? 24 : trace.threads > 6 ? 32 : 42;
+  const edge = width - HISTORY_RIGHT;
+  const x = (moment) => HISTORY_LEFT + (moment - first + 0.5) * step;
+  const { bar, below, mostRows } = formOf(trace.threads);
+  const leftOf = ({ begun }) => (begun < first ? HISTORY_LEFT - 6 : x(begun));
+  const rightOf = ({ ended }) => (ended === null || ended > last ? edge : x(ended));
+  const spanOf = (call) => ({ left: leftOf(call), right: rightOf(call) });
+  const labels = layLabels(trace, shownIn(trace, first, last), spanOf, width, mostRows);
+  const above = ROW_HEIGHT * (isWhole ? labels.rows : mostRows);
+  const lane = above + bar + below;
   return {
     first,
     last,
     step,
     lane,
+    bar,
     width,
     count,
     now: hides ? count : Infinity, // the last event of which something is told
-    edge: width - HISTORY_RIGHT,
-    height: 12 + trace.threads * lane,
-    x: (moment) => HISTORY_LEFT + (moment - first + 0.5) * step,
-    y: (thread) => 8 + thread * lane + lane / 2,
+    edge,
+    height: 6 + trace.threads * lane + (isWhole && labels.areWhole ? 0 : ROW_HEIGHT),
+    x,
+    y: (thread) => 2 + thread * lane + above + bar / 2,
+    spanOf,
+    labels: labels.places,
+    areWhole: labels.areWhole,
   };
 }
+
+const heightOfCalls = (trace, width) => scaleOf(trace, 0, width).height;
 
 const isReached = (call, count) => call.at <= count && (call.changes || (call.ended !== null && call.ended <= count));
 
@@ -2844,55 +2944,28 @@ function callInWords(call, now) {
 }
 
 function drawBar(call, scale) {
-  const { first, last, count, now } = scale;
-  const half = scale.lane * 0.34;
-  const y = scale.y(call.thread);
-  const left = call.begun < first ? HISTORY_LEFT - 6 : scale.x(call.begun);
+  const { last, count, now, bar } = scale;
+  const top = scale.y(call.thread) - bar / 2;
+  const { left, right: end } = scale.spanOf(call);
   const isOpen = call.ended === null || call.ended > now;
-  const end = call.ended === null || call.ended > last ? scale.edge : scale.x(call.ended);
   const right = isOpen && now <= last ? Math.min(end, scale.x(now)) : end;
   const state = `${call.begun <= count ? "begun" : "later"}${isOpen ? " open" : ""}`;
   return tag(
     "g",
     { class: `bar ${state} ${colourOf(call.thread)}` },
     title(callInWords(call, now)),
-    tag("rect", { x: left, y: y - half, width: Math.max(right - left, 4), height: 2 * half, rx: 4 }),
-    drawBarText(call, scale, left, right, y),
+    tag("rect", { x: left, y: top, width: Math.max(right - left, 4), height: bar, rx: 4 }),
+    drawLabel(call, scale, left, top),
   );
 }
 
-function drawBarText(call, scale, left, right, y) {
+function drawLabel(call, scale, left, top) {
+  const place = scale.labels.get(call.id);
+  if (place === null) return label({ class: "call", x: left, y: top - 4 }, signOf(call));
   const isTold = call.reply !== null && call.ended <= scale.now;
-  const text = `${callText(call)}${isTold ? ` ${call.reply}` : ""}`;
-  const wide = 8 * text.length;
-  const point = call.at === null || !isShown(call, scale) ? -99 : scale.x(call.at) - left;
-  const start = point > wide + 14 || point < -8 ? 6 : point + 13;
-  const isCut = scale.now < (call.ended ?? Infinity);
-  const isInside = right - left > wide + start;
-  if (!isInside && !(isCut && scale.edge - right > wide + BEHIND)) {
-    return drawShortText(call, scale, left, (isCut ? scale.edge : right) - left, y, isTold);
-  }
   const done = call.ended !== null && call.ended <= scale.count;
   const reply = isTold ? tag("tspan", { class: done ? "reply" : "reply later" }, ` ${call.reply}`) : "";
-  return tag("text", { x: isInside ? left + start : right + BEHIND, y: y + 5 }, callText(call), reply);
-}
-
-const SHORT = {
-  add: (key) => `+${key}`,
-  remove: (key) => `\u2212${key}`,
-  contains: (key) => `${key}?`,
-  ceiling: (key) => `\u2308${key}\u2309`,
-};
-const SHORT_REPLY = { true: "t", false: "f", full: "full", nothing: "none" };
-
-function drawShortText({ operation, key, reply, ended }, scale, left, room, y, isTold) {
-  const text = SHORT[operation](key);
-  const said = isTold ? ` ${SHORT_REPLY[reply] ?? reply}` : "";
-  if (room < 7 * (text.length + said.length)) return "";
-  const above = y - scale.lane * 0.34 - 3;
-  const done = ended !== null && ended <= scale.count;
-  const answer = said && tag("tspan", { class: done ? "reply" : "reply later" }, said);
-  return tag("text", { class: "short", x: left + 1, y: above }, text, answer);
+  return tag("text", { class: "call", x: place.x, y: top - 4 - ROW_HEIGHT * place.row }, callText(call), reply);
 }
 
 const isShown = (call, scale) => scale.now === Infinity || isReached(call, scale.now);
@@ -2912,16 +2985,15 @@ function drawPoint(call, scale) {
   );
 }
 
-function drawCursor(scale, bottom) {
+function drawCursor(scale, bottom, top = 0) {
   if (scale.count < scale.first || scale.count > scale.last) return "";
   const x = scale.x(scale.count);
-  return tag("line", { class: "cursor", x1: x, x2: x, y1: 0, y2: bottom });
+  return tag("line", { class: "cursor", x1: x, x2: x, y1: top, y2: bottom });
 }
 
 function drawCalls(trace, scale) {
   const { first, last, width, height } = scale;
-  const isIn = (call) => call.begun <= Math.min(last, scale.now) && (call.ended === null || call.ended >= first);
-  const shown = trace.calls.filter(isIn);
+  const shown = shownIn(trace, first, Math.min(last, scale.now));
   const placed = shown.filter((call) => call.at !== null && call.at >= first && call.at <= last && isShown(call, scale));
   const lanes = Array.from({ length: trace.threads }, (_, thread) => drawLane(scale, thread));
   const bars = shown.map((call) => drawBar(call, scale));
@@ -2929,7 +3001,8 @@ function drawCalls(trace, scale) {
   const begun = shown.filter((call) => call.begun <= scale.count);
   const words = begun.length === 0 ? "no call has begun" : begun.slice(-20).map((call) => callInWords(call, scale.now)).join("; ");
   const frame = { width, height, role: "img", "aria-label": `the history of the calls: ${words}` };
-  return tag("svg", frame, ...lanes, drawCursor(scale, height), ...bars, ...points);
+  const signs = scale.areWhole ? "" : label({ class: "note", x: 2, y: height - 4 }, SIGNS_IN_WORDS);
+  return tag("svg", frame, ...lanes, drawCursor(scale, height, scale.y(0) - scale.bar / 2 - 2), ...bars, ...points, signs);
 }
 
 function drawContent(part, scale) {
@@ -2986,7 +3059,7 @@ function drawOrder(trace, count, hides = false) {
   const after = last < total ? `<li class="later">… ${total - last} more</li>` : "";
   return `<ol>${before}${items.join("")}${after}</ol>`;
 }
-return { HISTORY_LEFT, scaleOf, SHORT, SHORT_REPLY, drawCalls, drawContents, drawOrder };
+return { HISTORY_LEFT, scaleOf, heightOfCalls, drawCalls, drawContents, drawOrder };
 })();
 
 // draw/list.js
@@ -4173,7 +4246,7 @@ return { where, isAtMap, isAtWork, goToPlace, leaveMap, showStage, setProgress, 
 const $page_view = (() => {
 const { LISTS } = $made_rows;
 const { glide } = $draw_glide;
-const { drawCalls, drawContents, drawOrder, scaleOf } = $draw_history;
+const { drawCalls, drawContents, drawOrder, heightOfCalls, scaleOf } = $draw_history;
 const { arranged, drawList, shapeFor } = $draw_list;
 const { drawListing } = $draw_listing;
 const { forgetRoom, keptHeight, roomOf } = $draw_room;
@@ -4289,14 +4362,14 @@ function showHistory(event, wide) {
 function listHeight() {
   if (page.view === "list" || page.view === "history" || innerWidth <= 560) return Infinity;
   if (page.view === "lecture") return slideHeight();
-  const isAtWork = byId("moves-box").parentElement.id === "moves-wide";
-  const below = isJudging() ? 430 : byId("bar").clientHeight + 96 + 42 * Math.min(page.trace.threads, 6) + (isAtWork ? 0 : 30);
+  const below = byId("bar").clientHeight + (isJudging() ? byId("judge").offsetHeight + 90 : 142 + callsHeight());
   return Math.max(isJudging() ? 190 : 260, innerHeight - byId("list").getBoundingClientRect().top - scrollY - below);
 }
 
+const callsHeight = () => Math.min(ALL_LANES, heightOfCalls(page.trace, Math.max(300, byId("history").clientWidth)));
+
 function slideHeight() {
-  const threads = Math.min(page.trace.threads, 6);
-  const below = isJudging() ? 214 + 54 * threads : 66 + 42 * threads;
+  const below = isJudging() ? byId("judge").offsetHeight + 16 : 66 + callsHeight();
   const others = ["task", "said", "bar"].reduce((sum, name) => sum + byId(name).clientHeight, 0);
   return Math.max(150, innerHeight / slideZoom(innerWidth, innerHeight) - others - below - 54);
 }
@@ -5238,23 +5311,42 @@ return { ORDER, numberOf, addressOfLevel, wordOf, whyWrong, titleOfLevel, drawBr
 
 // draw/judged.js
 const $draw_judged = (() => {
-const { SHORT, SHORT_REPLY } = $draw_history;
+const { placeLabels, ROW_HEIGHT, signOf, widthOf } = $draw_labels;
 const { lastMoment, nameOfCall } = $run_judged;
 const { callText, chipOf, colourOf, escaped, label, tag } = $run_markup;
 const JUDGE_LEFT = 50;
 const JUDGE_RIGHT = 20;
-const JUDGE_LANE = 54;
+const JUDGE_BAR = 30;
+const JUDGE_BELOW = 8; // pixels between a bar and the labels of the next lane
+const MOST_ROWS = 3; // of labels
 const SLOT_WIDTH = 60; // of the words of a point
-const SIGN = 7.8; // pixels of a letter above a bar
 
-function judgeScale({ last, threads }, width) {
+const leftOf = ({ begun }, { x, step }) => x(begun) - step / 2;
+const rightOf = (call, { x, step, last }) => x(call.ended ?? last) + step / 2;
+
+function widthOfCall(call) {
+  if (call.ended === null) return widthOf(callText(call), OPEN);
+  const replies = [call.reply ?? "", ...(call.operation === "ceiling" ? ["nothing"] : ["false"])];
+  return Math.max(...replies.map((reply) => widthOf(callText(call), reply)));
+}
+
+function judgeScale({ last, threads, calls }, width) {
   const step = (width - JUDGE_LEFT - JUDGE_RIGHT) / last;
+  const across = { step, last, x: (moment) => JUDGE_LEFT + (moment - 0.5) * step };
+  const labels = new Map();
+  for (let thread = 0; thread < threads; thread++) {
+    const own = calls.filter((call) => call.thread === thread).sort((one, other) => one.begun - other.begun);
+    const items = own.map((call) => ({ left: leftOf(call, across), right: rightOf(call, across), wide: widthOfCall(call) }));
+    placeLabels(items, { start: 2, edge: width, mostRows: MOST_ROWS }).forEach((place, at) => labels.set(own[at].id, place));
+  }
+  const above = ROW_HEIGHT * Math.max(1, ...[...labels.values()].map((place) => (place?.row ?? 0) + 1)) + 4;
+  const lane = above + JUDGE_BAR + JUDGE_BELOW;
   return {
-    step,
+    ...across,
     width,
-    height: 10 + threads * JUDGE_LANE,
-    x: (moment) => JUDGE_LEFT + (moment - 0.5) * step,
-    y: (thread) => 5 + thread * JUDGE_LANE + JUDGE_LANE / 2 + 6,
+    labels,
+    height: 4 + threads * lane,
+    y: (thread) => 2 + thread * lane + above + JUDGE_BAR / 2,
     momentAt: (x) => (x - JUDGE_LEFT) / step + 0.5,
   };
 }
@@ -5268,40 +5360,11 @@ function drawJudgedLane(scale, place, thread = place) {
   return tag("line", lane) + tag("g", { class: `badge ${colourOf(thread)}` }, badge);
 }
 
-const leftOf = (call, scale) => scale.x(call.begun) - scale.step / 2;
+const OPEN = "(open)";
+const saidOf = (call, answer) => (call.ended === null ? OPEN : (answer.replyOf(call) ?? "?"));
 
-function placedLabel(call, reply, { left, right, next, taken }) {
-  const short = SHORT[call.operation](call.key);
-  const texts = [`${callText(call)} ${reply}`, `${short} ${SHORT_REPLY[reply] ?? reply}`, short];
-  for (const text of texts.slice(SIGN * texts[0].length > right - left ? 1 : 0)) {
-    const wide = SIGN * text.length;
-    if (left + 2 + wide <= next) return { text, x: left + 2 };
-    if (right - wide >= taken) return { text, x: right - wide };
-  }
-  return { text: short, x: left + 2 };
-}
-
-function labelsOf(calls, { answer, exercise, scale }) {
-  const labels = new Map();
-  const taken = {};
-  for (const call of calls) {
-    const next = calls.find((other) => other.thread === call.thread && other.begun > call.begun);
-    const left = leftOf(call, scale);
-    const right = scale.x(lastMoment(exercise, call)) + scale.step / 2;
-    const free = { left, right, next: next === undefined ? scale.width : leftOf(next, scale), taken: taken[call.thread] ?? 0 };
-    const placed = placedLabel(call, saidOf(call, answer), free);
-    taken[call.thread] = placed.x + SIGN * placed.text.length;
-    labels.set(call.id, placed);
-  }
-  return labels;
-}
-
-const saidOf = (call, answer) => (call.ended === null ? "(open)" : (answer.replyOf(call) ?? "?"));
-
-function drawJudgedCall(call, { answer, exercise, verdict, scale }, { text, x }) {
+function drawJudgedCall(call, { answer, exercise, verdict, scale }) {
   const y = scale.y(call.thread);
-  const left = leftOf(call, scale);
-  const right = scale.x(lastMoment(exercise, call)) + scale.step / 2;
   const point = answer.points.get(call.id);
   const reply = saidOf(call, answer);
   const isClash = verdict?.clash === call.id;
@@ -5317,28 +5380,30 @@ function drawJudgedCall(call, { answer, exercise, verdict, scale }, { text, x })
     "aria-valuetext": `${where}${isClash ? ", and clashes there" : ""}`,
     class: `bar own ${colourOf(call.thread)}${isClash ? " clash" : ""}${call.ended === null ? " open" : ""}`,
   };
-  const bar = drawJudgedBar(left, right, y, { text, x });
+  const bar = drawJudgedBar(call, reply, scale, y);
   return tag("g", slider, bar, point === undefined ? "" : drawOwnPoint(call, point.at, y, scale));
 }
 
-const drawJudgedBar = (left, right, y, { text, x }) =>
-  tag("rect", { x: left, y: y - 15, width: Math.max(right - left, 12), height: 30, rx: 4 }) +
-  label({ class: "call", x, y: y - 19 }, text);
+function drawJudgedBar(call, reply, scale, y) {
+  const [left, right] = [leftOf(call, scale), rightOf(call, scale)];
+  const rect = { x: left, y: y - JUDGE_BAR / 2, width: Math.max(right - left, 12), height: JUDGE_BAR, rx: 4 };
+  const { x, row } = scale.labels.get(call.id) ?? { x: left, row: null };
+  const above = { class: "call", x, y: y - JUDGE_BAR / 2 - 5 - ROW_HEIGHT * (row ?? 0) };
+  const words = row === null ? signOf(call) : callText(call) + tag("tspan", { class: "reply" }, ` ${escaped(reply)}`);
+  return tag("rect", rect) + tag("text", above, words);
+}
 
 function drawRecorded(calls, width) {
   const inOrder = (numbers) => [...new Set(numbers)].sort((one, other) => one - other);
   const threads = inOrder(calls.map(({ thread }) => thread));
   const moments = inOrder(calls.flatMap(({ begun, ended }) => (ended === null ? [begun] : [begun, ended])));
   const momentOf = (at) => (at === null ? null : moments.indexOf(at) + 1);
-  const placed = calls.map((call) => ({ ...call, begun: momentOf(call.begun), ended: momentOf(call.ended) }));
-  const exercise = { calls: placed, last: moments.length + 1 };
-  const scale = judgeScale({ last: exercise.last, threads: threads.length }, width);
-  const answer = { replyOf: ({ reply }) => reply };
-  const labels = labelsOf(placed, { answer, exercise, scale });
+  const laneOf = ({ thread }) => threads.indexOf(thread);
+  const placed = calls.map((call) => ({ ...call, thread: laneOf(call), begun: momentOf(call.begun), ended: momentOf(call.ended) }));
+  const scale = judgeScale({ calls: placed, last: moments.length + 1, threads: threads.length }, width);
   const bars = placed.map((call) => {
-    const right = scale.x(lastMoment(exercise, call)) + scale.step / 2;
-    const bar = drawJudgedBar(leftOf(call, scale), right, scale.y(threads.indexOf(call.thread)), labels.get(call.id));
-    return tag("g", { class: `bar own still ${colourOf(call.thread)}${call.ended === null ? " open" : ""}` }, bar);
+    const bar = drawJudgedBar(call, call.reply ?? OPEN, scale, scale.y(call.thread));
+    return tag("g", { class: `bar own still ${colourOf(threads[call.thread])}${call.ended === null ? " open" : ""}` }, bar);
   });
   const lanes = threads.map((thread, at) => drawJudgedLane(scale, at, thread));
   const frame = { width: scale.width, height: scale.height, role: "img", "aria-label": calls.map(nameOfCall).join(", ") };
@@ -5359,18 +5424,19 @@ function drawJudged(judged) {
   const at = exercise.level === "claim" ? moment : judged.count;
   const line = { class: "cursor", x1: scale.x(at), x2: scale.x(at), y1: 0, y2: scale.height };
   const frame = { width: scale.width, height: scale.height, role: "group", "aria-label": "the calls, each with a point to place" };
-  const labels = labelsOf(exercise.calls, judged);
-  const calls = exercise.calls.map((call) => drawJudgedCall(call, judged, labels.get(call.id)));
+  const calls = exercise.calls.map((call) => drawJudgedCall(call, judged));
   return tag("svg", frame, ...lanes, at === 0 ? "" : tag("line", line), ...calls);
 }
 
 function drawOwnOrder(answer) {
-  const order = answer.order();
-  if (order.length === 0) return "Press on a bar, and drag: there the call takes effect. Or go to it by Tab, and use the arrows.";
-  const items = order.map(({ call, at, reply }) => {
+  const { calls } = answer.exercise;
+  const placed = answer.order().map(({ call, at, reply }) => {
     return `<li>${chipOf(call.thread)} ${callText(call)} <b>${escaped(reply ?? "?")}</b> <small>${momentInWords(at)}</small></li>`;
   });
-  return `<ol>${items.join("")}</ol>`;
+  const others = calls.filter(({ id }) => !answer.points.has(id)).map((call) => {
+    return `<li class="later">${chipOf(call.thread)} ${callText(call)} <small>not placed yet</small></li>`;
+  });
+  return `<ol>${placed.join("")}${others.join("")}</ol>`;
 }
 
 function momentOfReport({ calls, last }, moment) {
@@ -8912,5 +8978,5 @@ if (typeof document !== "undefined") startPage(); // in node there is none
 return {  };
 })();
 
-return Object.assign({}, $made_classics, $made_rows, $page_dom, $run_faults, $run_markup, $run_trace, $run_judged, $run_schedule_text, $run_state, $run_sentences, $page_now, $page_kept, $activities_broken_kept, $data_levels, $made_traces, $page_example, $engine_engine, $engine_worker, $page_long_run, $page_play, $run_broken, $page_run_text, $draw_glide, $draw_history, $draw_list, $made_code, $draw_listing, $draw_room, $draw_table, $draw_threads, $page_places, $page_view, $run_moments, $course_goal_words, $course_course_text, $run_draft, $course_lesson, $page_work, $page_menu, $run_address, $activities_break_map, $draw_judged, $activities_judging, $activities_break_level, $page_steps, $page_moves, $page_keys, $page_visit, $run_sides, $activities_compare, $made_book, $activities_kept_lessons, $activities_learn_map, $course_course_link, $run_check_trace, $page_files, $activities_courses, $course_hand_in, $activities_lessons, $run_recorded, $activities_recorded, $data_book_code, $run_seed, $activities_watch, $activities_judge_map, $activities_read, $draw_code_column, $page_save_picture, $page_controls, $activities_open);
+return Object.assign({}, $made_classics, $made_rows, $page_dom, $run_faults, $run_markup, $run_trace, $run_judged, $run_schedule_text, $run_state, $run_sentences, $page_now, $page_kept, $activities_broken_kept, $data_levels, $made_traces, $page_example, $engine_engine, $engine_worker, $page_long_run, $page_play, $run_broken, $page_run_text, $draw_glide, $draw_labels, $draw_history, $draw_list, $made_code, $draw_listing, $draw_room, $draw_table, $draw_threads, $page_places, $page_view, $run_moments, $course_goal_words, $course_course_text, $run_draft, $course_lesson, $page_work, $page_menu, $run_address, $activities_break_map, $draw_judged, $activities_judging, $activities_break_level, $page_steps, $page_moves, $page_keys, $page_visit, $run_sides, $activities_compare, $made_book, $activities_kept_lessons, $activities_learn_map, $course_course_link, $run_check_trace, $page_files, $activities_courses, $course_hand_in, $activities_lessons, $run_recorded, $activities_recorded, $data_book_code, $run_seed, $activities_watch, $activities_judge_map, $activities_read, $draw_code_column, $page_save_picture, $page_controls, $activities_open);
 })();

@@ -45,7 +45,7 @@ async function driveLess() {
   driveExamplesLess();
   pick("snip");
   goToEvent(17);
-  check("a sentence", textOf("said").includes("out of the chain"));
+  check("a sentence", textOf("said").includes("This unlinks"));
   press("1");
   check("and the keys write nothing", textOf("where") === "event 17 of 23");
   press("u");

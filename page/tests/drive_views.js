@@ -184,7 +184,7 @@ async function driveMillion() {
   for (let rounds = 0; rounds < 12; rounds++) await until(() => textOf("where").endsWith(" of 999994"));
   check(`it is shown: ${textOf("where")}`, textOf("where").endsWith(" of 999994") && !isSeen("long") && textOf("fault") === "");
   press("End");
-  check("its last event", textOf("said").startsWith("t1 tries list.lock, which t0 has"));
+  check("its last event", textOf("said").startsWith("t1 tries to lock the list, but t0 holds it"));
   press("ArrowLeft");
   check("and the one before", textOf("where") === "event 999993 of 999994");
   part("undo").click();

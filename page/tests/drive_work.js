@@ -245,7 +245,7 @@ async function driveTold() {
     focused() === part("turns").children[1] && focused().getAttribute("aria-current") === "true",
   );
   part("turns").children[0].click();
-  check("a button leads to it", textOf("where").startsWith("event 17 ") && textOf("said").includes("out of the chain"));
+  check("a button leads to it", textOf("where").startsWith("event 17 ") && textOf("said").includes("This unlinks"));
   part("table-box").open = true;
   await sleep(50);
   const rows = [...part("table").querySelectorAll("tbody tr")];

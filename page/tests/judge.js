@@ -107,6 +107,38 @@ function checkOpenCalls(ask) {
   check("put in", judgedAs(4, "0-true,1-false").isRight === false);
 }
 
+// The labels of the bars of a drawing, and those of them that are written over one before them.
+function labelsOver(drawing) {
+  const labels = [...drawing.matchAll(/<text class="call" x="([^"]*)" y="([^"]*)">(.*?)<\/text>/g)];
+  const ends = {};
+  const over = labels.filter(([, x, y, text]) => {
+    const isOver = Number(x) < (ends[y] ?? 0);
+    ends[y] = Number(x) + 7 * text.replace(/<[^>]*>/g, "").length;
+    return isOver;
+  });
+  return { labels, over };
+}
+
+// Nor one of the history, at no event of a run; and of each call that is drawn the label is at one place from its begin on.
+function checkHistoryLabels(traces) {
+  const [drawCalls, scaleOf] = ["drawCalls", "scaleOf"].map(inPage);
+  let signs = 0;
+  for (const trace of traces) {
+    for (const width of [300, 342, 820]) {
+      const places = new Set();
+      for (let count = 0; count <= trace.total; count++) {
+        const { labels, over } = labelsOver(drawCalls(trace, scaleOf(trace, count, width, true)));
+        check(`labels of the history over others, at event ${count} in ${width} pixels: ${over.map((one) => one[3])}`, over.length === 0);
+        for (const [, x, y, text] of labels) places.add([x, y, /^[^ <]*/.exec(text)[0]].join());
+        signs += labels.filter(([, , , text]) => !text.includes("(")).length;
+      }
+      const isAll = trace.total <= (width - 66) / 7;
+      check(`a label of the history moves, in ${width} pixels: ${[...places].join(" ")}`, !isAll || places.size === trace.calls.length);
+    }
+  }
+  check(`the labels of the examples are whole: ${signs} are signs`, signs === 0);
+}
+
 // No label of a bar is written over the one behind it, on a wide page and on a phone, whatever has been said; of runs by a number too.
 function checkLabels(ask, schedules) {
   const [drawJudged, judgeScale] = ["drawJudged", "judgeScale"].map(inPage);
@@ -117,13 +149,7 @@ function checkLabels(ask, schedules) {
     for (const [level, width] of [["points", 342], ["replies", 342], ["points", 820]]) {
       const exercise = exerciseOf(report, level);
       const drawing = drawJudged(judgedAt(exercise, new OwnAnswer(exercise), width));
-      const labels = [...drawing.matchAll(/<text class="call" x="([^"]*)" y="([^"]*)">([^<]*)</g)];
-      const ends = {};
-      const over = labels.filter(([, x, y, text]) => {
-        const isOver = Number(x) < (ends[y] ?? 0);
-        ends[y] = Number(x) + 7 * text.length;
-        return isOver;
-      });
+      const { labels, over } = labelsOver(drawing);
       words += labels.filter(([, , , text]) => text.includes("(")).length;
       check(`labels over others in ${width} pixels: ${over.map((label) => label[3])} of ${schedule}`, over.length === 0);
     }
@@ -149,7 +175,7 @@ function checkRecorded(ask) {
   const reasons = "No order explains the calls of key 5 up to moment 4. Key 5 is not there at moment 0. These calls alone have no order:";
   check(`why: ${both.reasons}`, both.reasons.join(" ") === reasons && both.calls.map(({ thread }) => thread).join() === "0,1");
   const drawn = inPage("drawRecorded")(both.calls, 600);
-  check("its calls as bars", drawn.split("<rect ").length - 1 === 4 && drawn.includes(">add(5) true<"));
+  check("its calls as bars", drawn.split("<rect ").length - 1 === 4 && />add\(5\)<tspan [^>]*> true</.test(drawn));
   const open = said(`${head}call 0 add 5 1 - - -\ncall 1 contains 5 2 - 3 true\nend`);
   check(`an open call: ${open.reasons}`, open.kind === "none" && open.calls[0].ended === null && open.reasons[0].includes("otherwise than"));
   const wanted = {
@@ -217,6 +243,8 @@ async function main() {
     for (let number = 1; number <= 12; number++) schedules.push(inPage("scheduleOfSeed")(ask, inPage("seedOf")(kind, number)));
   }
   checkLabels(ask, schedules);
+  const traceOf = (text) => new (inPage("Trace"))(ask("listset_trace", text).text, inPage("versionOf")(text));
+  checkHistoryLabels(schedules.slice(0, Object.keys(inPage("CLASSICS")).length).map(traceOf));
   checkChips();
   checkRecorded(ask);
   checkByHand(ask);

@@ -51,37 +51,37 @@ function checkSentences(engine) {
   };
   const header = (kind, quota) => [`listset-schedule 1`, `list ${kind}`, "threads 2", `quota ${quota}`];
   const coarse = sentences([...header("coarse", 0), "begin 0 add 5", "go 0 4"]);
-  check("a thread without slots", coarse[3].endsWith("key is above 5. It will answer full: it has no slot."));
+  check("a thread without slots", coarse[3].endsWith("with a key above 5. It will answer full: it has no slot."));
   const adds = ["begin 0 add 5", "go 0 11", "begin 0 add 7", "go 0 13"];
   const lazy = sentences([...header("lazy", 4), ...adds, "begin 1 remove 5", "go 1 10"]);
-  check("a key below", lazy.includes("t0 reads n2.key: 5. 5 is below 7: the walk goes on."));
-  check("an add goes on", lazy.some((text) => text.endsWith("5 is not there: it goes on to put it in.")));
-  check("a remove goes on", lazy.some((text) => text.endsWith("5 is there: it goes on to take it out.")));
-  const unlink = lazy.find((text) => text.includes("This takes t0's node n2, which t1 marked at event"));
+  check("a key below", lazy.includes("t0 reads n2.key: 5. 5 is below 7: the walk continues."));
+  check("an add goes on", lazy.some((text) => text.endsWith("tail does not have the key 5: the add goes ahead.")));
+  check("a remove goes on", lazy.some((text) => text.endsWith("n2 has the key 5: the remove goes ahead.")));
+  const unlink = lazy.find((text) => text.includes("This unlinks n2, t0's node, which t1 marked at event"));
   check("the unlink of LazyList", unlink?.endsWith("It will answer true."));
-  check("the last lock", lazy[10].startsWith("t0 gives tail.lock back. It has head.lock."));
+  check("the last lock", lazy[10].startsWith("t0 unlocks tail. It holds the lock of head."));
   const walk = sentences([...header("optimistic", 4), "begin 0 add 5", "go 0 10", "begin 0 add 7", "go 0 8"]);
-  check("the second walk meets pred", walk[walk.length - 1] === "t0 reads n2.key: 5. The second walk meets pred, n2.");
+  check("the second walk meets pred", walk[walk.length - 1] === "t0 reads n2.key: 5. The second walk reaches pred, n2.");
   checkValidations(sentences, header);
   const stale = sentences(engine.ask("listset_example", "stale-pred").text.trimEnd().split("\n"));
-  check("locks by their nodes' keys", stale[27] === "t0 takes tail.lock. It has n6.lock and tail.lock.");
-  check("a walk that comes to the same node again", stale[32] === "t0 reads head.link: tail. The walk comes to tail.");
+  check("locks by their nodes' keys", stale[27] === "t0 locks tail. It holds the locks of n6 and tail.");
+  check("a walk that comes to the same node again", stale[32] === "t0 reads head.link: tail. The walk reaches tail.");
   const marked = ["begin 0 add 5", "go 0 6", "begin 0 remove 5", "go 0 3", "begin 1 remove 5", "go 1 5", "go 0 1"];
   const late = sentences([...header("lock-free", 4), ...marked]).pop();
-  check("a mark that came before", late.endsWith("tail, marked. n2 is marked already: its exchange is going to fail."));
+  check("a mark that came before", late.endsWith("tail, marked. n2 is marked already: the next step will fail."));
 }
 
 // What is told of validations that hold, and of the second walk up to pred.
 function checkValidations(sentences, header) {
   const adds = ["begin 0 add 5", "go 0 10", "begin 0 add 7", "go 0 14", "begin 0 add 9", "go 0 11"];
   const told = sentences([...header("optimistic", 4), ...adds]);
-  const held = "t0 reads head.link: tail. The validation holds. 5 is not there: it goes on to put it in.";
+  const held = "t0 reads head.link: tail. The validation succeeds. tail does not have the key 5: the add goes ahead.";
   check("a validation holds", told[5] === held);
-  check("the second walk goes on", told.includes("t0 reads n2.key: 5. It has not met pred, n3: the second walk goes on."));
+  check("the second walk goes on", told.includes("t0 reads n2.key: 5. This is not pred, n3: the second walk continues."));
   const lazy = sentences([...header("lazy", 4), "begin 0 add 5", "go 0 11", "begin 1 add 5", "go 1 6"]);
-  const ofLazy = "t0 reads tail.link: tail. The validation holds. 5 is not there: it goes on to put it in.";
+  const ofLazy = "t0 reads tail.link: tail. The validation succeeds. tail does not have the key 5: the add goes ahead.";
   check("that of LazyList", lazy[5] === "t0 reads head.link: tail." && lazy[6] === ofLazy);
-  check("and leads to a reply", lazy.pop() === "t1 reads n2.link: tail. The validation holds. It will answer false.");
+  check("and leads to a reply", lazy.pop() === "t1 reads n2.link: tail. The validation succeeds. It will answer false.");
 }
 
 const RUN_17 = "9e6e9361cbb54bb9"; // the sum of the schedule of #seed=lazy.2.5.2.17

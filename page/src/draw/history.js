@@ -1,11 +1,13 @@
 // Draws the history: a bar for each call, the moment at which it takes effect, the contents of the set below, and the order.
 import { callText, chipOf, colourOf, label, openReply, tag, title } from "../run/markup.js";
 import { contentsIn } from "../run/state.js";
+import { labelWidth, placeLabels, ROW_HEIGHT, signOf, SIGNS_IN_WORDS } from "./labels.js";
 
 export const HISTORY_LEFT = 50;
 const HISTORY_RIGHT = 16;
 const LEAST_STEP = 7; // pixels of one event
-const BEHIND = 7; // pixels of a label behind the end of its bar, and so behind the line of the event
+const BAR = 20; // pixels: the height of a bar
+const BELOW = 6; // pixels between a bar and the labels of the next lane
 
 // The events that are drawn: all where there is room for them, else a window that moves by thirds.
 function windowOf(total, count, room) {
@@ -17,25 +19,62 @@ function windowOf(total, count, room) {
   return { first, last: first + most - 1 };
 }
 
-// Where an event stands, and a thread's lane. What comes after the event that is shown may be hidden.
+const shownIn = ({ calls }, first, last) => calls.filter(({ begun, ended }) => begun <= last && (ended === null || ended >= first));
+
+// How high the bars are, and how many rows of labels a lane may have, by the number of threads.
+function formOf(threads) {
+  if (threads > 12) return { bar: 9, below: 1, mostRows: 1 };
+  if (threads > 6) return { bar: 13, below: 4, mostRows: 1 };
+  return { bar: BAR, below: BELOW, mostRows: threads > 3 ? 2 : 3 };
+}
+
+// The labels of the calls that are drawn, by the numbers of the calls, and how many rows they take.
+function layLabels(trace, calls, spanOf, edge, mostRows) {
+  const places = new Map();
+  for (let thread = 0; thread < trace.threads; thread++) {
+    const own = calls.filter((call) => call.thread === thread);
+    const items = own.map((call) => ({ ...spanOf(call), wide: labelWidth(call) }));
+    placeLabels(items, { start: HISTORY_LEFT - 6, edge, mostRows }).forEach((place, at) => places.set(own[at].id, place));
+  }
+  const found = [...places.values()].filter((place) => place !== null);
+  return { places, rows: Math.max(1, ...found.map(({ row }) => row + 1)), areWhole: found.length === places.size };
+}
+
+// Where an event stands, a thread's lane, and the labels of the calls. What comes after the event that is shown may be hidden.
 export function scaleOf(trace, count, width, hides = false) {
   const { first, last } = windowOf(trace.total, count, width - HISTORY_LEFT - HISTORY_RIGHT);
+  const isWhole = first === 1 && last >= trace.total;
   const step = (width - HISTORY_LEFT - HISTORY_RIGHT) / (last - first + 1);
-  const lane = trace.threads > 12 ? 24 : trace.threads > 6 ? 32 : 42;
+  const edge = width - HISTORY_RIGHT;
+  const x = (moment) => HISTORY_LEFT + (moment - first + 0.5) * step;
+  const { bar, below, mostRows } = formOf(trace.threads);
+  const leftOf = ({ begun }) => (begun < first ? HISTORY_LEFT - 6 : x(begun));
+  const rightOf = ({ ended }) => (ended === null || ended > last ? edge : x(ended));
+  const spanOf = (call) => ({ left: leftOf(call), right: rightOf(call) });
+  const labels = layLabels(trace, shownIn(trace, first, last), spanOf, width, mostRows);
+  const above = ROW_HEIGHT * (isWhole ? labels.rows : mostRows);
+  const lane = above + bar + below;
   return {
     first,
     last,
     step,
     lane,
+    bar,
     width,
     count,
     now: hides ? count : Infinity, // the last event of which something is told
-    edge: width - HISTORY_RIGHT,
-    height: 12 + trace.threads * lane,
-    x: (moment) => HISTORY_LEFT + (moment - first + 0.5) * step,
-    y: (thread) => 8 + thread * lane + lane / 2,
+    edge,
+    height: 6 + trace.threads * lane + (isWhole && labels.areWhole ? 0 : ROW_HEIGHT),
+    x,
+    y: (thread) => 2 + thread * lane + above + bar / 2,
+    spanOf,
+    labels: labels.places,
+    areWhole: labels.areWhole,
   };
 }
+
+// How high the bars of a run are together.
+export const heightOfCalls = (trace, width) => scaleOf(trace, 0, width).height;
 
 // A point is reached once the call that has it is known to stand there: at its change, or when it answers.
 const isReached = (call, count) => call.at <= count && (call.changes || (call.ended !== null && call.ended <= count));
@@ -56,57 +95,29 @@ function callInWords(call, now) {
 }
 
 function drawBar(call, scale) {
-  const { first, last, count, now } = scale;
-  const half = scale.lane * 0.34;
-  const y = scale.y(call.thread);
-  const left = call.begun < first ? HISTORY_LEFT - 6 : scale.x(call.begun);
+  const { last, count, now, bar } = scale;
+  const top = scale.y(call.thread) - bar / 2;
+  const { left, right: end } = scale.spanOf(call);
   const isOpen = call.ended === null || call.ended > now;
-  const end = call.ended === null || call.ended > last ? scale.edge : scale.x(call.ended);
   const right = isOpen && now <= last ? Math.min(end, scale.x(now)) : end;
   const state = `${call.begun <= count ? "begun" : "later"}${isOpen ? " open" : ""}`;
   return tag(
     "g",
     { class: `bar ${state} ${colourOf(call.thread)}` },
     title(callInWords(call, now)),
-    tag("rect", { x: left, y: y - half, width: Math.max(right - left, 4), height: 2 * half, rx: 4 }),
-    drawBarText(call, scale, left, right, y),
+    tag("rect", { x: left, y: top, width: Math.max(right - left, 4), height: bar, rx: 4 }),
+    drawLabel(call, scale, left, top),
   );
 }
 
-// The call and its reply, left of the point or right of it, where there is room; where the rest of the bar is hidden, behind its end.
-function drawBarText(call, scale, left, right, y) {
+// The call and its reply above its bar, whole if there is space.
+function drawLabel(call, scale, left, top) {
+  const place = scale.labels.get(call.id);
+  if (place === null) return label({ class: "call", x: left, y: top - 4 }, signOf(call));
   const isTold = call.reply !== null && call.ended <= scale.now;
-  const text = `${callText(call)}${isTold ? ` ${call.reply}` : ""}`;
-  const wide = 8 * text.length;
-  const point = call.at === null || !isShown(call, scale) ? -99 : scale.x(call.at) - left;
-  const start = point > wide + 14 || point < -8 ? 6 : point + 13;
-  const isCut = scale.now < (call.ended ?? Infinity);
-  const isInside = right - left > wide + start;
-  if (!isInside && !(isCut && scale.edge - right > wide + BEHIND)) {
-    return drawShortText(call, scale, left, (isCut ? scale.edge : right) - left, y, isTold);
-  }
   const done = call.ended !== null && call.ended <= scale.count;
   const reply = isTold ? tag("tspan", { class: done ? "reply" : "reply later" }, ` ${call.reply}`) : "";
-  return tag("text", { x: isInside ? left + start : right + BEHIND, y: y + 5 }, callText(call), reply);
-}
-
-// Where a bar has no room for its call, a short form above it: +5, -5, 5? and its reply by one letter; nothing where that has none.
-export const SHORT = {
-  add: (key) => `+${key}`,
-  remove: (key) => `\u2212${key}`,
-  contains: (key) => `${key}?`,
-  ceiling: (key) => `\u2308${key}\u2309`,
-};
-export const SHORT_REPLY = { true: "t", false: "f", full: "full", nothing: "none" };
-
-function drawShortText({ operation, key, reply, ended }, scale, left, room, y, isTold) {
-  const text = SHORT[operation](key);
-  const said = isTold ? ` ${SHORT_REPLY[reply] ?? reply}` : "";
-  if (room < 7 * (text.length + said.length)) return "";
-  const above = y - scale.lane * 0.34 - 3;
-  const done = ended !== null && ended <= scale.count;
-  const answer = said && tag("tspan", { class: done ? "reply" : "reply later" }, said);
-  return tag("text", { class: "short", x: left + 1, y: above }, text, answer);
+  return tag("text", { class: "call", x: place.x, y: top - 4 - ROW_HEIGHT * place.row }, callText(call), reply);
 }
 
 // Whether the point of a call is drawn.
@@ -128,17 +139,16 @@ function drawPoint(call, scale) {
   );
 }
 
-function drawCursor(scale, bottom) {
+function drawCursor(scale, bottom, top = 0) {
   if (scale.count < scale.first || scale.count > scale.last) return "";
   const x = scale.x(scale.count);
-  return tag("line", { class: "cursor", x1: x, x2: x, y1: 0, y2: bottom });
+  return tag("line", { class: "cursor", x1: x, x2: x, y1: top, y2: bottom });
 }
 
 // The bars and points: the part that scrolls where there are many threads.
 export function drawCalls(trace, scale) {
   const { first, last, width, height } = scale;
-  const isIn = (call) => call.begun <= Math.min(last, scale.now) && (call.ended === null || call.ended >= first);
-  const shown = trace.calls.filter(isIn);
+  const shown = shownIn(trace, first, Math.min(last, scale.now));
   const placed = shown.filter((call) => call.at !== null && call.at >= first && call.at <= last && isShown(call, scale));
   const lanes = Array.from({ length: trace.threads }, (_, thread) => drawLane(scale, thread));
   const bars = shown.map((call) => drawBar(call, scale));
@@ -146,7 +156,8 @@ export function drawCalls(trace, scale) {
   const begun = shown.filter((call) => call.begun <= scale.count);
   const words = begun.length === 0 ? "no call has begun" : begun.slice(-20).map((call) => callInWords(call, scale.now)).join("; ");
   const frame = { width, height, role: "img", "aria-label": `the history of the calls: ${words}` };
-  return tag("svg", frame, ...lanes, drawCursor(scale, height), ...bars, ...points);
+  const signs = scale.areWhole ? "" : label({ class: "note", x: 2, y: height - 4 }, SIGNS_IN_WORDS);
+  return tag("svg", frame, ...lanes, drawCursor(scale, height, scale.y(0) - scale.bar / 2 - 2), ...bars, ...points, signs);
 }
 
 function drawContent(part, scale) {

@@ -1,23 +1,43 @@
 // Draws the bars on which the reader puts points: each is a slider for the keyboard; the call that clashes is red.
-import { SHORT, SHORT_REPLY } from "./history.js";
+import { placeLabels, ROW_HEIGHT, signOf, widthOf } from "./labels.js";
 import { lastMoment, nameOfCall } from "../run/judged.js";
 import { callText, chipOf, colourOf, escaped, label, tag } from "../run/markup.js";
 
 const JUDGE_LEFT = 50;
 const JUDGE_RIGHT = 20;
-const JUDGE_LANE = 54;
+const JUDGE_BAR = 30;
+const JUDGE_BELOW = 8; // pixels between a bar and the labels of the next lane
+const MOST_ROWS = 3; // of labels
 const SLOT_WIDTH = 60; // of the words of a point
-const SIGN = 7.8; // pixels of a letter above a bar
 
-// Where a moment stands, and a thread's lane.
-export function judgeScale({ last, threads }, width) {
+const leftOf = ({ begun }, { x, step }) => x(begun) - step / 2;
+const rightOf = (call, { x, step, last }) => x(call.ended ?? last) + step / 2;
+
+// The widest text that a call can have above its bar: with its reply, or with the sign for one that is not said yet.
+function widthOfCall(call) {
+  if (call.ended === null) return widthOf(callText(call), OPEN);
+  const replies = [call.reply ?? "", ...(call.operation === "ceiling" ? ["nothing"] : ["false"])];
+  return Math.max(...replies.map((reply) => widthOf(callText(call), reply)));
+}
+
+// Where a moment stands, a thread's lane, and the labels of the calls.
+export function judgeScale({ last, threads, calls }, width) {
   const step = (width - JUDGE_LEFT - JUDGE_RIGHT) / last;
+  const across = { step, last, x: (moment) => JUDGE_LEFT + (moment - 0.5) * step };
+  const labels = new Map();
+  for (let thread = 0; thread < threads; thread++) {
+    const own = calls.filter((call) => call.thread === thread).sort((one, other) => one.begun - other.begun);
+    const items = own.map((call) => ({ left: leftOf(call, across), right: rightOf(call, across), wide: widthOfCall(call) }));
+    placeLabels(items, { start: 2, edge: width, mostRows: MOST_ROWS }).forEach((place, at) => labels.set(own[at].id, place));
+  }
+  const above = ROW_HEIGHT * Math.max(1, ...[...labels.values()].map((place) => (place?.row ?? 0) + 1)) + 4;
+  const lane = above + JUDGE_BAR + JUDGE_BELOW;
   return {
-    step,
+    ...across,
     width,
-    height: 10 + threads * JUDGE_LANE,
-    x: (moment) => JUDGE_LEFT + (moment - 0.5) * step,
-    y: (thread) => 5 + thread * JUDGE_LANE + JUDGE_LANE / 2 + 6,
+    labels,
+    height: 4 + threads * lane,
+    y: (thread) => 2 + thread * lane + above + JUDGE_BAR / 2,
     momentAt: (x) => (x - JUDGE_LEFT) / step + 0.5,
   };
 }
@@ -31,43 +51,11 @@ function drawJudgedLane(scale, place, thread = place) {
   return tag("line", lane) + tag("g", { class: `badge ${colourOf(thread)}` }, badge);
 }
 
-const leftOf = (call, scale) => scale.x(call.begun) - scale.step / 2;
+const OPEN = "(open)";
+const saidOf = (call, answer) => (call.ended === null ? OPEN : (answer.replyOf(call) ?? "?"));
 
-// The call and its reply above a bar: in words if the bar is as wide, else short, up to the next bar of the thread or, if that is too
-// near, from what is written before up to the end of the bar; or else without the reply.
-function placedLabel(call, reply, { left, right, next, taken }) {
-  const short = SHORT[call.operation](call.key);
-  const texts = [`${callText(call)} ${reply}`, `${short} ${SHORT_REPLY[reply] ?? reply}`, short];
-  for (const text of texts.slice(SIGN * texts[0].length > right - left ? 1 : 0)) {
-    const wide = SIGN * text.length;
-    if (left + 2 + wide <= next) return { text, x: left + 2 };
-    if (right - wide >= taken) return { text, x: right - wide };
-  }
-  return { text: short, x: left + 2 };
-}
-
-// Of each call where its label stands, those of a thread one after the other.
-function labelsOf(calls, { answer, exercise, scale }) {
-  const labels = new Map();
-  const taken = {};
-  for (const call of calls) {
-    const next = calls.find((other) => other.thread === call.thread && other.begun > call.begun);
-    const left = leftOf(call, scale);
-    const right = scale.x(lastMoment(exercise, call)) + scale.step / 2;
-    const free = { left, right, next: next === undefined ? scale.width : leftOf(next, scale), taken: taken[call.thread] ?? 0 };
-    const placed = placedLabel(call, saidOf(call, answer), free);
-    taken[call.thread] = placed.x + SIGN * placed.text.length;
-    labels.set(call.id, placed);
-  }
-  return labels;
-}
-
-const saidOf = (call, answer) => (call.ended === null ? "(open)" : (answer.replyOf(call) ?? "?"));
-
-function drawJudgedCall(call, { answer, exercise, verdict, scale }, { text, x }) {
+function drawJudgedCall(call, { answer, exercise, verdict, scale }) {
   const y = scale.y(call.thread);
-  const left = leftOf(call, scale);
-  const right = scale.x(lastMoment(exercise, call)) + scale.step / 2;
   const point = answer.points.get(call.id);
   const reply = saidOf(call, answer);
   const isClash = verdict?.clash === call.id;
@@ -83,13 +71,19 @@ function drawJudgedCall(call, { answer, exercise, verdict, scale }, { text, x })
     "aria-valuetext": `${where}${isClash ? ", and clashes there" : ""}`,
     class: `bar own ${colourOf(call.thread)}${isClash ? " clash" : ""}${call.ended === null ? " open" : ""}`,
   };
-  const bar = drawJudgedBar(left, right, y, { text, x });
+  const bar = drawJudgedBar(call, reply, scale, y);
   return tag("g", slider, bar, point === undefined ? "" : drawOwnPoint(call, point.at, y, scale));
 }
 
-const drawJudgedBar = (left, right, y, { text, x }) =>
-  tag("rect", { x: left, y: y - 15, width: Math.max(right - left, 12), height: 30, rx: 4 }) +
-  label({ class: "call", x, y: y - 19 }, text);
+// A bar with its call and reply above it, whole if there is space.
+function drawJudgedBar(call, reply, scale, y) {
+  const [left, right] = [leftOf(call, scale), rightOf(call, scale)];
+  const rect = { x: left, y: y - JUDGE_BAR / 2, width: Math.max(right - left, 12), height: JUDGE_BAR, rx: 4 };
+  const { x, row } = scale.labels.get(call.id) ?? { x: left, row: null };
+  const above = { class: "call", x, y: y - JUDGE_BAR / 2 - 5 - ROW_HEIGHT * (row ?? 0) };
+  const words = row === null ? signOf(call) : callText(call) + tag("tspan", { class: "reply" }, ` ${escaped(reply)}`);
+  return tag("rect", rect) + tag("text", above, words);
+}
 
 // Recorded calls as bars, each thread's in a lane and their moments one after the other: a clock may leave any room between two.
 export function drawRecorded(calls, width) {
@@ -97,15 +91,12 @@ export function drawRecorded(calls, width) {
   const threads = inOrder(calls.map(({ thread }) => thread));
   const moments = inOrder(calls.flatMap(({ begun, ended }) => (ended === null ? [begun] : [begun, ended])));
   const momentOf = (at) => (at === null ? null : moments.indexOf(at) + 1);
-  const placed = calls.map((call) => ({ ...call, begun: momentOf(call.begun), ended: momentOf(call.ended) }));
-  const exercise = { calls: placed, last: moments.length + 1 };
-  const scale = judgeScale({ last: exercise.last, threads: threads.length }, width);
-  const answer = { replyOf: ({ reply }) => reply };
-  const labels = labelsOf(placed, { answer, exercise, scale });
+  const laneOf = ({ thread }) => threads.indexOf(thread);
+  const placed = calls.map((call) => ({ ...call, thread: laneOf(call), begun: momentOf(call.begun), ended: momentOf(call.ended) }));
+  const scale = judgeScale({ calls: placed, last: moments.length + 1, threads: threads.length }, width);
   const bars = placed.map((call) => {
-    const right = scale.x(lastMoment(exercise, call)) + scale.step / 2;
-    const bar = drawJudgedBar(leftOf(call, scale), right, scale.y(threads.indexOf(call.thread)), labels.get(call.id));
-    return tag("g", { class: `bar own still ${colourOf(call.thread)}${call.ended === null ? " open" : ""}` }, bar);
+    const bar = drawJudgedBar(call, call.reply ?? OPEN, scale, scale.y(call.thread));
+    return tag("g", { class: `bar own still ${colourOf(threads[call.thread])}${call.ended === null ? " open" : ""}` }, bar);
   });
   const lanes = threads.map((thread, at) => drawJudgedLane(scale, at, thread));
   const frame = { width: scale.width, height: scale.height, role: "img", "aria-label": calls.map(nameOfCall).join(", ") };
@@ -126,19 +117,20 @@ export function drawJudged(judged) {
   const at = exercise.level === "claim" ? moment : judged.count;
   const line = { class: "cursor", x1: scale.x(at), x2: scale.x(at), y1: 0, y2: scale.height };
   const frame = { width: scale.width, height: scale.height, role: "group", "aria-label": "the calls, each with a point to place" };
-  const labels = labelsOf(exercise.calls, judged);
-  const calls = exercise.calls.map((call) => drawJudgedCall(call, judged, labels.get(call.id)));
+  const calls = exercise.calls.map((call) => drawJudgedCall(call, judged));
   return tag("svg", frame, ...lanes, at === 0 ? "" : tag("line", line), ...calls);
 }
 
-// The reader's order as text.
+// The reader's order as text, and behind it, pale, the calls that are not in it yet: so it takes the same space from the start.
 export function drawOwnOrder(answer) {
-  const order = answer.order();
-  if (order.length === 0) return "Press on a bar, and drag: there the call takes effect. Or go to it by Tab, and use the arrows.";
-  const items = order.map(({ call, at, reply }) => {
+  const { calls } = answer.exercise;
+  const placed = answer.order().map(({ call, at, reply }) => {
     return `<li>${chipOf(call.thread)} ${callText(call)} <b>${escaped(reply ?? "?")}</b> <small>${momentInWords(at)}</small></li>`;
   });
-  return `<ol>${items.join("")}</ol>`;
+  const others = calls.filter(({ id }) => !answer.points.has(id)).map((call) => {
+    return `<li class="later">${chipOf(call.thread)} ${callText(call)} <small>not placed yet</small></li>`;
+  });
+  return `<ol>${placed.join("")}${others.join("")}</ol>`;
 }
 
 // What a report tells of a moment of it.

@@ -1,7 +1,7 @@
 // Draws what the page shows of a moment: the sentence, the list, the history, the tables and the marks in the text.
 import { LISTS } from "../../made/rows.js";
 import { glide } from "../draw/glide.js";
-import { drawCalls, drawContents, drawOrder, scaleOf } from "../draw/history.js";
+import { drawCalls, drawContents, drawOrder, heightOfCalls, scaleOf } from "../draw/history.js";
 import { arranged, drawList, shapeFor } from "../draw/list.js";
 import { drawListing } from "../draw/listing.js";
 import { forgetRoom, keptHeight, roomOf } from "../draw/room.js";
@@ -127,15 +127,16 @@ function showHistory(event, wide) {
 function listHeight() {
   if (page.view === "list" || page.view === "history" || innerWidth <= 560) return Infinity;
   if (page.view === "lecture") return slideHeight();
-  const isAtWork = byId("moves-box").parentElement.id === "moves-wide";
-  const below = isJudging() ? 430 : byId("bar").clientHeight + 96 + 42 * Math.min(page.trace.threads, 6) + (isAtWork ? 0 : 30);
+  const below = byId("bar").clientHeight + (isJudging() ? byId("judge").offsetHeight + 90 : 142 + callsHeight());
   return Math.max(isJudging() ? 190 : 260, innerHeight - byId("list").getBoundingClientRect().top - scrollY - below);
 }
 
+// The bars of the history, which scroll if they are too many.
+const callsHeight = () => Math.min(ALL_LANES, heightOfCalls(page.trace, Math.max(300, byId("history").clientWidth)));
+
 // What a slide of a lecture leaves for the list.
 function slideHeight() {
-  const threads = Math.min(page.trace.threads, 6);
-  const below = isJudging() ? 214 + 54 * threads : 66 + 42 * threads;
+  const below = isJudging() ? byId("judge").offsetHeight + 16 : 66 + callsHeight();
   const others = ["task", "said", "bar"].reduce((sum, name) => sum + byId(name).clientHeight, 0);
   return Math.max(150, innerHeight / slideZoom(innerWidth, innerHeight) - others - below - 54);
 }

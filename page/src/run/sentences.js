@@ -12,17 +12,30 @@ export const isFailed = (event) => event.deed === "exchange" && event.saw !== ev
 export const ownerIn = (word) => word.split(".")[0];
 const isLinkOf = (event) => event.word?.endsWith(".link");
 
-// What an event did; `row` is the one at which its thread stood before.
+// A lock by what it protects; several of them.
+const lockedBy = (word) => (word === "list.lock" ? "the list" : mono(ownerIn(word)));
+const lockNames = (words) => `the lock${words.length > 1 ? "s" : ""} of ${words.map(ownerIn).join(" and ")}`;
+const setsMark = (event) => isLinkOf(event) && event.to?.endsWith("*") === true;
+
+// What an event did; `row` is the one at which its thread was before.
 function deedText(event, row) {
   const word = event.word && mono(event.word);
   if (event.deed === "begin") return `begins ${callText(event.call)}.`;
   if (event.deed === "load") return `reads ${word}: ${said(event.saw)}.`;
-  if (event.deed === "store") return isLock(event.word) ? `gives ${word} back.` : `writes ${word} := ${said(event.to)}.`;
-  const exchange = `${said(event.from)} → ${said(event.to)}`;
-  if (event.saw === event.from) return isLock(event.word) ? `takes ${word}.` : `exchanges ${word}: ${exchange}.`;
-  const where = event.changes.pc === row ? `it stays at row ${row}` : `all the same it goes on to row ${event.changes.pc}`;
-  if (isLock(event.word)) return `tries ${word}, which ${event.saw} has: ${where}.`;
-  return `tries to exchange ${word}: ${exchange}, but finds ${said(event.saw)}.`;
+  if (isLock(event.word)) return lockText(event, row);
+  const change = event.deed === "store" ? `${word} := ${said(event.to)}` : `${word}: ${said(event.from)} → ${said(event.to)}`;
+  const finds = isFailed(event) ? `, but finds ${said(event.saw)}` : "";
+  if (setsMark(event)) return `${isFailed(event) ? "tries to mark" : "marks"} ${mono(ownerIn(event.word))} (${change})${finds}.`;
+  if (event.deed === "store") return `sets ${word} to ${said(event.to)}.`;
+  return `${isFailed(event) ? "tries to change" : "changes"} ${word} from ${said(event.from)} to ${said(event.to)}${finds}.`;
+}
+
+function lockText(event, row) {
+  const name = lockedBy(event.word);
+  if (event.deed === "store") return `unlocks ${name}.`;
+  if (!isFailed(event)) return `locks ${name}.`;
+  const then = event.changes.pc === row ? "It will try again" : `It goes on all the same, to row ${event.changes.pc}`;
+  return `tries to lock ${name}, but ${event.saw} holds it. ${then}.`;
 }
 
 // Which event set the mark of each node that has one. A mark stays.
@@ -30,53 +43,62 @@ function marksOf(trace) {
   if (trace.marks !== undefined) return trace.marks;
   trace.marks = new Map();
   for (const event of trace.starred.map((number) => trace.event(number))) {
-    if (isLinkOf(event) && event.to?.endsWith("*") && isDone(event)) trace.marks.set(ownerIn(event.word), event);
+    if (setsMark(event) && isDone(event)) trace.marks.set(ownerIn(event.word), event);
   }
   return trace.marks;
 }
 
 // A node with the thread whose slot it is, and the thread that marked it.
 function wholeName({ trace, event }, name) {
-  const whose = isOpeningNode(trace, name) ? "the opening node" : `${chipOf(ownerOf(trace, name))}'s node`;
+  const whose = isOpeningNode(trace, name) ? "the node of an opening key" : `${chipOf(ownerOf(trace, name))}'s node`;
   const mark = marksOf(trace).get(name);
-  if (mark === undefined || mark.number > event.number) return `${whose} ${name}`;
-  return `${whose} ${name}, which ${chipOf(mark.thread)} marked at event ${mark.number},`;
+  if (mark === undefined || mark.number > event.number) return `${name}</b>, ${whose}`;
+  return `${name}</b>, ${whose}, which ${chipOf(mark.thread)} marked at event ${mark.number}`;
+}
+
+// Whether a node of the chain has this key and no mark.
+function isInChain(state, key) {
+  return state.chain().some((name) => String(state.nodes[name].key) === String(key) && !state.nodes[name].link.endsWith("*"));
 }
 
 // What comes of an event. Each says its part, or nothing.
 const OUTCOMES = {
-  // In a broken list, a node may go in behind one that is out of the chain, and a key stay in it that is taken out.
-  change({ trace, state, event, held }) {
-    const hasKey = ({ key, link }, wanted) => String(key) === String(wanted) && !link.endsWith("*");
-    const isIn = (key) => state.chain().some((name) => hasKey(state.nodes[name], key));
-    if (event.put !== undefined && !isIn(event.put))
-      return `<b>This should put ${event.put} into the set, but its node is not in the chain: ${event.put} is lost.</b>`;
-    if (event.took !== undefined && isIn(event.took))
-      return `<b>This should take ${event.took} out of the set, but the chain still has it.</b>`;
-    if (event.put !== undefined) return `<b>This puts ${event.put} into the set</b>, with slot ${held.used} of ${trace.quota}.`;
-    if (event.took !== undefined) return `<b>This takes ${event.took} out of the set.</b>`;
-    return "";
+  // In a broken list, a node may be inserted behind one that is not in the chain, and a key that is removed may stay in it; and a call
+  // may add a key that is there already, or remove one that is not.
+  change({ trace, state, event, held, hadKey }) {
+    const { put, took } = event;
+    const had = trace.lacks !== null && hadKey;
+    const hasNow = (key) => trace.lacks !== null && isInChain(state, key);
+    if (put !== undefined) {
+      if (had) return `<b>This should add ${put} to the set, but ${put} is in it already.</b>`;
+      if (trace.lacks === null || hasNow(put)) return `<b>This adds ${put} to the set</b>, in slot ${held.used} of ${trace.quota}.`;
+      return `<b>This should add ${put} to the set, but its node is not in the chain: ${put} is lost.</b>`;
+    }
+    if (took === undefined) return "";
+    if (trace.lacks !== null && !had) return `<b>This should remove ${took} from the set, but ${took} is not in it any more.</b>`;
+    return hasNow(took) ? `<b>This should remove ${took} from the set, but the chain still has it.</b>` : `<b>This removes ${took} from the set.</b>`;
   },
 
-  mark({ event }) {
-    if (!isLinkOf(event) || !event.to?.endsWith("*") || !isDone(event)) return "";
-    return `${ownerIn(event.word)} is marked now, and still in the chain.`;
+  mark({ state, event }) {
+    if (!setsMark(event) || !isDone(event)) return "";
+    const owner = ownerIn(event.word);
+    return state.chain().includes(owner) ? `${owner} is still in the chain.` : `${owner} is not in the chain any more.`;
   },
 
   // A link that went to a node goes past it.
   unlink(moment) {
-    const { state, event, before } = moment;
+    const { state, event, before, wasInChain } = moment;
     const gone = before.curr;
-    if (!isLinkOf(event) || !isDone(event) || gone === "tail" || gone === ownerIn(event.word)) return "";
+    if (!wasInChain || !isLinkOf(event) || !isDone(event) || gone === "tail" || gone === ownerIn(event.word)) return "";
     if (state.nodes[gone].link.replace("*", "") !== event.to || state.chain().includes(gone)) return "";
-    return `<b>This takes ${wholeName(moment, gone)} out of the chain.</b>`;
+    return `<b>This unlinks ${wholeName(moment, gone)}.`;
   },
 
   // The last exchange of a remove, which answers whatever it sees.
   leftInChain({ state, event, before }) {
     if (!isFailed(event) || event.answer === undefined) return "";
-    if (!state.chain().includes(before.curr)) return `${before.curr} is out of the chain already.`;
-    return `<b>${before.curr} is left in the chain, marked,</b> for a later walk to take out.`;
+    if (!state.chain().includes(before.curr)) return `${before.curr} is not in the chain any more.`;
+    return `<b>${before.curr} stays in the chain, marked,</b> for a later walk to unlink.`;
   },
 
   validation({ event, held, row }) {
@@ -84,20 +106,20 @@ const OUTCOMES = {
     const owner = ownerIn(event.word);
     let reason = `${owner} leads to ${said(event.saw)} now, not to ${held.curr}`;
     if (event.saw.endsWith("*")) reason = `${owner} is marked`;
-    if (event.word.endsWith(".key")) reason = `the second walk is past the key of ${held.pred} and has not met it`;
-    return `<b>The validation fails:</b> ${reason}. It gives its locks back and walks again.`;
+    if (event.word.endsWith(".key")) reason = `the second walk is past the key of ${held.pred} and has not found it`;
+    return `<b>The validation fails:</b> ${reason}. It will unlock both nodes and start again.`;
   },
 
   // Only the last row of a validation goes on to decide.
   valid({ held, row }) {
     if (row?.invalid === undefined || !row.then.includes("decide on")) return "";
-    return held.pc === row.invalid && held.reply === "none" ? "" : "The validation holds.";
+    return held.pc === row.invalid && held.reply === "none" ? "" : "The validation succeeds.";
   },
 
   again({ event, held, row }) {
     if (row?.again === undefined || held.pc !== row.again || event.answer !== undefined) return "";
     const reason = event.saw?.endsWith("*") && event.deed === "load" ? `${ownerIn(event.word)} is marked: it` : "It";
-    return `<b>${reason} begins its walk again${/with the same slot/.test(row.book) ? ", with the same slot" : ""}.</b>`;
+    return `<b>${reason} starts its walk again${/with the same slot/.test(row.book) ? ", with the same slot" : ""}.</b>`;
   },
 
   markMet({ trace, state, event, held, row }) {
@@ -105,29 +127,30 @@ const OUTCOMES = {
     const owner = ownerIn(event.word);
     const where = state.chain().includes(owner) ? "and still" : "and no longer";
     if (event.answer !== undefined) return `<b>${owner} is marked</b>, ${where} in the chain.`;
-    if (event.changes.curr !== undefined) return `${owner} is marked, and the walk goes on over it.`;
+    if (event.changes.curr !== undefined) return `${owner} is marked: the walk passes over it.`;
     const next = LISTS[trace.kind].rows[held.pc]?.step ?? "";
-    if (next.startsWith("exchange pred.link")) return `<b>${owner} is marked:</b> it goes on to take it out.`;
-    return next.startsWith("exchange curr.link") ? `<b>${owner} is marked already:</b> its exchange is going to fail.` : "";
+    if (next.startsWith("exchange pred.link")) return `<b>${owner} is marked:</b> the next step tries to unlink it.`;
+    if (!next.startsWith("exchange curr.link")) return "";
+    return `<b>${owner} is marked already:</b> the next step will fail.`;
   },
 
   walk({ trace, event, held, row }) {
     if (event.deed !== "load" || row === undefined) return "";
     if (row.below !== undefined) return walkAtKey(event, held);
-    if (row.then.includes("node = next(s)")) return `The second walk comes to ${held.node}.`;
+    if (row.then.includes("node = next(s)")) return `The second walk reaches ${held.node}.`;
     if (row.then.includes("node is pred")) return secondWalkAtKey(held, row);
     if (!row.then.includes("curr = next(s)")) return "";
     const opening = isOpeningNode(trace, held.curr) ? ", the node of an opening key" : "";
-    return `The walk comes to ${held.curr}${opening}.`;
+    return `The walk reaches ${held.curr}${opening}.`;
   },
 
   decision({ trace, event, held, before }) {
     const { adds, removes } = LISTS[trace.kind];
     if (event.answer !== undefined || held.reply !== "none" || before.pc === held.pc) return "";
     const { operation, key } = held.call;
-    if (operation === "add" && held.pc === adds) return `${key} is not there: it goes on to put it in.`;
-    if (operation === "remove" && held.pc === removes) return `${key} is there: it goes on to take it out.`;
-    return "";
+    const found = event.word?.endsWith(".key") ? "The" : `${held.curr} ${operation === "add" ? "does not have" : "has"} the key ${key}: the`;
+    if (operation === "add" && held.pc === adds) return `${found} add goes ahead.`;
+    return operation === "remove" && held.pc === removes ? `${found} remove goes ahead.` : "";
   },
 
   reply({ trace, event }) {
@@ -141,7 +164,8 @@ const OUTCOMES = {
   locks({ state, event }) {
     if (!event.word || !isLock(event.word) || !isDone(event) || event.answer !== undefined) return "";
     const own = state.locks()[`t${event.thread}`];
-    return own === undefined ? "It has no lock now." : `It has ${own.join(" and ")}.`;
+    if (own === undefined) return "It holds no lock now.";
+    return event.deed === "exchange" && own.length === 1 ? "" : `It holds ${lockNames(own)}.`;
   },
 };
 
@@ -151,15 +175,15 @@ const isBelow = (saw, key) => keyNumber(saw) < Number(key);
 function walkAtKey(event, held) {
   const owner = ownerIn(event.word);
   const { key } = held.call;
-  if (isBelow(event.saw, key)) return `${keyText(event.saw)} is below ${key}: the walk goes on.`;
+  if (isBelow(event.saw, key)) return `${keyText(event.saw)} is below ${key}: the walk continues.`;
   if (event.saw === String(key)) return `<b>The walk stops at ${owner},</b> which has its key.`;
-  return `<b>The walk stops at ${owner},</b> the first whose key is above ${key}.`;
+  return `<b>The walk stops at ${owner},</b> the first with a key above ${key}.`;
 }
 
 function secondWalkAtKey(held, row) {
   if (held.pc === row.invalid) return "";
-  if (held.node === held.pred) return `The second walk meets pred, ${held.pred}.`;
-  return `It has not met pred, ${held.pred}: the second walk goes on.`;
+  if (held.node === held.pred) return `The second walk reaches pred, ${held.pred}.`;
+  return `This is not pred, ${held.pred}: the second walk continues.`;
 }
 
 const isOpeningNode = (trace, name) => /^n/.test(name) && Number(name.slice(1)) >= firstOpeningNode(trace);
@@ -178,9 +202,9 @@ function effectText({ trace, event }, hidden) {
 }
 
 function openingText(trace) {
-  if (trace.opening.length === 0) return "Before the first event the list is empty and every thread is at rest.";
+  if (trace.opening.length === 0) return "Before the first event the list is empty, and every thread is idle.";
   const some = trace.opening.slice(0, 20).join(", ");
-  return `Before the first event the set is {${some}${trace.opening.length > 20 ? ", …" : ""}} and every thread is at rest.`;
+  return `Before the first event the set is {${some}${trace.opening.length > 20 ? ", …" : ""}}, and every thread is idle.`;
 }
 
 // The state after `count` events of its trace, with the event that led there and what its thread held before. The state is moved.
@@ -189,10 +213,13 @@ export function momentAt(state, count) {
   const event = count > 0 ? trace.event(count) : null;
   state.moveTo(Math.max(count - 1, 0));
   const before = event === null ? null : { ...state.threads[event.thread] };
+  const changed = event?.put ?? event?.took;
+  const hadKey = trace.lacks !== null && changed !== undefined && isInChain(state, changed);
+  const wasInChain = trace.lacks === null || before === null || state.chain().includes(before.curr);
   state.moveTo(count);
   if (event === null) return { trace, state, event };
   const row = event.deed === "begin" ? undefined : LISTS[trace.kind].rows[before.pc];
-  return { trace, state, event, before, held: state.threads[event.thread], row };
+  return { trace, state, event, before, hadKey, wasInChain, held: state.threads[event.thread], row };
 }
 
 // The sentence of a moment, without what is hidden: some of the outcomes, and "effect", where a call took effect.
