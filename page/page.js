@@ -535,22 +535,22 @@ return { byId, redraw, setAble, setHidden };
 // run/faults.js
 const $run_faults = (() => {
 const CAUSES = {
-  Header: 'line 1 is to be "listset-schedule 1", or "listset-schedule 2", which has ceilings and opening keys',
-  Kind: 'line 2 is to be "list" and one of coarse, fine, optimistic, lazy, lock-free',
-  Threads: 'line 3 is to be "threads" and a number from 1 to 64',
-  Quota: 'line 4 is to be "quota" and a number from 0 to 16384',
+  Header: 'line 1 must be "listset-schedule 1", or "listset-schedule 2", which has ceilings and opening keys',
+  Kind: 'line 2 must be "list" and one of coarse, fine, optimistic, lazy, lock-free',
+  Threads: 'line 3 must be "threads" and a number from 1 to 64',
+  Quota: 'line 4 must be "quota" and a number from 0 to 16384',
   Event:
-    'a line is to be "begin T CALL K" or "go T N", with one space between; ' +
-    'a ceiling and, above all events, "opening K" are of version 2 alone',
-  Number: "a number is none, has a leading zero, or is out of its range",
-  TooMany: "the events up to this line are more than 1,000,000, or the opening keys more than 1,048,576",
-  Opening: "an opening key is to be above the one before",
-  NotEnded: "the line has no newline at its end",
+    'expected "begin T CALL K" or "go T N", with one space between; ' +
+    'in version 2 "opening K" is allowed too, above all events, and the call ceiling',
+  Number: "expected a number in range, without sign or leading zero: 5, not +5 or 05",
+  TooMany: "up to this line there are more than 1,000,000 events, or more than 1,048,576 opening keys",
+  Opening: "opening keys must increase; this one is not above the one before",
+  NotEnded: "the line does not end with a newline",
   NoThread: "there is no such thread",
-  Busy: "the thread has a call open",
-  Idle: "the thread has no call open",
-  Waits: "the thread waits for a lock of another one, and does not come there",
-  Lost: "the list is broken so far that this step names no word of it",
+  Busy: "the thread begins a call while it has one pending",
+  Idle: "the thread makes a step while it has no call pending",
+  Waits: "the thread does not get there: it waits for a lock that another thread holds",
+  Lost: "the broken list's step would access a word outside its table",
 };
 return { CAUSES };
 })();
@@ -720,12 +720,17 @@ const { HEADER_LINES } = $run_trace;
 const MOST_JUDGED = 60; // events of a run that is judged
 
 const LEVELS = {
-  points: { task: "The replies are shown. Where does each call take effect?", hidden: ["change", "effect"] },
+  points: { name: "points (the replies are shown)", task: "The replies are shown. Where does each call take effect?", hidden: ["change", "effect"] },
   replies: {
+    name: "replies and points",
     task: "What does each call answer, and where does it take effect?",
     hidden: ["change", "reply", "leftInChain", "effect"],
   },
-  claim: { task: "May a set answer this? Give an order that explains the report, or say that there is none.", hidden: [] },
+  claim: {
+    name: "is there an order at all?",
+    task: "Can a set give these replies? Give an order that explains the report, or say that there is none.",
+    hidden: [],
+  },
 };
 
 function exerciseOf(text, level, isWhole = true) {
@@ -812,7 +817,7 @@ function verdictOn(ask, answer) {
   const unsaid = answer.unsaid();
   if (answer.isNone) return verdictOnClaim(ask, answer.exercise);
   const nothing = { isRight: null, clash: null, report: null };
-  if (unsaid.length > 0) return { ...nothing, says: `Still to be said: ${unsaid.map(nameOfCall).join(", ")}.` };
+  if (unsaid.length > 0) return { ...nothing, says: `Still missing: ${unsaid.map(nameOfCall).join(", ")}.` };
   const report = reportOfAnswer(answer);
   const checked = ask("listset_check", report).text.trim();
   if (checked === "ok") return { isRight: true, clash: null, report, says: rightInWords(answer) };
@@ -835,19 +840,19 @@ function otherOrders(drawn) {
 
 function verdictOnClaim(ask, { isWhole, reportText }) {
   const said = (isRight, says) => ({ isRight, clash: null, report: null, says });
-  const there = "There is one: this is a run of a list that is proved to have an order for each of its runs. Find it.";
+  const there = "There is one: this is a run of a correct list, and each of those has an order (proved). Find it.";
   if (isWhole) return said(false, there);
   const { kind } = otherOrders(ask("listset_show", reportText).text);
-  if (kind === "none") return said(true, "Right: no order explains this report (proved). A broken list gave it.");
-  if (kind === "unknown") return said(null, "A broken list gave this report, and whether an order explains it is not known.");
-  return said(false, "There is one, although a broken list gave this report. Find it.");
+  if (kind === "none") return said(true, "Right: no order explains this report (proved). It comes from a broken list.");
+  if (kind === "unknown") return said(null, "This report comes from a broken list, and whether an order explains it is not known.");
+  return said(false, "There is one, although this report comes from a broken list. Find it.");
 }
 
 function rightInWords(answer) {
   if (!answer.exercise.isWhole) return "check says ok: this order explains the report, so this schedule does not break the list.";
   const own = answer.order().map(({ call, reply }) => `${call.id}-${reply}`);
   const isSame = own.join() === answer.exercise.places.join();
-  const also = isSame ? "It is the order that the replayer gives, too." : "The replayer gives another one: both explain the run.";
+  const also = isSame ? "It is also the order of the replayer." : "The replayer has another one: both explain the run.";
   return `check says ok: this order explains the run. ${also}`;
 }
 
@@ -865,11 +870,11 @@ function faultInWords(answer, line) {
   const early = /^refused TooEarly (\d+): it begins at (\d+) and stands before call (\d+), which ended at (\d+)$/.exec(line);
   if (early !== null) {
     const [, late, begun, first, ended] = early;
-    const stands = `in your order it stands before ${named(first)}, which ended at event ${ended}`;
+    const stands = `in your order it comes before ${named(first)}, which ended at event ${ended}`;
     return `${named(late)} begins at event ${begun}, and ${stands}.`;
   }
   const leaves = /^refused WrongSet: the order leaves (\{.*\}), and the keys are (\{.*\})$/.exec(line);
-  if (leaves !== null) return `Your order leaves the set ${leaves[1]}, and at the end of this run it is ${leaves[2]}.`;
+  if (leaves !== null) return `Your order leaves the set ${leaves[1]}; at the end of this run it is ${leaves[2]}.`;
   return line;
 }
 
@@ -1303,7 +1308,7 @@ const { LEVELS } = $run_judged;
 const { scheduleOfTrace } = $run_schedule_text;
 const { momentAt } = $run_sentences;
 const { State } = $run_state;
-const NO_ENGINE = "The engine is not here: no schedule can be run and no report checked. A file of listset trace can be opened.";
+const NO_ENGINE = "The replayer does not run in this browser: no schedule can be run, no report checked. A file of listset trace can be opened.";
 
 const page = {
   engine: null,
@@ -1498,7 +1503,7 @@ const BREAK_LEVELS = {
       "Let both threads walk to the same place: pred is the node of 3, curr that of 7.",
       "Stop t0 just before it writes pred.next. Let t1 do its whole add. Then let t0 end.",
     ],
-    lacks: "It goes on although another thread has the lock.",
+    lacks: "It continues although another thread holds the lock.",
     others: {
       "It releases the lock before it writes the link.": "it releases the lock only after that",
       "It writes the link of pred before that of its own node.": "it writes the link of its own node first",
@@ -1507,61 +1512,61 @@ const BREAK_LEVELS = {
   },
   "mark-in-remove": {
     grade: 0,
-    story: "Two threads take out one key. One of them should answer that it came too late.",
+    story: "Two threads remove one key. One of them should answer that it came too late.",
     hints: [
       "Two removes of the same key, 3.",
       "Let both threads find the node of 3 before either of them marks it.",
-      "Stop t0 before the exchange that sets the mark; let t1 go past its own; then let both end.",
+      "Stop t0 before the step that sets the mark; let t1 set its own; then let both end.",
     ],
     shortest: [14, 2],
   },
   mark: {
     grade: 0,
-    story: "Taking out a node is one exchange here. Fast. Too fast?",
+    story: "Removing a node is one compare-and-exchange here. Fast. Too fast?",
     hints: [
       "An add of 5, and a remove of the node in front of it.",
-      "The add's pred is to be the node of 3, which the other thread takes out.",
-      "Stop t0 before the exchange that links 5 in. Let t1 remove 3. Then one step of t0.",
+      "The pred of the add must be the node of 3, which the other thread removes.",
+      "Stop t0 before the step that links 5 in. Let t1 remove 3. Then one step of t0.",
     ],
     shortest: [15, 2],
   },
   "last-slot": {
     grade: 0,
-    story: "Each thread may put in two keys in its life. This list is mean.",
+    story: "Each thread may add two keys. This list allows fewer.",
     hints: [
       "One thread is enough. It adds.",
       "Two adds of different keys.",
-      "Let t0 add 4 to its end, and then 5 to its end. What does it answer?",
+      "Let t0 add 4, and then 5. What does the second add answer?",
     ],
     shortest: [17, 2],
   },
   "new-slot": {
     grade: 0,
-    story: "Each key that is put in wants a node of its own. Does it get one?",
+    story: "Each key that is added needs a node of its own. Does it get one?",
     hints: [
       "One thread is enough. It adds.",
       "Two adds of different keys, one after the other.",
-      "Let t0 add 4 to its end, and then 5 to its end. Where is 4?",
+      "Let t0 add 4, and then 5. Where is 4?",
     ],
     shortest: [20, 2],
   },
   "second-lock": {
     grade: 1,
-    story: "Hand over hand, the book says: two locks at a time. This one holds one hand in its pocket.",
+    story: "Hand over hand, the book says: two locks at a time. Here one hand stays in the pocket.",
     hints: [
       "An add of 5 beside a remove of 3, its neighbour.",
-      "The add is to hold the node of 3 while the other thread takes that node out.",
-      "Let t1 go on with its add until just before it writes pred.next, with 3 as its pred. Then try a remove of 3 by t0.",
+      "The add must hold the lock of 3 while the other thread removes that node.",
+      "Let t1 step through its add until just before it writes pred.next, with 3 as its pred. Then try a remove of 3 by t0.",
     ],
     shortest: [21, 2],
   },
   "hand-over-hand": {
     grade: 1,
-    story: "A walk should never stand without a lock, not for one moment.",
+    story: "A walk should never be without a lock, not for one moment.",
     hints: [
       "An add of 5 beside a remove of 3, its neighbour.",
       "There is a moment in which the walk of the add holds no lock. Find it.",
-      "Stop t1 on its way from the node of 3 to that of 7. Let t0 remove 3. Then let t1 go on.",
+      "Stop t1 on its way from the node of 3 to that of 7. Let t0 remove 3. Then let t1 end.",
     ],
     shortest: [24, 2],
   },
@@ -1570,7 +1575,7 @@ const BREAK_LEVELS = {
     story: "It locks two nodes, and looks again. But what does it look at?",
     hints: [
       "An add of 5 beside a remove of 3, its neighbour.",
-      "The node that the add has found as pred may be out of the list before it is locked.",
+      "The node that the add has found as pred may be unlinked before it is locked.",
       "Stop t0 at row 4, before it locks pred, which is the node of 3. Let t1 remove 3. Then let t0 end.",
     ],
     shortest: [23, 2],
@@ -1587,11 +1592,11 @@ const BREAK_LEVELS = {
   },
   "mark-in-add": {
     grade: 1,
-    story: "The mark forbids to change a link. Somebody does not care.",
+    story: "A marked link must not change. Somebody changes it all the same.",
     hints: [
       "An add of 5, and a remove of the node in front of it.",
-      "The remove is to have marked the node of 3, and no more.",
-      "Stop t0 before its last exchange. Let t1 remove 3 until it has set the mark. Then let t0 end.",
+      "The remove must have marked the node of 3, and done no more.",
+      "Stop t0 before its last step. Let t1 remove 3 until it has set the mark. Then let t0 end.",
     ],
     shortest: [17, 2],
   },
@@ -1600,7 +1605,7 @@ const BREAK_LEVELS = {
     story: "The second walk looks for pred. It meets something that looks like it.",
     hints: [
       "Three calls: an add of 5, and of the other thread a remove and an add of one key.",
-      "The node of 3 goes out, and another node of 3 comes in.",
+      "The node of 3 is unlinked, and another node of 3 is inserted.",
       "Stop t0 at row 4, before it locks pred, the old node of 3. Let t1 remove 3 and add 3 again. Then let t0 end.",
     ],
     shortest: [36, 3],
@@ -1610,18 +1615,18 @@ const BREAK_LEVELS = {
     story: "A marked node can stay in the chain for a while. Who reads it there?",
     hints: [
       "Three calls: an add of 5, a remove of 7, and then a contains of 7.",
-      "A remove that loses its last exchange leaves its node in the chain, marked.",
-      "Stop t0 before it links 5 in. Let t1 remove 7 up to its last exchange. Link 5 in, let t1 end. Then ask for 7.",
+      "A remove whose last compare-and-exchange fails leaves its node in the chain, marked.",
+      "Stop t0 before it links 5 in. Let t1 remove 7 up to its last step. Link 5 in, let t1 end. Then call contains(7).",
     ],
     shortest: [26, 3],
   },
   "mark-in-ceiling": {
     grade: 2,
-    story: "ceiling(2) asks for the least key from 2 on. It takes the first node that it finds. Any node?",
+    story: "ceiling(2) asks for the smallest key from 2 on. It takes the first node that it finds. Any node?",
     hints: [
       "A remove of 3, and a ceiling of 2. Let something end in between.",
       "The remove has marked the node of 3 and has not ended. A contains of 3 answers false. And then the ceiling?",
-      "Stop t0 after it set the mark. Let t1 ask contains(3), and then ceiling(2).",
+      "Stop t0 after it set the mark. Let t1 call contains(3), and then ceiling(2).",
     ],
     shortest: [16, 3],
   },
@@ -1630,26 +1635,26 @@ const BREAK_LEVELS = {
     story: "Here contains does not look at the mark. No schedule is known after which no order explains the calls. Why not?",
     hints: [
       "A remove of 3, and a contains of 3 by the other thread.",
-      "The remove has set its mark and is still open. So it may come after the contains.",
-      "When the remove has ended, can a new contains still meet its node? In this list a remove ends after the node is out.",
+      "The remove has set its mark and is still pending. So it may come after the contains.",
+      "When the remove has ended, can a new contains still reach its node? In this list a remove ends after the node is unlinked.",
     ],
     shortest: null,
   },
 };
 
 const LACKS_IN_WORDS = {
-  "second-lock": "A remove locks pred alone, and not the node that it takes out.",
+  "second-lock": "A remove locks only pred, and not the node that it unlinks.",
   "hand-over-hand": "A walk releases one lock before it has the next.",
-  "second-walk": "After the locks it does not walk again: pred may be out of the list.",
+  "second-walk": "With the locks it does not walk again: pred may not be in the list any more.",
   "same-node": "The second walk looks for the key of pred, and not for the node itself.",
   "marks-in-validation": "The validation does not look at the marks.",
   "mark-in-contains": "A contains does not look at the mark of its node.",
   "mark-in-ceiling": "A ceiling does not look at the mark of its node.",
   mark: "A remove unlinks its node without marking it first.",
-  "mark-in-add": "An add links its node in behind a marked one.",
+  "mark-in-add": "An add inserts its node behind a marked one.",
   "mark-in-remove": "A remove marks a node that is marked already.",
   "mark-at-key": "A contains does not look at the mark of the node with its key.",
-  "new-slot": "An add writes into the node of the key before.",
+  "new-slot": "An add writes into the node of its last key.",
   "last-slot": "An add answers full while a slot is free.",
 };
 return { GRADES, BREAK_LEVELS, LACKS_IN_WORDS };
@@ -2638,8 +2643,8 @@ const { eventsInCommon, Trace } = $run_trace;
 const LACKING_THREADS = 2;
 const LACKING_QUOTA = 2;
 const LACKING_OPENING = [3, 7]; // what such a list opens with, until the reader changes that
-const EXPLAINED = "Explained: this schedule does not break it.";
-const BY_POINTS = "Not by its points: check refuses the order by the moments that the table names.";
+const EXPLAINED = "Not broken yet: some order explains this run.";
+const BY_POINTS = "Not by its linearization points: check refuses that order.";
 const OTHER = "Another order explains these replies.";
 const UNKNOWN = "Whether another order explains these replies is not known.";
 const UNEXPLAINED = "No order of these calls explains that (proved).";
@@ -2679,10 +2684,10 @@ function whyNone(report, [reason, ...lines]) {
   if (full !== null) return fullInWords(exercise, exercise.calls[full[1]]);
   const [, key, end] = /^no order explains the calls of key (\d+) (up|and)/.exec(reason) ?? [];
   if (key === undefined) return reason;
-  if (end === "and" && isLost(exercise, Number(key))) return `${key} was put in once and never taken out, and the set lacks it`;
+  if (end === "and" && isLost(exercise, Number(key))) return `${key} was added once and never removed, and at the end the set does not have it`;
   const start = /^key \d+ is (there|not there) at moment (\d+)$/.exec(lines[0] ?? "");
   const calls = lines.map((line) => callInWords(exercise, line)).filter((words) => words !== null);
-  const last = end === "and" ? [`at last the set ${isLeft(exercise, key) ? "has" : "lacks"} it`] : [];
+  const last = end === "and" ? [`at the end the set ${isLeft(exercise, key) ? "has it" : "does not have it"}`] : [];
   const then = [...calls, ...last].join(", ");
   if (start === null) return then === "" ? reason : then;
   const when = start[2] === "0" ? "at first" : `after event ${start[2]}`;
@@ -2728,7 +2733,7 @@ function departureOf(ask, trace) {
 function rowInWords(trace, number) {
   const event = trace.event(number);
   const row = event.changes.pc;
-  const { step } = LISTS[trace.kind].rows[row] ?? { step: "which the whole list has not" };
+  const { step } = LISTS[trace.kind].rows[row] ?? { step: "which the correct list does not have" };
   const isSaid = event.deed === "exchange" && isFailed(event) && isLock(event.word);
   return row === 0 || isSaid ? "" : ` It goes on at row ${row}, ${escaped(step)}.`;
 }
@@ -2940,7 +2945,7 @@ function drawLane(scale, thread) {
 function callInWords(call, now) {
   const isOpen = call.ended === null || call.ended > now;
   const events = isOpen && now < Infinity ? `from event ${call.begun} on` : `events ${call.begun} to ${call.ended ?? "the end"}`;
-  return `call ${call.id}: t${call.thread} ${callText(call)} ${isOpen ? "still open" : call.reply}, ${events}`;
+  return `call ${call.id}: t${call.thread} ${callText(call)} ${isOpen ? "pending" : call.reply}, ${events}`;
 }
 
 function drawBar(call, scale) {
@@ -2974,7 +2979,7 @@ function drawPoint(call, scale) {
   const x = scale.x(call.at);
   const y = scale.y(call.thread);
   const state = isReached(call, scale.count) ? "reached" : "later";
-  const how = call.changes ? "changes the set at" : "changes nothing; its reply fits at";
+  const how = call.changes ? "changes the set at" : "does not change the set; its reply is correct at";
   return tag(
     "g",
     { class: `point ${state} ${colourOf(call.thread)}` },
@@ -3036,7 +3041,7 @@ function drawContents(trace, scale) {
   const x = Math.min(Math.max(scale.x(scale.count), HISTORY_LEFT + 12), scale.width - 44);
   const number = scale.count > 0 ? label({ class: "number", x, y: 42 }, `event ${scale.count}`) : "";
   const name = label({ class: "name", x: 6, y: 17 }, "set");
-  const what = trace.lacks === null ? "the set" : "the set by the points of the calls";
+  const what = trace.lacks === null ? "the set" : "the set by the linearization points of the calls";
   const words = `${what} after event ${scale.count}: {${now.keys.slice(0, 40).join(", ")}}`;
   const frame = { width: scale.width, height: 50, role: "img", "aria-label": words };
   return tag("svg", frame, name, ...parts, drawCursor(scale, 24), number, drawWindow(scale, trace.total, x));
@@ -3046,7 +3051,7 @@ function drawOrder(trace, count, hides = false) {
   const reached = trace.order.filter((call) => isReached(call, count));
   const order = hides ? reached : trace.order;
   const total = order.length;
-  if (total === 0) return hides ? "No call stands in the order yet." : "No call stands in the order.";
+  if (total === 0) return hides ? "No call has taken effect yet." : "No call has taken effect.";
   const first = Math.max(0, Math.min(reached.length - 8, total - 14));
   const last = Math.min(total, first + 22);
   const items = order.slice(first, last).map((call) => {
@@ -3163,7 +3168,7 @@ function kindOf(state, name, place) {
 }
 
 function nodeInWords(node, name, kind) {
-  const where = { in: "", out: ", taken out" }[kind] ?? ", not in the list yet";
+  const where = { in: "", out: ", unlinked" }[kind] ?? ", not linked yet";
   return `${name}: key ${keyText(node.key)}, link ${said(node.link)}, lock ${node.lock}${where}`;
 }
 
@@ -3221,7 +3226,7 @@ function drawFold(item) {
   return tag(
     "g",
     { class: "fold" },
-    title(`${count} nodes of the chain that no thread looks at`),
+    title(`${count} nodes of the chain that no thread is at`),
     tag("rect", { x, y: TOP + 9, width: FOLD_WIDTH, height: NODE_HEIGHT - 18, rx: 18 }),
     label({ x: x + FOLD_WIDTH / 2, y: TOP + NODE_HEIGHT / 2 + 5 }, `… ${count} …`),
   );
@@ -4147,7 +4152,7 @@ function threadsShown(state, event, all) {
 function callCell(held, moved, event, hidesReplies) {
   if (held.pc !== 0) return callText(held.call);
   if (moved && event.answer !== undefined) return `${callText(held.call)} <b>${hidesReplies ? "…" : event.answer}</b>`;
-  return '<span class="pale">at rest</span>';
+  return '<span class="pale">idle</span>';
 }
 
 function rowCell(held, kind) {
@@ -4181,9 +4186,9 @@ function threadRow(state, thread, event, hidesReplies) {
 
 function drawThreads(state, event, all, hidesReplies = false) {
   const { registers } = LISTS[state.trace.kind];
-  const heads = ["thread", "call", "next row of the table", ...registers, "reply", "slots used"];
+  const heads = ["thread", "call", "next row of the step table", ...registers, "reply", "slots used"];
   const rows = threadsShown(state, event, all).map((thread) => threadRow(state, thread, event, hidesReplies));
-  if (rows.length === 0) rows.push(`<tr><td colspan="${heads.length}" class="pale">every thread is at rest</td></tr>`);
+  if (rows.length === 0) rows.push(`<tr><td colspan="${heads.length}" class="pale">every thread is idle</td></tr>`);
   const head = tag("tr", {}, ...heads.map((text) => tag("th", { scope: "col" }, text)));
   return tag("table", {}, tag("thead", {}, head), tag("tbody", {}, ...rows));
 }
@@ -4325,12 +4330,12 @@ function showThreads(event) {
   const many = page.trace.threads > MOST_ROWS;
   byId("threads").innerHTML = drawThreads(page.state, event, page.allThreads, hiddenOutcomes().includes("reply"));
   byId("all-threads").hidden = !many;
-  byId("all-threads").textContent = page.allThreads ? "only those with an open call" : `show all ${page.trace.threads}`;
+  byId("all-threads").textContent = page.allThreads ? "show only those with a pending call" : `show all ${page.trace.threads}`;
 }
 
 function showTable(moment) {
-  const which = page.lacks === null ? "" : ", which lacks nothing";
-  byId("table-title").textContent = `The table of ${LISTS[page.trace.kind].name}${which}`;
+  const which = page.lacks === null ? "" : " (of the correct list)";
+  byId("table-title").textContent = `Step table of ${LISTS[page.trace.kind].name}${which}`;
   if (byId("table-box").open) byId("table").innerHTML = drawTable(moment);
 }
 
@@ -5260,7 +5265,7 @@ const wordOf = (name) => BREAK_LEVELS[name].lacks ?? LACKS_IN_WORDS[name];
 
 function whyWrong(name, word) {
   const why = BREAK_LEVELS[name].others?.[word] ?? "that is not so in this list";
-  return `No: ${why}. Look for the line of the code at which this list does something else.`;
+  return `No: ${why}. Look for the line of the code that this list executes differently.`;
 }
 
 function titleOfLevel(name) {
@@ -5282,8 +5287,8 @@ function drawBreakMap() {
   const group = (title, names) => `<h2>${title}</h2>${tag("ol", { class: "cards" }, ...names.map(card))}`;
   const groups = GRADES.map((title, grade) => group(title, ORDER.filter((name) => BREAK_LEVELS[name].grade === grade)));
   const rest = group("To think about", ORDER.filter((name) => !counted.includes(name)));
-  byId("map-break").innerHTML = `<h1>Break a list</h1><p class="lead">Each of these lists lacks one check that the whole list makes. Move the threads
-    until no order of the calls explains what they answered. Then say what is missing.</p>${groups.join("")}${rest}`;
+  byId("map-break").innerHTML = `<h1>Break a list</h1><p class="lead">Each of these lists lacks one check of the correct list. Choose the steps of the
+    threads until no order of the calls explains their replies. Then say which check is missing.</p>${groups.join("")}${rest}`;
 }
 
 function fillBreaks() {
@@ -5360,7 +5365,7 @@ function drawJudgedLane(scale, place, thread = place) {
   return tag("line", lane) + tag("g", { class: `badge ${colourOf(thread)}` }, badge);
 }
 
-const OPEN = "(open)";
+const OPEN = "(pending)";
 const saidOf = (call, answer) => (call.ended === null ? OPEN : (answer.replyOf(call) ?? "?"));
 
 function drawJudgedCall(call, { answer, exercise, verdict, scale }) {
@@ -5447,7 +5452,7 @@ function momentOfReport({ calls, last }, moment) {
   if (ended !== undefined) return `Moment ${moment}: ${chipOf(ended.thread)} ${callText(ended)} answers <b>${ended.reply}</b>.`;
   const open = calls.filter((call) => call.begun < moment && (call.ended ?? Infinity) > moment);
   const names = open.map((call) => `${callText(call)} of ${chipOf(call.thread)}`);
-  return `Moment ${moment}: a step. ${names.length === 0 ? "No call is open." : `Open: ${names.join(", ")}.`}`;
+  return `Moment ${moment}: a step. ${names.length === 0 ? "No call is pending." : `Pending: ${names.join(", ")}.`}`;
 }
 return { judgeScale, drawRecorded, drawJudged, drawOwnOrder, momentOfReport };
 })();
@@ -5599,7 +5604,7 @@ class Judging {
     judgePart("tries").textContent = tries === 0 ? "" : `${tries} ${tries === 1 ? "try" : "tries"} refused`;
     judgePart("hint").textContent = kind === "wrong" && tries >= 2 && this.exercise.level !== "claim" ? hintOfRun() : "";
     const isKept = kind === "right" && this.exercise.isWhole;
-    judgePart("line").innerHTML = isKept ? `Kept, and handed in with the lessons: <code>${escaped(this.line)}</code>` : "";
+    judgePart("line").innerHTML = isKept ? `Kept; you hand it in with the lessons: <code>${escaped(this.line)}</code>` : "";
     const drawn = verdict?.report == null ? "" : askNow("listset_show_svg", verdict.report).text;
     judgePart("picture-box").hidden = !drawn.startsWith("<svg ");
     judgePart("picture").innerHTML = judgePart("picture-box").hidden ? "" : drawn;
@@ -5617,17 +5622,17 @@ function endJudging() {
 
 function hintOfRun() {
   const turns = CLASSICS[page.example]?.turns;
-  if (turns !== undefined) return `It turns at the events ${turns.join(", ")}.`;
+  if (turns !== undefined) return `The deciding events: ${turns.join(", ")}.`;
   const changes = page.trace.changes.map(({ number }) => number);
   return changes.length === 0 ? "No event changes the set." : `The set changes at the events ${changes.join(", ")}.`;
 }
 
 function beginJudging() {
   const { trace } = page;
-  if (page.engine === null) return tell("The engine is not here: nothing can be judged.");
-  if (!page.isRun || trace.refused !== null) return tell("A run with a refused event is not judged: take the red line out first.");
+  if (page.engine === null) return tell("The replayer does not run in this browser: nothing can be judged.");
+  if (!page.isRun || trace.refused !== null) return tell("A run with a refused event cannot be judged: delete the red line of the schedule first.");
   if (trace.calls.length === 0) return tell("There is no call to judge yet.");
-  if (trace.total > MOST_JUDGED) return tell(`Judged are runs of at most ${MOST_JUDGED} events: this one has ${trace.total}.`);
+  if (trace.total > MOST_JUDGED) return tell(`A run of at most ${MOST_JUDGED} events can be judged; this one has ${trace.total}.`);
   tell("");
   judging.begin(judgePart("level").value);
   judgePart("level").focus();
@@ -5635,7 +5640,7 @@ function beginJudging() {
 
 function listenToJudging() {
   byId("judge-begin").onclick = beginJudging;
-  judgePart("level").append(...Object.keys(LEVELS).map((level) => new Option(level, level)));
+  judgePart("level").append(...Object.entries(LEVELS).map(([level, { name }]) => new Option(name, level)));
   judgePart("level").value = "replies";
   judgePart("level").onchange = judgePart("again").onclick = () => judging.begin(judgePart("level").value);
   judgePart("ask").onclick = () => judging.judge(false);
@@ -5711,7 +5716,7 @@ function drawBreaking(trace, verdict) {
   drawLevel(trace, verdict);
   document.body.classList.toggle("refuted", verdict.kind === "broken");
   const line = Object.fromEntries(brokenLines())[lacks];
-  byId("break-line").innerHTML = line === undefined ? "" : `Kept, and handed in with the lessons: <code>${escaped(line)}</code>`;
+  byId("break-line").innerHTML = line === undefined ? "" : `Kept; you hand it in with the lessons: <code>${escaped(line)}</code>`;
 }
 
 function drawDeparture(isBroken) {
@@ -5725,7 +5730,7 @@ function drawDeparture(isBroken) {
 }
 
 
-const TO_DO = "· Go on until no order of the calls explains what they answered.";
+const TO_DO = "· Run the threads until no order of the calls explains their replies.";
 const HOLDS = "Not broken yet.";
 const won = (says, why) => ({ kind: "won", says, why });
 const holds = (says, why = "") => ({ kind: "holds", says, why });
@@ -5737,20 +5742,20 @@ function stateOf(trace, verdict) {
   if (verdict.kind === "refused") return holds(verdict.says);
   if (isBroken && isShownBreak(lacks, scheduleOfTrace(trace))) return stateOfShown();
   if (isPoints && lacks === NO_TASK) {
-    return holds("Refused by its points, and not broken.", "Another order explains these replies. Why is there always one?");
+    return holds("Refused by its linearization points, and not broken.", "Another order explains these replies. Why is there always one?");
   }
   if (isBroken) return won("Broken!", reasonOf(verdict));
   const isAnswered = trace.calls.some(({ ended }) => ended !== null);
-  if (!isAnswered) return { kind: "", says: "Nothing has answered yet.", why: "Let a thread begin a call, and go on." };
-  const explained = "An order explains all answers so far.";
+  if (!isAnswered) return { kind: "", says: "No call has ended yet.", why: "Let a thread begin a call, and step on." };
+  const explained = "Some order explains all replies so far.";
   return holds(HOLDS, isPoints ? verdict.says.replace("Not by its points: check refuses", "check refuses") : explained);
 }
 
-const reasonOf = ({ says }) => says.replace(/^Broken: /, "").replace(/and the set (has|lacks) it/, "and the list $1 it");
+const reasonOf = ({ says }) => says.replace(/^Broken: /, "").replace(/the set (has|does not have) it/, "the list $1 it");
 
 function stateOfShown() {
-  const says = page.count === page.trace.total ? "Broken, as shown." : "Step on, and look.";
-  return { kind: "shown", says, why: "This way was shown: it does not count. Find one of your own." };
+  const says = page.count === page.trace.total ? "Broken, as shown." : "Step on, and watch.";
+  return { kind: "shown", says, why: "This schedule was shown to you: it does not count. Find one of your own." };
 }
 
 
@@ -5825,7 +5830,7 @@ function openWithoutCheck() {
   const trace = new Trace(askNow("listset_trace_lacking", name, example).text, versionOf(example));
   const schedule = scheduleOfTrace(trace);
   noteShown(name, schedule);
-  openLacking(name, schedule, "The same schedule, on a list without the check. Step on.");
+  openLacking(name, schedule, "The same schedule, on a list without the check. Press Step.");
   const departs = departureOf(askNow, page.trace);
   if (departs !== null) goTo(departs.event - 1);
 }
@@ -5856,7 +5861,7 @@ const { scheduleAndLine } = $run_schedule_text;
 const { isFailed, isLock, mono } = $run_sentences;
 const { Trace } = $run_trace;
 const isAtRest = (thread) => page.state.threads[thread].pc === 0;
-const tellRest = (thread) => tell(`${chipOf(thread)} is at rest: let it begin a call first, by its row of buttons.`);
+const tellRest = (thread) => tell(`${chipOf(thread)} is idle: let it begin a call first, with its buttons below.`);
 
 function oneStep(thread) {
   if (isAtRest(thread)) tellRest(thread);
@@ -5887,7 +5892,7 @@ function stepsToLock(thread, fault, notYet) {
   const text = scheduleAndLine(page.trace, page.count, `go ${thread} ${MOST_TRIED}`);
   const answer = askList(askNow, "listset_trace", page.lacks, text);
   if (!fault.endsWith(": Waits") || !answer.text.startsWith("listset-trace")) {
-    return tell(`No steps: the engine says "${escaped(fault)}".`);
+    return tell(`No step was made: ${escaped(fault)}.`);
   }
   const events = new Trace(answer.text).events().slice(page.count);
   const waits = waitsAt(events);
@@ -5903,7 +5908,7 @@ function waitsAt(events) {
 }
 
 const waitingText = (thread, event) =>
-  `${chipOf(thread)} waits at row ${event.changes.pc} for ${mono(event.word)}, which ${chipOf(Number(event.saw.slice(1)))} has`;
+  `${chipOf(thread)} waits at row ${event.changes.pc} for the lock ${mono(event.word)}, which ${chipOf(Number(event.saw.slice(1)))} holds`;
 return { isAtRest, tellRest, oneStep, stepsToEnd, stepsToRow };
 })();
 
@@ -5923,7 +5928,7 @@ const chosenOf = (thread) => (chosenCalls[thread] ??= { operation: "add", key: "
 function drawMovesNow({ trace, state }) {
   drawMoves(state, page.engine !== null);
   const isLater = page.count < trace.total;
-  byId("moves-note").textContent = isLater ? `From event ${page.count} on; what comes after it is dropped.` : "";
+  byId("moves-note").textContent = isLater ? `From event ${page.count} on; the later events are dropped.` : "";
 }
 
 function drawMoves(state, isAble) {
@@ -6011,9 +6016,9 @@ const { goByHand, goToTurn, togglePlay } = $page_play;
 const { isAtRest, oneStep, stepsToEnd, stepsToRow, tellRest } = $page_steps;
 const { redo, undo } = $page_work;
 const ASKS = {
-  e: { told: "To the end of its call: which thread? Press its digit, or t and two digits.", deed: (thread) => stepsToEnd(thread) },
+  e: { told: "Steps to the end of a call: of which thread? Press its digit, or t and two digits.", deed: (thread) => stepsToEnd(thread) },
   r: {
-    told: "Until its row: which thread? Press its digit, or t and two digits.",
+    told: "Steps until the chosen row: of which thread? Press its digit, or t and two digits.",
     deed: (thread) => stepsToRow(thread, rowFor(page.state, thread)),
   },
 };
@@ -6300,14 +6305,14 @@ function turnOf(thread) {
   const isMade = shownSides.sides.turn(thread);
   shownSides.at = shownSides.sides.turns.length;
   drawSides();
-  if (!isMade) sidesPart("told").innerHTML = `${chipOf(thread)} has made all its calls in both.`;
+  if (!isMade) sidesPart("told").innerHTML = `${chipOf(thread)} has ended all its calls in both lists.`;
 }
 
 function drawSide(side, thread, place) {
   const count = side.counts[shownSides.at];
   const moment = momentAt(side.state, count);
   const hasWaited = shownSides.at > 0 && count === side.counts[shownSides.at - 1];
-  const said = hasWaited ? `${chipOf(thread)} has answered, and waits for the other.` : sentenceOf(moment);
+  const said = hasWaited ? `${chipOf(thread)} has ended its call here, and waits for the other list.` : sentenceOf(moment);
   const width = Math.max(320, sidesPart("pictures").clientWidth / (innerWidth < 940 ? 1 : 2) - 48);
   const scale = scaleOf(side.trace, count, width, page.hides);
   side.said = said;
@@ -6966,7 +6971,7 @@ function drawLearnMap() {
   if (box.querySelector(".drawn") === null) {
     box.append(Object.assign(document.createElement("div"), { className: "drawn" }), byId("lesson-folds"));
   }
-  const lead = "In each lesson you move the threads, until the run shows what is asked. There is more than one way.";
+  const lead = "In each lesson you choose which thread makes the next step, until the run shows what is asked. There is more than one way.";
   const parts = [
     tag("h1", {}, escaped(course.name)),
     tag("p", { class: "lead" }, lead),
@@ -6994,7 +6999,7 @@ function progressOf(course) {
 function linkToNext(course) {
   const first = course.lessons.find(({ name }) => !panel().isSolved(name));
   if (first === undefined) return "";
-  const word = solvedOf(course) === 0 ? "Begin" : "Go on";
+  const word = solvedOf(course) === 0 ? "Begin" : "Continue";
   return tag("a", { class: "button primary", href: addressOfLesson(first) }, `${word} with ${escaped(first.title)}`);
 }
 
@@ -7763,7 +7768,7 @@ class LessonsOnPage {
     this.hasAsked = false; // for what is missing, or for the hint: then the answer may be asked for
     this.ticks.clear();
     const { title, list, lacks, threads, opening, question, hint, teaches, answer } = lesson;
-    const keys = opening.length === 0 ? "" : `, opens with ${opening.join(", ")}`;
+    const keys = opening.length === 0 ? "" : `, initial keys ${opening.join(", ")}`;
     const set = `${LISTS[list].name}${lacks === null ? "" : " without one check"}, ${threads} threads${keys}`;
     lessonPart("title").innerHTML = `${escaped(title)} <small>${set}</small>`;
     lessonPart("question").textContent = question;
@@ -7804,7 +7809,7 @@ class LessonsOnPage {
     this.ticks.clear();
     keepWork();
     const isKept = this.ownWork() !== null;
-    this.open(this.lesson.begun, isKept ? "Your try before is kept: Go on with mine leads back to it." : "");
+    this.open(this.lesson.begun, isKept ? "Your last try is kept: Continue my last try leads back to it." : "");
     forgetBefore(); // Undo stops at the start
   }
 
@@ -7884,7 +7889,7 @@ class LessonsOnPage {
     setHidden(lessonPart("next"), !this.isSolved(lesson.name) || lesson === course.lessons.at(-1), lessonPart("start"));
     const isTold = this.isSolved(lesson.name) || this.own.looked.has(lesson.name);
     setAble("lesson-answer", isTold || this.hasAsked);
-    lessonPart("answer").title = isTold || this.hasAsked ? "" : "after a Check or the hint";
+    lessonPart("answer").title = isTold || this.hasAsked ? "" : "available after Check or Show a hint";
     lessonPart("teaches-fold").hidden = !isTold || lesson.teaches === "";
   }
 
@@ -7927,7 +7932,7 @@ function startLessons() {
 }
 
 function wrongText(verdict) {
-  if (verdict.reason === OTHER_SET) return "Nothing is tried yet: press Start over, and go on from there.";
+  if (verdict.reason === OTHER_SET) return "Nothing is tried yet: press Start over, and step on from there.";
   const line = verdict.conditions.find(({ isMet }) => !isMet)?.missing ?? null;
   const missing = missingIn(verdict)?.replace("missing: ", "Missing: ");
   const parts = [missing, line === null ? "" : `Not there yet: ${line}.`, verdict.deadEnd ?? ""];
@@ -7935,10 +7940,10 @@ function wrongText(verdict) {
 }
 
 function verdictText({ isSolved, isShown, reason, conditions }, isStart) {
-  if (isSolved) return isShown ? "This is the answer that was shown. Find another one." : "Solved.";
+  if (isSolved) return isShown ? "This is the answer that was shown to you. Find another one." : "Solved.";
   if (reason === OTHER_SET) return "Press Start over. A solution shows all of this:";
   if (reason !== null) return reason;
-  return isStart || conditions.length === 0 ? "A solution shows all of this:" : "Not solved yet: Check tells what is missing.";
+  return isStart || conditions.length === 0 ? "A solution shows all of this:" : "Not solved yet: Check says what is missing.";
 }
 return { startLessons };
 })();
@@ -7959,17 +7964,17 @@ end
 `;
 
 const CAUSES_OF_CALLS = {
-  NotEnded: "the text is to end with the line end",
-  Header: 'line 1 is to be "listset-calls 2"',
-  Kind: 'line 2 is to be "list" and one of coarse, fine, optimistic, lazy, lock-free',
-  Threads: 'line 3 is to be "threads" and a number from 1 to 64',
-  Quota: 'line 4 is to be "quota" and a number from 0 to 16384, no less than the adds of a thread that answered true',
-  Line: 'a line is to be "call T CALL K BEGIN POINT END REPLY", with - for what there is not; above all calls "opening K", below them "key K"',
-  Number: "a moment is no number from 1 to 4294967295, or another number is none up to 4294967295",
-  TooMany: "there are more opening keys, calls or keys than are read",
-  Opening: "an opening key is to be above the one before",
-  History: "there is no such thread, or it has two calls at a time, or a moment stands twice, or a call ends before it begins",
-  Point: "a point is to lie between the begin and the end; with a ceiling or a full, each add and remove that answered true wants one",
+  NotEnded: "the text must end with the line end",
+  Header: 'line 1 must be "listset-calls 2"',
+  Kind: 'line 2 must be "list" and one of coarse, fine, optimistic, lazy, lock-free',
+  Threads: 'line 3 must be "threads" and a number from 1 to 64',
+  Quota: 'line 4 must be "quota" and a number from 0 to 16384, no less than the adds of a thread that answered true',
+  Line: 'expected "call T CALL K BEGIN POINT END REPLY", with - for what is missing; "opening K" only above all calls, "key K" only below them',
+  Number: "a moment is not a number from 1 to 4294967295, or another number not one from 0 to 4294967295",
+  TooMany: "there are more opening keys, calls or keys than the judge reads",
+  Opening: "an opening key must be above the one before",
+  History: "there is no such thread, or it has two calls at a time, or two calls have one moment, or a call ends before it begins",
+  Point: "a point must lie between the begin and the end; if there is a ceiling or a full, each add and remove that answered true needs one",
 };
 
 const AS_LEFT = /^no order explains the calls of key (\d+) and leaves it as it was left$/;
@@ -8013,7 +8018,7 @@ function verdictOnCalls(text) {
     return said("none", "Not linearizable: no order at all explains these calls.", reasonsIn(lines), callsOf(lines));
   }
   if (first.startsWith("refused ")) {
-    const why = "The set has a bug, or a point stands in the wrong place.";
+    const why = "The set has a bug, or a point is at the wrong place.";
     return said("none", "No order has the changes at the points that the text gives.", [`${first}.`, why]);
   }
   const cause = /^listset: line \d+: (\w+)$/.exec(first)?.[1];
@@ -8024,7 +8029,7 @@ const withNewline = (text) => (text === "" || text.endsWith("\n") ? text : `${te
 
 const recordedInWords = (call) =>
   call.ended === null
-    ? `${nameOfCall(call)}, begun at ${call.begun}, has not answered`
+    ? `${nameOfCall(call)}, begun at ${call.begun}, is pending`
     : `${nameOfCall(call)} answers ${call.reply}, from ${call.begun} to ${call.ended}`;
 return { RECORDED_EXAMPLE, verdictOnCalls, withNewline, recordedInWords };
 })();
@@ -8040,13 +8045,14 @@ const MOST_DRAWN = 40; // calls that are drawn as bars
 const recorded = { text: "", isOpen: false }; // what stands in the box when another activity is shown
 const recordedPart = (name) => byId(`recorded-${name}`);
 
-const PARTS = `<p class="lead">What judges a set in a test, in <code>examples/in-a-test</code>, writes each call with its begin and its
-    end, and keeps a run that fails. Paste the text, or open the file: the proved <code>judge</code> says whether any order explains the calls.</p>
+const PARTS = `<p class="lead">The forms in <code>examples/in-a-test</code> record the calls of your own set in a test, each with its
+    begin and end, and keep a recording that fails. Paste its text, or open the file: the proved <code>judge</code> says whether any order
+    explains the calls.</p>
   <textarea id="recorded-text" rows="7" spellcheck="false" autocapitalize="off" wrap="off" aria-label="recorded calls"
     placeholder="listset-calls 2"></textarea>
   <p class="line"><button id="recorded-judge">Judge these calls</button>
     <label class="button">Open a file<input type="file" id="recorded-file"></label>
-    <button id="recorded-example">An example</button></p>
+    <button id="recorded-example">Load an example</button></p>
   <p id="recorded-verdict" role="status"></p><ul id="recorded-reasons"></ul><div id="recorded-picture"></div><ol id="recorded-calls"></ol>`;
 
 const drawRecordedBox = () =>
@@ -8069,7 +8075,7 @@ async function judgeCalls() {
   const text = withNewline(recordedPart("text").value);
   recorded.text = text;
   if (text === "") return showVerdict({ ...nothing, kind: "fault", says: "Paste the text of recorded calls first, or open a file." });
-  showVerdict({ ...nothing, says: text.length < LONG_TEXT ? "" : "The judge looks at the calls." });
+  showVerdict({ ...nothing, says: text.length < LONG_TEXT ? "" : "The judge is at work." });
   const { text: said } = await askLong("listset_judge", text);
   if (withNewline(recordedPart("text").value) === text) showVerdict(verdictOnCalls(said));
 }
@@ -8276,8 +8282,8 @@ const FIRST = {
   from: 15,
   to: 20,
   says: {
-    before: "It plays up to event 20, at which the question arises.",
-    there: "The play stops here, since the question is about this moment. It is your turn: press Step, or go another way.",
+    before: "It plays up to event 20, where the question arises.",
+    there: "The play stops here: the question is about this moment. Press Step, or choose another thread below.",
   },
 };
 
@@ -8320,8 +8326,8 @@ function listenToSeedForm(id, more) {
 }
 
 const WATCH_HEAD = `<h1>Watch a list at work</h1><p class="lead">Each question is a short run of two or three threads. Step through it,
-  say what happens next, and go another way at any moment.</p>`;
-const WATCH_MORE = `<h2>Another run, as many as you like</h2><p class="lead">A number makes a run, the same for everyone.</p>`;
+  guess what happens next, and let another thread go first at any event.</p>`;
+const WATCH_MORE = `<h2>A random run</h2><p class="lead">Each number stands for a run, the same one for everybody.</p>`;
 
 function drawWatchMap(isBelow = false) {
   const head = isBelow ? '<h2 class="h1">More questions</h2>' : WATCH_HEAD;
@@ -8377,7 +8383,7 @@ function drawJudgeMap() {
   const isDone = (example) => judged.some((run) => run.startsWith(`${example} `));
   byId("map-judge").innerHTML = `<h1>Judge a run yourself</h1><p class="lead">You see a run without its replies. Say what each call
     answers, and put a point where it takes effect. The proved <code>check</code> judges your order: any order that explains the run
-    is right.</p><h2>A run by its number</h2>${seedForm("judge-seed", "Judge a run")}${drawRecordedBox()}<h2>Or one that turns on something</h2>
+    is right.</p><h2>A random run</h2>${seedForm("judge-seed", "Judge a run")}${drawRecordedBox()}<h2>An example, by its question</h2>
     ${questionsByList("&judge", isDone)}`;
   listenToSeedForm("judge-seed", "&judge");
   listenToRecorded();
@@ -8391,23 +8397,23 @@ const { byId } = $page_dom;
 const { escaped, tag } = $run_markup;
 const PAGES = [
   ["how-it-works.html", "How it works", "The five lists, from one lock to none, each with the runs that show why."],
-  ["classic.html", "The examples", "Eighteen runs with their question, what they turn on, and what goes wrong without it."],
-  ["tables.html", "The tables", "Each list row by row: what a step reads, writes, and where it goes on."],
-  ["tables.html#progress", "Progress: blocking, lock-free, wait-free", "Which calls of each list may have to wait, and within how many steps a call ends."],
+  ["classic.html", "The examples", "Eighteen runs, each with its question, the answer, and what goes wrong without the check."],
+  ["tables.html", "The step tables", "Each list row by row: what a step reads and writes, and which row comes next."],
+  ["tables.html#progress", "Progress: blocking, lock-free, wait-free", "Which calls of each list may block, and within how many steps a call ends."],
 ];
 const TERMS = {
-  event: "One step of one thread: it reads or writes one word, or begins a call.",
-  schedule: "Who makes the next step, from the first event to the last. It is the whole input of a run.",
-  history: "The calls with their begin and their answer. Two calls that overlap have no order of their own.",
-  "takes effect": "The one moment, between begin and answer, at which a call stands in the order.",
-  order: "The calls one after the other. It explains a run when a plain set, asked in this order, answers the same.",
-  row: "A line of the list's table: what the thread does next. The numbers are those of the tables.",
-  "pred, curr": "What a walk holds: the node behind which it stands, and the next one.",
-  marked: "A node that is removed and may still be in the chain.",
-  quota: "How many keys a thread may put in. Each wants a node of its own; then add answers full.",
-  claim: "A report that may be false. Is there an order, or none?",
-  "no order": "Proved of a report by a few of its calls: from a moment on no order of them explains their replies.",
-  refused: "check names the first call of an order that could not answer so there.",
+  event: "The begin of a call, or one step of it: one load, store or compare-and-exchange of one word.",
+  schedule: "Which thread makes the next step, from the first event to the last. It is the whole input of a run.",
+  history: "The calls with their begin, end, thread and reply. Two calls overlap if neither ends before the other begins.",
+  pending: "A call that has begun and not ended.",
+  "takes effect": "At its linearization point: the moment between begin and end at which a call counts in the order.",
+  order: "The calls one after the other. It explains a run if a sequential set gives the same replies in this order.",
+  linearizable: "Some order explains the replies, and keeps each pair of calls that do not overlap as they were.",
+  "row, step table": "The algorithm as numbered steps; a row says what the thread does next.",
+  "pred, curr": "The two nodes that a walk holds: curr is the next one behind pred.",
+  marked: "A node whose key is removed; it may still be in the chain until it is unlinked.",
+  "quota, slot": "How many keys a thread can add in all. Each needs a slot, a node of its own; then add answers full.",
+  "not linearizable": "Proved of a report by a few of its calls: no order of them explains their replies.",
 };
 
 function drawReadMap() {
@@ -8419,7 +8425,7 @@ function drawReadMap() {
   const isAlone = document.body.dataset.alone !== undefined; // the page is one file, without the others beside it
   const pages = isAlone ? "" : tag("ul", { class: "cards" }, ...cards);
   const words = tag("dl", { class: "words card" }, ...terms);
-  const heads = ["Read", "The words", "What is proved, and what is not"].map((text, at) => tag(at === 0 ? "h1" : "h2", {}, text));
+  const heads = ["Read", "Terms", "What is proved, and what is not"].map((text, at) => tag(at === 0 ? "h1" : "h2", {}, text));
   byId("map-read").innerHTML = [heads[0], pages, heads[1], words, heads[2]].join("");
   const box = byId("proved").querySelector("details");
   const copy = document.createElement("div");
@@ -8478,8 +8484,8 @@ function drawCode({ trace, state, event, before }) {
   const lines = linesFor(kind, operationsOf(trace));
   const known = new Set(lines.flatMap(({ rows = [] }) => rows));
   const lost = next.filter(({ row }) => !known.has(row)).map(({ thread }) => chipOf(thread));
-  const own = lost.length === 0 ? "" : tag("p", { class: "note" }, `${lost.join(" ")} at a step that the whole list has not.`);
-  const lacks = trace.lacks === null ? "" : tag("p", { class: "lacks" }, "The code of the whole list. One check of it is missing here.");
+  const own = lost.length === 0 ? "" : tag("p", { class: "note" }, `${lost.join(" ")} at a step that the correct list does not have.`);
+  const lacks = trace.lacks === null ? "" : tag("p", { class: "lacks" }, "The code of the correct list. The list that runs here lacks one of its checks.");
   const items = lines.map((line, index) => drawLine(line, index + 1, { made, next }));
   const head = tag("div", { class: "code-head" }, tag("h2", {}, LISTS[kind].name), tag("p", {}, IDEAS[kind]));
   return `${head}${lacks}${tag("ol", { class: "book-code", "aria-label": `the algorithm of ${LISTS[kind].name}` }, ...items)}${own}`;
@@ -8783,7 +8789,7 @@ function openLink(text, event, lacks) {
   const own = works.nameOf(text, lacks);
   const kept = works.byName.size;
   if (own === null) {
-    const told = "Opened from a link. What you change of it is kept under a name of its own";
+    const told = "Opened from a link. Your changes are kept under a new name";
     const others = kept === 0 ? "" : `; your ${kept} other works stay under Open`;
     openText(text, event, works.newName("from a link"), `${told}${others}.`, lacks);
   } else {
@@ -8857,7 +8863,7 @@ function showPlace(moment) {
     if (task[name] !== null) byId(`task-${name}`).href = task[name];
   }
   [byId("task-all").hash, byId("task-all").textContent] = task.all;
-  byId("moves-title").textContent = isAtWork() ? "Your move" : "Go another way";
+  byId("moves-title").textContent = isAtWork() ? "Choose the next step" : "Go another way: choose the next step";
   placeMoves(isAtWork());
   markExample();
 }

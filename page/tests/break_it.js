@@ -21,7 +21,7 @@ function check(name, isGood) {
 const plain = (text) => text.replace(/<[^>]*>/g, "");
 const scheduleOf = (name) => fs.readFileSync(path.join(TOP, "examples", "schedules", "lacks", `${name}.schedule`), "utf8");
 const startOf = inPage("startOfLacking");
-const LOST = /^(\d+) was put in once and never taken out, and the set lacks it$/; // as docs/CLASSIC.md tells it in short
+const LOST = /^(\d+) was added once and never removed, and at the end the set does not have it$/; // as docs/CLASSIC.md tells it in short
 const isTask = (name) => name !== inPage("NO_TASK");
 
 // The schedule breaks the list, as docs/CLASSIC.md says it, or is refused by its points alone; and never before its last call.

@@ -50,7 +50,7 @@ function driveBreak(name) {
   check(`${name} is opened: ${breakText("title")}`, /^(Level|To think)/.test(breakText("title")) && !part("break-box").hidden);
   const shown = ["break-box", "title", "source", "told"].map((id) => part(id).innerText).join(" ") + inPage("ownAddress()");
   check(`${name} is not named: ${shown}`, !shown.toLowerCase().split(/[^a-z-]+/).includes(name));
-  check(`${name} begins whole: ${breakText("verdict")}`, breakText("verdict") === "Nothing has answered yet.");
+  check(`${name} begins whole: ${breakText("verdict")}`, breakText("verdict") === "No call has ended yet.");
   check("its departure is not told", part("break-departs").hidden);
   for (const deed of DEEDS[name].split(", ")) doDeed(deed);
   const wanted = name === inPage("NO_TASK") ? "Refused by its points, and not broken." : "Broken!";
@@ -105,7 +105,7 @@ function driveBrokenExample() {
   part("without-box").open = true;
   part("see-broken").click();
   const verdict = breakText("verdict");
-  check(`the run without the check is not told: ${verdict}`, verdict === "Step on, and look.");
+  check(`the run without the check is not told: ${verdict}`, verdict === "Step on, and watch.");
   const isBefore = / of 34$/.test(textOf("where")) && textOf("where") !== "event 34 of 34";
   check("it can be stepped", isBefore && inPage("page.trace.lacks") === "second-walk");
   pick("behind-the-walk");

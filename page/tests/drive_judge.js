@@ -68,7 +68,7 @@ function driveNothingTold() {
 
 function driveByPointer() {
   part("judge-ask").click();
-  check("what is still to be said", judgedText("verdict").startsWith("Still to be said: add(5) of t1, contains(5) of t0"));
+  check("what is still to be said", judgedText("verdict").startsWith("Still missing: add(5) of t1, contains(5) of t0"));
   [[0, 3, 10], [1, 20, 39], [2, 17, 23], [3, 30, 36]].forEach((one) => dragPoint(...one));
   check(`the points are where they were put: ${pointsOf()}`, pointsOf() === "10,39,23,36");
   check("the order as text", /1\..*|add\(5\)/.test(judgedText("order")) && part("judge-order").querySelectorAll("li").length === 4);
@@ -112,7 +112,7 @@ function driveHints() {
   const before = judgedText("tries");
   part("judge-ask").click();
   check(`a second try: ${before}, ${judgedText("tries")}`, judgedText("tries") === "2 tries refused");
-  check("then the events at which it turns", judgedText("hint") === "It turns at the events 23, 36, 39.");
+  check("then the events at which it turns", judgedText("hint") === "The deciding events: 23, 36, 39.");
   part("judge-again").click();
   check("it begins again", pointsOf() === "" && judgedText("tries") === "" && judgedText("hint") === "");
   setLevel("points");

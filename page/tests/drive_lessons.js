@@ -93,7 +93,7 @@ function driveDeadEnd() {
   chooseLesson("in-anothers-step");
   lessonPart("start").click();
   for (let count = 0; count < 3; count++) press("0");
-  check("no word of it before it is asked for", lessonText("verdict") === "Not solved yet: Check tells what is missing.");
+  check("no word of it before it is asked for", lessonText("verdict") === "Not solved yet: Check says what is missing.");
   lessonPart("judge").click();
   const wrong = "Missing: A contains of thread 0 answers false. This contains has answered true: it saw its key.";
   check(`a dead end: ${lessonText("verdict")}`, lessonText("verdict").startsWith(wrong));

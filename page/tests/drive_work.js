@@ -123,7 +123,7 @@ function driveUndo() {
   goToEvent(12);
   press("0");
   check("a digit of a thread at rest writes nothing", part("schedule").value === [...TWO_ADDS, ""].join("\n"));
-  check("and says so", told().startsWith("t0 is at rest"));
+  check("and says so", told().startsWith("t0 is idle"));
   press("9");
   check("a digit of no thread", told() === "There is no thread 9.");
   runSchedule([...TWO_ADDS, "go 1 2"]);
@@ -190,7 +190,7 @@ function driveSteps() {
   check("stands before the lock", inPage("page.state.threads[1].pc") === 4 && text.endsWith("begin 1 add 7\ngo 1 4\n"));
   press("e");
   press("1");
-  check("and writes nothing more", part("schedule").value === text && told().startsWith("t1 waits at row 4 for n2.lock"));
+  check("and writes nothing more", part("schedule").value === text && told().startsWith("t1 waits at row 4 for the lock n2.lock"));
   press("r");
   press("0");
   check("the keys r and a digit", told() === "t0 is at row 13." || told() === "t0 ended its call before it came to row 12.");

@@ -99,7 +99,7 @@ function checkTeacher(course, folder) {
   check(`all: ${all.lines}`, same(all, { status: 0, lines: [line], fault: "" }));
   const whole = said(folder, text("Ada", answers, [BROKEN.replace("quota=1", "quota=2")]));
   const [first] = whole.lines;
-  check(`explained: ${first}`, whole.status === 1 && first.endsWith(": break last-slot: Explained: this schedule does not break it."));
+  check(`explained: ${first}`, whole.status === 1 && first.endsWith(": break last-slot: Not broken yet: some order explains this run."));
   const two = `${text("Ada", answers)}\n${quoted(text("Bo", answers.slice(1)))}`;
   const group = said(folder, two, text("Cy", [], ["judge snip points none"]));
   check(`a class: ${group.lines.join("; ")}`, group.status === 1 && group.lines.includes("Bo: one-lock: not handed in"));
@@ -165,7 +165,7 @@ This is no line of a solution.
     "line 7: changed-link: The list, the number of threads, the quota and the opening keys are to be those of the lesson.",
     "line 8: marked-in-chain: something stands behind the address",
     'line 9: there is no lesson "no-lesson"',
-    "line 10: judge snip points: Still to be said: remove(5) of t0, add(7) of t1.",
+    "line 10: judge snip points: Still missing: remove(5) of t0, add(7) of t1.",
     'line 11: judge nosuch points: there is no example "nosuch"',
     "line 12: judge snip deep: a level is due, one of points, replies, claim",
   ].map((line) => `?[2JEve: ${file}, ${line}`);
@@ -200,7 +200,7 @@ goal
   const bad = said(folder, own.replace("go 0 11", "go 0 12"));
   check(
     `its answer is refused: ${bad.lines}`,
-    bad.status === 1 && bad.lines[0].includes('line 12: first: its answer is refused at "go 0 12": the thread has no call open'),
+    bad.status === 1 && bad.lines[0].includes('line 12: first: its answer is refused at "go 0 12": the thread makes a step while it has no call pending'),
   );
   const handed = "listset-lessons 2\ncourse Mine\nstudent Ada\nfirst #list=lazy&threads=2&quota=4&s=b0.add.5,g0.11&event=12\nend\n";
   const both = said(folder, own, handed);

@@ -24,7 +24,7 @@ function checkLevels(ask, name, report) {
     const verdict = verdictOn(ask, own);
     check(
       `${name}, ${level}: the replayer's own order: ${verdict.says}`,
-      verdict.isRight === true && verdict.says.endsWith("gives, too."),
+      verdict.isRight === true && verdict.says.endsWith("It is also the order of the replayer."),
     );
     check(`${name}, ${level}: its report is the engine's`, reportOfAnswer(own) === report);
     check(`${name}, ${level}: and back to its word`, wordOfAnswer(own) === places.join());
@@ -71,7 +71,7 @@ function checkByHand(ask) {
   [[first, 10], [contains, 39], [remove, 23], [second, 36]].forEach(([call, at]) => answer.place(call, at));
   [first, remove, second].forEach((call) => answer.say(call, "true"));
   const says = () => verdictOn(ask, answer).says;
-  check(`a reply is missing: ${says()}`, says() === "Still to be said: contains(5) of t0.");
+  check(`a reply is missing: ${says()}`, says() === "Still missing: contains(5) of t0.");
   answer.say(contains, "true");
   check(`the wrong reply: ${says()}`, says().startsWith("contains(5) of t0 does not answer true in this run."));
   answer.say(contains, "false");
@@ -183,16 +183,16 @@ function checkRecorded(ask) {
     "call 0 contains 5 1 - 2 false\nend": "ok Linearizable: an order explains this one call",
     "key 5\nend": "none Not linearizable: no order at all",
     "call 0 add 5 1 2 3 true\ncall 1 ceiling 4 4 - 5 at-7\nkey 5\nend": "none No order has the changes at the points",
-    "call 0 add 5 1 - 3 true\ncall 1 ceiling 4 4 - 5 at-5\nkey 5\nend": "fault listset: line 5: Point: a point is to lie",
-    "call 0 add 5 1 - 6\nend": "fault listset: line 5: Line: a line is to be",
+    "call 0 add 5 1 - 3 true\ncall 1 ceiling 4 4 - 5 at-5\nkey 5\nend": "fault listset: line 5: Point: a point must lie",
+    "call 0 add 5 1 - 6\nend": "fault listset: line 5: Line: expected ",
     "call 3 add 5 1 - 6 true\nend": "fault listset: line 5: History: there is no such thread",
-    "call 0 add 5 1 - 6 true\n": "fault listset: line 6: NotEnded: the text is to end",
+    "call 0 add 5 1 - 6 true\n": "fault listset: line 6: NotEnded: the text must end",
   };
   for (const lines in wanted) {
     const { kind, says } = said(head + lines);
     check(`${lines}: ${kind} ${says}`, `${kind} ${says}`.startsWith(wanted[lines]));
   }
-  check("another title", said("listset-report 2\n").says.startsWith('listset: line 1: Header: line 1 is to be "listset-calls 2"'));
+  check("another title", said("listset-report 2\n").says.startsWith('listset: line 1: Header: line 1 must be "listset-calls 2"'));
 }
 
 // Two lists: each turn makes a step in both, and one that has answered waits.

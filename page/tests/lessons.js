@@ -189,15 +189,15 @@ function checkDrafts(ask, { lessons }) {
   const [plain, own] = [lessons, course.lessons].map((all) => all.find(({ name }) => name === "marked-in-chain"));
   check(`a draft is its schedule: ${JSON.stringify(course.faults)}`, drafted !== TEXT && own.solution === plain.solution);
   const [{ fault }] = triedCourse(ask, TEXT.replace("  go 1 7\n", "  go 1 to 99\n")).faults;
-  const refused = 'marked-in-chain: its answer is refused at "go 1 to 99": the thread has no call open';
+  const refused = 'marked-in-chain: its answer is refused at "go 1 to 99": the thread makes a step while it has no call pending';
   check(`one that is refused: ${fault}`, fault.startsWith(refused));
 }
 
 // A lesson that is read is also tried.
 function checkTrials(ask) {
   const trials = [
-    ["  begin 0 add 5\n", "  begin 0 ad 5\n", "one-lock: its start is refused at \"begin 0 ad 5\": a line is to be"],
-    ["  go 0 7\n", "  go 0 70\n", "one-lock: its answer is refused at \"go 0 70\": the thread has no call open"],
+    ["  begin 0 add 5\n", "  begin 0 ad 5\n", "one-lock: its start is refused at \"begin 0 ad 5\": expected "],
+    ["  go 0 7\n", "  go 0 70\n", "one-lock: its answer is refused at \"go 0 70\": the thread makes a step while it has no call pending"],
     ["  go 2 1\n  go 0 1\n", "  go 2 1\n", "one-lock: its answer does not solve it: missing: That of thread 0 tries"],
     ["begin 1 remove 5\nquestion", "begin 1 remove 5\n  go 1 7\n  begin 0 contains 5\n  go 0 3\nquestion",
       "marked-in-chain: its start meets the goal already"],

@@ -53,7 +53,7 @@ function drawBreaking(trace, verdict) {
   drawLevel(trace, verdict);
   document.body.classList.toggle("refuted", verdict.kind === "broken");
   const line = Object.fromEntries(brokenLines())[lacks];
-  byId("break-line").innerHTML = line === undefined ? "" : `Kept, and handed in with the lessons: <code>${escaped(line)}</code>`;
+  byId("break-line").innerHTML = line === undefined ? "" : `Kept; you hand it in with the lessons: <code>${escaped(line)}</code>`;
 }
 
 // What the list lacks is told by the comparison of its run with that of the whole list, once it is broken and named.
@@ -69,7 +69,7 @@ function drawDeparture(isBroken) {
 
 // ---- the state of a level
 
-const TO_DO = "· Go on until no order of the calls explains what they answered.";
+const TO_DO = "· Run the threads until no order of the calls explains their replies.";
 const HOLDS = "Not broken yet.";
 const won = (says, why) => ({ kind: "won", says, why });
 const holds = (says, why = "") => ({ kind: "holds", says, why });
@@ -82,21 +82,21 @@ function stateOf(trace, verdict) {
   if (verdict.kind === "refused") return holds(verdict.says);
   if (isBroken && isShownBreak(lacks, scheduleOfTrace(trace))) return stateOfShown();
   if (isPoints && lacks === NO_TASK) {
-    return holds("Refused by its points, and not broken.", "Another order explains these replies. Why is there always one?");
+    return holds("Refused by its linearization points, and not broken.", "Another order explains these replies. Why is there always one?");
   }
   if (isBroken) return won("Broken!", reasonOf(verdict));
   const isAnswered = trace.calls.some(({ ended }) => ended !== null);
-  if (!isAnswered) return { kind: "", says: "Nothing has answered yet.", why: "Let a thread begin a call, and go on." };
-  const explained = "An order explains all answers so far.";
+  if (!isAnswered) return { kind: "", says: "No call has ended yet.", why: "Let a thread begin a call, and step on." };
+  const explained = "Some order explains all replies so far.";
   return holds(HOLDS, isPoints ? verdict.says.replace("Not by its points: check refuses", "check refuses") : explained);
 }
 
 // Why no order explains the answers: of the list, since no set is this.
-const reasonOf = ({ says }) => says.replace(/^Broken: /, "").replace(/and the set (has|lacks) it/, "and the list $1 it");
+const reasonOf = ({ says }) => says.replace(/^Broken: /, "").replace(/the set (has|does not have) it/, "the list $1 it");
 
 function stateOfShown() {
-  const says = page.count === page.trace.total ? "Broken, as shown." : "Step on, and look.";
-  return { kind: "shown", says, why: "This way was shown: it does not count. Find one of your own." };
+  const says = page.count === page.trace.total ? "Broken, as shown." : "Step on, and watch.";
+  return { kind: "shown", says, why: "This schedule was shown to you: it does not count. Find one of your own." };
 }
 
 // ---- what is drawn
@@ -175,7 +175,7 @@ function openWithoutCheck() {
   const trace = new Trace(askNow("listset_trace_lacking", name, example).text, versionOf(example));
   const schedule = scheduleOfTrace(trace);
   noteShown(name, schedule);
-  openLacking(name, schedule, "The same schedule, on a list without the check. Step on.");
+  openLacking(name, schedule, "The same schedule, on a list without the check. Press Step.");
   const departs = departureOf(askNow, page.trace);
   if (departs !== null) goTo(departs.event - 1);
 }

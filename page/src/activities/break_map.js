@@ -21,7 +21,7 @@ export const wordOf = (name) => BREAK_LEVELS[name].lacks ?? LACKS_IN_WORDS[name]
 // What a wrong answer to the question what a list lacks is answered.
 export function whyWrong(name, word) {
   const why = BREAK_LEVELS[name].others?.[word] ?? "that is not so in this list";
-  return `No: ${why}. Look for the line of the code at which this list does something else.`;
+  return `No: ${why}. Look for the line of the code that this list executes differently.`;
 }
 
 // What stands above a level: its number and grade; of the last one, that it is no task.
@@ -44,8 +44,8 @@ export function drawBreakMap() {
   const group = (title, names) => `<h2>${title}</h2>${tag("ol", { class: "cards" }, ...names.map(card))}`;
   const groups = GRADES.map((title, grade) => group(title, ORDER.filter((name) => BREAK_LEVELS[name].grade === grade)));
   const rest = group("To think about", ORDER.filter((name) => !counted.includes(name)));
-  byId("map-break").innerHTML = `<h1>Break a list</h1><p class="lead">Each of these lists lacks one check that the whole list makes. Move the threads
-    until no order of the calls explains what they answered. Then say what is missing.</p>${groups.join("")}${rest}`;
+  byId("map-break").innerHTML = `<h1>Break a list</h1><p class="lead">Each of these lists lacks one check of the correct list. Choose the steps of the
+    threads until no order of the calls explains their replies. Then say which check is missing.</p>${groups.join("")}${rest}`;
 }
 
 // The broken lists, in the list of what can be opened, with a tick at each that was broken; and the map.

@@ -59,14 +59,14 @@ function turnOf(thread) {
   const isMade = shownSides.sides.turn(thread);
   shownSides.at = shownSides.sides.turns.length;
   drawSides();
-  if (!isMade) sidesPart("told").innerHTML = `${chipOf(thread)} has made all its calls in both.`;
+  if (!isMade) sidesPart("told").innerHTML = `${chipOf(thread)} has ended all its calls in both lists.`;
 }
 
 function drawSide(side, thread, place) {
   const count = side.counts[shownSides.at];
   const moment = momentAt(side.state, count);
   const hasWaited = shownSides.at > 0 && count === side.counts[shownSides.at - 1];
-  const said = hasWaited ? `${chipOf(thread)} has answered, and waits for the other.` : sentenceOf(moment);
+  const said = hasWaited ? `${chipOf(thread)} has ended its call here, and waits for the other list.` : sentenceOf(moment);
   const width = Math.max(320, sidesPart("pictures").clientWidth / (innerWidth < 940 ? 1 : 2) - 48);
   const scale = scaleOf(side.trace, count, width, page.hides);
   side.said = said;

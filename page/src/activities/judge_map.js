@@ -11,7 +11,7 @@ export function drawJudgeMap() {
   const isDone = (example) => judged.some((run) => run.startsWith(`${example} `));
   byId("map-judge").innerHTML = `<h1>Judge a run yourself</h1><p class="lead">You see a run without its replies. Say what each call
     answers, and put a point where it takes effect. The proved <code>check</code> judges your order: any order that explains the run
-    is right.</p><h2>A run by its number</h2>${seedForm("judge-seed", "Judge a run")}${drawRecordedBox()}<h2>Or one that turns on something</h2>
+    is right.</p><h2>A random run</h2>${seedForm("judge-seed", "Judge a run")}${drawRecordedBox()}<h2>An example, by its question</h2>
     ${questionsByList("&judge", isDone)}`;
   listenToSeedForm("judge-seed", "&judge");
   listenToRecorded();

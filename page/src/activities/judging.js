@@ -152,7 +152,7 @@ class Judging {
     judgePart("tries").textContent = tries === 0 ? "" : `${tries} ${tries === 1 ? "try" : "tries"} refused`;
     judgePart("hint").textContent = kind === "wrong" && tries >= 2 && this.exercise.level !== "claim" ? hintOfRun() : "";
     const isKept = kind === "right" && this.exercise.isWhole;
-    judgePart("line").innerHTML = isKept ? `Kept, and handed in with the lessons: <code>${escaped(this.line)}</code>` : "";
+    judgePart("line").innerHTML = isKept ? `Kept; you hand it in with the lessons: <code>${escaped(this.line)}</code>` : "";
     const drawn = verdict?.report == null ? "" : askNow("listset_show_svg", verdict.report).text;
     judgePart("picture-box").hidden = !drawn.startsWith("<svg ");
     judgePart("picture").innerHTML = judgePart("picture-box").hidden ? "" : drawn;
@@ -172,17 +172,17 @@ export function endJudging() {
 // After two wrong tries: the events at which it turns; of a run that is no example, those that change the set.
 function hintOfRun() {
   const turns = CLASSICS[page.example]?.turns;
-  if (turns !== undefined) return `It turns at the events ${turns.join(", ")}.`;
+  if (turns !== undefined) return `The deciding events: ${turns.join(", ")}.`;
   const changes = page.trace.changes.map(({ number }) => number);
   return changes.length === 0 ? "No event changes the set." : `The set changes at the events ${changes.join(", ")}.`;
 }
 
 export function beginJudging() {
   const { trace } = page;
-  if (page.engine === null) return tell("The engine is not here: nothing can be judged.");
-  if (!page.isRun || trace.refused !== null) return tell("A run with a refused event is not judged: take the red line out first.");
+  if (page.engine === null) return tell("The replayer does not run in this browser: nothing can be judged.");
+  if (!page.isRun || trace.refused !== null) return tell("A run with a refused event cannot be judged: delete the red line of the schedule first.");
   if (trace.calls.length === 0) return tell("There is no call to judge yet.");
-  if (trace.total > MOST_JUDGED) return tell(`Judged are runs of at most ${MOST_JUDGED} events: this one has ${trace.total}.`);
+  if (trace.total > MOST_JUDGED) return tell(`A run of at most ${MOST_JUDGED} events can be judged; this one has ${trace.total}.`);
   tell("");
   judging.begin(judgePart("level").value);
   judgePart("level").focus();
@@ -190,7 +190,7 @@ export function beginJudging() {
 
 export function listenToJudging() {
   byId("judge-begin").onclick = beginJudging;
-  judgePart("level").append(...Object.keys(LEVELS).map((level) => new Option(level, level)));
+  judgePart("level").append(...Object.entries(LEVELS).map(([level, { name }]) => new Option(name, level)));
   judgePart("level").value = "replies";
   judgePart("level").onchange = judgePart("again").onclick = () => judging.begin(judgePart("level").value);
   judgePart("ask").onclick = () => judging.judge(false);

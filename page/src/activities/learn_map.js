@@ -21,7 +21,7 @@ export function drawLearnMap() {
   if (box.querySelector(".drawn") === null) {
     box.append(Object.assign(document.createElement("div"), { className: "drawn" }), byId("lesson-folds"));
   }
-  const lead = "In each lesson you move the threads, until the run shows what is asked. There is more than one way.";
+  const lead = "In each lesson you choose which thread makes the next step, until the run shows what is asked. There is more than one way.";
   const parts = [
     tag("h1", {}, escaped(course.name)),
     tag("p", { class: "lead" }, lead),
@@ -49,7 +49,7 @@ function progressOf(course) {
 function linkToNext(course) {
   const first = course.lessons.find(({ name }) => !panel().isSolved(name));
   if (first === undefined) return "";
-  const word = solvedOf(course) === 0 ? "Begin" : "Go on";
+  const word = solvedOf(course) === 0 ? "Begin" : "Continue";
   return tag("a", { class: "button primary", href: addressOfLesson(first) }, `${word} with ${escaped(first.title)}`);
 }
 

@@ -85,7 +85,7 @@ class LessonsOnPage {
     this.hasAsked = false; // for what is missing, or for the hint: then the answer may be asked for
     this.ticks.clear();
     const { title, list, lacks, threads, opening, question, hint, teaches, answer } = lesson;
-    const keys = opening.length === 0 ? "" : `, opens with ${opening.join(", ")}`;
+    const keys = opening.length === 0 ? "" : `, initial keys ${opening.join(", ")}`;
     const set = `${LISTS[list].name}${lacks === null ? "" : " without one check"}, ${threads} threads${keys}`;
     lessonPart("title").innerHTML = `${escaped(title)} <small>${set}</small>`;
     lessonPart("question").textContent = question;
@@ -130,7 +130,7 @@ class LessonsOnPage {
     this.ticks.clear();
     keepWork();
     const isKept = this.ownWork() !== null;
-    this.open(this.lesson.begun, isKept ? "Your try before is kept: Go on with mine leads back to it." : "");
+    this.open(this.lesson.begun, isKept ? "Your last try is kept: Continue my last try leads back to it." : "");
     forgetBefore(); // Undo stops at the start
   }
 
@@ -217,7 +217,7 @@ class LessonsOnPage {
     setHidden(lessonPart("next"), !this.isSolved(lesson.name) || lesson === course.lessons.at(-1), lessonPart("start"));
     const isTold = this.isSolved(lesson.name) || this.own.looked.has(lesson.name);
     setAble("lesson-answer", isTold || this.hasAsked);
-    lessonPart("answer").title = isTold || this.hasAsked ? "" : "after a Check or the hint";
+    lessonPart("answer").title = isTold || this.hasAsked ? "" : "available after Check or Show a hint";
     lessonPart("teaches-fold").hidden = !isTold || lesson.teaches === "";
   }
 
@@ -263,7 +263,7 @@ export function startLessons() {
 
 // What is said of a try that is no solution: what is missing, which line of that, and a way that leads nowhere.
 function wrongText(verdict) {
-  if (verdict.reason === OTHER_SET) return "Nothing is tried yet: press Start over, and go on from there.";
+  if (verdict.reason === OTHER_SET) return "Nothing is tried yet: press Start over, and step on from there.";
   const line = verdict.conditions.find(({ isMet }) => !isMet)?.missing ?? null;
   const missing = missingIn(verdict)?.replace("missing: ", "Missing: ");
   const parts = [missing, line === null ? "" : `Not there yet: ${line}.`, verdict.deadEnd ?? ""];
@@ -271,8 +271,8 @@ function wrongText(verdict) {
 }
 
 function verdictText({ isSolved, isShown, reason, conditions }, isStart) {
-  if (isSolved) return isShown ? "This is the answer that was shown. Find another one." : "Solved.";
+  if (isSolved) return isShown ? "This is the answer that was shown to you. Find another one." : "Solved.";
   if (reason === OTHER_SET) return "Press Start over. A solution shows all of this:";
   if (reason !== null) return reason;
-  return isStart || conditions.length === 0 ? "A solution shows all of this:" : "Not solved yet: Check tells what is missing.";
+  return isStart || conditions.length === 0 ? "A solution shows all of this:" : "Not solved yet: Check says what is missing.";
 }

@@ -120,7 +120,7 @@ function openLink(text, event, lacks) {
   const own = works.nameOf(text, lacks);
   const kept = works.byName.size;
   if (own === null) {
-    const told = "Opened from a link. What you change of it is kept under a name of its own";
+    const told = "Opened from a link. Your changes are kept under a new name";
     const others = kept === 0 ? "" : `; your ${kept} other works stay under Open`;
     openText(text, event, works.newName("from a link"), `${told}${others}.`, lacks);
   } else {
@@ -202,7 +202,7 @@ export function showPlace(moment) {
     if (task[name] !== null) byId(`task-${name}`).href = task[name];
   }
   [byId("task-all").hash, byId("task-all").textContent] = task.all;
-  byId("moves-title").textContent = isAtWork() ? "Your move" : "Go another way";
+  byId("moves-title").textContent = isAtWork() ? "Choose the next step" : "Go another way: choose the next step";
   placeMoves(isAtWork());
   markExample();
 }

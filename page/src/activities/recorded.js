@@ -10,13 +10,14 @@ const MOST_DRAWN = 40; // calls that are drawn as bars
 const recorded = { text: "", isOpen: false }; // what stands in the box when another activity is shown
 const recordedPart = (name) => byId(`recorded-${name}`);
 
-const PARTS = `<p class="lead">What judges a set in a test, in <code>examples/in-a-test</code>, writes each call with its begin and its
-    end, and keeps a run that fails. Paste the text, or open the file: the proved <code>judge</code> says whether any order explains the calls.</p>
+const PARTS = `<p class="lead">The forms in <code>examples/in-a-test</code> record the calls of your own set in a test, each with its
+    begin and end, and keep a recording that fails. Paste its text, or open the file: the proved <code>judge</code> says whether any order
+    explains the calls.</p>
   <textarea id="recorded-text" rows="7" spellcheck="false" autocapitalize="off" wrap="off" aria-label="recorded calls"
     placeholder="listset-calls 2"></textarea>
   <p class="line"><button id="recorded-judge">Judge these calls</button>
     <label class="button">Open a file<input type="file" id="recorded-file"></label>
-    <button id="recorded-example">An example</button></p>
+    <button id="recorded-example">Load an example</button></p>
   <p id="recorded-verdict" role="status"></p><ul id="recorded-reasons"></ul><div id="recorded-picture"></div><ol id="recorded-calls"></ol>`;
 
 export const drawRecordedBox = () =>
@@ -39,7 +40,7 @@ async function judgeCalls() {
   const text = withNewline(recordedPart("text").value);
   recorded.text = text;
   if (text === "") return showVerdict({ ...nothing, kind: "fault", says: "Paste the text of recorded calls first, or open a file." });
-  showVerdict({ ...nothing, says: text.length < LONG_TEXT ? "" : "The judge looks at the calls." });
+  showVerdict({ ...nothing, says: text.length < LONG_TEXT ? "" : "The judge is at work." });
   const { text: said } = await askLong("listset_judge", text);
   if (withNewline(recordedPart("text").value) === text) showVerdict(verdictOnCalls(said));
 }

@@ -17,8 +17,8 @@ export const FIRST = {
   from: 15,
   to: 20,
   says: {
-    before: "It plays up to event 20, at which the question arises.",
-    there: "The play stops here, since the question is about this moment. It is your turn: press Step, or go another way.",
+    before: "It plays up to event 20, where the question arises.",
+    there: "The play stops here: the question is about this moment. Press Step, or choose another thread below.",
   },
 };
 
@@ -62,8 +62,8 @@ export function listenToSeedForm(id, more) {
 }
 
 const WATCH_HEAD = `<h1>Watch a list at work</h1><p class="lead">Each question is a short run of two or three threads. Step through it,
-  say what happens next, and go another way at any moment.</p>`;
-const WATCH_MORE = `<h2>Another run, as many as you like</h2><p class="lead">A number makes a run, the same for everyone.</p>`;
+  guess what happens next, and let another thread go first at any event.</p>`;
+const WATCH_MORE = `<h2>A random run</h2><p class="lead">Each number stands for a run, the same one for everybody.</p>`;
 
 // As a map of its own, or below the run that is shown.
 export function drawWatchMap(isBelow = false) {

@@ -50,8 +50,8 @@ export function drawCode({ trace, state, event, before }) {
   const lines = linesFor(kind, operationsOf(trace));
   const known = new Set(lines.flatMap(({ rows = [] }) => rows));
   const lost = next.filter(({ row }) => !known.has(row)).map(({ thread }) => chipOf(thread));
-  const own = lost.length === 0 ? "" : tag("p", { class: "note" }, `${lost.join(" ")} at a step that the whole list has not.`);
-  const lacks = trace.lacks === null ? "" : tag("p", { class: "lacks" }, "The code of the whole list. One check of it is missing here.");
+  const own = lost.length === 0 ? "" : tag("p", { class: "note" }, `${lost.join(" ")} at a step that the correct list does not have.`);
+  const lacks = trace.lacks === null ? "" : tag("p", { class: "lacks" }, "The code of the correct list. The list that runs here lacks one of its checks.");
   const items = lines.map((line, index) => drawLine(line, index + 1, { made, next }));
   const head = tag("div", { class: "code-head" }, tag("h2", {}, LISTS[kind].name), tag("p", {}, IDEAS[kind]));
   return `${head}${lacks}${tag("ol", { class: "book-code", "aria-label": `the algorithm of ${LISTS[kind].name}` }, ...items)}${own}`;

@@ -91,7 +91,7 @@ function drawLane(scale, thread) {
 function callInWords(call, now) {
   const isOpen = call.ended === null || call.ended > now;
   const events = isOpen && now < Infinity ? `from event ${call.begun} on` : `events ${call.begun} to ${call.ended ?? "the end"}`;
-  return `call ${call.id}: t${call.thread} ${callText(call)} ${isOpen ? "still open" : call.reply}, ${events}`;
+  return `call ${call.id}: t${call.thread} ${callText(call)} ${isOpen ? "pending" : call.reply}, ${events}`;
 }
 
 function drawBar(call, scale) {
@@ -128,7 +128,7 @@ function drawPoint(call, scale) {
   const x = scale.x(call.at);
   const y = scale.y(call.thread);
   const state = isReached(call, scale.count) ? "reached" : "later";
-  const how = call.changes ? "changes the set at" : "changes nothing; its reply fits at";
+  const how = call.changes ? "changes the set at" : "does not change the set; its reply is correct at";
   return tag(
     "g",
     { class: `point ${state} ${colourOf(call.thread)}` },
@@ -193,7 +193,7 @@ export function drawContents(trace, scale) {
   const x = Math.min(Math.max(scale.x(scale.count), HISTORY_LEFT + 12), scale.width - 44);
   const number = scale.count > 0 ? label({ class: "number", x, y: 42 }, `event ${scale.count}`) : "";
   const name = label({ class: "name", x: 6, y: 17 }, "set");
-  const what = trace.lacks === null ? "the set" : "the set by the points of the calls";
+  const what = trace.lacks === null ? "the set" : "the set by the linearization points of the calls";
   const words = `${what} after event ${scale.count}: {${now.keys.slice(0, 40).join(", ")}}`;
   const frame = { width: scale.width, height: 50, role: "img", "aria-label": words };
   return tag("svg", frame, name, ...parts, drawCursor(scale, 24), number, drawWindow(scale, trace.total, x));
@@ -204,7 +204,7 @@ export function drawOrder(trace, count, hides = false) {
   const reached = trace.order.filter((call) => isReached(call, count));
   const order = hides ? reached : trace.order;
   const total = order.length;
-  if (total === 0) return hides ? "No call stands in the order yet." : "No call stands in the order.";
+  if (total === 0) return hides ? "No call has taken effect yet." : "No call has taken effect.";
   const first = Math.max(0, Math.min(reached.length - 8, total - 14));
   const last = Math.min(total, first + 22);
   const items = order.slice(first, last).map((call) => {

@@ -51,7 +51,7 @@ function drawJudgedLane(scale, place, thread = place) {
   return tag("line", lane) + tag("g", { class: `badge ${colourOf(thread)}` }, badge);
 }
 
-const OPEN = "(open)";
+const OPEN = "(pending)";
 const saidOf = (call, answer) => (call.ended === null ? OPEN : (answer.replyOf(call) ?? "?"));
 
 function drawJudgedCall(call, { answer, exercise, verdict, scale }) {
@@ -142,5 +142,5 @@ export function momentOfReport({ calls, last }, moment) {
   if (ended !== undefined) return `Moment ${moment}: ${chipOf(ended.thread)} ${callText(ended)} answers <b>${ended.reply}</b>.`;
   const open = calls.filter((call) => call.begun < moment && (call.ended ?? Infinity) > moment);
   const names = open.map((call) => `${callText(call)} of ${chipOf(call.thread)}`);
-  return `Moment ${moment}: a step. ${names.length === 0 ? "No call is open." : `Open: ${names.join(", ")}.`}`;
+  return `Moment ${moment}: a step. ${names.length === 0 ? "No call is pending." : `Pending: ${names.join(", ")}.`}`;
 }

@@ -108,7 +108,7 @@ function kindOf(state, name, place) {
 }
 
 function nodeInWords(node, name, kind) {
-  const where = { in: "", out: ", taken out" }[kind] ?? ", not in the list yet";
+  const where = { in: "", out: ", unlinked" }[kind] ?? ", not linked yet";
   return `${name}: key ${keyText(node.key)}, link ${said(node.link)}, lock ${node.lock}${where}`;
 }
 
@@ -169,7 +169,7 @@ function drawFold(item) {
   return tag(
     "g",
     { class: "fold" },
-    title(`${count} nodes of the chain that no thread looks at`),
+    title(`${count} nodes of the chain that no thread is at`),
     tag("rect", { x, y: TOP + 9, width: FOLD_WIDTH, height: NODE_HEIGHT - 18, rx: 18 }),
     label({ x: x + FOLD_WIDTH / 2, y: TOP + NODE_HEIGHT / 2 + 5 }, `… ${count} …`),
   );

@@ -14,7 +14,7 @@ function threadsShown(state, event, all) {
 function callCell(held, moved, event, hidesReplies) {
   if (held.pc !== 0) return callText(held.call);
   if (moved && event.answer !== undefined) return `${callText(held.call)} <b>${hidesReplies ? "…" : event.answer}</b>`;
-  return '<span class="pale">at rest</span>';
+  return '<span class="pale">idle</span>';
 }
 
 function rowCell(held, kind) {
@@ -50,9 +50,9 @@ function threadRow(state, thread, event, hidesReplies) {
 // The table; the replies may be hidden.
 export function drawThreads(state, event, all, hidesReplies = false) {
   const { registers } = LISTS[state.trace.kind];
-  const heads = ["thread", "call", "next row of the table", ...registers, "reply", "slots used"];
+  const heads = ["thread", "call", "next row of the step table", ...registers, "reply", "slots used"];
   const rows = threadsShown(state, event, all).map((thread) => threadRow(state, thread, event, hidesReplies));
-  if (rows.length === 0) rows.push(`<tr><td colspan="${heads.length}" class="pale">every thread is at rest</td></tr>`);
+  if (rows.length === 0) rows.push(`<tr><td colspan="${heads.length}" class="pale">every thread is idle</td></tr>`);
   const head = tag("tr", {}, ...heads.map((text) => tag("th", { scope: "col" }, text)));
   return tag("table", {}, tag("thead", {}, head), tag("tbody", {}, ...rows));
 }

@@ -10,9 +10,9 @@ import { redo, undo } from "./work.js";
 
 // What is waited for after a key: e and r ask for a thread; t asks for two digits of one.
 const ASKS = {
-  e: { told: "To the end of its call: which thread? Press its digit, or t and two digits.", deed: (thread) => stepsToEnd(thread) },
+  e: { told: "Steps to the end of a call: of which thread? Press its digit, or t and two digits.", deed: (thread) => stepsToEnd(thread) },
   r: {
-    told: "Until its row: which thread? Press its digit, or t and two digits.",
+    told: "Steps until the chosen row: of which thread? Press its digit, or t and two digits.",
     deed: (thread) => stepsToRow(thread, rowFor(page.state, thread)),
   },
 };

@@ -7,7 +7,7 @@ import { scheduleOfTrace } from "../run/schedule_text.js";
 import { momentAt } from "../run/sentences.js";
 import { State } from "../run/state.js";
 
-export const NO_ENGINE = "The engine is not here: no schedule can be run and no report checked. A file of listset trace can be opened.";
+export const NO_ENGINE = "The replayer does not run in this browser: no schedule can be run, no report checked. A file of listset trace can be opened.";
 
 // What the page holds: the engine, the trace that is shown, the state after `count` of its events.
 export const page = {

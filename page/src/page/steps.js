@@ -10,7 +10,7 @@ import { isFailed, isLock, mono } from "../run/sentences.js";
 import { Trace } from "../run/trace.js";
 
 export const isAtRest = (thread) => page.state.threads[thread].pc === 0;
-export const tellRest = (thread) => tell(`${chipOf(thread)} is at rest: let it begin a call first, by its row of buttons.`);
+export const tellRest = (thread) => tell(`${chipOf(thread)} is idle: let it begin a call first, with its buttons below.`);
 
 export function oneStep(thread) {
   if (isAtRest(thread)) tellRest(thread);
@@ -43,7 +43,7 @@ function stepsToLock(thread, fault, notYet) {
   const text = scheduleAndLine(page.trace, page.count, `go ${thread} ${MOST_TRIED}`);
   const answer = askList(askNow, "listset_trace", page.lacks, text);
   if (!fault.endsWith(": Waits") || !answer.text.startsWith("listset-trace")) {
-    return tell(`No steps: the engine says "${escaped(fault)}".`);
+    return tell(`No step was made: ${escaped(fault)}.`);
   }
   const events = new Trace(answer.text).events().slice(page.count);
   const waits = waitsAt(events);
@@ -60,4 +60,4 @@ function waitsAt(events) {
 }
 
 const waitingText = (thread, event) =>
-  `${chipOf(thread)} waits at row ${event.changes.pc} for ${mono(event.word)}, which ${chipOf(Number(event.saw.slice(1)))} has`;
+  `${chipOf(thread)} waits at row ${event.changes.pc} for the lock ${mono(event.word)}, which ${chipOf(Number(event.saw.slice(1)))} holds`;

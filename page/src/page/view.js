@@ -86,13 +86,13 @@ function showThreads(event) {
   const many = page.trace.threads > MOST_ROWS;
   byId("threads").innerHTML = drawThreads(page.state, event, page.allThreads, hiddenOutcomes().includes("reply"));
   byId("all-threads").hidden = !many;
-  byId("all-threads").textContent = page.allThreads ? "only those with an open call" : `show all ${page.trace.threads}`;
+  byId("all-threads").textContent = page.allThreads ? "show only those with a pending call" : `show all ${page.trace.threads}`;
 }
 
 // The table of the list's rows, while it is unfolded.
 function showTable(moment) {
-  const which = page.lacks === null ? "" : ", which lacks nothing";
-  byId("table-title").textContent = `The table of ${LISTS[page.trace.kind].name}${which}`;
+  const which = page.lacks === null ? "" : " (of the correct list)";
+  byId("table-title").textContent = `Step table of ${LISTS[page.trace.kind].name}${which}`;
   if (byId("table-box").open) byId("table").innerHTML = drawTable(moment);
 }
 

@@ -15,8 +15,8 @@ import { eventsInCommon, Trace } from "./trace.js";
 const LACKING_THREADS = 2;
 const LACKING_QUOTA = 2;
 const LACKING_OPENING = [3, 7]; // what such a list opens with, until the reader changes that
-export const EXPLAINED = "Explained: this schedule does not break it.";
-const BY_POINTS = "Not by its points: check refuses the order by the moments that the table names.";
+export const EXPLAINED = "Not broken yet: some order explains this run.";
+const BY_POINTS = "Not by its linearization points: check refuses that order.";
 const OTHER = "Another order explains these replies.";
 const UNKNOWN = "Whether another order explains these replies is not known.";
 const UNEXPLAINED = "No order of these calls explains that (proved).";
@@ -64,10 +64,10 @@ function whyNone(report, [reason, ...lines]) {
   if (full !== null) return fullInWords(exercise, exercise.calls[full[1]]);
   const [, key, end] = /^no order explains the calls of key (\d+) (up|and)/.exec(reason) ?? [];
   if (key === undefined) return reason;
-  if (end === "and" && isLost(exercise, Number(key))) return `${key} was put in once and never taken out, and the set lacks it`;
+  if (end === "and" && isLost(exercise, Number(key))) return `${key} was added once and never removed, and at the end the set does not have it`;
   const start = /^key \d+ is (there|not there) at moment (\d+)$/.exec(lines[0] ?? "");
   const calls = lines.map((line) => callInWords(exercise, line)).filter((words) => words !== null);
-  const last = end === "and" ? [`at last the set ${isLeft(exercise, key) ? "has" : "lacks"} it`] : [];
+  const last = end === "and" ? [`at the end the set ${isLeft(exercise, key) ? "has it" : "does not have it"}`] : [];
   const then = [...calls, ...last].join(", ");
   if (start === null) return then === "" ? reason : then;
   const when = start[2] === "0" ? "at first" : `after event ${start[2]}`;
@@ -117,7 +117,7 @@ export function departureOf(ask, trace) {
 function rowInWords(trace, number) {
   const event = trace.event(number);
   const row = event.changes.pc;
-  const { step } = LISTS[trace.kind].rows[row] ?? { step: "which the whole list has not" };
+  const { step } = LISTS[trace.kind].rows[row] ?? { step: "which the correct list does not have" };
   const isSaid = event.deed === "exchange" && isFailed(event) && isLock(event.word);
   return row === 0 || isSaid ? "" : ` It goes on at row ${row}, ${escaped(step)}.`;
 }

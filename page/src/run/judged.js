@@ -11,12 +11,17 @@ export const MOST_JUDGED = 60; // events of a run that is judged
 
 // Of each level what is asked for, and which outcomes of a sentence would tell it.
 export const LEVELS = {
-  points: { task: "The replies are shown. Where does each call take effect?", hidden: ["change", "effect"] },
+  points: { name: "points (the replies are shown)", task: "The replies are shown. Where does each call take effect?", hidden: ["change", "effect"] },
   replies: {
+    name: "replies and points",
     task: "What does each call answer, and where does it take effect?",
     hidden: ["change", "reply", "leftInChain", "effect"],
   },
-  claim: { task: "May a set answer this? Give an order that explains the report, or say that there is none.", hidden: [] },
+  claim: {
+    name: "is there an order at all?",
+    task: "Can a set give these replies? Give an order that explains the report, or say that there is none.",
+    hidden: [],
+  },
 };
 
 // A report's calls, order, keys and header. The text is the engine's own, of a whole list or of a broken one.
@@ -113,7 +118,7 @@ export function verdictOn(ask, answer) {
   const unsaid = answer.unsaid();
   if (answer.isNone) return verdictOnClaim(ask, answer.exercise);
   const nothing = { isRight: null, clash: null, report: null };
-  if (unsaid.length > 0) return { ...nothing, says: `Still to be said: ${unsaid.map(nameOfCall).join(", ")}.` };
+  if (unsaid.length > 0) return { ...nothing, says: `Still missing: ${unsaid.map(nameOfCall).join(", ")}.` };
   const report = reportOfAnswer(answer);
   const checked = ask("listset_check", report).text.trim();
   if (checked === "ok") return { isRight: true, clash: null, report, says: rightInWords(answer) };
@@ -140,19 +145,19 @@ export function otherOrders(drawn) {
 // report `show` says what is known.
 function verdictOnClaim(ask, { isWhole, reportText }) {
   const said = (isRight, says) => ({ isRight, clash: null, report: null, says });
-  const there = "There is one: this is a run of a list that is proved to have an order for each of its runs. Find it.";
+  const there = "There is one: this is a run of a correct list, and each of those has an order (proved). Find it.";
   if (isWhole) return said(false, there);
   const { kind } = otherOrders(ask("listset_show", reportText).text);
-  if (kind === "none") return said(true, "Right: no order explains this report (proved). A broken list gave it.");
-  if (kind === "unknown") return said(null, "A broken list gave this report, and whether an order explains it is not known.");
-  return said(false, "There is one, although a broken list gave this report. Find it.");
+  if (kind === "none") return said(true, "Right: no order explains this report (proved). It comes from a broken list.");
+  if (kind === "unknown") return said(null, "This report comes from a broken list, and whether an order explains it is not known.");
+  return said(false, "There is one, although this report comes from a broken list. Find it.");
 }
 
 function rightInWords(answer) {
   if (!answer.exercise.isWhole) return "check says ok: this order explains the report, so this schedule does not break the list.";
   const own = answer.order().map(({ call, reply }) => `${call.id}-${reply}`);
   const isSame = own.join() === answer.exercise.places.join();
-  const also = isSame ? "It is the order that the replayer gives, too." : "The replayer gives another one: both explain the run.";
+  const also = isSame ? "It is also the order of the replayer." : "The replayer has another one: both explain the run.";
   return `check says ok: this order explains the run. ${also}`;
 }
 
@@ -171,11 +176,11 @@ function faultInWords(answer, line) {
   const early = /^refused TooEarly (\d+): it begins at (\d+) and stands before call (\d+), which ended at (\d+)$/.exec(line);
   if (early !== null) {
     const [, late, begun, first, ended] = early;
-    const stands = `in your order it stands before ${named(first)}, which ended at event ${ended}`;
+    const stands = `in your order it comes before ${named(first)}, which ended at event ${ended}`;
     return `${named(late)} begins at event ${begun}, and ${stands}.`;
   }
   const leaves = /^refused WrongSet: the order leaves (\{.*\}), and the keys are (\{.*\})$/.exec(line);
-  if (leaves !== null) return `Your order leaves the set ${leaves[1]}, and at the end of this run it is ${leaves[2]}.`;
+  if (leaves !== null) return `Your order leaves the set ${leaves[1]}; at the end of this run it is ${leaves[2]}.`;
   return line;
 }
 

@@ -16,17 +16,17 @@ end
 
 // The causes of a fault of such a text, by the program's own word for each.
 const CAUSES_OF_CALLS = {
-  NotEnded: "the text is to end with the line end",
-  Header: 'line 1 is to be "listset-calls 2"',
-  Kind: 'line 2 is to be "list" and one of coarse, fine, optimistic, lazy, lock-free',
-  Threads: 'line 3 is to be "threads" and a number from 1 to 64',
-  Quota: 'line 4 is to be "quota" and a number from 0 to 16384, no less than the adds of a thread that answered true',
-  Line: 'a line is to be "call T CALL K BEGIN POINT END REPLY", with - for what there is not; above all calls "opening K", below them "key K"',
-  Number: "a moment is no number from 1 to 4294967295, or another number is none up to 4294967295",
-  TooMany: "there are more opening keys, calls or keys than are read",
-  Opening: "an opening key is to be above the one before",
-  History: "there is no such thread, or it has two calls at a time, or a moment stands twice, or a call ends before it begins",
-  Point: "a point is to lie between the begin and the end; with a ceiling or a full, each add and remove that answered true wants one",
+  NotEnded: "the text must end with the line end",
+  Header: 'line 1 must be "listset-calls 2"',
+  Kind: 'line 2 must be "list" and one of coarse, fine, optimistic, lazy, lock-free',
+  Threads: 'line 3 must be "threads" and a number from 1 to 64',
+  Quota: 'line 4 must be "quota" and a number from 0 to 16384, no less than the adds of a thread that answered true',
+  Line: 'expected "call T CALL K BEGIN POINT END REPLY", with - for what is missing; "opening K" only above all calls, "key K" only below them',
+  Number: "a moment is not a number from 1 to 4294967295, or another number not one from 0 to 4294967295",
+  TooMany: "there are more opening keys, calls or keys than the judge reads",
+  Opening: "an opening key must be above the one before",
+  History: "there is no such thread, or it has two calls at a time, or two calls have one moment, or a call ends before it begins",
+  Point: "a point must lie between the begin and the end; if there is a ceiling or a full, each add and remove that answered true needs one",
 };
 
 const AS_LEFT = /^no order explains the calls of key (\d+) and leaves it as it was left$/;
@@ -73,7 +73,7 @@ export function verdictOnCalls(text) {
     return said("none", "Not linearizable: no order at all explains these calls.", reasonsIn(lines), callsOf(lines));
   }
   if (first.startsWith("refused ")) {
-    const why = "The set has a bug, or a point stands in the wrong place.";
+    const why = "The set has a bug, or a point is at the wrong place.";
     return said("none", "No order has the changes at the points that the text gives.", [`${first}.`, why]);
   }
   const cause = /^listset: line \d+: (\w+)$/.exec(first)?.[1];
@@ -85,5 +85,5 @@ export const withNewline = (text) => (text === "" || text.endsWith("\n") ? text 
 
 export const recordedInWords = (call) =>
   call.ended === null
-    ? `${nameOfCall(call)}, begun at ${call.begun}, has not answered`
+    ? `${nameOfCall(call)}, begun at ${call.begun}, is pending`
     : `${nameOfCall(call)} answers ${call.reply}, from ${call.begun} to ${call.ended}`;
