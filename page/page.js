@@ -2828,18 +2828,13 @@ const ROW_HEIGHT = 15;
 
 const widthOf = (text, reply = "") => LETTER * text.length + (reply === "" ? 0 : LETTER + BOLD * reply.length);
 
-function placeIn(taken, { left, right, wide }, edge) {
-  const places = [Math.min(left, edge - wide), Math.min(right, edge) - wide];
-  return places.find((x) => x >= taken) ?? null;
-}
-
 function placeLabels(items, { start, edge, mostRows }) {
   const taken = Array.from({ length: mostRows }, () => start);
-  return items.map((item) => {
-    for (let row = 0; row < mostRows; row++) {
-      const x = placeIn(taken[row], item, edge);
-      if (x === null) continue;
-      taken[row] = x + item.wide + BETWEEN;
+  return items.map(({ left, right, wide }) => {
+    for (const x of [Math.min(left, edge - wide), Math.min(right, edge) - wide]) {
+      const row = taken.findIndex((end) => x >= end);
+      if (row === -1) continue;
+      taken[row] = x + wide + BETWEEN;
       return { x, row };
     }
     return null;
@@ -2984,10 +2979,16 @@ function drawPoint(call, scale) {
     "g",
     { class: `point ${state} ${colourOf(call.thread)}` },
     title(`call ${call.id}, ${callText(call)}, ${how} event ${call.at}`),
-    tag("line", { x1: x, x2: x, y1: y, y2: scale.height }),
     tag("circle", { cx: x, cy: y, r: 6.5 }),
     call.changes ? "" : tag("circle", { class: "hole", cx: x, cy: y, r: 3 }),
   );
+}
+
+function drawStem(call, scale) {
+  const x = scale.x(call.at);
+  const state = isReached(call, scale.count) ? "reached" : "later";
+  const stem = { x1: x, x2: x, y1: scale.y(call.thread), y2: scale.height };
+  return tag("g", { class: `point ${state} ${colourOf(call.thread)}` }, tag("line", stem));
 }
 
 function drawCursor(scale, bottom, top = 0) {
@@ -3003,11 +3004,12 @@ function drawCalls(trace, scale) {
   const lanes = Array.from({ length: trace.threads }, (_, thread) => drawLane(scale, thread));
   const bars = shown.map((call) => drawBar(call, scale));
   const points = placed.map((call) => drawPoint(call, scale));
+  const stems = placed.map((call) => drawStem(call, scale));
   const begun = shown.filter((call) => call.begun <= scale.count);
   const words = begun.length === 0 ? "no call has begun" : begun.slice(-20).map((call) => callInWords(call, scale.now)).join("; ");
   const frame = { width, height, role: "img", "aria-label": `the history of the calls: ${words}` };
   const signs = scale.areWhole ? "" : label({ class: "note", x: 2, y: height - 4 }, SIGNS_IN_WORDS);
-  return tag("svg", frame, ...lanes, drawCursor(scale, height, scale.y(0) - scale.bar / 2 - 2), ...bars, ...points, signs);
+  return tag("svg", frame, ...lanes, drawCursor(scale, height, scale.y(0) - scale.bar / 2 - 2), ...stems, ...bars, ...points, signs);
 }
 
 function drawContent(part, scale) {
@@ -4334,8 +4336,8 @@ function showThreads(event) {
 }
 
 function showTable(moment) {
-  const which = page.lacks === null ? "" : " (of the correct list)";
-  byId("table-title").textContent = `Step table of ${LISTS[page.trace.kind].name}${which}`;
+  const which = page.lacks === null ? "" : "the correct ";
+  byId("table-title").textContent = `Step table of ${which}${LISTS[page.trace.kind].name}`;
   if (byId("table-box").open) byId("table").innerHTML = drawTable(moment);
 }
 
@@ -4367,8 +4369,14 @@ function showHistory(event, wide) {
 function listHeight() {
   if (page.view === "list" || page.view === "history" || innerWidth <= 560) return Infinity;
   if (page.view === "lecture") return slideHeight();
-  const below = byId("bar").clientHeight + (isJudging() ? byId("judge").offsetHeight + 90 : 142 + callsHeight());
-  return Math.max(isJudging() ? 190 : 260, innerHeight - byId("list").getBoundingClientRect().top - scrollY - below);
+  const isLow = isJudging() || isAtWork();
+  const below = byId("bar").clientHeight + heightBelowBar();
+  return Math.max(isLow ? 190 : 260, innerHeight - byId("list").getBoundingClientRect().top - scrollY - below);
+}
+
+function heightBelowBar() {
+  if (isJudging()) return byId("judge").offsetHeight + 90;
+  return isAtWork() ? 90 + 42 * Math.min(page.trace.threads, 6) : 142 + callsHeight();
 }
 
 const callsHeight = () => Math.min(ALL_LANES, heightOfCalls(page.trace, Math.max(300, byId("history").clientWidth)));
@@ -8283,7 +8291,7 @@ const FIRST = {
   to: 20,
   says: {
     before: "It plays up to event 20, where the question arises.",
-    there: "The play stops here: the question is about this moment. Press Step, or choose another thread below.",
+    there: "The play stops here, at the question. Press Step, or choose another thread below.",
   },
 };
 

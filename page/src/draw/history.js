@@ -133,10 +133,17 @@ function drawPoint(call, scale) {
     "g",
     { class: `point ${state} ${colourOf(call.thread)}` },
     title(`call ${call.id}, ${callText(call)}, ${how} event ${call.at}`),
-    tag("line", { x1: x, x2: x, y1: y, y2: scale.height }),
     tag("circle", { cx: x, cy: y, r: 6.5 }),
     call.changes ? "" : tag("circle", { class: "hole", cx: x, cy: y, r: 3 }),
   );
+}
+
+// The line from a point down to the contents of the set, behind the labels.
+function drawStem(call, scale) {
+  const x = scale.x(call.at);
+  const state = isReached(call, scale.count) ? "reached" : "later";
+  const stem = { x1: x, x2: x, y1: scale.y(call.thread), y2: scale.height };
+  return tag("g", { class: `point ${state} ${colourOf(call.thread)}` }, tag("line", stem));
 }
 
 function drawCursor(scale, bottom, top = 0) {
@@ -153,11 +160,12 @@ export function drawCalls(trace, scale) {
   const lanes = Array.from({ length: trace.threads }, (_, thread) => drawLane(scale, thread));
   const bars = shown.map((call) => drawBar(call, scale));
   const points = placed.map((call) => drawPoint(call, scale));
+  const stems = placed.map((call) => drawStem(call, scale));
   const begun = shown.filter((call) => call.begun <= scale.count);
   const words = begun.length === 0 ? "no call has begun" : begun.slice(-20).map((call) => callInWords(call, scale.now)).join("; ");
   const frame = { width, height, role: "img", "aria-label": `the history of the calls: ${words}` };
   const signs = scale.areWhole ? "" : label({ class: "note", x: 2, y: height - 4 }, SIGNS_IN_WORDS);
-  return tag("svg", frame, ...lanes, drawCursor(scale, height, scale.y(0) - scale.bar / 2 - 2), ...bars, ...points, signs);
+  return tag("svg", frame, ...lanes, drawCursor(scale, height, scale.y(0) - scale.bar / 2 - 2), ...stems, ...bars, ...points, signs);
 }
 
 function drawContent(part, scale) {

@@ -9,22 +9,16 @@ export const ROW_HEIGHT = 15;
 
 export const widthOf = (text, reply = "") => LETTER * text.length + (reply === "" ? 0 : LETTER + BOLD * reply.length);
 
-// A label begins at the left end of its bar, or else ends at its right end, if what is written before in this row leaves the space; it
-// moves to the left if the drawing ends.
-function placeIn(taken, { left, right, wide }, edge) {
-  const places = [Math.min(left, edge - wide), Math.min(right, edge) - wide];
-  return places.find((x) => x >= taken) ?? null;
-}
-
 // Of each item, { left, right, wide } in the order of their left ends, its place { x, row }, where row 0 is next to the bar; null if
-// no row has space. `start` is the left edge of the drawing, `edge` the right one.
+// no row has space. A label begins at the left end of its bar, in the first row that is free there, or else ends at its right end; it
+// moves to the left if the drawing ends. `start` is the left edge of the drawing, `edge` the right one.
 export function placeLabels(items, { start, edge, mostRows }) {
   const taken = Array.from({ length: mostRows }, () => start);
-  return items.map((item) => {
-    for (let row = 0; row < mostRows; row++) {
-      const x = placeIn(taken[row], item, edge);
-      if (x === null) continue;
-      taken[row] = x + item.wide + BETWEEN;
+  return items.map(({ left, right, wide }) => {
+    for (const x of [Math.min(left, edge - wide), Math.min(right, edge) - wide]) {
+      const row = taken.findIndex((end) => x >= end);
+      if (row === -1) continue;
+      taken[row] = x + wide + BETWEEN;
       return { x, row };
     }
     return null;

@@ -91,8 +91,8 @@ function showThreads(event) {
 
 // The table of the list's rows, while it is unfolded.
 function showTable(moment) {
-  const which = page.lacks === null ? "" : " (of the correct list)";
-  byId("table-title").textContent = `Step table of ${LISTS[page.trace.kind].name}${which}`;
+  const which = page.lacks === null ? "" : "the correct ";
+  byId("table-title").textContent = `Step table of ${which}${LISTS[page.trace.kind].name}`;
   if (byId("table-box").open) byId("table").innerHTML = drawTable(moment);
 }
 
@@ -127,8 +127,15 @@ function showHistory(event, wide) {
 function listHeight() {
   if (page.view === "list" || page.view === "history" || innerWidth <= 560) return Infinity;
   if (page.view === "lecture") return slideHeight();
-  const below = byId("bar").clientHeight + (isJudging() ? byId("judge").offsetHeight + 90 : 142 + callsHeight());
-  return Math.max(isJudging() ? 190 : 260, innerHeight - byId("list").getBoundingClientRect().top - scrollY - below);
+  const isLow = isJudging() || isAtWork();
+  const below = byId("bar").clientHeight + heightBelowBar();
+  return Math.max(isLow ? 190 : 260, innerHeight - byId("list").getBoundingClientRect().top - scrollY - below);
+}
+
+// What is to be seen below the bar: the reader's answer, the moves, or the history.
+function heightBelowBar() {
+  if (isJudging()) return byId("judge").offsetHeight + 90;
+  return isAtWork() ? 90 + 42 * Math.min(page.trace.threads, 6) : 142 + callsHeight();
 }
 
 // The bars of the history, which scroll if they are too many.
