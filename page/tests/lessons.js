@@ -60,17 +60,17 @@ function checkBook(ask, { name, lessons, faults }) {
 
 // Of each lesson the wrong try that comes first to mind, and how its dead end begins.
 const LIKELY = {
-  "one-lock": { lines: ["go 0 out"], deadEnd: "The add of thread 0 has answered before that of thread 1." },
-  "hand-over-hand": { lines: ["go 0 out", "go 1 out"], deadEnd: "Both have answered" },
-  "two-at-once": { lines: ["go 0 out"], deadEnd: "The remove has answered: thread 0 has its two locks no more." },
+  "one-lock": { lines: ["go 0 out"], deadEnd: "The add of thread 0 has ended before that of thread 1." },
+  "hand-over-hand": { lines: ["go 0 out", "go 1 out"], deadEnd: "Both calls have ended" },
+  "two-at-once": { lines: ["go 0 out"], deadEnd: "The remove has ended: thread 0 holds no locks any more." },
   "changed-link": { lines: ["go 0 out"], deadEnd: "The remove has answered true without such a failure." },
   "lost-pred": { lines: ["go 0 out"], deadEnd: "The add has answered true, and its second walk did not miss pred" },
   "marked-in-chain": { lines: ["go 1 out", "begin 0 contains 5", "go 0 out"], deadEnd: "That remove has ended" },
-  "stopped-thread": { lines: ["go 0 out"], deadEnd: "The remove of thread 0 has answered" },
-  "over-removed-nodes": { lines: ["go 0 out"], deadEnd: "This contains has answered" },
+  "stopped-thread": { lines: ["go 0 out"], deadEnd: "The remove of thread 0 has ended" },
+  "over-removed-nodes": { lines: ["go 0 out"], deadEnd: "This contains has ended" },
   "in-anothers-step": { lines: ["go 0 out"], deadEnd: "This contains has answered true" },
-  "left-to-others": { lines: ["go 1 out"], deadEnd: "This remove has taken its node out itself" },
-  "not-wait-free": { lines: ["go 0 out"], deadEnd: "That add has answered" },
+  "left-to-others": { lines: ["go 1 out"], deadEnd: "This remove has unlinked its node itself" },
+  "not-wait-free": { lines: ["go 0 out"], deadEnd: "That add has ended" },
   "ceiling-in-anothers-step": { lines: ["go 0 out"], deadEnd: "This ceiling has answered 7" },
 };
 
@@ -106,14 +106,14 @@ function checkMissing(ask, { lessons }) {
     ["one-lock", "b1.add.6,b0.add.5,b2.add.7", "an add of thread 1, begins after the add of thread 0"],
     ["one-lock", `${begun},g0.7,g1.7,g2.7`, "the add of thread 1, takes effect after the add of thread 2"],
     ["one-lock", `${begun},g2.7,g1.7`, "the add of thread 0, answers true"],
-    ["two-at-once", "b0.remove.9,g0.12,b1.add.1", "a time in which thread 0 makes no step, holding 2"],
+    ["two-at-once", "b0.remove.9,g0.12,b1.add.1", "a time in which thread 0 makes no step, holding 2 locks"],
     ["stopped-thread", "b0.remove.5,b1.add.7,g0.5,g1.9", null],
   ];
   for (const [name, events, missing] of cases) {
     const found = told(name, events);
     check(`${name}, ${events}: ${found}`, missing === null || found.includes(missing));
   }
-  const step = "5 times a step of thread 1, tries in vain a lock of thread 0, in the time in which thread 0 makes no step";
+  const step = "5 times a step of thread 1, tries to take a lock that thread 0 holds, in the time in which thread 0 makes no step";
   check(`a count: ${told("stopped-thread", "b0.remove.5,b1.add.7,g0.5,g1.5")}`, told("stopped-thread", "b0.remove.5,b1.add.7,g0.5,g1.5").includes(step));
 }
 
@@ -198,7 +198,7 @@ function checkTrials(ask) {
   const trials = [
     ["  begin 0 add 5\n", "  begin 0 ad 5\n", "one-lock: its start is refused at \"begin 0 ad 5\": expected "],
     ["  go 0 7\n", "  go 0 70\n", "one-lock: its answer is refused at \"go 0 70\": the thread makes a step while it has no call pending"],
-    ["  go 2 1\n  go 0 1\n", "  go 2 1\n", "one-lock: its answer does not solve it: missing: That of thread 0 tries"],
+    ["  go 2 1\n  go 0 1\n", "  go 2 1\n", "one-lock: its answer does not solve it: missing: Thread 0 tries to lock the list"],
     ["begin 1 remove 5\nquestion", "begin 1 remove 5\n  go 1 7\n  begin 0 contains 5\n  go 0 3\nquestion",
       "marked-in-chain: its start meets the goal already"],
   ];

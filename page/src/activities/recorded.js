@@ -22,7 +22,7 @@ const PARTS = `<p class="lead">The forms in <code>examples/in-a-test</code> reco
 
 export const drawRecordedBox = () =>
   tag("details", { id: "recorded-box", class: "card", ...(recorded.isOpen ? { open: "" } : {}) },
-    tag("summary", {}, "<h2>Calls recorded from your set</h2>"), PARTS);
+    tag("summary", {}, "<h2>Judge calls recorded from your own set</h2>"), PARTS);
 
 function showVerdict({ kind, says, reasons, calls }) {
   recordedPart("verdict").className = kind;

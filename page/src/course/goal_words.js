@@ -158,9 +158,21 @@ function lineInWords(goal, at) {
   const article = /^[aeiou]/.test(noun) ? "an" : "a";
   const counted = line.count === 1 ? `${article} ${noun}` : `${line.count} times a ${noun}`;
   const subject = line.count !== null ? counted : line.isNew ? `${article} ${noun}` : nouns.get(line.name);
-  const told = (clause) => clause.replace(/\b[A-Z]\w*/g, (name) => nouns.get(name) ?? name).replace(/(lock of) (\d+)/, "$1 thread $2");
+  const told = (clause) => plainClause(clause.replace(/\b[A-Z]\w*/g, (name) => nouns.get(name) ?? name));
   return [subject, ...line.clauses.filter((clause) => !isOperation(clause) || !line.isNew).map(told)].join(", ");
 }
+
+// A clause as a student reads it.
+const PLAIN = [
+  [/^tries in vain a lock of (\d+)$/, "tries to take a lock that thread $1 holds"],
+  [/^takes out the node of (.*)$/, "unlinks the node of $1"],
+  [/^out of the chain$/, "at a node that is not in the chain"],
+  [/^in the chain$/, "at a node in the chain"],
+  [/^open$/, "pending"],
+  [/^holding 1$/, "holding one lock"],
+  [/^holding (\d+)$/, "holding $1 locks"],
+];
+const plainClause = (clause) => PLAIN.reduce((text, [words, plain]) => text.replace(words, plain), clause);
 
 const isOperation = (clause) => /^(add|remove|contains|ceiling)$/.test(clause);
 
