@@ -4116,7 +4116,7 @@ function grow({ width, height }) {
   known.width = Math.max(known.width, width);
   known.height = Math.max(known.height, height);
 }
-return { roomOf, forgetRoom, keptHeight };
+return { LEAST, roomOf, forgetRoom, keptHeight };
 })();
 
 // draw/table.js
@@ -4358,12 +4358,23 @@ function showHistory(event, wide) {
   const scale = scaleOf(trace, count, Math.max(300, wide), hides);
   byId("calls").innerHTML = drawCalls(trace, scale);
   byId("contents").innerHTML = drawContents(trace, scale);
+  keepRoomForOrder(trace, wide);
   byId("order").innerHTML = drawOrder(trace, count, hides);
   page.scale = scale;
   const box = byId("calls");
   if (event === null || scale.height <= ALL_LANES || box.scrollHeight <= box.clientHeight) return;
   const y = scale.y(event.thread);
   if (y < box.scrollTop + 20 || y > box.scrollTop + box.clientHeight - 20) box.scrollTop = y - box.clientHeight / 2;
+}
+
+const order = { trace: null, wide: 0 };
+
+function keepRoomForOrder(trace, wide) {
+  if (order.trace === trace && order.wide === wide) return;
+  Object.assign(order, { trace, wide });
+  byId("order").style.minHeight = "";
+  byId("order").innerHTML = drawOrder(trace, trace.total);
+  byId("order").style.minHeight = `${byId("order").offsetHeight}px`;
 }
 
 function listHeight() {
@@ -5947,7 +5958,7 @@ const chosenOf = (thread) => (chosenCalls[thread] ??= { operation: "add", key: "
 function drawMovesNow({ trace, state }) {
   drawMoves(state, page.engine !== null);
   const isLater = page.count < trace.total;
-  byId("moves-note").textContent = isLater ? `From event ${page.count} on; the later events are dropped.` : "";
+  byId("moves-note").textContent = isLater ? `From event ${page.count} on; later events are dropped.` : "";
 }
 
 function drawMoves(state, isAble) {
@@ -6271,6 +6282,7 @@ const $activities_compare = (() => {
 const { LISTS } = $made_rows;
 const { drawCalls, drawContents, scaleOf } = $draw_history;
 const { drawList } = $draw_list;
+const { LEAST } = $draw_room;
 const { byId, redraw } = $page_dom;
 const { toggleLecture } = $page_keys;
 const { askNow, page } = $page_now;
@@ -6348,7 +6360,7 @@ function drawSide(side, thread, place) {
 
 function drawSideList({ state }, event, width, place) {
   const most = page.view === "lecture" ? 300 : 250;
-  return drawList(state, event, width, most, { width: 0, height: 0 }, `side-${place}`);
+  return drawList(state, event, width, most, { width: 0, height: LEAST.atWork }, `side-${place}`);
 }
 
 function pressForSides(event) {
@@ -8303,7 +8315,7 @@ const FIRST = {
   to: 20,
   says: {
     before: "It plays up to event 20, where the question arises.",
-    there: "The play stops here, at the question. Press Step, or choose another thread below.",
+    there: "The play stops here, at the question. Press Step, or choose the next step below.",
   },
 };
 
@@ -8883,7 +8895,6 @@ function showPlace(moment) {
     if (task[name] !== null) byId(`task-${name}`).href = task[name];
   }
   [byId("task-all").hash, byId("task-all").textContent] = task.all;
-  byId("moves-title").textContent = isAtWork() ? "Choose the next step" : "Go another way: choose the next step";
   placeMoves(isAtWork());
   markExample();
 }

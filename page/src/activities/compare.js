@@ -2,6 +2,7 @@
 import { LISTS } from "../../made/rows.js";
 import { drawCalls, drawContents, scaleOf } from "../draw/history.js";
 import { drawList } from "../draw/list.js";
+import { LEAST } from "../draw/room.js";
 import { byId, redraw } from "../page/dom.js";
 import { toggleLecture } from "../page/keys.js";
 import { askNow, page } from "../page/now.js";
@@ -83,7 +84,7 @@ function drawSide(side, thread, place) {
 
 function drawSideList({ state }, event, width, place) {
   const most = page.view === "lecture" ? 300 : 250;
-  return drawList(state, event, width, most, { width: 0, height: 0 }, `side-${place}`);
+  return drawList(state, event, width, most, { width: 0, height: LEAST.atWork }, `side-${place}`);
 }
 
 // A turn by its digit; an arrow, and a presenter's key, goes on and back.

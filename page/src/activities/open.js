@@ -202,7 +202,6 @@ export function showPlace(moment) {
     if (task[name] !== null) byId(`task-${name}`).href = task[name];
   }
   [byId("task-all").hash, byId("task-all").textContent] = task.all;
-  byId("moves-title").textContent = isAtWork() ? "Choose the next step" : "Go another way: choose the next step";
   placeMoves(isAtWork());
   markExample();
 }

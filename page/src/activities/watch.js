@@ -18,7 +18,7 @@ export const FIRST = {
   to: 20,
   says: {
     before: "It plays up to event 20, where the question arises.",
-    there: "The play stops here, at the question. Press Step, or choose another thread below.",
+    there: "The play stops here, at the question. Press Step, or choose the next step below.",
   },
 };
 

@@ -1,7 +1,7 @@
 // The room that the picture of the list takes: the same at each event of a run, so that nothing jumps while one steps.
 
 const MOST_LOOKED_AT = 300; // events; of a longer run the room grows as it is shown
-const LEAST = { width: 500, height: 170, atWork: 260 }; // at work a node may come to stand below the chain
+export const LEAST = { width: 500, height: 170, atWork: 260 }; // at work a node may come to stand below the chain
 
 const known = { trace: null, kind: "", threads: 0, total: 0, width: 0, height: 0, isOwn: false, goesOn: false };
 const drawn = { wide: 0, height: 0 }; // the highest picture that was drawn in a page so wide

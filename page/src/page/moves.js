@@ -15,7 +15,7 @@ const chosenOf = (thread) => (chosenCalls[thread] ??= { operation: "add", key: "
 export function drawMovesNow({ trace, state }) {
   drawMoves(state, page.engine !== null);
   const isLater = page.count < trace.total;
-  byId("moves-note").textContent = isLater ? `From event ${page.count} on; the later events are dropped.` : "";
+  byId("moves-note").textContent = isLater ? `From event ${page.count} on; later events are dropped.` : "";
 }
 
 // One row of controls for each thread.

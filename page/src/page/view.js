@@ -114,12 +114,24 @@ function showHistory(event, wide) {
   const scale = scaleOf(trace, count, Math.max(300, wide), hides);
   byId("calls").innerHTML = drawCalls(trace, scale);
   byId("contents").innerHTML = drawContents(trace, scale);
+  keepRoomForOrder(trace, wide);
   byId("order").innerHTML = drawOrder(trace, count, hides);
   page.scale = scale;
   const box = byId("calls");
   if (event === null || scale.height <= ALL_LANES || box.scrollHeight <= box.clientHeight) return;
   const y = scale.y(event.thread);
   if (y < box.scrollTop + 20 || y > box.scrollTop + box.clientHeight - 20) box.scrollTop = y - box.clientHeight / 2;
+}
+
+const order = { trace: null, wide: 0 };
+
+// The order of the calls has the room of the whole one, so that nothing below it moves.
+function keepRoomForOrder(trace, wide) {
+  if (order.trace === trace && order.wide === wide) return;
+  Object.assign(order, { trace, wide });
+  byId("order").style.minHeight = "";
+  byId("order").innerHTML = drawOrder(trace, trace.total);
+  byId("order").style.minHeight = `${byId("order").offsetHeight}px`;
 }
 
 // Where the page is as wide as a table, controls, list and history stand on one screen: what is above and below the list leaves so
