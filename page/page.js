@@ -720,14 +720,14 @@ const { HEADER_LINES } = $run_trace;
 const MOST_JUDGED = 60; // events of a run that is judged
 
 const LEVELS = {
-  points: { name: "points (the replies are shown)", task: "The replies are shown. Where does each call take effect?", hidden: ["change", "effect"] },
+  points: { name: "points alone", task: "The replies are shown. Where does each call take effect?", hidden: ["change", "effect"] },
   replies: {
     name: "replies and points",
     task: "What does each call answer, and where does it take effect?",
     hidden: ["change", "reply", "leftInChain", "effect"],
   },
   claim: {
-    name: "is there an order at all?",
+    name: "any order at all?",
     task: "Can a set give these replies? Give an order that explains the report, or say that there is none.",
     hidden: [],
   },
@@ -3417,7 +3417,7 @@ function threadInWords(state, held, thread, locks) {
   const has = own === undefined ? "" : `; t${thread} has ${own.join(" and ")}`;
   return `t${thread} ${callText(held.call)} at row ${held.pc}${at === "" ? "" : `: ${at}`}${has}`;
 }
-return { shapeFor, SIGN_WIDTH, arranged, drawList };
+return { shapeFor, LOCK_HEIGHT, SIGN_WIDTH, arranged, drawList };
 })();
 
 // made/code.js
@@ -6281,7 +6281,7 @@ return { ProgramFault, readProgram, programText, Sides };
 const $activities_compare = (() => {
 const { LISTS } = $made_rows;
 const { drawCalls, drawContents, scaleOf } = $draw_history;
-const { drawList } = $draw_list;
+const { drawList, LOCK_HEIGHT } = $draw_list;
 const { LEAST } = $draw_room;
 const { byId, redraw } = $page_dom;
 const { toggleLecture } = $page_keys;
@@ -6359,8 +6359,9 @@ function drawSide(side, thread, place) {
 }
 
 function drawSideList({ state }, event, width, place) {
-  const most = page.view === "lecture" ? 300 : 250;
-  return drawList(state, event, width, most, { width: 0, height: LEAST.atWork }, `side-${place}`);
+  const most = page.view === "lecture" ? 300 : 230;
+  const height = LEAST.atWork + (state.trace.kind === "coarse" ? 0 : LOCK_HEIGHT); // so that both are drawn in one scale
+  return drawList(state, event, width, most, { width: 0, height }, `side-${place}`);
 }
 
 function pressForSides(event) {
@@ -7720,7 +7721,6 @@ return { handInText, textsIn, readHandIn, judgedPart };
 // activities/lessons.js
 const $activities_lessons = (() => {
 const { BOOK, BOOK_NAME } = $made_book;
-const { LISTS } = $made_rows;
 const { brokenLines } = $activities_broken_kept;
 const { listenToCourses } = $activities_courses;
 const { JUDGED } = $activities_judging;
@@ -7799,10 +7799,9 @@ class LessonsOnPage {
     this.trace = undefined;
     this.hasAsked = false; // for what is missing, or for the hint: then the answer may be asked for
     this.ticks.clear();
-    const { title, list, lacks, threads, opening, question, hint, teaches, answer } = lesson;
-    const keys = opening.length === 0 ? "" : `, initial keys ${opening.join(", ")}`;
-    const set = `${LISTS[list].name}${lacks === null ? "" : " without one check"}, ${threads} threads${keys}`;
-    lessonPart("title").innerHTML = `${escaped(title)} <small>${set}</small>`;
+    const { title, opening, question, hint, teaches, answer } = lesson;
+    const keys = opening.length === 0 ? "" : ` <small>initial keys ${opening.join(", ")}</small>`;
+    lessonPart("title").innerHTML = `${escaped(title)}${keys}`;
     lessonPart("question").textContent = question;
     lessonPart("hint-fold").textContent = hint;
     lessonPart("hint").hidden = hint === "";

@@ -1,7 +1,7 @@
 // Compare: two lists side by side, under one program of calls, with some programs to begin with.
 import { LISTS } from "../../made/rows.js";
 import { drawCalls, drawContents, scaleOf } from "../draw/history.js";
-import { drawList } from "../draw/list.js";
+import { drawList, LOCK_HEIGHT } from "../draw/list.js";
 import { LEAST } from "../draw/room.js";
 import { byId, redraw } from "../page/dom.js";
 import { toggleLecture } from "../page/keys.js";
@@ -83,8 +83,9 @@ function drawSide(side, thread, place) {
 }
 
 function drawSideList({ state }, event, width, place) {
-  const most = page.view === "lecture" ? 300 : 250;
-  return drawList(state, event, width, most, { width: 0, height: LEAST.atWork }, `side-${place}`);
+  const most = page.view === "lecture" ? 300 : 230;
+  const height = LEAST.atWork + (state.trace.kind === "coarse" ? 0 : LOCK_HEIGHT); // so that both are drawn in one scale
+  return drawList(state, event, width, most, { width: 0, height }, `side-${place}`);
 }
 
 // A turn by its digit; an arrow, and a presenter's key, goes on and back.

@@ -1,7 +1,6 @@
 // The panel of the lessons: the course and its lessons with ticks, the chosen lesson, what is said of a try, and the text that is
 // handed in. A schedule is judged once it is shown, by the run that the engine makes of it. No answer is told unasked.
 import { BOOK, BOOK_NAME } from "../../made/book.js";
-import { LISTS } from "../../made/rows.js";
 import { brokenLines } from "./broken_kept.js";
 import { listenToCourses } from "./courses.js";
 import { JUDGED } from "./judging.js";
@@ -84,10 +83,9 @@ class LessonsOnPage {
     this.trace = undefined;
     this.hasAsked = false; // for what is missing, or for the hint: then the answer may be asked for
     this.ticks.clear();
-    const { title, list, lacks, threads, opening, question, hint, teaches, answer } = lesson;
-    const keys = opening.length === 0 ? "" : `, initial keys ${opening.join(", ")}`;
-    const set = `${LISTS[list].name}${lacks === null ? "" : " without one check"}, ${threads} threads${keys}`;
-    lessonPart("title").innerHTML = `${escaped(title)} <small>${set}</small>`;
+    const { title, opening, question, hint, teaches, answer } = lesson;
+    const keys = opening.length === 0 ? "" : ` <small>initial keys ${opening.join(", ")}</small>`;
+    lessonPart("title").innerHTML = `${escaped(title)}${keys}`;
     lessonPart("question").textContent = question;
     lessonPart("hint-fold").textContent = hint;
     lessonPart("hint").hidden = hint === "";

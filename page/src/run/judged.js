@@ -11,14 +11,14 @@ export const MOST_JUDGED = 60; // events of a run that is judged
 
 // Of each level what is asked for, and which outcomes of a sentence would tell it.
 export const LEVELS = {
-  points: { name: "points (the replies are shown)", task: "The replies are shown. Where does each call take effect?", hidden: ["change", "effect"] },
+  points: { name: "points alone", task: "The replies are shown. Where does each call take effect?", hidden: ["change", "effect"] },
   replies: {
     name: "replies and points",
     task: "What does each call answer, and where does it take effect?",
     hidden: ["change", "reply", "leftInChain", "effect"],
   },
   claim: {
-    name: "is there an order at all?",
+    name: "any order at all?",
     task: "Can a set give these replies? Give an order that explains the report, or say that there is none.",
     hidden: [],
   },
