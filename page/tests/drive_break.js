@@ -53,7 +53,7 @@ function driveBreak(name) {
   check(`${name} begins whole: ${breakText("verdict")}`, breakText("verdict") === "No call has ended yet.");
   check("its departure is not told", part("break-departs").hidden);
   for (const deed of DEEDS[name].split(", ")) doDeed(deed);
-  const wanted = name === inPage("NO_TASK") ? "Refused by its points, and not broken." : "Broken!";
+  const wanted = name === inPage("NO_TASK") ? "Refused by its linearization points, and not broken." : "Broken!";
   check(`${name}: ${breakText("verdict")}`, breakText("verdict").startsWith(wanted) && textOf("fault") === "");
   if (name === "mark-in-contains") return;
   check("it is asked first", part("break-departs").hidden);
@@ -89,7 +89,7 @@ function driveDoubt() {
   part("break-judge").click();
   check("the report is judged", !part("judge").hidden && part("judge").getClientRects().length > 0);
   part("judge-none").click();
-  check(`that there is none: ${textOf("judge-verdict")}`, textOf("judge-verdict").startsWith("There is one, although a broken list"));
+  check(`that there is none: ${textOf("judge-verdict")}`, textOf("judge-verdict").startsWith("There is one, although this report"));
   dragPoint(1, 10, 10);
   dragPoint(0, 12, 12);
   part("judge-ask").click();

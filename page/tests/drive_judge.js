@@ -175,5 +175,5 @@ function driveOwnRun() {
   const round = (key) => [`begin 0 add ${key}`, "go 0 11", `begin 0 remove ${key}`, "go 0 10"];
   runSchedule([...header("lazy", 1), ...round(5), ...round(7), ...round(9)]);
   part("judge-begin").click();
-  check(`a long one is not: ${textOf("told")}`, textOf("told").startsWith("Judged are runs of at most 60 events"));
+  check(`a long one is not: ${textOf("told")}`, textOf("told").startsWith("A run of at most 60 events can be judged"));
 }

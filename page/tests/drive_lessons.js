@@ -111,7 +111,7 @@ function driveAnswer() {
   check("the answer", lessonText("lines").startsWith("go 2 1, ") && !lessonPart("answer-fold").hidden);
   lessonPart("open").click();
   check("it is opened", part("schedule").value === chosenLesson().solution);
-  check("and does not count", lessonText("verdict").startsWith("This is the answer that was shown.") && solvedLessons() === 0);
+  check("and does not count", lessonText("verdict").startsWith("This is the answer that was shown to you.") && solvedLessons() === 0);
   runText(chosenLesson().solution.replace("go 0 1\n", "go 0 2\n"));
   check("another one counts", lessonText("verdict") === "Solved." && solvedLessons() === 1);
   pick("snip");
@@ -130,7 +130,7 @@ async function driveHalfDone() {
   pick("snip");
   check("a try that is half done is offered", !lessonPart("go-on").hidden);
   lessonPart("start").click();
-  check("beginning anew tells of it", textOf("told").startsWith("Your try before is kept"));
+  check("beginning anew tells of it", textOf("told").startsWith("Your last try is kept"));
   press("0");
   await reloadWithKept();
   check("it is kept over a reload", lessonText("title").startsWith("The lost predecessor") && !lessonPart("go-on").hidden);

@@ -183,9 +183,9 @@ function driveSteps() {
   check("in as many steps as that takes", part("schedule").value.endsWith("begin 0 remove 5\ngo 0 7\n"));
   beginCall(1, "add", 7);
   press("e");
-  check("the key e asks for a thread", told().startsWith("To the end of its call: which thread?"));
+  check("the key e asks for a thread", told().startsWith("Steps to the end of a call: of which thread?"));
   press("1");
-  check("a thread that waits", told() === "t1 waits at row 4 for n2.lock, which t0 has, and its call has not ended.");
+  check("a thread that waits", told() === "t1 waits at row 4 for the lock n2.lock, which t0 holds, and its call has not ended.");
   const text = part("schedule").value;
   check("stands before the lock", inPage("page.state.threads[1].pc") === 4 && text.endsWith("begin 1 add 7\ngo 1 4\n"));
   press("e");
@@ -255,7 +255,7 @@ async function driveTold() {
   check("each thread at its row", rows[9].children[0].textContent === "t0" && rows[1].children[0].textContent === "t1");
   part("table-box").open = false;
   part("list").querySelector(".node.out rect").dispatchEvent(new frame.contentWindow.MouseEvent("click", { bubbles: true }));
-  check("what a tooltip says is told at a touch", told().startsWith("n2: key 5, link tail, marked, lock free, taken out"));
+  check("what a tooltip says is told at a touch", told().startsWith("n2: key 5, link tail, marked, lock free, unlinked"));
   await driveLabels();
 }
 
@@ -263,7 +263,7 @@ async function driveLabels() {
   const registers = part("list").firstElementChild.getAttribute("aria-label");
   check(`the label of the list: ${registers}`, registers.includes("t0 remove(5) at row 10: pred head, curr n2, succ tail"));
   const calls = part("calls").firstElementChild.getAttribute("aria-label");
-  check(`the label of the history: ${calls}`, calls.endsWith("call 2: t1 add(7) still open, from event 14 on"));
+  check(`the label of the history: ${calls}`, calls.endsWith("call 2: t1 add(7) pending, from event 14 on"));
   pick("marked-in-chain");
   goToEvent(23);
   check("contains has no pred", !part("list").textContent.includes("t0 pred") && rowOf(0).includes("; ; n6; ; ;"));

@@ -143,7 +143,7 @@ function drawStem(call, scale) {
   const x = scale.x(call.at);
   const state = isReached(call, scale.count) ? "reached" : "later";
   const stem = { x1: x, x2: x, y1: scale.y(call.thread), y2: scale.height };
-  return tag("g", { class: `point ${state} ${colourOf(call.thread)}` }, tag("line", stem));
+  return tag("g", { class: `stem ${state} ${colourOf(call.thread)}` }, tag("line", stem));
 }
 
 function drawCursor(scale, bottom, top = 0) {
