@@ -354,6 +354,22 @@ fn is_streamed(
     )
 }
 
+/// Whether a stream of the calls is refused as the history is: by the same moment, of the same key.
+fn is_refused_alike(
+    alloc: Global,
+    history: &History,
+    keys: &[u32],
+    refusal: Refusal,
+) -> Result<bool, Fail> {
+    match streamed(alloc, history)?.close(keys)? {
+        StreamVerdict::Linearizable => Ok(false),
+        StreamVerdict::NotLinearizable(told) => {
+            let is_same_key = told.moment.is_none() || told.key == refusal.key;
+            Ok(is_same_key && told.moment == refusal.moment.map(|moment| u64::from(moment)))
+        }
+    }
+}
+
 #[test]
 fn the_judge_is_right_of_small_histories(rt: HostRuntime) -> Result<(), Fail> {
     let alloc = rt.alloc();
@@ -386,6 +402,10 @@ fn the_judge_is_right_of_small_histories(rt: HostRuntime) -> Result<(), Fail> {
                 assert!(rt;
                     is_told(alloc, &history, opening, left, refusal)?,
                     "history {number}"
+                );
+                assert!(rt;
+                    is_refused_alike(alloc, &history, &keys, refusal)?,
+                    "history {number}, as a stream"
                 );
                 let size = window_size(&rt, alloc, &history, &keys, refusal)?;
                 assert!(rt; size <= MOST_CALLS, "history {number}");

@@ -7,9 +7,13 @@ mod breaking;
 #[cfg(test)]
 mod changes;
 #[cfg(test)]
+mod claims;
+#[cfg(test)]
 mod history;
 #[cfg(test)]
 mod judge;
+#[cfg(test)]
+mod large;
 #[cfg(test)]
 mod laws;
 #[cfg(test)]
@@ -25,6 +29,12 @@ mod schedule;
 #[cfg(test)]
 mod steps;
 #[cfg(test)]
+mod streams;
+#[cfg(test)]
 mod tables;
+#[cfg(test)]
+mod undecided;
+#[cfg(test)]
+mod windows;
 #[cfg(test)]
 mod worlds;

@@ -154,3 +154,65 @@ fn parts_are_judged(rt: HostRuntime) -> Result<(), Fail> {
     assert_eq!(rt; parts.judge(alloc, 4, &once, &[]), Err(PartFault::Opening));
     Ok(())
 }
+
+/// A part of a set that opened with key 5: a `full` that ended at moment 2, before the parts before it had begun.
+fn full_and_early<R: Abort>(rt: &R, alloc: Global) -> Result<History, Fail> {
+    let mut history = History::opened(alloc, 1, 0, Vec::from_slice(alloc, &[5])?);
+    assert!(rt; history.begin(0, Call::Add(Key(6)), 1).is_ok());
+    assert!(rt; history.end(0, Reply::Full, 2).is_ok());
+    Ok(history)
+}
+
+#[test]
+fn the_first_fault_of_a_part_is_named(rt: HostRuntime) -> Result<(), Fail> {
+    let alloc = rt.alloc();
+    let mut parts = Parts::new(Vec::from_slice(alloc, &[5])?);
+    let adds = OneCall {
+        opening: &[5],
+        call: Call::Contains(Key(5)),
+        reply: Reply::True,
+        end: Some(3),
+        keys: &[5],
+    };
+    assert_eq!(rt; add_one(&rt, alloc, &mut parts, 4, adds)?, Some(Ok(())));
+    let early = full_and_early(&rt, alloc)?;
+    assert_eq!(rt; parts.judge(alloc, 0, &early, &[5]), Err(PartFault::Early));
+    assert_eq!(rt;
+        parts.judge(alloc, 4, &early, &[5]),
+        Err(PartFault::HasFull)
+    );
+    let other = History::opened(alloc, 1, 0, Vec::from_slice(alloc, &[6])?);
+    assert_eq!(rt;
+        parts.judge(alloc, u64::MAX, &other, &[6]),
+        Err(PartFault::Late)
+    );
+    assert_eq!(rt;
+        parts.judge(alloc, 4, &other, &[6]),
+        Err(PartFault::Opening)
+    );
+    assert_eq!(rt; parts.latest(), 7);
+    Ok(())
+}
+
+/// As many keys as a list may open with.
+fn many_keys(alloc: Global) -> Result<Vec<u32>, Fail> {
+    let mut keys = Vec::new(alloc);
+    for key in 0..1_048_576 {
+        keys.push(key)?;
+    }
+    Ok(keys)
+}
+
+#[test]
+fn a_part_with_as_many_keys_as_a_list_opens_with(rt: HostRuntime) -> Result<(), Fail> {
+    let alloc = rt.alloc();
+    let keys = many_keys(alloc)?;
+    let mut parts = Parts::new(many_keys(alloc)?);
+    let history = History::opened(alloc, 1, 0, many_keys(alloc)?);
+    assert_eq!(rt;
+        parts.judge(alloc, 0, &history, &keys),
+        Ok(Verdict::Linearizable)
+    );
+    assert!(rt; parts.keys() == keys.as_slice());
+    Ok(())
+}

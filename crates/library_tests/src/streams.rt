@@ -1,0 +1,90 @@
+//! Streams: which fault is named if a call has several, and streams of many pending calls, and of many keys.
+ghost use Rattle.std.specs.Prelude.{◌≡◌, ◌<◌, ◌≤◌, ◌^◌, length, IfOk};
+ghost use Rattle.std.specs.List.Sorted.{IsStrictlyIncreasing};
+
+use lset_judge::{LAST_MOMENT, Stream, StreamCall, StreamFault, StreamVerdict};
+use lset_words::{Call, Key, Reply};
+use std::alloc::Global;
+use std::test::Fail;
+
+/// An `add` of key 6.
+fn add_of_six(thread: u32, begun: u64, ended: Option<(u64, Reply)>) -> StreamCall {
+    StreamCall {
+        thread,
+        call: Call::Add(Key(6)),
+        begun,
+        ended,
+    }
+}
+
+/// Calls after one of thread 3 from moment 2 to 7, each with all the faults that come after the one that is named, as far as one call
+/// can have them.
+fn with_faults() -> [(StreamCall, StreamFault); 5] {
+    [
+        (add_of_six(3, 2, Some((2, Reply::Full))), StreamFault::Early),
+        (
+            add_of_six(3, LAST_MOMENT + 1, Some((7, Reply::Full))),
+            StreamFault::Early,
+        ),
+        (add_of_six(3, 5, Some((5, Reply::Full))), StreamFault::Ends),
+        (
+            add_of_six(3, 5, Some((7, Reply::Full))),
+            StreamFault::NotPlain,
+        ),
+        (
+            add_of_six(3, 5, Some((7, Reply::False))),
+            StreamFault::Taken,
+        ),
+    ]
+}
+
+#[test]
+fn the_first_fault_of_a_call_is_named(rt: HostRuntime) -> Result<(), Fail> {
+    let mut stream = Stream::new(rt.alloc(), &[])?;
+    stream.add(add_of_six(3, 2, Some((7, Reply::True))))?;
+    for (call, fault) in with_faults() {
+        assert!(rt; stream.add(call) == Err(fault), "{fault}");
+    }
+    Ok(())
+}
+
+/// Each of so many threads adds a key of its own, and no call ends.
+const MANY_THREADS: u32 = 1_000;
+
+#[test]
+fn a_stream_of_a_thousand_pending_calls(rt: HostRuntime) -> Result<(), Fail> {
+    let mut stream = Stream::new(rt.alloc(), &[])?;
+    for thread in 0..MANY_THREADS {
+        stream.add(StreamCall {
+            thread,
+            call: Call::Add(Key(thread)),
+            begun: LAST_MOMENT - u64::from(MANY_THREADS - thread),
+            ended: None,
+        })?;
+    }
+    assert!(rt; stream.close(&[0, 500, 999])? == StreamVerdict::Linearizable);
+    Ok(())
+}
+
+/// More keys than a list opens with.
+const MANY_KEYS: u32 = 1_100_000;
+
+#[test]
+fn a_stream_opens_with_many_keys_and_leaves_them(rt: HostRuntime) -> Result<(), Fail> {
+    let alloc = rt.alloc();
+    let keys = rising_keys(alloc)?;
+    let mut stream = Stream::new(alloc, &keys)?;
+    stream.add(add_of_six(0, 1, Some((2, Reply::False))))?;
+    assert!(rt; stream.close(&keys)? == StreamVerdict::Linearizable);
+    Ok(())
+}
+
+fn rising_keys(alloc: Global) -> Result<Vec<u32>, Fail>
+    ensures { IfOk result (λ v. IsStrictlyIncreasing v.items) }
+{
+    let mut keys = Vec::new(alloc);
+    for key in 0..MANY_KEYS {
+        keys.push(key)?;
+    }
+    Ok(keys)
+}
