@@ -2,6 +2,7 @@
 ghost use Rattle.std.specs.Prelude.{◌≡◌};
 
 use crate::opened::last_seat;
+use crate::pauses::Count;
 use lset_coarse::CoarseList;
 use lset_fine::FineList;
 use lset_live::{Bounded, Countless, LiveSet, Rounds, Seat, Spin, open_with};
@@ -112,4 +113,30 @@ fn gives_up_at_a_lock<M: Bounded, R: Abort>(rt: &R, alloc: Global, call: Call) {
 fn a_lock_is_not_waited_for(rt: HostRuntime) {
     gives_up_at_a_lock::<CoarseList, HostRuntime>(&rt, rt.alloc(), Call::Contains(Key(10)));
     gives_up_at_a_lock::<FineList, HostRuntime>(&rt, rt.alloc(), Call::Contains(Key(30)));
+}
+
+/// A call that comes to a lock that is held fails there once, and as often again as it has rounds, and gives up then.
+fn fails_at_a_lock<M: Bounded, R: Abort, N: Rounds>(rt: &R, alloc: Global, call: Call) {
+    let (set, zero, one) = opened::<M, R>(rt, alloc);
+    let stuck = set.call_within::<Spin, Two>(one, Call::Add(Key(25)), &Spin::new());
+    assert!(rt; stuck.is_none());
+    let count = Count::new(0);
+    let found = set.call_within::<Count, N>(zero, call, &count);
+    assert!(rt; found.is_none());
+    assert!(rt;
+        count.wrong.get() == N::MOST.wrapping_add(1),
+        "{} rounds",
+        N::MOST
+    );
+}
+
+#[test]
+fn a_lock_is_tried_as_often_as_there_are_rounds(rt: HostRuntime) {
+    let first = Call::Contains(Key(10));
+    fails_at_a_lock::<CoarseList, HostRuntime, One>(&rt, rt.alloc(), first);
+    fails_at_a_lock::<CoarseList, HostRuntime, Three>(&rt, rt.alloc(), first);
+    fails_at_a_lock::<CoarseList, HostRuntime, Hundred>(&rt, rt.alloc(), first);
+    let later = Call::Contains(Key(30));
+    fails_at_a_lock::<FineList, HostRuntime, Three>(&rt, rt.alloc(), later);
+    fails_at_a_lock::<FineList, HostRuntime, Hundred>(&rt, rt.alloc(), later);
 }

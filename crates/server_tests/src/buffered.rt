@@ -112,6 +112,16 @@ fn answers_that_have_no_room_leave(rt: HostRuntime) {
     }
 }
 
+/// The longest answers, to the lines of one read: of some of them the front alone has room.
+#[test]
+fn answers_that_have_room_in_part_leave_whole(rt: HostRuntime) {
+    let mut text = Vec::from_slice(rt.alloc(), b"ADD 4294967295\n").expect(&rt, "room");
+    for _ in 0..1000 {
+        text.extend_from_slice(b"CEILING 0\n").expect(&rt, "room");
+    }
+    is_answered_alike(&rt, rt.alloc(), &text);
+}
+
 /// All lines come in one read, and of their answers the write with this number fails: all calls are made.
 fn write_fails<R: Wait + Abort>(rt: &R, alloc: Global, at: u64) {
     let (set, mut seat) = one_seat(rt, alloc);
