@@ -25,12 +25,12 @@ EXAMPLES = {
     ("Quota", "schedule"): "`quota 16385`",
     ("Event", "schedule"): "`take 0 5`; `go  0 1` (two spaces); `opening 5` below an event; an empty line",
     ("Number", "schedule"): "`begin 0 add 05`, `go 0 10001`",
-    ("TooMany", "schedule"): "the hundredth `go 0 10000`",
+    ("TooMany", "schedule"): "the hundredth line `go 0 10000`",
     ("Opening", "schedule"): "`opening 9` twice",
     ("NoThread", "schedule"): "`go 1 1` with `threads 1`",
     ("Busy", "schedule"): "`begin 0 add 5`, then `begin 0 add 6`",
     ("Idle", "schedule"): "`go 0 8` of a call with seven steps",
-    ("Waits", "draft"): "`go 1 out` of a thread that tries a lock which another has",
+    ("Waits", "draft"): "`go 1 out` of a thread that waits for a lock of another",
     ("Line", "report"): "`place 0 maybe`; `place 0 true` below a `key` line; in version 1 `place 0 at-5`",
     ("Number", "report"): "`place 01 true`",
     ("History", "report"): "`call 1 0 add 7 8 9 true` below `call 0 0 add 5 1 8 true`: moment 8 is taken",
@@ -110,7 +110,7 @@ def table_of_causes(top):
     if examples:
         raise ValueError(f"examples of no cause: {examples}")
     cells = [[f"`{cause}`", ", ".join(texts), said + "".join(shown)] for (cause, said, _), (texts, shown) in rows.items()]
-    return table(["Cause", "Text", "When, and examples"], cells)
+    return table(["Cause", "In", "When, and examples"], cells)
 
 
 def table_of_orders(top):
@@ -127,7 +127,7 @@ def table_of_limits(top):
         comment = rattle_sources.comment_above(lines, next(at for at, line in enumerate(lines) if line.startswith(f"pub const {name}:")))
         said = re.sub(r"`Version::(\w+)`.*", lambda it: f"version {VERSIONS[it[1]]}", first_sentence(in_words(comment)))
         rows.append([said, figures[name], f"`{name}`", past])
-    return table(["Limit", "Is", "Constant", "Past it"], rows)
+    return table(["Limit", "Value", "Constant", "Beyond it"], rows)
 
 
 MADE = {"causes": table_of_causes, "orders": table_of_orders, "limits": table_of_limits}
