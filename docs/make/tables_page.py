@@ -15,15 +15,15 @@ BOOK = {
     "coarse": ["lock the list", "`pred` is the head, `curr` its next", *WALK, *FILL, *UNLINK, "unlock the list"],
     "fine": ["lock the head", "`curr` is its next", "lock `curr`, with `pred` still locked", WALK[0],
              "unlock `pred`: hand over hand", WALK[1], *FILL, *UNLINK, "unlock `curr`", "unlock `pred`"],
-    "optimistic": ["start of a try", "test of the loop", WALK[1], "lock `pred`", "lock `curr`; validate from the head",
-                   "one node further", "is `pred` met, or passed", "does `pred` still lead to `curr`", *FILL, *UNLINK,
+    "optimistic": ["start of an attempt", "test of the loop", WALK[1], "lock `pred`", "lock `curr`; validate from the head",
+                   "one node further", "has the walk reached `pred`, or passed it", "does `pred` still lead to `curr`", *FILL, *UNLINK,
                    "unlock `pred`", "unlock `curr`; if not valid, try again"],
-    "lazy": ["start of a try", "test of the loop", WALK[1], "lock `pred`", "lock `curr`", "`pred` is not marked, leads to `curr`",
+    "lazy": ["start of an attempt", "test of the loop", WALK[1], "lock `pred`", "lock `curr`", "`pred` is not marked, leads to `curr`",
              "`curr` is not marked", *FILL, "mark `curr`: it is removed", UNLINK[1], "unlock `curr`",
              "unlock `pred`; if not valid, try again"],
     "lock_free": ["start of `find`", "read next and mark together", "snip the marked `curr`; if that fails, start again", WALK[0],
                   *FILL[:2], "link it in; if that fails, start again, with the same slot", UNLINK[0],
-                  "mark `curr`: it is removed; if that fails, start again", "one try to unlink it; a later `find` does it else"],
+                  "mark `curr`: it is removed; if that fails, start again", "one try to unlink it; else a later `find` does it"],
     "reads": [WALK[1] + ", marked or not", WALK[0], "is the node of the key marked",
               WALK[1] + ", marked or not", "stop at the first key not below K", "if marked, start again"],
 }
@@ -189,7 +189,7 @@ def test_in_words(test, action):
         ("==", ("/", "seen", 2), "l.curr"): "it leads to `curr`",
         ("call", "nat_lt", "l.pkey", "seen"): "above `pkey`",
         ("==", "l.node", "l.pred"): "`node` is `pred`",
-        ("==", "l.pred", 0): "where `pred` is the head",
+        ("==", "l.pred", 0): "if `pred` is the head",
         "no reply": "without a reply",
     }
     if test in told:

@@ -1,11 +1,11 @@
-"""What docs/CLASSIC.md says, as made/classics.js: of each example its question, what it turns on, at which events, what goes wrong
+"""What docs/CLASSIC.md says, as made/classics.js: of each example its question, the answer, the events that decide it, what goes wrong
 without it, and which lists of its kind lack that check; and the kind of each list that lacks one."""
 import re
 
 from make_rows_js import in_lines, plain
 
 LACKING = re.compile(r"^- `([a-z-]+)` \(([a-z-]+)\): ", re.M)  # a broken list: its name and its kind
-PARAGRAPHS = {"question": "Question.", "turns_on": "Turns on.", "without": "Without it."}
+PARAGRAPHS = {"question": "Question.", "turns_on": "Answer.", "without": "Without it."}
 
 
 def paragraph(section, title):
@@ -15,7 +15,7 @@ def paragraph(section, title):
 
 def turns_of(section):
     """The numbers of the events at which the example turns: the lines of its trace below the paragraph that says so."""
-    part = section.split("**Turns on.**", 1)[1].split("**Without it.**", 1)[0]
+    part = section.split("**Answer.**", 1)[1].split("**Without it.**", 1)[0]
     return [int(number) for number in re.findall(r"^    event (\d+) line ", part, re.M)]
 
 
@@ -33,6 +33,6 @@ def classics_text(page):
         lacks = [one for one in named if lacking.get(one) == kinds.get(kind.lower())]
         classics[name] = {"question": said["question"], "turnsOn": said["turns_on"], "without": said["without"],
                           "turns": turns_of(section), "lacks": lacks}
-    return ("// What docs/CLASSIC.md says, by page/build: of each example its question, what it turns on, at which events, what goes\n"
+    return ("// What docs/CLASSIC.md says, by page/build: of each example its question, the answer, the events that decide it, what goes\n"
             "// wrong without it, and which lists of its kind lack that check; and the kind of each list that lacks one.\n"
             f"\nexport const CLASSICS = {in_lines(classics)};\n\nexport const LACKING = {in_lines(lacking)};\n")
