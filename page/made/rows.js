@@ -101,7 +101,7 @@ export const LISTS = {
       "1": {
         "step": "load head.link",
         "then": "pred = head, pkey = 0, curr = next(s); 2",
-        "book": "start of a try"
+        "book": "start of an attempt"
       },
       "2": {
         "step": "load curr.key",
@@ -117,14 +117,14 @@ export const LISTS = {
       "4": {"step": "try pred.lock", "then": "5", "book": "lock pred"},
       "5": {
         "step": "try curr.lock",
-        "then": "node = head; where pred is the head: 8; else 6",
+        "then": "node = head; if pred is the head: 8; else 6",
         "book": "lock curr; validate from the head"
       },
       "6": {"step": "load node.link", "then": "node = next(s); 7", "book": "one node further"},
       "7": {
         "step": "load node.key",
         "then": "above pkey: reply none, 14; node is pred: 8; else 6",
-        "book": "is pred met, or passed",
+        "book": "has the walk reached pred, or passed it",
         "invalid": 14
       },
       "8": {
@@ -162,7 +162,11 @@ export const LISTS = {
       "ceiling": {"rows": [23, 24, 25], "registers": ["curr", "ckey"]}
     },
     "rows": {
-      "1": {"step": "load head.link", "then": "pred = head, curr = next(s); 2", "book": "start of a try"},
+      "1": {
+        "step": "load head.link",
+        "then": "pred = head, curr = next(s); 2",
+        "book": "start of an attempt"
+      },
       "2": {
         "step": "load curr.key",
         "then": "ckey = s; below K: 3; else 4",
@@ -283,7 +287,7 @@ export const LISTS = {
       "10": {
         "step": "exchange pred.link from curr to succ",
         "then": "answers true whatever was seen",
-        "book": "one try to unlink it; a later find does it else"
+        "book": "one try to unlink it; else a later find does it"
       },
       "20": {
         "step": "load curr.link",
