@@ -2739,7 +2739,7 @@ function rowInWords(trace, number) {
   const row = event.changes.pc;
   const { step } = LISTS[trace.kind].rows[row] ?? { step: "which the correct list does not have" };
   const isSaid = event.deed === "exchange" && isFailed(event) && isLock(event.word);
-  return row === 0 || isSaid ? "" : ` It goes on at row ${row}, ${escaped(step)}.`;
+  return row === 0 || isSaid ? "" : ` It continues at row ${row}, ${escaped(step)}.`;
 }
 return { EXPLAINED, TO_BREAK, NO_TASK, isTaskDone, askList, titleOfLacking, startOfLacking, verdictOnLacking, departureOf };
 })();
@@ -4726,9 +4726,9 @@ class CourseReader {
     this.block = null; // the part to which lines belong that begin with two spaces
     const lines = withoutIndent(text).map((line, index) => ({ line, number: index + 1 }));
     const [title, ...rest] = lines.filter(({ line }) => line !== "" && !line.startsWith("#"));
-    if (title?.line !== COURSE_TITLE) return this.fault(title?.number ?? 1, `"${COURSE_TITLE}" is due here`);
+    if (title?.line !== COURSE_TITLE) return this.fault(title?.number ?? 1, `expected "${COURSE_TITLE}" here`);
     rest.forEach(({ line, number }) => this.take(line, number));
-    if (this.name === "") this.fault(title.number, 'the line "course NAME" is due below it');
+    if (this.name === "") this.fault(title.number, 'expected the line "course NAME" below it');
     if (this.lessons.length === 0) this.fault(title.number, "there is no lesson below");
   }
 
@@ -4738,7 +4738,7 @@ class CourseReader {
 
   take(line, number) {
     if (line.startsWith("  ")) {
-      if (this.block === null) this.fault(number, "this line belongs to no word: a word that stands alone is due above it");
+      if (this.block === null) this.fault(number, "this line belongs to no word: expected a word alone in a line above it");
       else this.block.lines.push({ line: line.trim(), number });
       return;
     }
@@ -4754,14 +4754,14 @@ class CourseReader {
     const { form, says, isBlock } = LESSON_WORDS[word];
     const part = { number, value, lines: [] };
     if (isBlock) this.block = part;
-    if (isBlock && value !== "") this.fault(number, `what "${word}" says is due in the lines below it, each after two spaces`);
+    if (isBlock && value !== "") this.fault(number, `expected what "${word}" says in the lines below it, each after two spaces`);
     if (!isBlock && !form.test(value)) this.fault(number, `"${value.slice(0, 60)}" is no ${word}: it is ${says}`);
     if (word === "lesson") return this.lessons.push({ lesson: part });
     const parts = this.lessons[this.lessons.length - 1];
-    if (parts === undefined) return this.fault(number, `"lesson NAME" is due above "${word}"`);
+    if (parts === undefined) return this.fault(number, `expected "lesson NAME" above "${word}"`);
     const before = Object.keys(parts).pop();
     if (word in parts) return this.fault(number, `"${word}" stands in this lesson already, at line ${parts[word].number}`);
-    if (WORDS.indexOf(word) < WORDS.indexOf(before)) this.fault(number, `"${word}" is due above "${before}"`);
+    if (WORDS.indexOf(word) < WORDS.indexOf(before)) this.fault(number, `expected "${word}" above "${before}"`);
     parts[word] = part;
   }
 
@@ -7743,6 +7743,7 @@ class LessonsOnPage {
   constructor() {
     this.kept = new KeptLessons();
     this.trace = undefined; // the one that was judged last
+    this.schedule = null; // of that, if it is one of the lesson
     this.ticks = new Set(); // the conditions that were met since the lesson was begun
     this.verdict = null;
     this.listen();
@@ -7874,6 +7875,7 @@ class LessonsOnPage {
     this.trace = trace;
     const { name, solution } = this.lesson;
     const schedule = this.isOfLesson(trace) ? scheduleOfTrace(trace) : null;
+    this.schedule = schedule;
     this.verdict = schedule === null ? unjudged(OTHER_SET) : judged(askNow, this.lesson, schedule);
     for (const { says, isMet } of this.verdict.conditions) if (isMet) this.ticks.add(says);
     const { solutions, looked } = this.own;
@@ -7920,17 +7922,20 @@ class LessonsOnPage {
     const own = this.ownWork();
     const mine = own === null || works.byName.get(own).text === page.text ? null : own;
     setHidden(lessonPart("go-on"), mine === null, lessonPart("start"));
-    setHidden(lessonPart("own"), !this.isSolved(lesson.name), lessonPart("start"));
+    const solution = this.own.solutions.get(lesson.name);
+    setHidden(lessonPart("own"), solution === undefined || solution === this.schedule, lessonPart("start"));
     setHidden(lessonPart("next"), !this.isSolved(lesson.name) || lesson === course.lessons.at(-1), lessonPart("start"));
     const isTold = this.isSolved(lesson.name) || this.own.looked.has(lesson.name);
     setAble("lesson-answer", isTold || this.hasAsked);
     lessonPart("answer").title = isTold || this.hasAsked ? "" : "available after Check or Show a hint";
     lessonPart("teaches-fold").hidden = !isTold || lesson.teaches === "";
+    lessonPart("win").hidden = lessonPart("teaches-fold").hidden && lessonPart("next").hidden;
   }
 
   drawVerdict(text, kind = "") {
     const isRight = this.verdict.isSolved && !this.verdict.isShown;
     lessonPart("verdict").className = isRight ? "right" : kind;
+    document.body.classList.toggle("solved", isRight);
     lessonPart("next").classList.toggle("primary", isRight);
     lessonPart("judge").classList.toggle("primary", !isRight);
     const says = conditionTexts(this.lesson);

@@ -95,7 +95,7 @@ function driveByKeyboard() {
   typeKey("Enter");
   check(
     `right: ${judgedText("verdict")}`,
-    judgedText("verdict").startsWith("check says ok: this order explains the run. It is the order"),
+    judgedText("verdict").startsWith("check says ok: this order explains the run. It is also the order"),
   );
   check("the focus stays on the button", focused() === part("judge-ask"));
   check("what is handed in", judgedText("line").endsWith("judge read-in-anothers-step replies 0-true,2-true,1-false,3-true"));

@@ -140,16 +140,16 @@ function checkReasons(ask, [lesson]) {
 
 // What is changed in the text, the line of the changed text that is named (by a part of it), and what is said of it.
 const BROKEN = [
-  ["listset-course 1", "listset-course 2", "listset-course 2", '"listset-course 1" is due here'],
-  [/^course .*$/m, "", "listset-course 1", 'the line "course NAME" is due'],
+  ["listset-course 1", "listset-course 2", "listset-course 2", 'expected "listset-course 1" here'],
+  [/^course .*$/m, "", "listset-course 1", 'expected the line "course NAME"'],
   ["title The one lock\n", "", "lesson one-lock", 'the lesson lacks "title"'],
   ["list coarse", "list course", "list course", '"course" is no list: it is coarse, fine'],
   ["threads 3", "threads three", "threads three", '"three" is no threads'],
   ["quota 4\n", "quota 4 4\n", "quota 4 4", '"4 4" is no quota'],
   ["threads 3\n", "threads 3\nquota 5\n", "quota 4", '"quota" stands in this lesson already, at line '],
-  ["quota 4\nstart", "start\nquota 4", "quota 4", '"quota" is due above "start"'],
+  ["quota 4\nstart", "start\nquota 4", "quota 4", 'expected "quota" above "start"'],
   ["\nquestion\n", "\nqestion\n", "qestion", '"qestion" is no word of a lesson'],
-  ["\nstart\n", "\nstart begin 0 add 5\n", "start begin", 'what "start" says is due in the lines below it'],
+  ["\nstart\n", "\nstart begin 0 add 5\n", "start begin", 'expected what "start" says in the lines below it'],
   ["lesson hand-over-hand", "lesson one-lock", "lesson one-lock", "there is a lesson one-lock above"],
   ["\n  step S in C: last", "\n  step S in D: last", "in D: last", "nothing above is named D"],
   ["\n  step S: sees a mark", "\n  step S: sees the mark", "sees the mark", '"sees the mark" is no clause of a step'],
@@ -171,10 +171,10 @@ function checkFaults() {
     check(`${says}, line ${first} or ${wanted}: ${JSON.stringify(faults.slice(0, 3))}`, given !== TEXT && isTold);
   }
   const short = [
-    ["", 1, '"listset-course 1" is due here'],
+    ["", 1, 'expected "listset-course 1" here'],
     ["listset-course 1\ncourse x\n", 1, "there is no lesson below"],
     ["listset-course 1\ncourse x\n  go 0 1\n", 3, "this line belongs to no word"],
-    ["listset-course 1\ncourse x\ntitle y\n", 3, '"lesson NAME" is due above "title"'],
+    ["listset-course 1\ncourse x\ntitle y\n", 3, 'expected "lesson NAME" above "title"'],
   ];
   for (const [given, line, says] of short) {
     const { faults } = readCourse(given);

@@ -20,6 +20,7 @@ class LessonsOnPage {
   constructor() {
     this.kept = new KeptLessons();
     this.trace = undefined; // the one that was judged last
+    this.schedule = null; // of that, if it is one of the lesson
     this.ticks = new Set(); // the conditions that were met since the lesson was begun
     this.verdict = null;
     this.listen();
@@ -161,6 +162,7 @@ class LessonsOnPage {
     this.trace = trace;
     const { name, solution } = this.lesson;
     const schedule = this.isOfLesson(trace) ? scheduleOfTrace(trace) : null;
+    this.schedule = schedule;
     this.verdict = schedule === null ? unjudged(OTHER_SET) : judged(askNow, this.lesson, schedule);
     for (const { says, isMet } of this.verdict.conditions) if (isMet) this.ticks.add(says);
     const { solutions, looked } = this.own;
@@ -211,18 +213,21 @@ class LessonsOnPage {
     const own = this.ownWork();
     const mine = own === null || works.byName.get(own).text === page.text ? null : own;
     setHidden(lessonPart("go-on"), mine === null, lessonPart("start"));
-    setHidden(lessonPart("own"), !this.isSolved(lesson.name), lessonPart("start"));
+    const solution = this.own.solutions.get(lesson.name);
+    setHidden(lessonPart("own"), solution === undefined || solution === this.schedule, lessonPart("start"));
     setHidden(lessonPart("next"), !this.isSolved(lesson.name) || lesson === course.lessons.at(-1), lessonPart("start"));
     const isTold = this.isSolved(lesson.name) || this.own.looked.has(lesson.name);
     setAble("lesson-answer", isTold || this.hasAsked);
     lessonPart("answer").title = isTold || this.hasAsked ? "" : "available after Check or Show a hint";
     lessonPart("teaches-fold").hidden = !isTold || lesson.teaches === "";
+    lessonPart("win").hidden = lessonPart("teaches-fold").hidden && lessonPart("next").hidden;
   }
 
   // The conditions stand there before a schedule of the lesson is shown, too. One that was met keeps its tick.
   drawVerdict(text, kind = "") {
     const isRight = this.verdict.isSolved && !this.verdict.isShown;
     lessonPart("verdict").className = isRight ? "right" : kind;
+    document.body.classList.toggle("solved", isRight);
     lessonPart("next").classList.toggle("primary", isRight);
     lessonPart("judge").classList.toggle("primary", !isRight);
     const says = conditionTexts(this.lesson);

@@ -42,9 +42,9 @@ class CourseReader {
     this.block = null; // the part to which lines belong that begin with two spaces
     const lines = withoutIndent(text).map((line, index) => ({ line, number: index + 1 }));
     const [title, ...rest] = lines.filter(({ line }) => line !== "" && !line.startsWith("#"));
-    if (title?.line !== COURSE_TITLE) return this.fault(title?.number ?? 1, `"${COURSE_TITLE}" is due here`);
+    if (title?.line !== COURSE_TITLE) return this.fault(title?.number ?? 1, `expected "${COURSE_TITLE}" here`);
     rest.forEach(({ line, number }) => this.take(line, number));
-    if (this.name === "") this.fault(title.number, 'the line "course NAME" is due below it');
+    if (this.name === "") this.fault(title.number, 'expected the line "course NAME" below it');
     if (this.lessons.length === 0) this.fault(title.number, "there is no lesson below");
   }
 
@@ -54,7 +54,7 @@ class CourseReader {
 
   take(line, number) {
     if (line.startsWith("  ")) {
-      if (this.block === null) this.fault(number, "this line belongs to no word: a word that stands alone is due above it");
+      if (this.block === null) this.fault(number, "this line belongs to no word: expected a word alone in a line above it");
       else this.block.lines.push({ line: line.trim(), number });
       return;
     }
@@ -70,14 +70,14 @@ class CourseReader {
     const { form, says, isBlock } = LESSON_WORDS[word];
     const part = { number, value, lines: [] };
     if (isBlock) this.block = part;
-    if (isBlock && value !== "") this.fault(number, `what "${word}" says is due in the lines below it, each after two spaces`);
+    if (isBlock && value !== "") this.fault(number, `expected what "${word}" says in the lines below it, each after two spaces`);
     if (!isBlock && !form.test(value)) this.fault(number, `"${value.slice(0, 60)}" is no ${word}: it is ${says}`);
     if (word === "lesson") return this.lessons.push({ lesson: part });
     const parts = this.lessons[this.lessons.length - 1];
-    if (parts === undefined) return this.fault(number, `"lesson NAME" is due above "${word}"`);
+    if (parts === undefined) return this.fault(number, `expected "lesson NAME" above "${word}"`);
     const before = Object.keys(parts).pop();
     if (word in parts) return this.fault(number, `"${word}" stands in this lesson already, at line ${parts[word].number}`);
-    if (WORDS.indexOf(word) < WORDS.indexOf(before)) this.fault(number, `"${word}" is due above "${before}"`);
+    if (WORDS.indexOf(word) < WORDS.indexOf(before)) this.fault(number, `expected "${word}" above "${before}"`);
     parts[word] = part;
   }
 

@@ -119,5 +119,5 @@ function rowInWords(trace, number) {
   const row = event.changes.pc;
   const { step } = LISTS[trace.kind].rows[row] ?? { step: "which the correct list does not have" };
   const isSaid = event.deed === "exchange" && isFailed(event) && isLock(event.word);
-  return row === 0 || isSaid ? "" : ` It goes on at row ${row}, ${escaped(step)}.`;
+  return row === 0 || isSaid ? "" : ` It continues at row ${row}, ${escaped(step)}.`;
 }
