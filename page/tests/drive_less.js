@@ -61,7 +61,7 @@ async function driveLess() {
   check("and one of two lists", textOf("told") === "the address names two lists side by side, which cannot be run here");
   frame.contentWindow.opened = fileOf("own.calls", inPage("RECORDED_EXAMPLE"));
   await inPage("openFile(opened)");
-  check(`recorded calls are not judged: ${textOf("fault")}`, textOf("fault").startsWith("The engine is not here"));
+  check(`recorded calls are not judged: ${textOf("fault")}`, textOf("fault").startsWith("The replayer does not run in this browser"));
   frame.contentWindow.opened = fileOf("own.trace", inPage("page.trace.text"));
   await inPage("openFile(opened)");
   check("a trace can be opened", textOf("source") === "a trace from a file; its grammar was checked");

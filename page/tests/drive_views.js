@@ -151,7 +151,7 @@ function driveSides() {
   const said = () => [...part("sides-pictures").querySelectorAll(".said")].map((line) => line.textContent);
   check(
     `one that has answered waits: ${said()}`,
-    said()[0] === "t0 has answered, and waits for the other." && said()[1].startsWith("t0 "),
+    said()[0] === "t0 has ended its call here, and waits for the other list." && said()[1].startsWith("t0 "),
   );
   turn(1).click();
   check("the other thread goes on in both", said().every((line) => line === "t1 begins contains(5)."));

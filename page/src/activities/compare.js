@@ -76,14 +76,15 @@ function drawSide(side, thread, place) {
     { "aria-label": LISTS[side.kind].name },
     tag("h3", {}, `${LISTS[side.kind].name} <small>${count} events</small>`),
     tag("p", { class: hasWaited ? "said waits" : "said" }, said),
-    tag("div", { class: "scrolls" }, drawSideList(side, moment.event, width, place)),
+    tag("div", { class: "scrolls" }, drawSideList(side, moment.event, width, place, scale.height)),
     tag("div", { class: "scrolls" }, drawCalls(side.trace, scale), drawContents(side.trace, scale)),
     tag("p", { class: "note" }, tag("a", { class: "button", href: addressOf(side.schedule, count) ?? "#" }, "Watch this run")),
   );
 }
 
-function drawSideList({ state }, event, width, place) {
-  const most = page.view === "lecture" ? 300 : 230;
+// On a slide of 720 pixels the list has what the bars of the history and the rest leave.
+function drawSideList({ state }, event, width, place, ofBars) {
+  const most = page.view === "lecture" ? Math.max(220, 420 - ofBars) : 230;
   const height = LEAST.atWork + (state.trace.kind === "coarse" ? 0 : LOCK_HEIGHT); // so that both are drawn in one scale
   return drawList(state, event, width, most, { width: 0, height }, `side-${place}`);
 }
