@@ -80,7 +80,7 @@ function stateOf(trace, verdict) {
   const isPoints = verdict.kind === "points";
   const isBroken = verdict.kind === "broken";
   if (verdict.kind === "refused") return holds(verdict.says);
-  if (isBroken && isShownBreak(lacks, scheduleOfTrace(trace))) return stateOfShown();
+  if (isBroken && isShownBreak(lacks, scheduleOfTrace(trace))) return stateOfShown(verdict);
   if (isPoints && lacks === NO_TASK) {
     return holds("Refused by its linearization points, and not broken.", "Another order explains these replies. Why is there always one?");
   }
@@ -94,9 +94,10 @@ function stateOf(trace, verdict) {
 // Why no order explains the answers: of the list, since no set is this.
 const reasonOf = ({ says }) => says.replace(/^Broken: /, "").replace(/the set (has|does not have) it/, "the list $1 it");
 
-function stateOfShown() {
-  const says = page.count === page.trace.total ? "Broken, as shown." : "Step on, and watch.";
-  return { kind: "shown", says, why: "This schedule was shown to you: it does not count. Find one of your own." };
+function stateOfShown(verdict) {
+  if (page.count < page.trace.total) return { kind: "shown", says: "Step on, and watch.", why: "At the end the page says why it is broken." };
+  const why = `${reasonOf(verdict)} This schedule was shown to you and does not count: find one of your own.`;
+  return { kind: "shown", says: "Broken, as shown.", why };
 }
 
 // ---- what is drawn
