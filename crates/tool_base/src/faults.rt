@@ -64,6 +64,17 @@ listset: line L: CAUSE, in the keys with which serve opens; exit status 1
   Opening   Keys must increase; this one is not above the one before.
   NotEnded  The line does not end with a newline.
 
+listset: line 1: Header, from a command that does not read this kind of file; exit status 1
+  listset-schedule 1 or 2  A schedule: replay, show and trace read it.
+  listset-draft 2          A draft: draft turns it into a schedule.
+  listset-report 1 or 2    A report: check and show read it.
+  listset-calls 2          Recorded calls: judge, report and show read them.
+  listset-trace 1          A trace: no command reads it.
+  listset-course 1         A course: paste it into page/index.html, under Learn.
+  key K                    Keys: serve opens with them.
+  (no line)                The input is empty: the file has no bytes, or the command before a pipe failed.
+  (one of these)           The line ends with CR LF, has a space at its end, or has a byte order mark before it. A line ends with LF.
+
 not linearizable, from judge; exit status 1
   no order explains the calls of key K up to moment M
             The replies of the calls that had ended by moment M fit no order.
@@ -102,7 +113,7 @@ Other messages
   listset: out of memory  An allocation failed; exit status 3.
 ";
 
-/// The answer of the command `faults`: the text `FAULTS`. `Trouble::Memory` if an allocation fails.
+/// Returns the answer of the command `faults`: the text `FAULTS`. Allocates; `Trouble::Memory` if that fails.
 #[tactic(auto, unfolding(crate::specs::Faults::faults_text))]
 pub fn faults_told(alloc: Global) -> Result<Answer, Trouble>
     ensures { TellsFaults (view result) }
@@ -111,8 +122,9 @@ pub fn faults_told(alloc: Global) -> Result<Answer, Trouble>
     Ok(Answer { text, status: 0 })
 }
 
-/// Writes `FAULTS` on the output, or one line about what is wrong on `faults`, and gives the exit status: 0 where the text was
-/// written, 3 where memory was refused, else 1. A failing write on `faults` leaves the status as it is.
+/// Does what `faults` does: writes `FAULTS` to `output`, or one line about an error to `faults`, and returns the exit
+/// status. It is 0 if the text was written, 3 if an allocation failed, else 1. A write to `faults` that fails leaves it as
+/// it is.
 pub fn tool_faults<W: Write, F: Write>(alloc: Global, output: &mut W, faults: &mut F) -> u8
     ensures { Ends TellsFaults
         (W.contents output.old) (W.contents output.new) (F.contents faults.old) (F.contents faults.new) result }
