@@ -1,4 +1,4 @@
--- From event to event of a run: what is kept, what is told, and how it ends.
+-- From event to event of a run: what is recorded, what is passed on, and how it ends.
 use Rattle.std.proofs.Common.{◌≡◌, ℕ, suc, ◌<◌, ◌≤◌, List, length, refl, sym, subst, ap, ◌∙◌, arith}
 use Rattle.std.specs.Prelude.{All, Bool, Ok, Err}
 use Rattle.lset_words.specs.Words.{Opening}

@@ -1,4 +1,4 @@
--- THE RUN OF A BROKEN LIST: what is told of its events, and its report. Nothing is promised of what the run does.
+-- THE RUN OF A BROKEN LIST: what is passed on of its events, and its report. Nothing is promised of what the run does.
 use Rattle.std.specs.Prelude.{◌≡◌, ◌⊎◌, ℕ, suc, ◌<◌, Bool, List, length, Result, Ok, Err, MatchResult}
 use Rattle.lset_words.specs.Words.{Opening}
 use Rattle.lset_steps.specs.declared.Event.{Event}
@@ -41,7 +41,7 @@ MakesEvent T next moment w r chains kept result w' r' kept' = MatchResult result
     × (StandUpTo moment r.places.items → StandUpTo moment r'.places.items) × NotesMet chains w'.state.words kept x.chain kept')
     (λ cause. EndsFor T r.history.opening w (trace_of r) moment next.event cause)
 
--- Event k of a run, counted from 0, is told.
+-- Event k of a run, counted from 0, is passed on.
 pub record TellsEvent (T : Table) (op : Opening) (events : List LineEvent) (chains : Bool) (k : ℕ) (x : TracedEvent) : Type 0 where
   pub next : LineEvent
   pub comes : ComesNext events k next

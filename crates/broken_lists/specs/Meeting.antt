@@ -18,7 +18,7 @@ met_at ws node = record { key = (node_key ws node - 1) % 4294967296; marked = no
 abbrev pub is_met : List ℕ → ℕ → Bool
 is_met ws node = (nat_lt 1 node && nat_lt node 4294967296) && nat_lt (link_index node) (length ws)
 
--- what is told of a node, and to which one it leads
+-- what is returned of a node, and to which one it leads
 abbrev pub IsMet : List ℕ → ℕ → Option Met → Type 0
 IsMet ws node None = is_met ws node ≡ false
 IsMet ws node (Some m) = (is_met ws node ≡ true) × (m.place ≡ met_at ws node) × (m.next ≡ node_link ws node / 2)

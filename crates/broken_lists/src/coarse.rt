@@ -9,7 +9,7 @@ use lset_steps::rows::begun;
 use lset_steps::{Action, Fed, Local};
 use lset_words::{Call, Key, Kind};
 
-/// A call goes on from its try of the list's lock as if it had found it free.
+/// CoarseList without its lock: a call continues after its attempt to take the lock as if it had succeeded.
 pub struct CallsWithoutTheLock;
 
 impl BrokenMachine for CallsWithoutTheLock {

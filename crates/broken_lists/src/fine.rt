@@ -9,7 +9,7 @@ use lset_steps::rows::{begun, lock_index};
 use lset_steps::{Action, Fed, Local};
 use lset_words::{Call, Key, Kind};
 
-/// A remove holds the lock of `pred` alone.
+/// FineList without the second lock of `remove`: it holds only the lock of `pred`.
 pub struct RemoveWithOneLock;
 
 fn row_of_remove(pc: u8) -> u8
@@ -62,7 +62,7 @@ impl BrokenMachine for RemoveWithOneLock {
     }
 }
 
-/// A walk gives back the lock of `pred` before it has that of `curr`.
+/// FineList without hand-over-hand locking: a walk releases the lock of `pred` before it takes that of `curr`.
 pub struct WalkThatGivesBackPredFirst;
 
 fn through_row_14(local: Local) -> Local

@@ -14,7 +14,7 @@ use lset_steps::{Event, Told};
 use lset_words::{Call, Key, Reply};
 use std::alloc::AllocError;
 
-/// Why an event is not kept: no history goes on with it, or there is no memory.
+/// Why an event is not recorded: no history continues with it, or an allocation failed.
 #[derive(Clone, Copy)]
 pub enum Unkept {
     Lost,
@@ -109,7 +109,7 @@ fn note_key(changes: &mut Changes, key: u32, present: bool, moment: u32) -> Resu
     Ok(())
 }
 
-/// Notes the change that a step of a thread told.
+/// Records the change that a step of a thread made.
 fn note(
     recorder: &mut Recorder,
     thread: u32,
@@ -133,7 +133,7 @@ fn note(
     Ok(())
 }
 
-/// The moment at which a call stands that changes nothing: the first that its reply fits, or else its end.
+/// The moment at which a call without a change is placed: the first at which its reply is correct, or else its end.
 fn moment_of(recorder: &Recorder, made: OpenCall, reply: Reply, end: u32) -> u32
     requires { made.begun ≤ end }
     ensures fit { result ≡ fit_or end (fit (moments_of recorder.now.changes) made reply end) }
@@ -169,7 +169,7 @@ fn close(
     Ok(())
 }
 
-/// Follows the event that leads to a moment, and what it told. It is `Lost` where no history goes on with that.
+/// Records the event that leads to a moment, and what it did. `Lost` if no history continues with it.
 pub fn follow(recorder: &mut Recorder, event: Event, told: Told, moment: u32) -> Result<(), Unkept>
     requires counted { 0 < moment }
     requires later { (j : ℕ) → All (λ m. m < moment) (moments_of recorder.old.changes j) }

@@ -9,7 +9,7 @@ use lset_steps::reads::begun_reading;
 use lset_steps::{Action, Fed, Local};
 use lset_words::{Call, Key, Kind};
 
-/// The validation looks at the next nodes and at no mark.
+/// LazyList without the marks in its validation: it looks only at the next node.
 pub struct ValidationWithoutTheMarks;
 
 impl BrokenMachine for ValidationWithoutTheMarks {
@@ -34,7 +34,7 @@ impl BrokenMachine for ValidationWithoutTheMarks {
     }
 }
 
-/// A `contains` answers by the key alone.
+/// LazyList without the mark in `contains`: it replies by the key alone.
 pub struct ContainsByTheKeyAlone;
 
 impl BrokenMachine for ContainsByTheKeyAlone {
@@ -59,7 +59,7 @@ impl BrokenMachine for ContainsByTheKeyAlone {
     }
 }
 
-/// A `ceiling` answers by the key alone.
+/// LazyList without the mark in `ceiling`: it replies by the key alone.
 pub struct CeilingByTheKeyAlone;
 
 impl BrokenMachine for CeilingByTheKeyAlone {

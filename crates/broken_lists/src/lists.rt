@@ -14,7 +14,7 @@ pub enum BrokenList {
     Lock,
     /// FineList: a remove holds the lock of `pred` alone.
     SecondLock,
-    /// FineList: a walk gives back the lock of `pred` before it has that of `curr`.
+    /// FineList: a walk releases the lock of `pred` before it has that of `curr`.
     HandOverHand,
     /// OptimisticList: the validation looks at the link alone.
     SecondWalk,
@@ -26,21 +26,21 @@ pub enum BrokenList {
     MarkInContains,
     /// LazyList: a `ceiling` looks at no mark.
     MarkInCeiling,
-    /// LockFreeList: a remove marks no node before it takes it out.
+    /// LockFreeList: a `remove` does not mark a node before it unlinks it.
     Mark,
-    /// LockFreeList: an add exchanges the link of `pred` whatever its mark is.
+    /// LockFreeList: an `add` exchanges the link of `pred`, marked or not.
     MarkInAdd,
-    /// LockFreeList: a remove marks a node that is marked already.
+    /// LockFreeList: a `remove` marks a node that is marked already.
     MarkInRemove,
-    /// LockFreeList: a `contains` answers by the key, whatever the mark is.
+    /// LockFreeList: a `contains` replies by the key, whatever the mark is.
     MarkAtKey,
-    /// LockFreeList: each add takes the first slot of its thread.
+    /// LockFreeList: each `add` takes the first slot of its thread.
     NewSlot,
-    /// LockFreeList: an add answers `Full` one slot too soon.
+    /// LockFreeList: an `add` replies `Full` one slot too soon.
     LastSlot,
 }
 
-/// All of them.
+/// All broken lists.
 pub const ALL: [BrokenList; 14] = [
     BrokenList::Lock,
     BrokenList::SecondLock,
@@ -59,7 +59,7 @@ pub const ALL: [BrokenList; 14] = [
 ];
 
 impl BrokenList {
-    /// The name by which it is asked for.
+    /// Returns the name that `--lacks` takes for it.
     pub fn name(self) -> &'static str
         ensures { result.now ≡ name_of self }
     {
@@ -81,7 +81,7 @@ impl BrokenList {
         }
     }
 
-    /// The list from which the check was removed.
+    /// Returns the list from which the check was removed.
     pub fn kind(self) -> Kind
         ensures { result ≡ kind_of self }
     {
@@ -102,7 +102,7 @@ impl BrokenList {
     }
 }
 
-/// The list whose name the bytes are; `None` for a name that no list has.
+/// Returns the broken list whose name the bytes are; `None` if none has it.
 pub fn named(name: &[u8]) -> Option<BrokenList>
     ensures found { IfSome result (λ broken. name.now ≡ name_of broken) }
     ensures only { (broken : BrokenList) → name.now ≡ name_of broken → result ≡ Some broken }
@@ -115,7 +115,7 @@ pub fn named(name: &[u8]) -> Option<BrokenList>
     None
 }
 
-/// Something that can be done on any of these lists.
+/// Something that can be done on any broken list: the argument of `on_broken`.
 pub trait Task {
     type Out;
 
@@ -131,7 +131,7 @@ pub trait Task {
         ensures { done self M.table result };
 }
 
-/// Does a task on this broken list.
+/// Does a task on this broken list, and returns its result.
 pub fn on_broken<T: Task + Drop>(broken: BrokenList, task: T) -> T::Out
     requires { T.may task }
     ensures { T.done task (table_of broken) result }

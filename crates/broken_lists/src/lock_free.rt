@@ -21,7 +21,8 @@ use lset_steps::rows::{Targets, decide, link_index, own_slot};
 use lset_steps::{Action, Fed, Local};
 use lset_words::{Call, Key, Kind, Reply};
 
-/// A remove takes its exchange for a success where the node was marked already.
+/// LockFreeList without a failing exchange of a marked node: a `remove` takes its exchange for a success if the node was
+/// marked already.
 pub struct MarkOnAMarkedNode;
 
 impl BrokenMachine for MarkOnAMarkedNode {
@@ -46,7 +47,7 @@ impl BrokenMachine for MarkOnAMarkedNode {
     }
 }
 
-/// A `contains` answers by the key alone.
+/// LockFreeList without the mark in `contains`: it replies by the key alone.
 pub struct ContainsByTheKeyAlone;
 
 impl BrokenMachine for ContainsByTheKeyAlone {
@@ -71,7 +72,7 @@ impl BrokenMachine for ContainsByTheKeyAlone {
     }
 }
 
-/// An add exchanges the link of `pred` whatever mark that has.
+/// LockFreeList without the mark in `add`: it exchanges the link of `pred`, marked or not.
 pub struct AddThatIgnoresTheMark;
 
 /// The word of a link to a node, with the mark that was seen.
@@ -134,7 +135,7 @@ impl BrokenMachine for AddThatIgnoresTheMark {
     }
 }
 
-/// A remove takes its node out and does not mark it first.
+/// LockFreeList without marks: a `remove` unlinks its node and does not mark it first.
 pub struct RemoveWithoutAMark;
 
 impl BrokenMachine for RemoveWithoutAMark {
@@ -172,7 +173,7 @@ impl BrokenMachine for RemoveWithoutAMark {
     }
 }
 
-/// Each add takes the first slot of its thread.
+/// LockFreeList without new slots: each `add` takes the first slot of its thread.
 pub struct SlotUsedTwice;
 
 impl BrokenMachine for SlotUsedTwice {
@@ -197,7 +198,7 @@ impl BrokenMachine for SlotUsedTwice {
     }
 }
 
-/// An add decides as if its thread had used one more slot.
+/// LockFreeList without its last slot: an `add` decides as if its thread had used one more slot.
 pub struct FullBeforeTheQuota;
 
 /// The rows to which a call goes on from its decision.

@@ -17,7 +17,7 @@ struct Met {
     next: u64,
 }
 
-/// The word at an index, or 0 where the table has none.
+/// The word at an index, or 0 if the table has none.
 fn word_at(words: &[u64], index: u64) -> u64
     ensures { result ≡ slice_index words.now index }
 {
@@ -48,8 +48,9 @@ fn met_at(words: &[u64], node: u64) -> Option<Met>
     })
 }
 
-/// The keys of the nodes that a walk from the head meets before the tail, each with whether its node is marked: of as many nodes
-/// as there are, since a broken list may lead in a circle.
+/// Returns the keys of the nodes that a walk from the head reaches before the tail, each with whether its node is marked.
+/// The walk ends after as many nodes as there are, since a broken list may lead in a circle. Allocates; `AllocError` if that
+/// fails.
 pub fn chain_met(alloc: Global, words: &[u64]) -> Result<Vec<ChainKey>, AllocError>
     ensures { IfOk result (λ v. v.items ≡ met words.now) }
 {
@@ -92,7 +93,8 @@ fn keys_in(alloc: Global, tree: &BTreeSet<u32>) -> Result<Vec<u32>, AllocError>
     tree.iter().copied().collect(alloc)
 }
 
-/// The keys without a mark among those met, each once, rising.
+/// Returns the keys without a mark among those reached, each once, in increasing order. Allocates; `AllocError` if that
+/// fails.
 pub fn keys_of(alloc: Global, met: &[ChainKey]) -> Result<Vec<u32>, AllocError>
     ensures { IfOk result (λ v. v.items ≡ put_met met.now []) }
 {

@@ -9,7 +9,7 @@ use lset_steps::rows::begun;
 use lset_steps::{Action, Fed, Local};
 use lset_words::{Call, Key, Kind};
 
-/// The validation sees only that `pred` leads to `curr`, without a second walk.
+/// OptimisticList without its second walk: the validation sees only that `pred` leads to `curr`.
 pub struct ValidationByTheLinkAlone;
 
 fn past_the_walk(local: Local) -> Local
@@ -48,7 +48,7 @@ impl BrokenMachine for ValidationByTheLinkAlone {
     }
 }
 
-/// The second walk arrives where it finds the key of `pred`, in whatever node.
+/// OptimisticList without the comparison of nodes: the second walk ends at the key of `pred`, in whatever node.
 pub struct SecondWalkByTheKeyAlone;
 
 fn arrived_by_key(seen: u64, local: &Local) -> Local

@@ -33,7 +33,7 @@ use std::alloc::{AllocError, Global};
 /// How the run of a schedule ended: with the report of all its events, or at the event of a line.
 pub type BrokenRun = Result<Report, (u64, BrokenStepError)>;
 
-/// A run under way: the world, what is kept of its events, and the chain that was told last.
+/// A run: the world, the record of its events, and the chain that was passed on last.
 #[derive(Drop)]
 struct Running<M: BrokenMachine> {
     alloc: Global,
@@ -62,7 +62,7 @@ impl<M: BrokenMachine> Running<M> {
         Some((self.world.holds(thread_of(event))?, deed))
     }
 
-    /// The chain after a deed, where chains are asked for and it is another than the one told last, in whose place it then comes.
+    /// The chain after an event, if chains are asked for and it differs from the last one, which it then replaces.
     fn changed_chain(&mut self, deed: Deed) -> Result<Option<Vec<ChainKey>>, AllocError>
         requires { writes_node deed ≡ false → KeepsMet self.old.chains self.old.world.state.words self.old.chain.items }
         ensures chain { IfOk result (λ chain. NotesMet self.old.chains self.old.world.state.words self.old.chain.items chain
@@ -82,7 +82,7 @@ impl<M: BrokenMachine> Running<M> {
         Ok(Some(chain))
     }
 
-    /// Makes the event that leads to a moment, keeps it, and tells it.
+    /// Executes the event that leads to a moment, records it, and passes it on.
     fn make_event(
         &mut self,
         next: LineEvent,
@@ -235,15 +235,16 @@ impl<L: Listener + Drop> Task for Runs<'_, L> {
     }
 }
 
-/// Runs a schedule by a broken list, whatever list the schedule names. It tells a listener of each event, with the
-/// chain after each that changed it where `chains`, and gives it back; and the report of the run, or of the event at which the
-/// run ends its line and the cause: it is not enabled, or, `Lost`, the list is broken beyond running.
+/// Runs a schedule on a broken list, whatever list the schedule names. Passes each event to a listener, with the chain after
+/// each that changed it if `chains`, and returns the listener; and the report of the run, or, for the event at which the run
+/// ends, its line and the cause: it is not enabled, or, `Lost`, it would access a word outside the table, or no history
+/// continues with it.
 ///
-/// The report has the calls and replies of the run. A call that told a change stands at that event; another that ended, at the
-/// first moment of its bar that its reply fits by the changes told, and at its end where there is none. The keys are those of the
-/// unmarked nodes that a walk from the head meets. So no order need explain it, and this one may fail where another does:
-/// `check_order` judges it. The schedule is within its limits, as what `read_schedule` gives. An error is want of memory, also
-/// of the listener. (This project's own.)
+/// The report has the calls and replies of the run. A call with a change is placed at that event; any other completed call
+/// at the first moment of its bar at which its reply is correct by the changes so far, and at its end if there is none. The
+/// keys are those of the unmarked nodes that a walk from the head reaches. So no order need explain the report, and this one
+/// may fail although another does: `check_order` judges it. `schedule` must be within the limits, as every schedule from
+/// `read_schedule` is. Allocates; `AllocError` if that fails, also in the listener.
 pub fn run_broken<L: Listener + Drop>(
     alloc: Global,
     broken: BrokenList,

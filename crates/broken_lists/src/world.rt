@@ -15,7 +15,7 @@ use thiserror::Error;
 /// Numbers below this one can be added to twice a node's.
 const MOST_PKEY: u64 = 1 << 62;
 
-/// Why an event is not made.
+/// Why an event of a broken list is refused.
 #[derive(Clone, Copy, Debug, PartialEq, Eq, Error)]
 pub enum BrokenStepError {
     #[error("no such thread")]
@@ -29,7 +29,7 @@ pub enum BrokenStepError {
     Lost,
 }
 
-/// The words of a broken list and what each thread holds.
+/// The words of a broken list and the state of each thread.
 #[derive(Drop)]
 pub struct BrokenWorld<M: BrokenMachine> {
     threads: u32,
@@ -86,7 +86,7 @@ fn word_of(action: Action) -> u64
     }
 }
 
-/// Does one access, and tells what it saw.
+/// Makes one access, and returns the value that it saw.
 fn access(words: &mut Vec<u64>, action: Action) -> u64
     requires { word_named action < length words.old.items }
     ensures seen { result ≡ seen_by words.old.items action }
@@ -120,7 +120,7 @@ fn sight(words: &[u64], action: Action) -> u64
 }
 
 impl<M: BrokenMachine> BrokenWorld<M> {
-    /// The world before any event of a list that opens with these keys.
+    /// Returns the world of a list that opens with these keys, before any event. Allocates; `AllocError` if that fails.
     pub fn opened(
         alloc: Global,
         layout: &Layout,
@@ -141,14 +141,14 @@ impl<M: BrokenMachine> BrokenWorld<M> {
         })
     }
 
-    /// The words of the table.
+    /// Returns the words of the table.
     pub fn words(&self) -> &[u64]
         ensures { result.now ≡ self.now.state.words }
     {
         &self.words
     }
 
-    /// What thread `t` holds; `None` where there is no such thread.
+    /// Returns the state of thread `t`; `None` if there is no such thread.
     pub fn holds(&self, t: u32) -> Option<Local>
         ensures { MatchOption result (self.now.sizes.threads ≤ t) (λ l.
             (t < self.now.sizes.threads) × (l ≡ local_of self.now.state t)) }
@@ -160,7 +160,7 @@ impl<M: BrokenMachine> BrokenWorld<M> {
         }
     }
 
-    /// The next access of thread `t`, and the value that it will see; `None` where `step` refuses it.
+    /// Returns the next access of thread `t` and the value that it will see; `None` if `step` refuses it.
     pub fn next(&self, t: u32) -> Option<(Action, u64)>
         ensures { MatchOption result (Enabled self.now.state (Event.Go t) → CanGo M.table self.now t → ⊥) (λ s.
             (s.0 ≡ M.table.next (local_of self.now.state t)) × (s.1 ≡ seen_next M.table self.now.state t)) }
@@ -220,7 +220,7 @@ impl<M: BrokenMachine> BrokenWorld<M> {
         }
     }
 
-    /// Makes one event by the table, and tells what it answered and changed. A refused one changes nothing.
+    /// Executes one event by the table, and returns the reply and the change that it made. A refused event changes nothing.
     pub fn step(&mut self, event: Event) -> Result<Told, BrokenStepError>
         ensures { BrokenStep M.table self.old event result self.new }
     {

@@ -9,9 +9,9 @@ ghost use Rattle.broken_tables.specs.BrokenFine.{
   gives_back_pred_first,
 };
 
-/// A `remove` that holds the lock of `pred` alone takes a node out while another thread has it locked to put a key in
-/// behind it. The key goes into a node that is out of the list, and is lost. (Herlihy and Shavit, who lock both nodes
-/// for this.)
+/// A `remove` that holds the lock of `pred` alone unlinks a node while another thread has it locked to link a new node
+/// behind it. The new node is linked to a node outside the list, and its key is lost. (Herlihy and Shavit, who lock both
+/// nodes for this.)
 ///
 /// `threads 2 | quota 1 | begin 0 add 3 | go 0 9 | begin 1 add 5 | go 1 10 | begin 0 remove 3 | go 0 5 | go 1 1`
 pub fn remove_with_one_lock()
@@ -21,8 +21,8 @@ pub fn remove_with_one_lock()
     ensures named_change { Breaks removes_with_one_lock NamedChange }
 {}
 
-/// A walk that gives back the lock of `pred` before it has that of `curr` stands at a node that another thread takes out.
-/// The key that is put in behind it is lost. (Herlihy and Shavit, whose walk goes hand over hand for this.)
+/// A walk that releases the lock of `pred` before it has that of `curr` is at a node that another thread unlinks. A key that
+/// is added behind that node is lost. (Herlihy and Shavit, whose walk goes hand over hand for this.)
 ///
 /// `threads 2 | quota 1 | begin 0 add 3 | go 0 9 | begin 1 add 5 | go 1 11 | begin 0 remove 3 | go 0 6 | go 1 1`
 pub fn walk_that_gives_back_pred_first()

@@ -13,9 +13,9 @@ ghost use Rattle.broken_tables.specs.BrokenLazy.{
 };
 ghost use Rattle.lset_words.specs.declared.Reply.TheVariants.{At, True};
 
-/// A validation that looks at the next nodes and at no mark is content with a `pred` that was marked and taken out before
-/// it was locked. The key that is put in behind it is lost, and the mark with it. (Heller and others, whose validation
-/// looks at the marks in place of a second walk.)
+/// A validation that looks at the next nodes and at no mark accepts a `pred` that was marked and unlinked before it was
+/// locked. The key that is added behind it is lost, and the mark with it. (Heller and others, whose validation looks at the
+/// marks in place of a second walk.)
 ///
 /// `threads 2 | quota 1 | begin 1 add 3 | go 1 11 | begin 0 add 5 | go 0 4 | begin 1 remove 3 | go 1 9 | go 0 7`
 pub fn validation_without_the_marks()
@@ -25,7 +25,7 @@ pub fn validation_without_the_marks()
     ensures named_change { Breaks validates_without_marks NamedChange }
 {}
 
-/// A `contains` that finds the node of its key and does not look at its mark answers `True` for a key that was taken out
+/// A `contains` that finds the node of its key and does not look at its mark replies `True` for a key that was removed
 /// before the call began. (Heller and others.)
 ///
 /// `threads 2 | quota 1 | begin 0 add 5 | go 0 11 | begin 0 remove 5 | go 0 7 | begin 1 contains 5 | go 1 3`
@@ -34,8 +34,8 @@ pub fn contains_by_the_key_alone()
     ensures replies_fit { Breaks contains_by_key RepliesFit }
 {}
 
-/// A `ceiling` that stops at a node and does not look at its mark answers a key that was taken out before the call began.
-/// (Heller and others' marks; the call is this project's own.)
+/// A `ceiling` that stops at a node and does not look at its mark replies a key that was removed before the call began.
+/// (Heller and others' marks.)
 ///
 /// `threads 2 | quota 1 | begin 0 add 5 | go 0 11 | begin 0 remove 5 | go 0 7 | begin 1 ceiling 3 | go 1 3`
 pub fn ceiling_by_the_key_alone()

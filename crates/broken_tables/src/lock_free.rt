@@ -27,7 +27,7 @@ ghost use Rattle.broken_tables.specs.BrokenLockFree.{
 };
 ghost use Rattle.lset_words.specs.declared.Reply.TheVariants.{True, Full};
 
-/// A `remove` that takes its node out and does not mark it first: an `add` that has found the node before puts its key in
+/// A `remove` that unlinks its node and does not mark it first: an `add` that has found the node before links its own node
 /// behind it, since the link is as it was. The key is lost. (Harris, whose marks are there for this.)
 ///
 /// `threads 2 | quota 1 | begin 1 add 3 | go 1 6 | begin 0 add 5 | go 0 7 | begin 1 remove 3 | go 1 5 | go 0 1`
@@ -38,9 +38,9 @@ pub fn remove_without_a_mark()
     ensures named_change { Breaks removes_without_mark NamedChange }
 {}
 
-/// An `add` whose exchange compares the next node and takes any mark puts its key in behind a node that was marked and
-/// taken out. The key is lost. (Harris.) Since an exchange of a table compares whole words, this `add` loads the link of
-/// `pred` first, and exchanges just the word that it saw.
+/// An `add` whose exchange compares the next node and takes any mark links its node behind one that was marked and unlinked.
+/// The key is lost. (Harris.) Since an exchange of a table compares whole words, this `add` loads the link of `pred` first,
+/// and exchanges just the word that it saw.
 ///
 /// `threads 2 | quota 1 | begin 1 add 3 | go 1 7 | begin 0 add 5 | go 0 7 | begin 1 remove 3 | go 1 6 | go 0 2`
 pub fn add_that_ignores_the_mark()
@@ -50,17 +50,16 @@ pub fn add_that_ignores_the_mark()
     ensures named_change { Breaks adds_whatever_mark NamedChange }
 {}
 
-/// A `remove` whose marking succeeds on a node that is marked already tells a second time that it has taken the key out:
-/// two removes of one key are on their way to answer `True`. (This project's own table, whose exchange fails there.)
+/// A `remove` whose marking succeeds on a node that is marked already says a second time that it has removed the key: two
+/// removes of one key are about to reply `True`.
 ///
-/// `threads 2 | quota 1 | begin 0 add 5 | go 0 6 | begin 0 remove 5 | begin 1 remove 5 | go 0 4 | go 1 4 | go 0 1 |
-/// go 1 1`
+/// `threads 2 | quota 1 | begin 0 add 5 | go 0 6 | begin 0 remove 5 | begin 1 remove 5 | go 0 4 | go 1 4 | go 0 1 | go 1 1`
 pub fn mark_on_a_marked_node()
     ensures takes { AbsentKeyIsRemoved marks_twice two_removes 18 1 5 }
     ensures named_change { Breaks marks_twice NamedChange }
 {}
 
-/// A `contains` that finds the node of its key and does not look at its mark answers `True` for a key that was taken out
+/// A `contains` that finds the node of its key and does not look at its mark replies `True` for a key that was removed
 /// before the call began. (Herlihy and Shavit's wait-free `contains`.)
 ///
 /// `threads 2 | quota 1 | begin 0 add 5 | go 0 6 | begin 0 remove 5 | go 0 5 | begin 1 contains 5 | go 1 3`
@@ -69,8 +68,8 @@ pub fn contains_by_the_key_alone()
     ensures replies_fit { Breaks contains_by_key RepliesFit }
 {}
 
-/// An `add` that takes the slot of a removed node writes another key into a node at which other threads may stand. (This
-/// project's profile, in which a slot is used once.)
+/// An `add` that takes the slot of a removed node writes another key into a node that other threads may be at. In a correct
+/// list a slot is used once.
 ///
 /// `threads 1 | quota 2 | begin 0 add 3 | go 0 6 | begin 0 remove 3 | go 0 6 | begin 0 add 5 | go 0 4`
 pub fn slot_used_twice()
@@ -78,8 +77,7 @@ pub fn slot_used_twice()
     ensures unlinked_stays { Breaks uses_one_slot UnlinkedNodesStay }
 {}
 
-/// An `add` that answers `Full` one slot too soon: its thread has a free slot at each moment of the call. (This project's
-/// profile.)
+/// An `add` that replies `Full` one slot too soon: its thread has a free slot at each moment of the call.
 ///
 /// `threads 1 | quota 1 | begin 0 add 5 | go 0 3`
 pub fn full_before_the_quota()

@@ -9,9 +9,9 @@ ghost use Rattle.broken_tables.specs.BrokenOptimistic.{
   validates_by_the_link,
 };
 
-/// A validation that sees only that `pred` leads to `curr` is content with a `pred` that was taken out before it was
-/// locked: a node that is out of the list still leads to its old neighbour. The key that is put in behind it is lost.
-/// (Herlihy and Shavit, whose second walk is there for this.)
+/// A validation that sees only that `pred` leads to `curr` accepts a `pred` that was unlinked before it was locked: a node
+/// outside the list still leads to its old neighbour. The key that is added behind it is lost. (Herlihy and Shavit, whose
+/// second walk is there for this.)
 ///
 /// `threads 2 | quota 1 | begin 1 add 3 | go 1 10 | begin 0 add 5 | go 0 4 | begin 1 remove 3 | go 1 9 | go 0 6`
 pub fn validation_by_the_link_alone()
@@ -21,12 +21,12 @@ pub fn validation_by_the_link_alone()
     ensures named_change { Breaks validates_by_the_link NamedChange }
 {}
 
-/// A second walk that has arrived where it finds the key of `pred` is content with another node of that key: the first
-/// one was taken out, and the key was put in again with a new node. The key that is put in behind the old node is lost.
-/// (This project's own table, whose walk compares nodes.)
+/// A second walk that ends at the key of `pred` accepts another node of that key: the first one was unlinked, and the key
+/// was added again with a new node. The key that is added behind the old node is lost. In a correct list the walk compares
+/// nodes.
 ///
-/// `threads 2 | quota 2 | begin 1 add 3 | go 1 10 | begin 0 add 5 | go 0 4 | begin 1 remove 3 | go 1 9 | begin 1 add 3 |
-/// go 1 10 | go 0 8`
+/// `threads 2 | quota 2 | begin 1 add 3 | go 1 10 | begin 0 add 5 | go 0 4 | begin 1 remove 3 | go 1 9 | begin 1 add 3 | go
+/// 1 10 | go 0 8`
 pub fn second_walk_by_the_key_alone()
     ensures changes { UnlinkedNodeChanges arrives_by_key same_key_again 44 4 }
     ensures loses { AddedKeyIsLost arrives_by_key same_key_again 44 0 5 }

@@ -11,8 +11,12 @@ ghost use Rattle.std.specs.Prelude.{◌≡◌, false};
 use ffi_sets::CSeat;
 use std::alloc::Global;
 
-/// Opens a set of the list `kind`, 0 to 4, with 1 to 64 seats, a quota of at most 16,384 and at most 1,048,576 keys that rise; `out`, which
-/// is empty, gets a seat that has all others within it. `number` tells the set from others, as `listset_gather` asks. Else the fault.
+/// Opens a set of the list `kind`, 0 to 4 (coarse, fine, optimistic, lazy, lock-free), with `seats` seats, 1 to 64, a quota
+/// of 0 to 16,384, and at most 1,048,576 keys in strictly increasing order. `out`, which must be empty, gets a seat that
+/// contains all others. `number` must be one that no other open set has: `listset_gather` compares it.
+///
+/// Returns `DONE`, or an error and changes nothing: `IS_SEAT` if `out` is not empty, `BAD_KIND`, `BAD_SEATS`, `BAD_QUOTA`,
+/// `BAD_KEYS`, or `OUT_OF_MEMORY` if an allocation failed. Does not block.
 #[unsafe(no_mangle)]
 pub extern "C" fn listset_open(
     alloc: Global,
@@ -28,7 +32,10 @@ pub extern "C" fn listset_open(
     ffi_sets::open_set(alloc, kind, seats, quota, number, keys, out)
 }
 
-/// Takes a seat out of `seat`, for `out`, which is empty. `NO_MORE` where none is left, `OUT_OF_MEMORY` where there is no box for it.
+/// Takes one of the seats that `seat` contains out of it, into `out`, which must be empty.
+///
+/// Returns `DONE`, or an error and changes nothing: `IS_SEAT` if `out` is not empty, `NO_SEAT` if `seat` is empty or a
+/// closed set, `NO_MORE` if no seat can be split off it, `OUT_OF_MEMORY` if an allocation failed. Does not block.
 #[unsafe(no_mangle)]
 pub extern "C" fn listset_split(alloc: Global, seat: &mut CSeat, out: &mut CSeat) -> u8
     ensures { HasSplit seat.old.full seat.old.held out.old.full out.old.held result seat.new.full seat.new.held out.new.full out.new.held }
@@ -36,7 +43,8 @@ pub extern "C" fn listset_split(alloc: Global, seat: &mut CSeat, out: &mut CSeat
     ffi_sets::split_seat(alloc, seat, out)
 }
 
-/// Puts the key in, if it was not there: 1; 0 where it was, 2 where the seat has used its quota, and 255 of an empty seat or a closed set.
+/// Adds `key` to the set. Returns 1 if it was not in the set, 0 if it was, 2 if the seat has used up its quota; 255 if
+/// `seat` is empty or a closed set. Blocks while another thread holds a lock that the call needs. Does not allocate.
 #[unsafe(no_mangle)]
 pub extern "C" fn listset_add(alloc: Global, seat: &mut CSeat, key: u32) -> u8
     ensures { HasMade seat.old.full seat.old.held (Add (record { 0 = key })) result seat.new.full seat.new.held }
@@ -44,7 +52,8 @@ pub extern "C" fn listset_add(alloc: Global, seat: &mut CSeat, key: u32) -> u8
     ffi_sets::add_key(alloc, seat, key)
 }
 
-/// Takes the key out, if it was there: 1; else 0, and 255 as `listset_add`.
+/// Removes `key` from the set. Returns 1 if it was in the set, 0 if it was not; 255 if `seat` is empty or a closed set.
+/// Blocks while another thread holds a lock that the call needs. Does not allocate.
 #[unsafe(no_mangle)]
 pub extern "C" fn listset_remove(alloc: Global, seat: &mut CSeat, key: u32) -> u8
     ensures { HasMade seat.old.full seat.old.held (Remove (record { 0 = key })) result seat.new.full seat.new.held }
@@ -52,7 +61,8 @@ pub extern "C" fn listset_remove(alloc: Global, seat: &mut CSeat, key: u32) -> u
     ffi_sets::remove_key(alloc, seat, key)
 }
 
-/// Whether the key is there: 1 or 0, and 255 as `listset_add`.
+/// Returns 1 if `key` is in the set, 0 if it is not; 255 if `seat` is empty or a closed set. On a coarse, fine or optimistic
+/// list it blocks while another thread holds a lock that the call needs. Does not allocate.
 #[unsafe(no_mangle)]
 pub extern "C" fn listset_contains(alloc: Global, seat: &mut CSeat, key: u32) -> u8
     ensures { HasMade seat.old.full seat.old.held (Contains (record { 0 = key })) result seat.new.full seat.new.held }
@@ -60,7 +70,9 @@ pub extern "C" fn listset_contains(alloc: Global, seat: &mut CSeat, key: u32) ->
     ffi_sets::contains_key(alloc, seat, key)
 }
 
-/// Where there is a key at or above this one 3, with the least in `at`; else 4, and 255 as `listset_add`.
+/// Finds the smallest key of the set at or above `key`. Returns 3 and writes it to `at`, or 4 if there is none; 255 if
+/// `seat` is empty or a closed set. On a coarse, fine or optimistic list it blocks while another thread holds a lock that
+/// the call needs. Does not allocate.
 #[unsafe(no_mangle)]
 pub extern "C" fn listset_ceiling(alloc: Global, seat: &mut CSeat, key: u32, at: &mut u32) -> u8
     ensures { HasCeiling seat.old.full seat.old.held (Ceiling (record { 0 = key })) result at.old at.new seat.new.full seat.new.held }
@@ -68,8 +80,11 @@ pub extern "C" fn listset_ceiling(alloc: Global, seat: &mut CSeat, key: u32, at:
     ffi_sets::ceiling_at(alloc, seat, key, at)
 }
 
-/// Puts `from`, with all that is within it, into `into`. `NO_GATHER` where they are not two seats of one list and number. That seats
-/// of one number are of one set is the caller's duty.
+/// Merges the seat `from`, with all seats that it contains, into `into`; `from` is then empty. Both must be seats of one
+/// set: seats whose lists and numbers agree are the caller's duty.
+///
+/// Returns `DONE`, or an error and changes nothing: `NO_SEAT` if one is empty, `NO_GATHER` if they are not two seats of one
+/// list and number. Does not block or allocate.
 #[unsafe(no_mangle)]
 pub extern "C" fn listset_gather(alloc: Global, into: &mut CSeat, from: &mut CSeat) -> u8
     requires { GathersAt into.old.full into.old.held from.old.full from.old.held }
@@ -78,8 +93,10 @@ pub extern "C" fn listset_gather(alloc: Global, into: &mut CSeat, from: &mut CSe
     ffi_sets::gather_seats(alloc, into, from)
 }
 
-/// Ends the set, of whose seats none is out: the seat holds the keys that are left. `SEATS_OUT` where some are, `OUT_OF_MEMORY` where
-/// there is no room for keys; nothing is closed then.
+/// Closes the set whose seats are all gathered into `seat`, which then has the remaining keys.
+///
+/// Returns `DONE`, or an error and changes nothing: `NO_SEAT` if `seat` is empty or a closed set, `SEATS_OUT` if other seats
+/// are out, `OUT_OF_MEMORY` if an allocation failed. Does not block.
 #[unsafe(no_mangle)]
 pub extern "C" fn listset_close(alloc: Global, seat: &mut CSeat) -> u8
     ensures { EndsSet seat.old.full seat.old.held result seat.new.full seat.new.held }
@@ -87,7 +104,8 @@ pub extern "C" fn listset_close(alloc: Global, seat: &mut CSeat) -> u8
     ffi_sets::close_set(alloc, seat)
 }
 
-/// How many keys the closed set has, which are in the room where it is long enough; 2^64 - 1 where it is none.
+/// Returns how many keys the closed set `closed` has, and copies them to `room`, in strictly increasing order, if they fit;
+/// 2^64 - 1 if it is not a closed set. Does not block or allocate.
 #[unsafe(no_mangle)]
 pub extern "C" fn listset_keys(alloc: Global, closed: &mut CSeat, room: &mut [u32]) -> usize
     ensures { GivesKeys closed.old.full closed.old.held room.old room.new result closed.new.full closed.new.held }
@@ -95,7 +113,7 @@ pub extern "C" fn listset_keys(alloc: Global, closed: &mut CSeat, room: &mut [u3
     ffi_sets::give_keys(alloc, closed, room)
 }
 
-/// Lets go of what the seat holds.
+/// Drops what the seat contains, and leaves it empty. A set of which a seat was dropped cannot be closed. Does not block.
 #[unsafe(no_mangle)]
 pub extern "C" fn listset_drop(alloc: Global, seat: &mut CSeat)
     ensures { seat.new.full ≡ false }

@@ -73,7 +73,7 @@ abbrev pub ShowsBy : Bool → List ℕ → List ℕ → Made → Type 0
 ShowsBy svg options bytes made =
     OfWords (λ words. AsAsked (asked_in svg words) (λ window. Shows window bytes)) options made
 
--- What is made of the bytes by the broken list of a name, or memory is refused.
+-- What is made of the bytes by the broken list of a name, or that an allocation failed.
 abbrev pub MakesBroken : (BrokenList → List ℕ → Made → Type 0) → List ℕ → List ℕ → Made → Type 0
 MakesBroken Makes name bytes made = (made ≡ Err Memory) ⊎ broken.ByName (λ l m. Makes l bytes m) name made
 

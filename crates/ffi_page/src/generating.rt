@@ -6,7 +6,7 @@ use crate::words::words_in;
 use std::alloc::Global;
 use tool_base::{Answer, Trouble, generated};
 
-/// The schedule for which the values ask that the bytes hold.
+/// Returns the text of the schedule that `gen` prints for the arguments in these bytes.
 pub fn generated_by(alloc: Global, bytes: &[u8]) -> Result<Answer, Trouble>
     ensures { OfWords Generates bytes.now (view result) }
 {

@@ -7,10 +7,10 @@ ghost use Rattle.ffi_page.specs.Page.{Handed, IsHanded};
 use std::alloc::Global;
 use tool_base::{Answer, Trouble, line_of_trouble};
 
-/// The line about want of memory, for which no memory is taken.
+/// The line `listset: out of memory`, which needs no allocation.
 const OUT_OF_MEMORY: &[u8] = b"listset: out of memory\n";
 
-/// Puts the text at the front of the room where it is long enough, and gives the text's length.
+/// Copies the text to the front of the buffer if it fits, and returns the text's length.
 fn put(text: &[u8], room: &mut [u8]) -> usize
     ensures count { result ≡ length text.now }
     ensures handed { Handed text.now room.old room.new }
@@ -22,8 +22,8 @@ fn put(text: &[u8], room: &mut [u8]) -> usize
     count
 }
 
-/// Hands over what a tool made: its text, or the line about its trouble; and where there is no memory for that line, want of
-/// memory in its place.
+/// Copies what a tool made into the caller's buffer: its text, or the line about its error; if an allocation for that line
+/// fails, the line about that instead.
 pub fn hand(alloc: Global, made: Result<Answer, Trouble>, room: &mut [u8], status: &mut u8) -> usize
     ensures { (said : Made) × ((said ≡ view made) ⊎ (said ≡ Err Memory)) × IsHanded said room.old room.new status.new result }
 {

@@ -1,9 +1,9 @@
 //! The tools as functions of C for a web page: a text in, a text out, and the exit status of the program `listset`.
 //!
-//! Each function puts what the program prints of the text, on its output or as the line about a trouble, at the front of
-//! `room`, gives its length in bytes, and sets `status` to the program's exit status: 0, 1 where something is wrong with the
-//! text, 2 where a name is wrong, 3 where memory was refused. Where `room` is too short nothing is written there, and the
-//! caller asks again with as many bytes. That is our own form of a call across the border of a WebAssembly module.
+//! Each function writes what the program prints of the text, its result or the line about an error, to the front of `room`,
+//! returns its length in bytes, and sets `status` to the program's exit status: 0; 1 if something is wrong with the text; 2
+//! if a name is wrong; 3 if an allocation failed. If `room` is too short nothing is written there: call again with that many
+//! bytes. No function blocks or keeps state.
 #![tactic(auto)]
 
 mod generating;
@@ -36,8 +36,8 @@ use tool_judge::judge_bytes;
 use tool_report::report_bytes;
 use tool_trace::traced;
 
-/// What `listset replay` prints of the schedule whose text is given: its report, or the line about the first fault of the
-/// text or the first event that is not enabled, or about a text of more than 67,108,864 bytes.
+/// What `listset replay` prints of a schedule: its report; or the line about the first error of the text, the first event
+/// that is not enabled, or a text of more than 67,108,864 bytes.
 #[unsafe(no_mangle)]
 pub extern "C" fn listset_replay(
     alloc: Global,
@@ -50,8 +50,8 @@ pub extern "C" fn listset_replay(
     hand(alloc, replayed(alloc, text), room, status)
 }
 
-/// What `listset report` prints of the calls whose text is given: their report, or that no order explains them, or the line about the
-/// first fault of the text or the first line whose call cannot stand beside those above, or about a text that is too long.
+/// What `listset report` prints of recorded calls: their report, or that no order explains them; or the line about the first
+/// error of the text, the first line whose call conflicts with a line above, or a text that is too long.
 #[unsafe(no_mangle)]
 pub extern "C" fn listset_report(
     alloc: Global,
@@ -64,9 +64,8 @@ pub extern "C" fn listset_report(
     hand(alloc, report_bytes(alloc, text), room, status)
 }
 
-/// What `listset judge` prints of the recorded calls whose text is given: `ok N calls` if some order explains them, and `not
-/// linearizable` with the calls that show it and status 1 if none does; or the line about the first fault of the text, or about one
-/// that is too long.
+/// What `listset judge` prints of recorded calls: `ok N calls` if some order explains them; `not linearizable`, with the
+/// calls that show it and status 1, if none does; or the line about the first error of the text, or a text that is too long.
 #[unsafe(no_mangle)]
 pub extern "C" fn listset_judge(
     alloc: Global,
@@ -79,8 +78,8 @@ pub extern "C" fn listset_judge(
     hand(alloc, judge_bytes(alloc, text), room, status)
 }
 
-/// What `listset check` prints of the report whose text is given: `ok`, or the first fault of its order with status 1; or
-/// the line about the first fault of the text, or about one that is too long.
+/// What `listset check` prints of a report: `ok`, or the first fault of its order with status 1; or the line about the first
+/// error of the text, or a text that is too long.
 #[unsafe(no_mangle)]
 pub extern "C" fn listset_check(
     alloc: Global,
@@ -93,8 +92,8 @@ pub extern "C" fn listset_check(
     hand(alloc, checked(alloc, text), room, status)
 }
 
-/// What `listset trace` prints of the schedule whose text is given: its trace, up to the first event that is not enabled,
-/// which has status 1; or the line about the first fault of the text, or about one that is too long.
+/// What `listset trace` prints of a schedule: its trace, up to the first event that is not enabled, which has status 1; or
+/// the line about the first error of the text, or a text that is too long.
 #[unsafe(no_mangle)]
 pub extern "C" fn listset_trace(
     alloc: Global,
@@ -107,7 +106,9 @@ pub extern "C" fn listset_trace(
     hand(alloc, traced(alloc, text, false), room, status)
 }
 
-/// What `listset trace --chain` prints of it: the same, with the chain after each event that changed it.
+/// What `listset trace --chain` prints of a schedule: its trace, with the chain after each event that changed it, up to the
+/// first event that is not enabled, which has status 1; or the line about the first error of the text, or a text that is too
+/// long.
 #[unsafe(no_mangle)]
 pub extern "C" fn listset_trace_with_chains(
     alloc: Global,
@@ -120,11 +121,13 @@ pub extern "C" fn listset_trace_with_chains(
     hand(alloc, traced(alloc, text, true), room, status)
 }
 
-/// What `listset show` prints of the schedule, the report or the recorded calls whose text is given: its picture, with status 1 where it
-/// tells why the order of a report is refused or that no order explains the calls, or which event of a schedule is refused, up to which that
-/// is drawn; or the line about the first fault of the text, or about one that is too long. The options are the words for `--from`, `--to` and `--width`, in this order, with
-/// a zero byte between two: a `=` and the option's text, or nothing where it is not given; and where words are missing at the end,
-/// their options are not given. A wrong option is told as `listset: bad FROM` (or `TO`, `WIDTH`), with status 2.
+/// What `listset show` prints of a schedule, a report or recorded calls: the picture, with status 1 if it says why the order
+/// of a report is refused, that no order explains the calls, or which event of a schedule is refused, up to which that is
+/// drawn; or the line about the first error of the text, or a text that is too long.
+///
+/// The options are the values of `--from`, `--to` and `--width`, in this order, with a zero byte between two: a `=` and the
+/// value, or nothing if the option is not given; what is missing at the end is not given. For a wrong option the line is
+/// `listset: bad FROM` (or `TO`, `WIDTH`), with status 2.
 #[unsafe(no_mangle)]
 pub extern "C" fn listset_show(
     alloc: Global,
@@ -138,7 +141,8 @@ pub extern "C" fn listset_show(
     hand(alloc, shown_by(alloc, text, false, options), room, status)
 }
 
-/// What `listset show --svg` prints of it: the same picture as an SVG.
+/// What `listset show --svg` prints of a schedule, a report or recorded calls: the picture of `listset_show` as an SVG, with
+/// its statuses, lines and options.
 #[unsafe(no_mangle)]
 pub extern "C" fn listset_show_svg(
     alloc: Global,
@@ -152,9 +156,9 @@ pub extern "C" fn listset_show_svg(
     hand(alloc, shown_by(alloc, text, true, options), room, status)
 }
 
-/// What `listset replay --lacks NAME` prints of the schedule whose text is given, by the broken list of this name: the
-/// report of its run; `listset: bad NAME: ..` with status 2 where no list has the name; or the line about the first fault of the
-/// text, about a schedule of another list, or about the event at which the run ends.
+/// What `listset replay --lacks NAME` prints of a schedule, run on the broken list of this name: the report of its run;
+/// `listset: bad NAME: ..` with status 2 if no list has the name; or the line about the first error of the text, a schedule
+/// of another list, or the event at which the run ends.
 #[unsafe(no_mangle)]
 pub extern "C" fn listset_replay_lacking(
     alloc: Global,
@@ -169,8 +173,8 @@ pub extern "C" fn listset_replay_lacking(
     hand(alloc, replayed_broken(alloc, name, text), room, status)
 }
 
-/// What `listset trace --lacks NAME` prints of it: its trace, up to the event at which the run ends, which has status 1; or a line
-/// as of `listset_replay_lacking`.
+/// What `listset trace --lacks NAME` prints of a schedule, run on the broken list of this name: its trace, up to the event
+/// at which the run ends, which has status 1; or a line as of `listset_replay_lacking`.
 #[unsafe(no_mangle)]
 pub extern "C" fn listset_trace_lacking(
     alloc: Global,
@@ -185,7 +189,9 @@ pub extern "C" fn listset_trace_lacking(
     hand(alloc, traced_broken(alloc, name, text, false), room, status)
 }
 
-/// What `listset trace --chain --lacks NAME` prints of it: the same, with the chain after each event that changed it.
+/// What `listset trace --chain --lacks NAME` prints of a schedule, run on the broken list of this name: its trace, with the
+/// chain after each event that changed it, up to the event at which the run ends, which has status 1; or a line as of
+/// `listset_replay_lacking`.
 #[unsafe(no_mangle)]
 pub extern "C" fn listset_trace_with_chains_lacking(
     alloc: Global,
@@ -200,9 +206,9 @@ pub extern "C" fn listset_trace_with_chains_lacking(
     hand(alloc, traced_broken(alloc, name, text, true), room, status)
 }
 
-/// What `listset show --lacks NAME` prints of it: the picture of the report of its run, with status 1 if its order is refused, and
-/// last lines that say whether another order explains it; or a line as of `listset_replay_lacking`. The options are those of
-/// `listset_show`.
+/// What `listset show --lacks NAME` prints of a schedule, run on the broken list of this name: the picture of the report of
+/// its run, with status 1 if its order is refused, and last lines that say whether another order explains it; or a line as
+/// of `listset_replay_lacking`. The options are those of `listset_show`.
 #[unsafe(no_mangle)]
 pub extern "C" fn listset_show_lacking(
     alloc: Global,
@@ -222,7 +228,8 @@ pub extern "C" fn listset_show_lacking(
     )
 }
 
-/// What `listset show --svg --lacks NAME` prints of it: the same picture as an SVG.
+/// What `listset show --svg --lacks NAME` prints of a schedule, run on the broken list of this name: the picture of
+/// `listset_show_lacking` as an SVG, with its statuses, lines and options.
 #[unsafe(no_mangle)]
 pub extern "C" fn listset_show_svg_lacking(
     alloc: Global,
@@ -242,8 +249,8 @@ pub extern "C" fn listset_show_svg_lacking(
     )
 }
 
-/// What `listset draft` prints of the draft whose text is given: the schedule, or the line about the first fault of the text or the
-/// first line that stands for none of a schedule, or about a text that is too long.
+/// What `listset draft` prints of a draft: the schedule; or the line about the first error of the text, the first line that
+/// does not become a line of a schedule, or a text that is too long.
 #[unsafe(no_mangle)]
 pub extern "C" fn listset_draft(
     alloc: Global,
@@ -256,8 +263,8 @@ pub extern "C" fn listset_draft(
     hand(alloc, drafted(alloc, text), room, status)
 }
 
-/// What `listset gen` prints of its values, which come with a zero byte between two: the schedule, or `listset: bad NAME`, with
-/// status 2, for the first that is missing or wrong.
+/// What `listset gen` prints for its arguments, which come with a zero byte between two: the schedule; or `listset: bad
+/// NAME`, with status 2, for the first that is missing or wrong.
 #[unsafe(no_mangle)]
 pub extern "C" fn listset_gen(
     alloc: Global,
@@ -270,7 +277,7 @@ pub extern "C" fn listset_gen(
     hand(alloc, generated_by(alloc, values), room, status)
 }
 
-/// What `listset faults` prints: each line about a fault, and each cause in a sentence.
+/// What `listset faults` prints: each error message, and each cause in a sentence.
 #[unsafe(no_mangle)]
 pub extern "C" fn listset_faults(alloc: Global, room: &mut [u8], status: &mut u8) -> usize
     ensures { Hands TellsFaults room.old room.new status.new result }
@@ -299,8 +306,8 @@ pub extern "C" fn listset_example(
     hand(alloc, exampled_by(alloc, false, name), room, status)
 }
 
-/// What `listset example --broken NAME` prints: the report of a list without the check that the example with this name
-/// shows, or `listset: bad NAME` with status 2, also where that example has none.
+/// What `listset example --broken NAME` prints: the report that a list without the check that the example with this name
+/// shows would make; or `listset: bad NAME` with status 2, also if that example has none.
 #[unsafe(no_mangle)]
 pub extern "C" fn listset_broken_example(
     alloc: Global,

@@ -10,7 +10,7 @@ use tool_broken::shown_broken;
 use tool_drawing::Window;
 use tool_show::{Form, read_asked, shown};
 
-/// The form and the window for which the options ask. The errors are `Bad` where an option is wrong, and `Memory`.
+/// The form and the window of the options. The errors are `Bad` if an option is wrong, and `Memory`.
 fn asked_by(alloc: Global, svg: bool, options: &[u8]) -> Result<(Form, Window), Trouble>
     ensures { AsksBy svg options.now result }
 {
@@ -24,8 +24,8 @@ fn asked_by(alloc: Global, svg: bool, options: &[u8]) -> Result<(Form, Window), 
     }
 }
 
-/// The picture of the schedule or the report whose text the bytes are, as text or as an SVG (`svg`), within the moments and
-/// the width for which the options ask. The errors are those of `shown`, and `Bad` where an option is wrong.
+/// Draws a schedule, a report or recorded calls, given as the bytes of the text, as text or as an SVG (`svg`), in the
+/// moments and the width of the options. The errors are those of `shown`, and `Bad` if an option is wrong.
 pub fn shown_by(alloc: Global, bytes: &[u8], svg: bool, options: &[u8]) -> Result<Answer, Trouble>
     ensures shows { ShowsBy svg options.now bytes.now (view result) }
     ensures read { IfErr result (λ t. t ≢ CannotRead) }
@@ -34,8 +34,8 @@ pub fn shown_by(alloc: Global, bytes: &[u8], svg: bool, options: &[u8]) -> Resul
     shown(alloc, bytes, form, window)
 }
 
-/// The picture of the report of the run of the schedule whose text the bytes are, by the broken list of this name. The
-/// errors are those of `shown_broken`, and `Bad` where an option is wrong.
+/// Draws the report of the run of a schedule, given as the bytes of its text, on the broken list of this name. The errors
+/// are those of `shown_broken`, and `Bad` if an option is wrong.
 pub fn shown_broken_by(
     alloc: Global,
     name: &[u8],

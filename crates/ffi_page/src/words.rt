@@ -3,7 +3,7 @@ ghost use Rattle.ffi_page.specs.Page.{given_in, option_at, words_in};
 
 use std::alloc::{AllocError, Global};
 
-/// The words that the bytes hold, with a zero byte between two, as no word of a command line has one.
+/// Returns the arguments that the bytes hold, with a zero byte between two; no argument of a command line has one.
 pub fn words_in(alloc: Global, bytes: &[u8]) -> Result<Vec<String>, AllocError>
     ensures { IfOk result (λ words. map string_bytes words.items ≡ words_in bytes.now) }
 {
@@ -16,14 +16,14 @@ pub fn words_in(alloc: Global, bytes: &[u8]) -> Result<Vec<String>, AllocError>
     Ok(words)
 }
 
-/// The text behind the `=` of a word; `None` where it begins otherwise, as an empty one.
+/// The value behind the `=`; `None` if there is no `=`, as in an empty argument.
 fn given(word: &str) -> Option<&str>
     ensures { option_map (λ text. text.now) result ≡ given_in word.now }
 {
     word.strip_prefix('=')
 }
 
-/// The text of the option whose word has this index, from 0. `None` where that word is missing, or has no `=` before a text: the
+/// Returns the value of the option with this index, from 0; `None` if it is missing, or has no `=` before a value: the
 /// option is not given.
 pub fn option_at(words: &[String], index: usize) -> Option<&str>
     ensures { option_map (λ text. text.now) result ≡ option_at (map string_bytes words.now) index }

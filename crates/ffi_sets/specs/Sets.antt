@@ -125,7 +125,7 @@ abbrev pub gathers : Held → Held → Bool
 gathers h g = same_number (kind_in h) (kind_in g) && same_number (number_in h) (number_in g)
     && is_some (seat_in h) && is_some (seat_in g)
 
--- WHY NO SEAT IS SPLIT OFF: none is left, or memory was refused.
+-- WHY NO SEAT IS SPLIT OFF: none is left, or an allocation failed.
 abbrev pub HasNoneToSplit : List SeatValue → ℕ → Type 0
 HasNoneToSplit spare n = ((n ≡ 17) × (spare ≡ [])) ⊎ (n ≡ 13)
 
@@ -156,7 +156,7 @@ number_of_fault fault.Quota = 11
 number_of_fault fault.Opening = 12
 number_of_fault fault.Memory = 13
 
--- WHY NOTHING IS OPENED: there is no list of this number; else the first of the limits that is not kept; else memory was refused.
+-- WHY NOTHING IS OPENED: there is no list of this number; else the first of the limits that is not kept; else an allocation failed.
 abbrev pub RefusesAsked : ℕ → Opening → ℕ → Type 0
 RefusesAsked kind opening n = ((4 < kind) × (n ≡ 14))
     ⊎ ((f : OpenFault) × (kind < 5) × (n ≡ number_of_fault f) × RefusesOpening opening f)
@@ -175,7 +175,7 @@ abbrev pub IsWhole : SetValue → Option SeatValue → List SeatValue → Type 0
 IsWhole set (Some seat) spare = seat.held + length spare ≡ set.shape.threads
 IsWhole set None spare = ⊥
 
--- WHY IT IS NOT CLOSED: it is no running set; else a seat is missing; else memory was refused.
+-- WHY IT IS NOT CLOSED: it is no running set; else a seat is missing; else an allocation failed.
 abbrev pub RefusesToClose : Option SetValue → Option SeatValue → List SeatValue → ℕ → Type 0
 RefusesToClose None seat spare n = n ≡ 255
 RefusesToClose (Some set) seat spare n = ((n ≡ 16) × ¬ (IsWhole set seat spare)) ⊎ ((n ≡ 13) × IsWhole set seat spare)

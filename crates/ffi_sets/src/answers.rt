@@ -11,6 +11,7 @@ use lset_live::OpenFault;
 use lset_words::{Call, Reply};
 use std::alloc::Global;
 
+/// Returns the number of a reply: 0 `False`, 1 `True`, 2 `Full`, 3 `At`, 4 `Nothing`; 255 if no call was made.
 pub fn reply_code(reply: Option<Reply>) -> u8
     ensures { result ≡ code_of reply }
 {
@@ -24,6 +25,7 @@ pub fn reply_code(reply: Option<Reply>) -> u8
     }
 }
 
+/// Returns the number of an error of `lset_live::open_with`.
 pub fn fault_code(fault: OpenFault) -> u8
     ensures { result ≡ number_of_fault fault }
 {
@@ -35,6 +37,7 @@ pub fn fault_code(fault: OpenFault) -> u8
     }
 }
 
+/// Makes a call from a seat and returns the number of its reply; 255 if the seat is empty or a closed set.
 pub fn made(alloc: Global, seat: &mut CSeat, call: Call) -> u8
     ensures { HasMade seat.old.full seat.old.held call result seat.new.full seat.new.held }
 {
@@ -46,7 +49,8 @@ pub fn made(alloc: Global, seat: &mut CSeat, call: Call) -> u8
     reply_code(reply)
 }
 
-/// Has the empty seat hold this, in a box of its own. `OUT_OF_MEMORY` where there is none.
+/// Puts `held` into the empty seat, in a box of its own. `OUT_OF_MEMORY` if an allocation fails; the seat is then still
+/// empty.
 pub fn put_new(alloc: Global, seat: &mut CSeat, held: Held) -> u8
     requires { seat.old.full ≡ false }
     ensures { ((result ≡ 0) × (seat.new.full ≡ true) × (seat.new.held ≡ held)) ⊎ ((result ≡ 13) × (seat.new.full ≡ false)) }

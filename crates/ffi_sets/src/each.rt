@@ -13,7 +13,7 @@ use lset_live::OpenFault;
 use lset_words::{Call, Reply};
 use std::alloc::Global;
 
-/// Opens a set of the list with this number; `None` where there is no such list.
+/// Opens a set of the list with this number; `None` if there is no such list. Allocates.
 pub fn open_held(
     alloc: Global,
     kind: u8,
@@ -35,7 +35,7 @@ pub fn open_held(
     }))
 }
 
-/// What a seat of C holds makes a call.
+/// Makes a call from what a seat of C contains.
 pub fn call_held(held: &mut Held, call: Call) -> Option<Reply>
     ensures { HasCalledHeld held.old call result held.new }
 {
@@ -49,7 +49,7 @@ pub fn call_held(held: &mut Held, call: Call) -> Option<Reply>
     }
 }
 
-/// Splits a seat off; else the code why not.
+/// Splits a seat off; the error is the number that says why not.
 pub fn split_held(held: &mut Held, alloc: Global) -> Result<Held, u8>
     ensures split { MatchResult result (λ h. (seat_in held.new ≡ seat_in held.old) × IsOneSeat (seat_in h) (spare_in h) × IsBoth held.new h held.old)
         (λ n. IsKept held.old held.new × HasNoneToSplit (spare_in held.old) n) }
@@ -64,7 +64,7 @@ pub fn split_held(held: &mut Held, alloc: Global) -> Result<Held, u8>
     })
 }
 
-/// Takes a seat of the same set in; gives it back where they are not two seats of one list and number.
+/// Merges a seat of the same set into another; returns it if they are not two seats of one list and number.
 pub fn gather_held(alloc: Global, into: &mut Held, from: Held) -> Option<Held>
     requires { Gathers into.old from }
     ensures { MatchOption result ((gathers into.old from ≡ true) × IsSome (seat_in into.new) × IsBoth into.old from into.new)
@@ -82,7 +82,8 @@ pub fn gather_held(alloc: Global, into: &mut Held, from: Held) -> Option<Held>
     })
 }
 
-/// Closes the set where all its seats are within, and gives its keys; else what is held, with the code why not.
+/// Closes the set if all its seats are gathered, and returns its keys; else what was given, with the number that says why
+/// not.
 pub fn close_held(alloc: Global, held: Held) -> Result<Vec<u32>, (Held, u8)>
     ensures closed { IfOk result (λ keys. HasClosed held (Closed keys)) }
     ensures refused { IfErr result (λ r. RefusesToClose (set_in held) (seat_in held) (spare_in held) r.1 × IsKept held r.0) }
@@ -103,7 +104,7 @@ pub fn close_held(alloc: Global, held: Held) -> Result<Vec<u32>, (Held, u8)>
     }
 }
 
-/// Puts the keys at the front of the room where it is long enough, and gives how many they are.
+/// Copies the keys to the front of `room` if they fit, and returns how many they are.
 fn put_keys(keys: &[u32], room: &mut [u32]) -> usize
     ensures count { result ≡ length keys.now }
     ensures given { AreAtFront keys.now room.old room.new }
@@ -115,8 +116,8 @@ fn put_keys(keys: &[u32], room: &mut [u32]) -> usize
     count
 }
 
-/// The keys of a closed set, at the front of the room where it is long enough; gives how many they are, or `usize::MAX` where it
-/// is no closed set.
+/// Copies the keys of a closed set to the front of `room`, if they fit; returns how many they are, or `usize::MAX` if it is
+/// not a closed set.
 pub fn keys_held(held: &Held, room: &mut [u32]) -> usize
     ensures { AreGiven (keys_in held.now) room.old room.new result }
 {

@@ -12,8 +12,8 @@ use lset_optimistic::OptimisticList;
 use std::alloc::Global;
 use std::sync::Arc;
 
-/// A seat of a set with its set and the set's number, and the seats that are to be split off it. The seat is lost where a
-/// call did not end.
+/// A seat of a set with its set and the set's number, and the seats that can be split off it. The seat is lost if a call did
+/// not end.
 #[derive(Drop)]
 pub struct Of<M: Bounded> {
     pub set: Arc<LiveSet<M>, Global>,
@@ -24,8 +24,8 @@ pub struct Of<M: Bounded> {
     ghost spare_of: { AreOf (arc_value set) spare.items } by { spare_of_prop spare.items (arc_value set) },
 }
 
-/// What a seat of C holds: a seat of a set of one of the lists, or the keys of a closed set; and what stands in its place
-/// while it is taken.
+/// What a seat of C contains: a seat of a set of one of the lists, or the keys of a closed set; `Nothing` takes its place
+/// while it is taken out.
 #[derive(Drop)]
 pub enum Held {
     Coarse(Of<CoarseList>),

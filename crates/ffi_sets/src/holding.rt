@@ -19,7 +19,7 @@ use std::alloc::Global;
 use std::mem::replace;
 use std::sync::Arc;
 
-/// Opens a set, and gives one seat of it, with all others to be split off.
+/// Opens a set, and returns one seat of it, with all others to be split off.
 pub fn open_of<M: Bounded>(
     alloc: Global,
     seats: u32,
@@ -85,7 +85,7 @@ fn keys_left<M: Bounded>(
 }
 
 impl<M: Bounded> Of<M> {
-    /// Makes a call. `None` where there is no seat, or the call did not end.
+    /// Makes a call. `None` if there is no seat, or the call did not end.
     pub fn call(&mut self, call: Call) -> Option<Reply>
         ensures set { arc_value self.new.set ≡ arc_value self.old.set }
         ensures number { self.new.number ≡ self.old.number }
@@ -100,7 +100,8 @@ impl<M: Bounded> Of<M> {
         Some(reply)
     }
 
-    /// Splits a seat off. Else the code why not: none is left, or memory was refused (the set has as many owners as can be counted).
+    /// Splits a seat off. The error is the number that says why not: none remains, or an allocation failed (the set has as
+    /// many owners as can be counted).
     pub fn split(&mut self, alloc: Global) -> Result<Of<M>, u8>
         ensures set { arc_value self.new.set ≡ arc_value self.old.set }
         ensures number { self.new.number ≡ self.old.number }
@@ -124,8 +125,8 @@ impl<M: Bounded> Of<M> {
         })
     }
 
-    /// Takes a seat of the same set in, with all that is to be split off either; gives it back where they have two numbers, or one
-    /// has no seat.
+    /// Merges a seat of the same set into this one, with all seats that can be split off it; returns it if they have two
+    /// numbers, or one has no seat.
     pub fn gather(&mut self, alloc: Global, from: Of<M>) -> Option<Of<M>>
         requires { self.old.number ≡ from.number → arc_value self.old.set ≡ arc_value from.set }
         ensures { MatchOption result ((are_two self.old.number from.number self.old.seat from.seat ≡ true) × IsSome self.new.seat
@@ -166,8 +167,9 @@ impl<M: Bounded> Of<M> {
         others as usize == self.spare.len()
     }
 
-    /// Closes the set if all its seats are within, and gives its keys. Else all comes back with `SEATS_OUT`; and with `OUT_OF_MEMORY`
-    /// if there is no room for as many keys as there can be, or the set's own memory has another owner, which it has in no run.
+    /// Closes the set if all its seats are gathered, and returns its keys. Else returns everything with `SEATS_OUT`; or with
+    /// `OUT_OF_MEMORY` if there is no memory for as many keys as there can be, or the set's own memory has another owner,
+    /// which it has in no run.
     pub fn close(self, alloc: Global) -> Result<Vec<u32>, (Of<M>, u8)>
         ensures closed { IfOk result (λ keys. AreLeft (arc_value self.set) (count_of self.seat self.spare.items)
             (record_of self.seat self.spare.items) keys.items) }

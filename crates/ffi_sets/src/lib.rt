@@ -29,8 +29,12 @@ use seat::{put, take};
 use std::alloc::Global;
 use std::mem::replace;
 
-/// Opens a set of the list `kind`, 0 to 4, with 1 to 64 seats, a quota of at most 16,384 and at most 1,048,576 keys that rise; `out`, which
-/// is empty, gets a seat that has all others within it. `number` tells the set from others, as `gather_seats` asks. Else the fault.
+/// Opens a set of the list `kind`, 0 to 4 (coarse, fine, optimistic, lazy, lock-free), with `seats` seats, 1 to 64, a quota
+/// of 0 to 16,384, and at most 1,048,576 keys in strictly increasing order. `out`, which must be empty, gets a seat that
+/// contains all others. `number` must be one that no other open set has: `gather_seats` compares it.
+///
+/// Returns `DONE`, or an error and changes nothing: `IS_SEAT` if `out` is not empty, `BAD_KIND`, `BAD_SEATS`, `BAD_QUOTA`,
+/// `BAD_KEYS`, or `OUT_OF_MEMORY` if an allocation failed. Does not block.
 pub fn open_set(
     alloc: Global,
     kind: u8,
@@ -53,7 +57,10 @@ pub fn open_set(
     }
 }
 
-/// Takes a seat out of `seat`, for `out`, which is empty. `NO_MORE` where none is left, `OUT_OF_MEMORY` where there is no box for it.
+/// Takes one of the seats that `seat` contains out of it, into `out`, which must be empty.
+///
+/// Returns `DONE`, or an error and changes nothing: `IS_SEAT` if `out` is not empty, `NO_SEAT` if `seat` is empty or a
+/// closed set, `NO_MORE` if no seat can be split off it, `OUT_OF_MEMORY` if an allocation failed. Does not block.
 pub fn split_seat(alloc: Global, seat: &mut CSeat, out: &mut CSeat) -> u8
     ensures { HasSplit seat.old.full seat.old.held out.old.full out.old.held result seat.new.full seat.new.held out.new.full out.new.held }
 {
@@ -64,7 +71,7 @@ pub fn split_seat(alloc: Global, seat: &mut CSeat, out: &mut CSeat) -> u8
     let Some(mut held) = take(alloc, seat) else {
         return NO_SEAT;
     };
-    // (the box is made first, so that no seat is lost where there is none)
+    // (the box is made first, so that no seat is lost if that fails)
     let Ok(mut made) = Box::new(alloc, Held::Nothing) else {
         put(seat, held);
         return OUT_OF_MEMORY;
@@ -81,28 +88,33 @@ pub fn split_seat(alloc: Global, seat: &mut CSeat, out: &mut CSeat) -> u8
     }
 }
 
-/// Puts the key in, if it was not there: 1; 0 where it was, 2 where the seat has used its quota, and 255 of an empty seat or a closed set.
+/// Adds `key` to the set. Returns 1 if it was not in the set, 0 if it was, 2 if the seat has used up its quota; 255 if
+/// `seat` is empty or a closed set. Blocks while another thread holds a lock that the call needs. Does not allocate.
 pub fn add_key(alloc: Global, seat: &mut CSeat, key: u32) -> u8
     ensures { HasMade seat.old.full seat.old.held (Add (record { 0 = key })) result seat.new.full seat.new.held }
 {
     made(alloc, seat, Call::Add(Key(key)))
 }
 
-/// Takes the key out, if it was there: 1; else 0, and 255 as `add_key`.
+/// Removes `key` from the set. Returns 1 if it was in the set, 0 if it was not; 255 if `seat` is empty or a closed set.
+/// Blocks while another thread holds a lock that the call needs. Does not allocate.
 pub fn remove_key(alloc: Global, seat: &mut CSeat, key: u32) -> u8
     ensures { HasMade seat.old.full seat.old.held (Remove (record { 0 = key })) result seat.new.full seat.new.held }
 {
     made(alloc, seat, Call::Remove(Key(key)))
 }
 
-/// Whether the key is there: 1 or 0, and 255 as `add_key`.
+/// Returns 1 if `key` is in the set, 0 if it is not; 255 if `seat` is empty or a closed set. On a coarse, fine or optimistic
+/// list it blocks while another thread holds a lock that the call needs. Does not allocate.
 pub fn contains_key(alloc: Global, seat: &mut CSeat, key: u32) -> u8
     ensures { HasMade seat.old.full seat.old.held (Contains (record { 0 = key })) result seat.new.full seat.new.held }
 {
     made(alloc, seat, Call::Contains(Key(key)))
 }
 
-/// Where there is a key at or above this one 3, with the least in `at`; else 4, and 255 as `add_key`.
+/// Finds the smallest key of the set at or above `key`. Returns 3 and writes it to `at`, or 4 if there is none; 255 if
+/// `seat` is empty or a closed set. On a coarse, fine or optimistic list it blocks while another thread holds a lock that
+/// the call needs. Does not allocate.
 pub fn ceiling_at(alloc: Global, seat: &mut CSeat, key: u32, at: &mut u32) -> u8
     ensures { HasCeiling seat.old.full seat.old.held (Ceiling (record { 0 = key })) result at.old at.new seat.new.full seat.new.held }
 {
@@ -117,8 +129,11 @@ pub fn ceiling_at(alloc: Global, seat: &mut CSeat, key: u32, at: &mut u32) -> u8
     reply_code(reply)
 }
 
-/// Puts `from`, with all that is within it, into `into`. `NO_GATHER` where they are not two seats of one list and number. That seats
-/// of one number are of one set is the caller's duty.
+/// Merges the seat `from`, with all seats that it contains, into `into`; `from` is then empty. Both must be seats of one
+/// set: seats whose lists and numbers agree are the caller's duty.
+///
+/// Returns `DONE`, or an error and changes nothing: `NO_SEAT` if one is empty, `NO_GATHER` if they are not two seats of one
+/// list and number. Does not block or allocate.
 pub fn gather_seats(alloc: Global, into: &mut CSeat, from: &mut CSeat) -> u8
     requires { GathersAt into.old.full into.old.held from.old.full from.old.held }
     ensures { HasGathered into.old.full into.old.held from.old.full from.old.held result into.new.full into.new.held from.new.full from.new.held }
@@ -140,8 +155,10 @@ pub fn gather_seats(alloc: Global, into: &mut CSeat, from: &mut CSeat) -> u8
     NO_GATHER
 }
 
-/// Ends the set, of whose seats none is out: the seat holds the keys that are left. `SEATS_OUT` where some are, `OUT_OF_MEMORY` where
-/// there is no room for keys; nothing is closed then.
+/// Closes the set whose seats are all gathered into `seat`, which then has the remaining keys.
+///
+/// Returns `DONE`, or an error and changes nothing: `NO_SEAT` if `seat` is empty or a closed set, `SEATS_OUT` if other seats
+/// are out, `OUT_OF_MEMORY` if an allocation failed. Does not block.
 pub fn close_set(alloc: Global, seat: &mut CSeat) -> u8
     ensures { EndsSet seat.old.full seat.old.held result seat.new.full seat.new.held }
 {
@@ -162,7 +179,8 @@ pub fn close_set(alloc: Global, seat: &mut CSeat) -> u8
     }
 }
 
-/// How many keys the closed set has, which are in the room where it is long enough; 2^64 - 1 where it is none.
+/// Returns how many keys the closed set `closed` has, and copies them to `room`, in strictly increasing order, if they fit;
+/// 2^64 - 1 if it is not a closed set. Does not block or allocate.
 pub fn give_keys(alloc: Global, closed: &mut CSeat, room: &mut [u32]) -> usize
     ensures { GivesKeys closed.old.full closed.old.held room.old room.new result closed.new.full closed.new.held }
 {
@@ -174,7 +192,7 @@ pub fn give_keys(alloc: Global, closed: &mut CSeat, room: &mut [u32]) -> usize
     count
 }
 
-/// Lets go of what the seat holds.
+/// Drops what the seat contains, and leaves it empty. A set of which a seat was dropped cannot be closed. Does not block.
 pub fn let_go(alloc: Global, seat: &mut CSeat)
     ensures { seat.new.full ≡ false }
 {

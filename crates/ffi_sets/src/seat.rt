@@ -10,7 +10,7 @@ use std::alloc::Global;
 use std::marker::Model;
 use std::mem::replace;
 
-/// A seat as C keeps it. Where it is full it owns a box, whose value is `held`; only an empty one is let go of.
+/// A seat as C keeps it. If it is full it owns a box, whose value is `held`; only an empty one may be dropped.
 #[derive(Drop)]
 #[repr(C)]
 pub struct CSeat {
@@ -24,6 +24,7 @@ impl Model for CSeat {
 }
 
 impl CSeat {
+    /// Returns an empty seat.
     pub fn none() -> CSeat
         ensures { result.full ≡ false }
     {
@@ -58,7 +59,7 @@ impl CSeat {
     }
 }
 
-/// Takes out what the seat holds, and leaves it empty.
+/// Takes what the seat contains out of it, and leaves it empty; `None` if it was empty.
 pub fn take(alloc: Global, seat: &mut CSeat) -> Option<Box<Held>>
     ensures told { MatchOption result (seat.old.full ≡ false) (λ b. (seat.old.full ≡ true) × (b.value ≡ seat.old.held)) }
     ensures left { seat.new.full ≡ false }
@@ -67,7 +68,7 @@ pub fn take(alloc: Global, seat: &mut CSeat) -> Option<Box<Held>>
     Some(held.into_box())
 }
 
-/// Has the empty seat hold this.
+/// Puts a box into the empty seat.
 pub fn put(seat: &mut CSeat, held: Box<Held>)
     requires { seat.old.full ≡ false }
     ensures { (seat.new.full ≡ true) × (seat.new.held ≡ held.value) }

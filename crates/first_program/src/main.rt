@@ -1,4 +1,4 @@
-//! A first program on the library. Two threads share a set, which is closed then and tells its keys; with these another list opens.
+//! A first program on the library. Two threads share a set, which is then closed; another list opens with the remaining keys.
 //! And a recorded schedule is replayed.
 #![tactic(auto)]
 
@@ -69,7 +69,7 @@ fn replayed(alloc: Global, text: &str) -> Result<Report>
 }
 
 fn main(rt: HostRuntime) -> io::Result<()> {
-    // the runtime starts threads only where `main` itself passes it on
+    // the runtime starts threads only if `main` itself passes it on
     match two_lives(&rt, rt.alloc()) {
         Ok((left, again)) => println!(rt;
             "the replies {:?} leave the keys {:?}\nopened with these, the replies {:?} leave {:?}",

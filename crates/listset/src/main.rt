@@ -9,7 +9,7 @@ use std::io::{self, Write};
 use std::process::ExitCode;
 use tool_base::{Trouble, deliver, put};
 
-// The commit of the sources, and whether they are proved, where the program was built by what knows that: it puts words of these
+// The commit of the sources, and whether they are proved, if the program was built by what knows that: it puts words of these
 // lengths here (build/version_stamp.py).
 const BUILT: &str = "commit 0000000000000000000000000000000000000000\nproof unknown\n";
 
@@ -26,13 +26,13 @@ fn texts(alloc: Global, given: &[String]) -> Result<Vec<&str>, AllocError> {
     Ok(words)
 }
 
-/// Ends the program where its words could not be had of the system, which is for want of memory alone.
+/// Ends the program if the system did not give its arguments, for which only a failed allocation is the cause.
 fn end_without_words(rt: &HostRuntime) -> ExitCode {
     let (output, faults) = (&mut io::writer(rt), &mut rt.stderr());
     ExitCode::from(deliver(rt.alloc(), Err(Trouble::Memory), output, faults))
 }
 
-/// Prints what `--version` prints, and below it where the program comes from. Gives the exit status.
+/// Prints what `--version` prints, and below it where the program comes from. Returns the exit status.
 fn tell_origin<W: Write, F: Write>(alloc: Global, output: &mut W, faults: &mut F) -> u8 {
     let is_whole = put(output, b"listset ")
         && put(output, VERSION.as_bytes())
@@ -49,7 +49,7 @@ fn asks_for_origin(words: &[&str]) -> bool {
     words.len() == 2 && words[0] == "--version" && words[1] == "--long"
 }
 
-// The runtime starts threads and opens sockets only where `main` itself passes it on.
+// The runtime starts threads and opens sockets only if `main` itself passes it on.
 fn main(rt: HostRuntime) -> ExitCode {
     let Ok(given) = words_given(&rt) else {
         return end_without_words(&rt);

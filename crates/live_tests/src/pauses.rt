@@ -13,7 +13,7 @@ use std::process::Abort;
 use std::sync::Wait;
 use stepped_lists::Stepped;
 
-/// Counts the steps that do not answer, and those of them that are told of another thread or as failed.
+/// Counts the steps that do not answer, and those of them that are reported of another thread or as failed.
 #[derive(Drop)]
 pub struct Count {
     thread: u32,
@@ -89,7 +89,7 @@ const OF_EACH_KIND: [Call; 8] = [
     Call::Contains(Key(6)),
 ];
 
-/// Each of these calls of seat 1 is told of thread 1, and of no failure.
+/// Of each of these calls of seat 1 thread 1 is reported, and no failure.
 fn tells_its_thread<M: Running, R: Wait + Abort>(rt: &R, alloc: Global) {
     let (set, _zero, mut one) = two_seats::<M, R>(rt, alloc);
     for call in &OF_EACH_KIND {

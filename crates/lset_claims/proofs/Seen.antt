@@ -232,7 +232,7 @@ shown_looks h w shows = record {
       (subst (λ (g : HistoryValue). IsUnexplained g keys) (alone_looks h w) (shows.none keys left));
 }
 
--- ---- what is told of a history by its looks
+-- ---- what is known of a history by its looks
 
 pub of_key : (h g : HistoryValue) (keys : List ℕ) (refusal : Refusal) (w : Window) → g ≡ looks_in h → IsUnexplained g keys
     → IsRefused g keys refusal → IsWindowOf g keys refusal w → IsOfKey h keys refusal w

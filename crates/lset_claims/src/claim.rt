@@ -24,13 +24,13 @@ pub enum Claim {
     Unknown,
 }
 
-/// Whether any order explains a history, from its opening keys, and leaves these keys, which may be any: it is `Explained` exactly if some
-/// order does, and neither that nor `Unknown` exactly if none does, for each history that the judge decides (`lset_judge::is_judged`). Of
-/// any other it says that none does only if none does, and else `Unknown`. A `ceiling` that answered a key counts as a `contains` that found
-/// it.
+/// Finds whether any order explains a history from its opening keys and leaves `keys`, which may be any. Of each history
+/// that the judge decides (`lset_judge::is_judged`) the result is `Explained` exactly if some order does, and neither that
+/// nor `Unknown` exactly if none does. Of any other it says that none does only if none does, and else `Unknown`. A
+/// `ceiling` that replied a key counts as a `contains` that found it.
 ///
-/// It fails only if memory is refused, and takes n log n steps for n calls, of which it makes a copy. (Linearizability is Herlihy and
-/// Wing's.)
+/// It takes n log n steps for n calls, and makes a copy of them. Allocates; `AllocError` if that fails. (Linearizability is
+/// Herlihy and Wing's.)
 pub fn claim_of(alloc: Global, history: &History, keys: &[u32]) -> Result<Claim, AllocError>
     ensures { IfOk result (IsClaim history.now keys.now) }
 {

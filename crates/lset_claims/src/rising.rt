@@ -1,7 +1,7 @@
 ghost use Rattle.std.specs.Prelude.{IsTrue, ◌↔◌};
 ghost use Rattle.std.specs.List.Sorted.{IsStrictlyIncreasing};
 
-/// Whether the keys rise strictly.
+/// Whether the keys are in strictly increasing order.
 pub(crate) fn rises(keys: &[u32]) -> bool
     ensures { IsTrue result ↔ IsStrictlyIncreasing keys.now }
 {

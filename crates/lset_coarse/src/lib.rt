@@ -11,7 +11,7 @@ use lset_steps::rows::{Targets, begun, decide, key_index, link_index, own_slot};
 use lset_steps::{Action, Fed, Local, Machine};
 use lset_words::{Call, HEAD, Key, Kind, LOCK, Reply};
 
-/// The list with one lock.
+/// The list with one lock for all of it (Herlihy and Shavit's coarse-grained list).
 #[derive(Clone, Copy)]
 pub struct CoarseList;
 
@@ -22,7 +22,8 @@ const TARGETS: Targets = Targets {
     leaves: 10,
 };
 
-/// The next step of a thread, by the row at which it stands. Its numbers are small, as those of each run are.
+/// Returns the next step of a thread with a pending call, by its row of the table. Its numbers must be small, as those of
+/// every run are.
 #[inline(always)]
 pub fn next_action(local: &Local) -> Action
     requires { IsSmall local.now }
@@ -41,7 +42,7 @@ pub fn next_action(local: &Local) -> Action
     }
 }
 
-/// Walks on where the key word is below that of the call, and else decides.
+/// Walks on if the key word is below that of the call, else decides.
 #[inline(always)]
 fn at_key(local: &Local, seen: u64) -> Local
     ensures { result ≡ at_key seen local.now }
@@ -107,7 +108,7 @@ fn local_after(local: &Local, seen: u64) -> Local
     }
 }
 
-/// What a thread holds after that step, of which it saw `seen`, and its answer where the step ends the call.
+/// Returns the thread's state after its next step, in which it saw `seen`, and the reply if the step ends the call.
 #[inline(always)]
 pub fn fed_by(local: &Local, seen: u64) -> Fed
     requires { IsSmall local.now }
@@ -120,7 +121,7 @@ pub fn fed_by(local: &Local, seen: u64) -> Fed
     }
 }
 
-/// The key that the step puts in (`true`) or takes out (`false`).
+/// Returns the key that the thread's next step adds (`true`) or removes (`false`); `None` if it does not change the set.
 #[inline(always)]
 pub fn effect_of(local: &Local, _seen: u64) -> Option<(Key, bool)>
     ensures { result ≡ effect_of local.now _seen }

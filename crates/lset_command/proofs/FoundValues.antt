@@ -23,7 +23,7 @@ by_all_names f names all =
     f.entries.items
     ∙ sym (flat_map-map (λ (row : Row). values_by row.id (rows_of f)) row_of f.entries.items)
 
--- what a getter tells of a name that is one of values
+-- what a getter returns of a name that is one of values
 pub got : (f : Found) (name : Text) (values : Option (List Text)) → is_option name ≡ false →
     values ≡ option_map raw_values (matched_of f name)
     → values_by name (rows_of f) ≡ unwrap_or values []
@@ -35,7 +35,7 @@ got f name values plain is =
 pub none_of_option : (name : Text) (rows : List Row) → is_option name ≡ true → values_by name rows ≡ []
 none_of_option name rows is = ap (λ b. if b then [] else unwrap_or (all_of name rows) []) is
 
--- what `get_str` tells of a name
+-- what `get_str` returns of a name
 pub told : (f : Found) (name : Text) (text : Option Text) → text ≡ first_value f name → first_of name (rows_of f) ≡ text
 told f name text is = sym (first_value-rows f name) ∙ sym is
 

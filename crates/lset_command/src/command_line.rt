@@ -12,12 +12,13 @@ use clap::error::ErrorKind;
 use clap::{Arg, ArgAction, ArgMatches, Error};
 use std::alloc::{AllocError, Global};
 
-/// What `--version` prints after the program's name: its version, and in a line below the kit and the logic by which it is proved.
+/// What `--version` prints after the program's name: its version, and in a line below it the kit and the logic that it is
+/// proved with.
 pub const VERSION: &str = "0.1.0\nRattle kit 13, logic dac8208d650f15bf";
 
 const KIND_HELP: &str = "List: coarse, fine, optimistic, lazy or lock-free";
 
-// Where FILE stands among the values of `serve`, counted from 0.
+// The index of FILE among the arguments of `serve`, from 0.
 const SERVE_FILE: usize = 5;
 
 /// A command of the program.
@@ -49,7 +50,8 @@ pub enum Command {
     Faults,
 }
 
-/// The flags that are on, and the options as they are written. Those that a command does not have are off, and `None`.
+/// The flags that are on, and the values of options as they were given. Those that a command does not have are off, and
+/// `None`.
 #[derive(Drop)]
 pub struct Options {
     /// `show` draws an SVG.
@@ -70,7 +72,7 @@ pub struct Options {
     pub keys: Option<String>,
 }
 
-/// A command, with its values in order as they are written, its flags and its options.
+/// A command, with its arguments in order as they were given, its flags and its options.
 #[derive(Drop)]
 pub struct Words {
     pub command: Command,
@@ -79,16 +81,16 @@ pub struct Words {
 }
 
 impl Words {
-    /// The first of the values, if there is one.
+    /// Returns the first of the arguments, if there is one.
     pub fn first_value(&self) -> Option<&str>
         ensures { option_map (λ value. value.now) result ≡ first_value (choice_in self.now) }
     {
         Some(self.values.first()?.as_str())
     }
 
-    /// The word for what the command reads, where there is one: the first value of `replay`, `judge`, `report`, `check`, `show`,
-    /// `trace` and `draft`, which read the standard input without one, and the sixth of `serve`, which reads nothing without one. The
-    /// others read nothing.
+    /// Returns the argument FILE of the command, if it was given: the first argument of `replay`, `judge`, `report`,
+    /// `check`, `show`, `trace` and `draft`, which read standard input without it, and the sixth of `serve`, which reads
+    /// nothing without it. The other commands read nothing, and have none.
     pub fn file(&self) -> Option<&str>
         ensures { option_map (λ path. path.now) result ≡ file_of (choice_in self.now) }
     {
@@ -105,8 +107,8 @@ impl Words {
         }
     }
 
-    /// The path of the file that the command reads, where it reads one. The word `-` is that for the standard input; a
-    /// file of that name has the path `./-`.
+    /// Returns the path of the file that the command reads, if it reads one. The argument `-` means standard input; a file
+    /// of that name has the path `./-`.
     pub fn path(&self) -> Option<&str>
         ensures { option_map (λ path. path.now) result ≡ path_of (choice_in self.now) }
     {
@@ -114,7 +116,8 @@ impl Words {
         if word == "-" { None } else { Some(word) }
     }
 
-    /// The paths of the files of `judge`, if they are several: the parts of one recording, in order. There `-` is a path too.
+    /// Returns the paths of the files of `judge`, if they are several: the parts of one recording, in order. There `-` is a
+    /// path too.
     pub fn parts(&self) -> Option<&[String]>
         ensures { option_map (λ paths. map string_bytes paths.now) result ≡ parts_of (choice_in self.now) }
     {
@@ -203,7 +206,7 @@ fn values_past_the_last<'a>(alloc: Global) -> Arg<'a>
     Arg::new(alloc, "MORE").num_args(..).hide(true)
 }
 
-// The command with one more argument, where it was made. Those who add by this and the next have no `?`, on whose way out
+// The command with one more argument, if it was made. Those who add by this and the next have no `?`, on whose way out
 // they would let go what they made: that is most of what their proofs would take.
 fn and_arg<'a>(
     command: Result<clap::Command<'a>, AllocError>,
@@ -226,7 +229,7 @@ fn and_value<'a>(
     and_arg(command, value(alloc, name, help))
 }
 
-// The command with one more subcommand, where both were made.
+// The command with one more subcommand, if both were made.
 fn and_subcommand<'a>(
     command: Result<clap::Command<'a>, AllocError>,
     subcommand: Result<clap::Command<'a>, AllocError>,
@@ -538,7 +541,7 @@ fn check_command<'a>(alloc: Global) -> Result<clap::Command<'a>, AllocError>
     )
 }
 
-// Its help is what it tells.
+// Its help is what it prints.
 fn faults_command<'a>(alloc: Global, help: &'a str) -> clap::Command<'a>
     ensures app { app_of result ≡ new_app (codes "faults") }
     ensures local { (out-Command result).has_globals ≡ false }
@@ -703,24 +706,25 @@ fn command_named(name: &str) -> Command
     }
 }
 
-/// Reads the words that stand after the program's name, by `clap`.
+/// Reads the command line, without the program's name, by `clap`.
 ///
-/// They are those that the help shows; no word at all gives `replay` without values. Values and options come as they are
-/// written. Some or all may be missing, and `gen`, `run` and `serve` may have more. A value that begins with `-` and has
-/// more letters needs a word `--` before it. The help on `faults` is `faults_help`.
+/// It takes what the help shows; nothing at all means `replay` without arguments. Arguments and options are returned as they
+/// were given, and are not judged here: some or all may be missing, and `gen`, `run` and `serve` may have more. An argument
+/// that begins with `-` and is longer needs `--` before it. `faults_help` becomes the help on `faults`. Allocates.
 ///
-/// The error has the text for the user, and its exit code:
+/// # Errors
 ///
-/// - 0: the help or the version, where words ask for it;
-/// - 2: what is wrong with the words;
-/// - `is_out_of_memory`: memory was refused.
+/// The error has the text for the user, and an exit code:
+/// - 0: the help or the version, which was asked for;
+/// - 2: the command line is wrong; the text says how;
+/// - any, if `is_out_of_memory`: an allocation failed.
 pub fn words_given<'a>(
     alloc: Global,
     words: &'a [&'a str],
     faults_help: &'a str,
 ) -> Result<Words, Error>
     ensures taken { IfOk result (λ w. choice_in w ≡ choice_of (subcommand_of listset (texts words.entry.now))) }
-    // clap's definition refuses no words that are taken, and has the kind of each error but want of memory
+    // clap's definition refuses no words that are taken, and has the kind of each error except a failed allocation
     ensures refused { FailsBy (fault_of listset (texts words.entry.now)) result }
 {
     let matches = program_command(alloc, faults_help)?.try_get_matches_from(words)?;
@@ -741,7 +745,7 @@ pub fn words_given<'a>(
     })
 }
 
-/// Whether memory was refused while the words were read.
+/// Whether this error of `words_given` means that an allocation failed.
 pub fn is_out_of_memory(error: &Error) -> bool
     ensures { IsTrue result ↔ (kind_of error.now ≡ OutOfMemory) }
 {

@@ -1,4 +1,4 @@
-//! The words of the program's command line: which command they name, its values, its flags and its options.
+//! The program's command line: which command it names, its arguments, its flags and its options.
 #![tactic(auto)]
 
 mod command_line;

@@ -29,7 +29,7 @@ pub(crate) fn text_of(option: &Option<String>) -> Option<&str>
     Some(option.as_ref()?.as_str())
 }
 
-/// Shows the input as the options ask for it, or tells which of them is wrong, and gives the exit status.
+/// Draws the input by the options, or prints which of them is wrong, and returns the exit status.
 fn show<R: Read, W: Write, F: Write>(
     alloc: Global,
     options: &Options,
@@ -103,9 +103,11 @@ fn trace<R: Read, W: Write, F: Write>(
     }
 }
 
-/// Does the command of the words with its tool, `replay`, `judge`, `report`, `check`, `show`, `trace` and `draft` on the input, the
-/// others on their values, and `serve` with the keys of the input where the words have one for it. Gives the tool's exit status. `run` and
-/// `serve` start threads on `rt`, and wait for them; `serve` listens there.
+/// Executes a command with its tool, and returns the exit status. `replay`, `judge`, `report`, `check`, `show`, `trace` and
+/// `draft` read `input`; `serve` opens with its keys if it was given a FILE; the other commands use their arguments only.
+/// Writes the result to `output`, or one line about an error to `faults`.
+///
+/// Allocates. `run` and `serve` start threads on `rt` and block until they end; `serve` listens on it.
 pub fn run_command<
     H: Net<Listener = TcpListener, Stream = TcpStream> + Threads + Wait + Clock + Sync,
     R: Read,

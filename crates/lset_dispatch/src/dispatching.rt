@@ -18,9 +18,9 @@ use std::time::Clock;
 use tool_base::{Answer, FAULTS, Trouble, deliver, put};
 use tool_parts::tool_judge_parts;
 
-/// Ends a run whose words are not taken: writes the help or the version that was asked for on `output`, status 0, or what
-/// is wrong with the words on `faults`, status 2. Where memory was refused, before or now, it writes the line about that on
-/// `faults`, status 3. A help that is not written whole is a failing write, status 1.
+/// Ends a run whose command line `words_given` did not take, and returns the exit status. Writes the help or the version
+/// that was asked for to `output`, status 0, or what is wrong to `faults`, status 2. If an allocation failed, before or now,
+/// it writes the line about that to `faults`, status 3. A help that is not written whole is a write that failed, status 1.
 pub fn decline<W: Write, F: Write>(
     alloc: Global,
     error: &Error,
@@ -45,7 +45,7 @@ pub fn decline<W: Write, F: Write>(
     }
 }
 
-/// Does the command of the words on the file of the path that they name, or on the input where they name none.
+/// Executes the command on the file that the command line names, or on the input if it names none.
 fn run_on_file<
     H: Files + Net<Listener = TcpListener, Stream = TcpStream> + Threads + Wait + Clock + Sync,
     R: Read,
@@ -84,10 +84,13 @@ fn run_taken<
     }
 }
 
-/// Reads the words that stand after the program's name, as `words_given` does, with the help on `faults` that `faults` prints.
+/// Reads the command line, without the program's name: no word at all means `replay`. The help on `faults` is what the
+/// command `faults` prints. Allocates.
 ///
-/// The error has the text for the user: the help or the version, where words ask for it (`exit_code` 0), or what is
-/// wrong with the words (`exit_code` 2). It may also say that memory was refused: `is_out_of_memory`.
+/// # Errors
+///
+/// The error has the text for the user: the help or the version, if it was asked for (`exit_code` 0), or what is wrong with
+/// the command line (`exit_code` 2). It may also mean that an allocation failed: `is_out_of_memory`.
 pub fn tool_words(alloc: Global, words: &[&str]) -> Result<Words, Error>
     ensures taken { IfOk result (λ w. choice_in w ≡ choice_of (subcommand_of listset (texts words.entry.now))) }
     ensures refused { FailsBy (fault_of listset (texts words.entry.now)) result }
@@ -95,11 +98,12 @@ pub fn tool_words(alloc: Global, words: &[&str]) -> Result<Words, Error>
     words_given(alloc, words, FAULTS)
 }
 
-/// Runs the program on the words that stand after its name: does the command that they ask for, on the file that they
-/// name among the files of `rt`, on the several files of `judge`, on `input` where they name none or `-`, or on their values, or
-/// ends as `decline` does.
-/// Gives the exit status. `serve` opens with the keys of its file or, at `-`, of `input`, and reads nothing without a word
-/// for one. `run` and `serve` start threads on `rt` and wait for them, and `serve` listens there.
+/// Runs the program on its command line, without the program's name, and returns the exit status. Reads the file that is
+/// named among the files of `rt`, the several files of `judge`, or `input` if none or `-` is named; writes the result to
+/// `output`, or what is wrong to `faults`.
+///
+/// `serve` opens with the keys of its FILE or, at `-`, of `input`, and reads nothing without one. Allocates. `run` and
+/// `serve` start threads on `rt` and block until they end; `serve` listens on it.
 pub fn run_words<
     H: Files + Net<Listener = TcpListener, Stream = TcpStream> + Threads + Wait + Clock + Sync,
     R: Read,

@@ -1,5 +1,5 @@
-//! What the program does on its words: which tool runs, on which input, and how the program ends where the words are not
-//! taken. All of the program stands here but the words of the system and the bytes of its files.
+//! What the program does on its command line: which tool runs, on which input, and how the program ends if the command line
+//! is wrong. All of the program is here except the system's arguments and the bytes of its files.
 #![tactic(auto)]
 
 mod command;

@@ -1,4 +1,4 @@
--- FineList: the rows of its table (Herlihy and Shavit's fine-grained list; the rows are this project's own).
+-- FineList: the rows of its table (Herlihy and Shavit's fine-grained list).
 use Rattle.std.specs.Prelude.{ℕ, ◌+◌, ◌*◌, ◌/◌, Bool, true, false, if◌then◌else◌, Option, Some, None, ◌==◌, nat_lt}
 use Rattle.lset_words.specs.declared.Key.{Key}
 use Rattle.lset_words.specs.declared.Reply.TheVariants.{True}

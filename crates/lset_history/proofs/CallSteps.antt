@@ -17,7 +17,7 @@ use Rattle.lset_history.proofs.Calls.{Run, ChangedBy, ReplyOf, OpenAt, EndedBy, 
 use Rattle.lset_history.proofs.Calls.{open_is, call_is, begun_is, changed_is, stays_stepped, changed_on, after_beginning}
 use Rattle.lset_words.specs.Words.{Opening}
 
--- a step of a thread, as the account tells of it
+-- a step of a thread, as the account has it
 pub record Stepping (r : Run) (k t : ℕ) (change : Option Change) (reply : Option Reply) : Type 0 where
   pub entry : r.log k ≡ stepped t change reply
   pub of_a_thread : t < r.threads

@@ -108,7 +108,7 @@ module _ (quota : ℕ) (content : Content) (s : SetState) (same : SameKeys conte
   fits_from_replies t n (call.Ceiling k) reply.Nothing rising e f = λ j lo m. none_ceiling k.0 s.keys f.0 j lo ((same j).0 m)
   fits_from_replies t n (call.Ceiling k) y rising e f = ceiling_not k.0 s.keys y f.0 (λ x g. cc) (λ g. cc)
 
-  -- a content with a list of its keys tells of each reply whether it fits
+  -- a content with a list of its keys decides of each reply whether it is correct
   present : (k : ℕ) → content k ⊎ (content k → ⊥)
   present k = elim (member_or_not k s.keys) [ inl c ↦ inl ((same k).1 c) | inr c ↦ inr (λ h. c ((same k).0 h)) ]
 

@@ -77,7 +77,7 @@ pub record StandsBefore (h : HistoryValue) (order : List Placed) (call begun oth
   pub precedes : ended < begun
   pub first : (k : ℕ) → index < k → k < later → Precedes (placed_call h.calls order k) (call_numbered h.calls call) → ⊥
 
--- What is told of each fault is so.
+-- What a refusal states of each fault is so.
 abbrev pub IsTold : HistoryValue → List Placed → Refusal → Type 0
 IsTold h order (Unknown call calls) = calls ≡ length h.calls
 IsTold h order (Twice call first second) = StandsTwice order call first second
@@ -95,7 +95,7 @@ pub record IsRefusalOf (h : HistoryValue) (order : List Placed) (keys : List ℕ
 
 -- ---- what the functions on the way say
 
--- this fault is told so
+-- this refusal states this fault
 abbrev pub Tells : HistoryValue → List Placed → OrderFault → Refusal → Type 0
 Tells h order f refusal = (fault_of refusal ≡ f) × IsTold h order refusal
 

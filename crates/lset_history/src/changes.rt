@@ -31,15 +31,16 @@ use std::collections::{BTreeMap, BTreeSet};
 use std::marker::Model;
 use std::ops::Bound;
 
-/// When keys were put into a set and taken out of it. At moment 0 the opening keys are there, and no other key is.
+/// The keys of a set at each moment, by its changes: when a key was added or removed. At moment 0 the opening keys are in
+/// the set, and no other key is.
 #[derive(Drop)]
 pub struct Changes {
     alloc: Global,
-    /// The opening keys, rising: their moment 0 stands nowhere else.
+    /// The opening keys, in increasing order: their moment 0 is recorded nowhere else.
     opening: Vec<u32>,
     /// For each key that changed, the moments above 0 at which it was put in and taken out, in turn.
     moments: BTreeMap<u32, Vec<u32>>,
-    /// At each of these moments, the key that was put in or taken out. Want of memory in `note` may leave one more here, and
+    /// At each of these moments, the key that was added or removed. A failed allocation in `note` may leave one more here, and
     /// one more in `keys_now`.
     keys_at: BTreeMap<u32, u32>,
     /// The keys that are in the set now.
@@ -62,7 +63,7 @@ fn keys_are_small(keys: &[u32])
     let _keys = keys;
 }
 
-/// How many of the rising moments are not above `at`, and how many of them were looked at for that.
+/// How many of these moments, in increasing order, are not above `at`, and how many of them were looked at for that.
 fn count_upto(moments: &[u32], at: u32) -> (usize, u32)
     requires { IsStrictlyIncreasing moments.now }
     ensures count { IsCountUpTo moments.now at result.0 }
@@ -93,7 +94,7 @@ fn is_past(end: Option<u32>, key: u32) -> bool
     }
 }
 
-/// One more moment of a key. An error is want of memory, and changes nothing.
+/// Records one more moment of a key. If an allocation fails, returns `AllocError` and changes nothing.
 fn push_moment(
     moments: &mut BTreeMap<u32, Vec<u32>>,
     alloc: Global,
@@ -115,7 +116,7 @@ fn push_moment(
 }
 
 impl Changes {
-    /// No changes yet, and no opening keys. It takes no memory.
+    /// Returns a record without changes, of a set that opens empty. Does not allocate; `alloc` is for later changes.
     pub fn new(alloc: Global) -> Changes
         ensures { result ≡ no_changes }
     {
@@ -128,8 +129,8 @@ impl Changes {
         }
     }
 
-    /// No changes yet, of a set that opens with these keys, which rise strictly: they are there from moment 0 on. An error is
-    /// want of memory.
+    /// Returns a record without changes, of a set that opens with `keys`, which must be in strictly increasing order: they
+    /// are in the set from moment 0. Allocates a copy of them; `AllocError` if that fails.
     pub fn opened(alloc: Global, keys: &[u32]) -> Result<Changes, AllocError>
         requires { IsStrictlyIncreasing keys.now }
         ensures { IfOk result (λ c. (k : ℕ) → moments_of c k ≡ opened_moments keys.now k) }
@@ -144,15 +145,16 @@ impl Changes {
         })
     }
 
-    /// Notes that `key` was put in (`present`), or taken out, at the moment `at`, which is above 0 and above
-    /// every moment noted before. The key was not so already. An error is want of memory, and changes nothing.
+    /// Records that `key` was added (`present`) or removed at the moment `at`. `at` must be above 0 and above every moment
+    /// recorded before; if `present`, the key must not be in the set, else it must be. May allocate; if that fails, returns
+    /// `AllocError` and records nothing.
     pub fn note(&mut self, key: u32, present: bool, at: u32) -> Result<(), AllocError>
         requires later { IsLaterThanAll (moments_of self.old) at }
         requires turn { present ≡ not (is_present_now (moments_of self.old) key) }
         ensures noted { OnOk result ((k : ℕ) → moments_of self.new k ≡ with_change (moments_of self.old) key at k) }
         ensures unchanged { OnErr result (self.new ≡ self.old) }
     {
-        // Both have the key before the change is noted, and `keys_now` loses it after, so that want of memory leaves
+        // Both have the key before the change is noted, and `keys_now` loses it after, so that a failed allocation leaves
         // out nothing.
         self.keys_at.insert(at, key)?;
         self.keys_now.insert(key)?;
@@ -163,9 +165,11 @@ impl Changes {
         Ok(())
     }
 
-    /// The least moment from `from` to `to` at which `key` is in the set (`present`), or is not, if there is one;
-    /// and the number of noted moments that were looked at: at most 24 where the key has at most 1,000,000, and never fewer
-    /// than a search among so many needs that compares one at a time. It takes no memory.
+    /// Returns the first moment from `from` to `to` at which `key` is in the set (`present`), or is not, if there is one;
+    /// and how many recorded moments were looked at. `from` must be at most `to`.
+    ///
+    /// It looks at no more than 24 moments if the key has at most 1,000,000, and at no fewer than a search that compares one
+    /// at a time needs. Does not allocate.
     pub fn first(&self, key: u32, present: bool, from: u32, to: u32) -> (Option<u32>, u32)
         requires { from ≤ to }
         ensures first { IsFirst (λ m. is_present (moments_of self.now) key m ≡ present) from to result.0 }
@@ -231,7 +235,7 @@ impl Changes {
         }
     }
 
-    /// Whether `other` speaks against `found` being the least key at or above `key` at a moment, or against there
+    /// Whether `other` speaks against `found` being the smallest key at or above `key` at a moment, or against there
     /// being none: it is in the set then and is not to be, or the other way round.
     fn is_against(&self, key: u32, found: Option<u32>, other: u32, moment: u32) -> bool
         ensures { result ≡ is_against (moments_of self.now) key found other moment }
@@ -280,9 +284,11 @@ impl Changes {
         true
     }
 
-    /// The least moment from `from` to `to` at which the least key of the set at or above `key` is `found`, or at which
-    /// there is none, if there is such a moment. It takes no memory. It looks at each change noted after `from`, also after
-    /// `to`: ask while no change after `to` has been noted, and many such searches take as long as their spans together.
+    /// Returns the first moment from `from` to `to` at which the smallest key of the set at or above `key` is `found`, or at
+    /// which there is no such key if `found` is `None`; `None` if there is no such moment. `from` must be at most `to`.
+    ///
+    /// It looks at each change recorded after `from`, also after `to`: call it before a change after `to` is recorded, so
+    /// that many such searches take as long as their spans together. Does not allocate.
     pub fn first_ceiling(&self, key: u32, found: Option<u32>, from: u32, to: u32) -> Option<u32>
         requires { from ≤ to }
         ensures first { IsFirst (λ m. IsCeiling (λ j. is_present (moments_of self.now) j m ≡ true) key found) from to result }

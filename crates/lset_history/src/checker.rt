@@ -24,7 +24,7 @@ fn first_unknown(calls: &[CallRecord], order: &[Placed]) -> Option<u32>
     None
 }
 
-/// The first place whose call stands earlier too; `placed`, a mark for each call of the history and none set, gets those of
+/// The first place whose call has an earlier place too; `placed`, a mark for each call of the history and none set, gets those of
 /// the calls that stand.
 fn first_twice(order: &[Placed], placed: &mut [bool]) -> Option<u32>
     requires known { All (λ (p : Placed). p.call < length placed.old) order.now }
@@ -111,7 +111,7 @@ fn lesser(least: Option<u32>, end: u32) -> u32
     least.map_or(end, |least| least.min(end))
 }
 
-/// The first place whose call began after a call had ended that stands later.
+/// The first place whose call began after a call had ended that has a later place.
 fn first_too_early(calls: &[CallRecord], order: &[Placed]) -> Option<u32>
     requires { HasKnownCalls calls.now order.now }
     ensures { MatchOption result
@@ -133,19 +133,23 @@ fn first_too_early(calls: &[CallRecord], order: &[Placed]) -> Option<u32>
     early
 }
 
-/// Checks that an order of calls explains a history, and that `keys` are the keys of the set that it leaves, rising.
+/// Checks that `order` explains the calls of `history` and leaves `keys`, in strictly increasing order.
 ///
-/// It does where it linearizes the history (Herlihy and Wing, with completion of open calls) for the sequential set of the
-/// history's threads and quota. Else the first fault is told:
+/// `Ok` means that the order linearizes the history (Herlihy and Wing, with completion of pending calls) for the sequential
+/// set with the history's threads, quota and opening keys. `tool_base` has a use of it, in `src/checking.rt`.
 ///
-/// - `Unknown`: the history has no such call; `Twice`: it stands at an earlier place too;
-/// - `Missing`: an ended call does not stand, the one of least number;
-/// - `WrongReply`: another reply than the history's, or than the sequential set gives there;
-/// - `TooEarly`: the place is before that of a call which ended before this one began;
-/// - `WrongSet`: other keys are left.
+/// # Errors
 ///
-/// `Memory` stands in place of any other answer, where a growth was refused. With n places, c calls and at most k keys in
-/// the set it makes about `c + n log k` steps.
+/// The first of these that applies. Each is looked for in the whole order before the next one:
+/// - `Unknown`: the history has no call with this number;
+/// - `Twice`: the call is in the order twice;
+/// - `Missing`: this call is completed and not in the order; of several the one with the smallest number;
+/// - `WrongReply`: the history has another reply, or the sequential set gives another reply at this place;
+/// - `TooEarly`: the call comes before one that had ended when it began;
+/// - `WrongSet`: `keys` are not the keys that the order leaves, in strictly increasing order.
+///
+/// `Memory`, in place of any other answer: an allocation failed. With n places, c calls and at most k keys in the set it
+/// takes about `c + n log k` steps. Does not block.
 pub fn check_order(
     alloc: Global,
     history: &History,

@@ -4,7 +4,7 @@ ghost use Rattle.lset_history.specs.declared.fault.OrderFault.TheVariants.{Memor
 use std::alloc::AllocError;
 use thiserror::Error;
 
-/// Why a call does not begin or end. The causes are looked for in this order.
+/// Why a history refuses the begin or the end of a call: the first of these that applies.
 #[derive(Clone, Copy, Debug, PartialEq, Eq, Error)]
 pub enum HistoryFault {
     /// There is no such thread.
@@ -24,29 +24,29 @@ pub enum HistoryFault {
     Memory,
 }
 
-/// What is wrong with an order of calls, and at which call. The checks are made in this order, each over the
-/// whole order before the next one begins, and the first place that a check refuses is named.
+/// What is wrong with an order of calls, and at which call: the first of these that applies. Each is looked for in the whole
+/// order before the next one, and of several places the first is named.
 #[derive(Clone, Copy, Debug, PartialEq, Eq, Error)]
 pub enum OrderFault {
     /// No call of the history has this number.
     #[error("no call has the number {0}")]
     Unknown(u32),
-    /// The call stands earlier in the order too.
+    /// The call is in the order twice: this is its second place.
     #[error("call {0} stands twice")]
     Twice(u32),
-    /// An ended call does not stand in the order; the least number of such a call is told.
+    /// A completed call is not in the order; of several this is the smallest number.
     #[error("call {0} has ended and does not stand in the order")]
     Missing(u32),
     /// The history has another reply of the call, or the sequential set gives another one at this place.
     #[error("call {0} has another reply")]
     WrongReply(u32),
-    /// A call that ended before this one began stands later.
+    /// The call comes before one that had ended when it began.
     #[error("call {0} stands before a call that it follows")]
     TooEarly(u32),
-    /// The keys are not those that the order leaves, rising.
+    /// The keys are not those that the order leaves, in strictly increasing order.
     #[error("the order leaves another set")]
     WrongSet,
-    /// There was no memory for the check.
+    /// An allocation failed.
     #[error("out of memory")]
     Memory,
 }

@@ -10,9 +10,9 @@ use std::alloc::Global;
 use std::fmt;
 use std::marker::Model;
 
-/// A history of calls (Herlihy and Wing): which thread began which call, and when, and when it ended with
-/// which reply. Calls are numbered from 0 in the order of their beginnings. A moment is a number from 1,
-/// and each entry has a later one than all entries before it.
+/// A history of calls (Herlihy and Wing): which thread began which call, at which moment, and when it ended with which
+/// reply. Calls are numbered from 0 in the order in which they begin. A moment is a number from 1; each begin or end has a
+/// later moment than all before it.
 #[derive(Drop)]
 pub struct History {
     threads: u32,
@@ -66,8 +66,8 @@ fn last_moment(call_record: &CallRecord) -> u32
 }
 
 impl History {
-    /// The history without calls, of `threads` threads, 1 to 64, with a quota of `quota` slots each, 0 to
-    /// 16,384, of a set that opens empty. It takes no memory.
+    /// Returns a history without calls of a set that opens empty, for `threads` threads, 1 to 64, with `quota` slots each, 0
+    /// to 16,384. Does not allocate; `alloc` is for later calls.
     pub fn new(alloc: Global, threads: u32, quota: u32) -> History
         requires { IsWithin (record { threads = threads; quota = quota; opening = 0 }) }
         ensures { result ≡ record { opening = empty threads quota; calls = [] } }
@@ -75,8 +75,9 @@ impl History {
         History::opened(alloc, threads, quota, Vec::new(alloc))
     }
 
-    /// The history without calls of a set that opens with these keys: they rise strictly and are at most 1,048,576. It takes
-    /// no memory.
+    /// Returns a history without calls of a set that opens with the keys `opening`, which must be at most 1,048,576 and in
+    /// strictly increasing order. `threads` must be 1 to 64, `quota` 0 to 16,384. Does not allocate: it takes over the
+    /// vector.
     pub fn opened(alloc: Global, threads: u32, quota: u32, opening: Vec<u32>) -> History
         requires within { IsWithin (record { threads = threads; quota = quota; opening = length opening.items }) }
         requires rising { IsStrictlyIncreasing opening.items }
@@ -96,9 +97,9 @@ impl History {
         }
     }
 
-    /// The history of given calls, of `threads` threads, 1 to 64, with a quota of `quota` slots each, 0 to
-    /// 16,384, of a set that opens with these keys: they rise strictly and are at most 1,048,576. The calls stand by their
-    /// numbers, and each of them may follow those before it. It takes no memory.
+    /// Returns the history of the given calls. They must be listed by their numbers, and each must be one that may follow
+    /// those before it. The set opens with the keys `opening`, which must be at most 1,048,576 and in strictly increasing
+    /// order. `threads` must be 1 to 64, `quota` 0 to 16,384. Does not allocate: it takes over the vectors.
     pub fn from_calls(
         threads: u32,
         quota: u32,
@@ -132,12 +133,16 @@ impl History {
         }
     }
 
-    /// Thread `thread` begins a call at the moment `at`; gives the call's number: 0 for the first call, and one
-    /// more for each further one.
+    /// Records that thread `thread` begins a call at the moment `at`. Returns the call's number: 0 for the first call of the
+    /// history, and one more for each further one. May allocate.
     ///
-    /// `HistoryFault::NoThread` where the history has no such thread, else `Busy` where the thread has an
-    /// open call, else `Time` where `at` is 0 or not above every earlier moment, else `Memory` where a
-    /// growth was refused. A refusal changes nothing.
+    /// # Errors
+    ///
+    /// The first that applies; the history is then as it was:
+    /// - `NoThread`: the history has no such thread;
+    /// - `Busy`: the thread has a pending call;
+    /// - `Time`: `at` is 0, or not above every earlier moment;
+    /// - `Memory`: an allocation failed.
     pub fn begin(&mut self, thread: u32, call: Call, at: u32) -> Result<u32, HistoryFault>
         ensures number { IfOk result (λ number. number ≡ length self.old.calls) }
         ensures begun { OnOk result
@@ -170,10 +175,13 @@ impl History {
         Ok(number)
     }
 
-    /// The call with the number `id` ends at the moment `at` with a reply. It takes no memory.
+    /// Records that the call with number `id` ends at the moment `at` with `reply`. Does not allocate.
     ///
-    /// `HistoryFault::NotOpen` where there is no such call, or it has ended, else `Time` where `at` is 0 or
-    /// not above every earlier moment. A refusal changes nothing.
+    /// # Errors
+    ///
+    /// The first that applies; the history is then as it was:
+    /// - `NotOpen`: there is no such call, or it has ended;
+    /// - `Time`: `at` is 0, or not above every earlier moment.
     pub fn end(&mut self, id: u32, reply: Reply, at: u32) -> Result<(), HistoryFault>
         ensures ended { OnOk result (self.new ≡ with_ended self.old id (at, reply)) }
         ensures accepted { OnOk result (MayEnd self.old id at) }
@@ -200,7 +208,7 @@ impl History {
         Ok(())
     }
 
-    /// The calls, by their numbers.
+    /// Returns the calls, by their numbers.
     pub fn calls(&self) -> &[CallRecord]
         ensures value { result.now ≡ self.now.calls }
         ensures history { IsHistory self.now.opening.threads self.now.calls }
@@ -209,7 +217,7 @@ impl History {
         &self.calls
     }
 
-    /// The number of threads, 1 to 64.
+    /// Returns the number of threads, 1 to 64.
     pub fn threads(&self) -> u32
         ensures value { result ≡ self.now.opening.threads }
         ensures opens { Opens self.now.opening }
@@ -217,7 +225,7 @@ impl History {
         self.threads
     }
 
-    /// The slots of each thread, 0 to 16,384.
+    /// Returns the number of slots of each thread, 0 to 16,384.
     pub fn quota(&self) -> u32
         ensures value { result ≡ self.now.opening.quota }
         ensures opens { Opens self.now.opening }
@@ -225,7 +233,7 @@ impl History {
         self.quota
     }
 
-    /// The keys with which its set opens, rising, at most 1,048,576.
+    /// Returns the keys with which the set opens, at most 1,048,576, in strictly increasing order.
     pub fn opening(&self) -> &[u32]
         ensures value { result.now ≡ self.now.opening.keys }
         ensures opens { Opens self.now.opening }

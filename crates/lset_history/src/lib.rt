@@ -1,5 +1,5 @@
 //! The sequential set, histories of calls, the check of an order of calls, and the order of placement:
-//! where a run's calls stand, and why that order linearizes their history. Nothing here knows nodes,
+//! where a run's calls are placed, and why that order linearizes their history. Nothing here knows nodes,
 //! links, locks or marks.
 #![tactic(auto)]
 

@@ -29,8 +29,8 @@ fn tree_of(alloc: Global, keys: &[u32]) -> Result<BTreeSet<u32>, AllocError>
     Ok(tree)
 }
 
-/// The sequential set (Herlihy and Shavit's interface) with this project's quota: a set of keys, and for each
-/// thread how many successful adds it has made.
+/// The sequential set (Herlihy and Shavit's interface) with a quota for each thread: a set of keys, and how many successful
+/// adds each thread has made.
 #[derive(Drop)]
 pub struct Oracle {
     alloc: Global,
@@ -50,16 +50,16 @@ impl Model for Oracle {
 }
 
 impl Oracle {
-    /// The empty set for `threads` threads, each with a quota of `quota` successful adds; each may be any number.
-    /// An error is want of memory.
+    /// Returns the empty set for `threads` threads, each with a quota of `quota` successful adds; any numbers are allowed.
+    /// Allocates a count for each thread; `AllocError` if that fails.
     pub fn new(alloc: Global, threads: u32, quota: u32) -> Result<Oracle, AllocError>
         ensures { IfOk result (λ o. o ≡ set_opened (empty threads quota)) }
     {
         Oracle::opened(alloc, threads, quota, &[])
     }
 
-    /// The set that opens with these keys, which rise strictly and count as nobody's adds, and else as `new` has it. An error
-    /// is want of memory.
+    /// Returns the set that opens with `keys`, which must be in strictly increasing order and count as adds of no thread.
+    /// `threads` and `quota` may be any numbers. Allocates; `AllocError` if that fails.
     pub fn opened(
         alloc: Global,
         threads: u32,
@@ -78,19 +78,21 @@ impl Oracle {
         })
     }
 
-    /// The set as it is before the first call of a history. An error is want of memory.
+    /// The set before the first call of a history. Allocates; `AllocError` if that fails.
     pub(crate) fn before(alloc: Global, history: &History) -> Result<Oracle, AllocError>
         ensures { IfOk result (λ o. o ≡ set_opened history.now.opening) }
     {
         Oracle::opened(alloc, history.threads(), history.quota(), history.opening())
     }
 
-    /// Makes a call of the thread `thread`, below the threads, and gives its reply: `Add` of a present key is
-    /// `False`, of an absent key `Full` where the thread's count is at the quota, and else `True`; `Remove` and
-    /// `Contains` are `True` where the key is present, and else `False`; `Ceiling` is `At` of the least key at or above its
-    /// own, or `Nothing` where there is none. Nothing changes but by an `Add` or a
-    /// `Remove` that is `True`. An error is want of memory: it comes only to an `Add` that would be `True`, and
-    /// changes nothing.
+    /// Makes `call` as thread `thread`, which must be below the number of threads, and returns the reply.
+    ///
+    /// - `Add` replies `False` if the key is present; else `Full` if the thread's count is at the quota; else `True`.
+    /// - `Remove` and `Contains` reply `True` if the key is present, else `False`.
+    /// - `Ceiling` replies `At` of the smallest key at or above its own, or `Nothing` if there is none.
+    ///
+    /// Only an `Add` or a `Remove` that replies `True` changes the set. Only such an `Add` allocates; if that fails, returns
+    /// `AllocError` and changes nothing.
     pub fn apply(&mut self, thread: u32, call: Call) -> Result<Reply, AllocError>
         requires { thread < self.old.threads }
         ensures answers { IfOk result (Answers self.old self.new thread call) }
@@ -144,7 +146,7 @@ impl Oracle {
         }
     }
 
-    /// The keys, rising. An error is want of memory.
+    /// Returns the keys in strictly increasing order. Allocates one vector; `AllocError` if that fails.
     pub fn keys(&self) -> Result<Vec<u32>, AllocError>
         ensures keys { IfOk result (λ v. v.items ≡ self.now.state.keys) }
         ensures rising { IsStrictlyIncreasing self.now.state.keys }

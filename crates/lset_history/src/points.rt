@@ -6,10 +6,10 @@ use crate::History;
 use lset_words::{CallRecord, Placed};
 use std::alloc::{AllocError, Global};
 
-/// Points of an order exist exactly where no place is too early: a moment for each place, in the bar of the call that
-/// stands there and never falling along the order. Where there are any, the first points are such, and no others are
-/// earlier at any place. (The two views of Herlihy and Wing's linearizability, for finite histories: an order of
-/// the calls, and points between their beginnings and ends.)
+/// Theorem: an order has linearization points exactly if no place is too early. Points are a moment for each place, in the
+/// bar of its call and never decreasing along the order. If there are any, the first points are such, and no others are
+/// earlier at any place. (The two views of Herlihy and Wing's linearizability, for finite histories: an order of the calls,
+/// and points between their begins and ends.)
 pub fn points_exist()
     ensures { PointsExist }
 {}
@@ -23,9 +23,10 @@ fn begun_of(calls: &[CallRecord], number: u32) -> u32
     }
 }
 
-/// The first points of an order of the calls of the history: for each place the later of the moment at which its call began
-/// and the point before it (Herlihy and Wing). They lie in the bars of the calls where no place is too early, as
-/// `points_exist` says. A call that the history has not counts as begun at 0. An error is want of memory.
+/// Returns the first linearization points of an order of the history's calls: for each place the later of the moment at
+/// which its call began and the point before it (Herlihy and Wing). They are in the bars of the calls if no place is too
+/// early, by `points_exist`. A call that the history does not have counts as begun at 0. Allocates one vector; `AllocError`
+/// if that fails.
 pub fn first_points(
     alloc: Global,
     history: &History,

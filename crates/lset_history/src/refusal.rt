@@ -13,8 +13,8 @@ use crate::{History, Oracle, OrderFault, check_order};
 use lset_words::{CallRecord, Placed, Reply};
 use std::alloc::{AllocError, Global};
 
-/// What is wrong with an order first, told with what is so of it. Calls are told by their numbers, places are counted
-/// from 1.
+/// The first thing that is wrong with an order, with the facts that show it. Calls are named by their numbers, from 0;
+/// places are counted from 1.
 #[derive(Debug, Drop)]
 pub enum Refusal {
     /// A place names `call`, and the history has only so many `calls`, numbered from 0.
@@ -22,7 +22,7 @@ pub enum Refusal {
         call: u32,
         calls: u32,
     },
-    /// The call stands at both places, the first two of its places.
+    /// The call is at both places, the first two of its places.
     Twice {
         call: u32,
         first: u64,
@@ -41,7 +41,7 @@ pub enum Refusal {
         says: Reply,
         ended: Reply,
     },
-    /// The call's place says one reply, which is also that of the history where the call has ended, and the sequential set,
+    /// The call's place has one reply, which is also that of the history if the call has ended, and the sequential set,
     /// which has these keys after the places before, answers another.
     SetReply {
         call: u32,
@@ -50,7 +50,7 @@ pub enum Refusal {
         keys: Vec<u32>,
         answer: Reply,
     },
-    /// The call began at `begun` and stands before the call `other`, which had ended at `ended`.
+    /// The call began at `begun` and comes before the call `other`, which had ended at `ended`.
     TooEarly {
         call: u32,
         begun: u32,
@@ -106,7 +106,7 @@ fn set_after(alloc: Global, history: &History, order: &[Placed]) -> Result<Oracl
     Ok(oracle)
 }
 
-/// The two places of a call that stands twice.
+/// The two places of a call that is in the order twice.
 fn told_twice(history: &History, order: &[Placed], call: u32) -> Refusal
     requires { RefusesFirst (IsTwice order.now) order.now call }
     ensures { Tells history.now order.now (fault.Twice call) result }
@@ -140,7 +140,7 @@ fn told_missing(history: &History, order: &[Placed], call: u32) -> Refusal
     }
 }
 
-/// The reply with which a call ended, where it is another than this one.
+/// The reply with which a call ended, if it is another than this one.
 fn other_end(call_record: CallRecord, says: Reply) -> Option<Reply>
     ensures { IsOtherEnd call_record says result }
 {
@@ -212,9 +212,9 @@ fn told_too_early(history: &History, order: &[Placed], call: u32) -> Refusal
     }
 }
 
-/// Why the order does not explain the history and the keys, where it does not: the fault that `check_order` gives, told
-/// with what is so of it (`Refusal`). `None` where it explains them. An error is want of memory. The time is that of
-/// `check_order`. (This project's own: Herlihy and Wing's conditions, each with what breaks it.)
+/// Returns why `order` does not explain the calls of `history` and leave `keys`: the fault that `check_order` returns, with
+/// the facts that show it. `None` if it does. Allocates; `AllocError` if that fails. It takes about as long as
+/// `check_order`. (Herlihy and Wing's conditions, each with what breaks it.)
 pub fn why_refused(
     alloc: Global,
     history: &History,

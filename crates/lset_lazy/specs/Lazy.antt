@@ -1,5 +1,4 @@
--- LazyList: the rows of its table (Heller and others' lazy list, as Herlihy and Shavit tell it, with the mark in the link word;
--- the rows are this project's own).
+-- LazyList: the rows of its table (Heller and others' lazy list, as Herlihy and Shavit describe it, with the mark in the link word).
 use Rattle.std.specs.Prelude.{ℕ, ◌+◌, ◌*◌, ◌/◌, ◌%◌, Bool, true, false, if◌then◌else◌, Option, Some, None, ◌==◌, nat_lt}
 use Rattle.lset_words.specs.declared.Key.{Key}
 use Rattle.lset_words.specs.declared.Reply.{Reply}

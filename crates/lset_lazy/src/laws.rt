@@ -4,8 +4,8 @@
 ghost use Rattle.lset_lazy.specs.Lazy.{lazy};
 ghost use Rattle.lset_lazy.specs.Rows.{LazyRows};
 
-/// Where a call begins, and of each row its step, what the thread holds after it, and the change that it tells. (Herlihy
-/// and Shavit's lazy list, by this project's own table.)
+/// Lemma: the row at which a call begins, and of each row its step, the thread's state after it, and the change of the set
+/// that it makes. (Herlihy and Shavit's lazy list.)
 pub fn rows()
     ensures { LazyRows lazy }
 {}

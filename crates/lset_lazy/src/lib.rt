@@ -1,4 +1,4 @@
-//! LazyList: a node is marked before it is taken out, so that a `contains` needs no lock (Herlihy and Shavit's lazy list,
+//! LazyList: a node is marked before it is unlinked, so that a `contains` needs no lock (Herlihy and Shavit's lazy list,
 //! after Heller and others).
 #![tactic(auto)]
 
@@ -16,8 +16,8 @@ use lset_steps::rows::{Targets, decide, key_index, link_index, lock_index, own_s
 use lset_steps::{Action, Fed, Local, Machine, OpenReads};
 use lset_words::{Call, HEAD, Key, Kind, Reply};
 
-/// The list whose walks take no lock: a call that changes it locks the two nodes at which its walk stopped, and walks
-/// again where they have changed (Herlihy and Shavit's lazy list, by this project's own table).
+/// The list whose walks take no lock: a call that changes it locks the two nodes at which its walk ended, and walks again if
+/// they have changed (Herlihy and Shavit's lazy list).
 #[derive(Clone, Copy)]
 pub struct LazyList;
 
@@ -28,7 +28,8 @@ const TARGETS: Targets = Targets {
     leaves: 13,
 };
 
-/// The next step of a thread, by the row at which it stands. Its numbers are small, as those of each run are.
+/// Returns the next step of a thread with a pending call, by its row of the table. Its numbers must be small, as those of
+/// every run are.
 #[inline(always)]
 pub fn next_action(local: &Local) -> Action
     requires { IsSmall local.now }
@@ -65,7 +66,7 @@ fn walked_from(pred: u64, local: &Local, seen: u64) -> Local
     }
 }
 
-/// Walks on where the key word is below that of the call, and else locks both nodes.
+/// Walks on if the key word is below that of the call, else locks both nodes.
 #[inline(always)]
 fn at_key(local: &Local, seen: u64) -> Local
     ensures { result ≡ at_key seen local.now }
@@ -103,7 +104,7 @@ fn at_pred(local: &Local, seen: u64) -> Local
     }
 }
 
-/// Decides where `curr` has no mark.
+/// Decides if `curr` has no mark.
 #[inline(always)]
 fn at_curr(local: &Local, seen: u64) -> Local
     ensures { result ≡ at_curr seen local.now }
@@ -142,7 +143,7 @@ fn released(local: &Local) -> Fed
     }
 }
 
-/// What a thread holds after that step, of which it saw `seen`, and its answer where the step ends the call.
+/// Returns the thread's state after its next step, in which it saw `seen`, and the reply if the step ends the call.
 #[inline(always)]
 pub fn fed_by(local: &Local, seen: u64) -> Fed
     requires { IsSmall local.now }
@@ -173,7 +174,7 @@ pub fn fed_by(local: &Local, seen: u64) -> Fed
     continued(next)
 }
 
-/// The key that the step puts in (`true`) or takes out (`false`).
+/// Returns the key that the thread's next step adds (`true`) or removes (`false`); `None` if it does not change the set.
 #[inline(always)]
 pub fn effect_of(local: &Local, _seen: u64) -> Option<(Key, bool)>
     ensures { result ≡ effect_of local.now _seen }

@@ -1,4 +1,4 @@
-//! The five lists in one place: which machine stands for which kind. What is done on the list of a kind that is known
+//! The five lists in one place: which machine belongs to which kind. What is done on the list of a kind that is known
 //! only as the program runs is a `Task`, and goes through `on_list`.
 #![tactic(auto)]
 
@@ -15,9 +15,9 @@ use lset_optimistic::OptimisticList;
 use lset_steps::Machine;
 use lset_words::Kind;
 
-/// One of the five lists: its machine, whose kind and table belong together.
+/// One of the five lists: a machine, with the table of its kind.
 pub trait List: Machine {
-    /// The law that ties them: the table of its kind is its own. The call does nothing.
+    /// Lemma: the list's table is that of its kind.
     fn has_the_table_of_its_kind()
         ensures { table_of Self.KIND ≡ Self.table };
 }
@@ -42,7 +42,7 @@ impl List for LockFreeList {
     fn has_the_table_of_its_kind() {}
 }
 
-/// Something that can be done on any list.
+/// Something that can be done on any of the five lists: the argument of `on_list`.
 pub trait Task {
     type Out;
 
@@ -58,7 +58,7 @@ pub trait Task {
         ensures { done self M.table result };
 }
 
-/// Does a task on the list of a kind.
+/// Does a task on the list of the kind `kind`, and returns its result.
 pub fn on_list<T: Task + Drop>(kind: Kind, task: T) -> T::Out
     requires { T.may task kind }
     ensures { T.done task (table_of kind) result }

@@ -1,5 +1,5 @@
--- LockFreeList: the rows of its table (Harris's marks and Michael's one node at a time, as Herlihy and Shavit tell them; the rows
--- are this project's own).
+-- LockFreeList: the rows of its table (Harris's marks and Michael's one node at a time, as Herlihy and Shavit
+-- describe them).
 use Rattle.std.specs.Prelude.{ℕ, ◌+◌, ◌*◌, ◌/◌, ◌%◌, Bool, true, false, if◌then◌else◌, Option, Some, None, ◌==◌, nat_lt}
 use Rattle.lset_words.specs.declared.Key.{Key}
 use Rattle.lset_words.specs.declared.Reply.TheVariants.{True}

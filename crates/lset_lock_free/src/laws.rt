@@ -4,8 +4,8 @@
 ghost use Rattle.lset_lock_free.specs.LockFree.{lock_free};
 ghost use Rattle.lset_lock_free.specs.Rows.{LockFreeRows};
 
-/// Where a call begins, and of each row its step, what the thread holds after it, and the change that it tells.
-/// (Herlihy and Shavit's lock-free list, by this project's own table.)
+/// Lemma: the row at which a call begins, and of each row its step, the thread's state after it, and the change of the set
+/// that it makes. (Herlihy and Shavit's lock-free list.)
 pub fn rows()
     ensures { LockFreeRows lock_free }
 {}

@@ -1,4 +1,4 @@
-//! LockFreeList: nodes are marked and taken out by exchanges, one at a time (Herlihy and Shavit's lock-free list, after
+//! LockFreeList: nodes are marked and unlinked by exchanges, one at a time (Herlihy and Shavit's lock-free list, after
 //! Harris and Michael).
 #![tactic(auto)]
 
@@ -17,19 +17,20 @@ use lset_steps::rows::{Targets, decide, key_index, link_index, own_slot};
 use lset_steps::{Action, Fed, Local, Machine, OpenReads};
 use lset_words::{Call, HEAD, Key, Kind, Reply};
 
-/// The list without locks: a node is marked by an exchange of its link, and then taken out by an exchange of the link
-/// before it, by whoever comes by (Herlihy and Shavit's lock-free list, by this project's own table).
+/// The list without locks: a node is marked by an exchange of its link, and then unlinked by an exchange of the link before
+/// it, by whichever call reaches it (Herlihy and Shavit's lock-free list).
 #[derive(Clone, Copy)]
 pub struct LockFreeList;
 
-/// The rows to which a call goes on from its decision; where it leaves, it answers at once.
+/// The rows at which a call continues from its decision; if it leaves, it replies at once.
 const TARGETS: Targets = Targets {
     adds: 5,
     removes: 8,
     leaves: 0,
 };
 
-/// The next step of a thread, by the row at which it stands. Its numbers are small, as those of each run are.
+/// Returns the next step of a thread with a pending call, by its row of the table. Its numbers must be small, as those of
+/// every run are.
 #[inline(always)]
 pub fn next_action(local: &Local) -> Action
     requires { IsSmall local.now }
@@ -83,7 +84,7 @@ fn decision_of(local: Local) -> Fed
     Fed { local, answer }
 }
 
-/// Walks on where the key word is below that of the call, and else decides.
+/// Walks on if the key word is below that of the call, else decides.
 #[inline(always)]
 fn at_key(local: &Local, seen: u64) -> Fed
     ensures { result ≡ at_key seen local.now }
@@ -116,7 +117,7 @@ fn again(local: &Local) -> Fed
     continued(Local { pc: 1, ..*local })
 }
 
-/// What a thread holds after that step, of which it saw `seen`, and its answer where the step ends the call.
+/// Returns the thread's state after its next step, in which it saw `seen`, and the reply if the step ends the call.
 #[inline(always)]
 pub fn fed_by(local: &Local, seen: u64) -> Fed
     requires { IsSmall local.now }
@@ -142,7 +143,8 @@ pub fn fed_by(local: &Local, seen: u64) -> Fed
     }
 }
 
-/// The key that a successful exchange puts in (`true`) or takes out (`false`).
+/// Returns the key that the thread's next step adds (`true`) or removes (`false`), which only a successful exchange does;
+/// `None` if it does not change the set.
 #[inline(always)]
 pub fn effect_of(local: &Local, seen: u64) -> Option<(Key, bool)>
     requires { IsSmall local.now }

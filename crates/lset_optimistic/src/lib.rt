@@ -28,9 +28,8 @@ use lset_steps::rows::{
 use lset_steps::{Action, Fed, Local, Machine};
 use lset_words::{Call, HEAD, Key, Kind, Reply};
 
-/// The list that walks without locks, locks the two nodes that it has come to, and walks a second time from the
-/// head to see that the first of them is still in the chain and leads to the other (Herlihy and Shavit's
-/// optimistic list, by this project's own table).
+/// The list that walks without locks, locks the two nodes at which the walk ended, and walks a second time from the head to
+/// see that the first of them is still in the chain and leads to the other (Herlihy and Shavit's optimistic list).
 #[derive(Clone, Copy)]
 pub struct OptimisticList;
 
@@ -41,7 +40,8 @@ const TARGETS: Targets = Targets {
     leaves: 14,
 };
 
-/// The next step of a thread, by the row at which it stands. Its numbers are small, as those of each run are.
+/// Returns the next step of a thread with a pending call, by its row of the table. Its numbers must be small, as those of
+/// every run are.
 #[inline(always)]
 pub fn next_action(local: &Local) -> Action
     requires { IsSmall local.now }
@@ -79,7 +79,7 @@ fn walks_on(local: &Local, pred: u64, pkey: u64, link: u64) -> Local
     }
 }
 
-/// Walks on where the key word is below that of the call, and else goes to take the locks.
+/// Walks on if the key word is below that of the call, else goes to take the locks.
 #[inline(always)]
 fn at_key(local: &Local, seen: u64) -> Local
     ensures { result ≡ at_key seen local.now }
@@ -92,7 +92,7 @@ fn at_key(local: &Local, seen: u64) -> Local
     }
 }
 
-/// Begins the second walk at the head, which is at its end where the first one went no further.
+/// Begins the second walk at the head; it ends there if the first one went no further.
 #[inline(always)]
 fn at_locks(local: &Local) -> Local
     ensures { result ≡ at_locks local.now }
@@ -117,7 +117,7 @@ fn gives_up(local: &Local) -> Local
     }
 }
 
-/// Ends the second walk in vain where it is past the first one, and in success where it has come to the same node.
+/// Ends the second walk: it fails if it is past the first one, and succeeds if it is at the same node.
 #[inline(always)]
 fn at_node(local: &Local, seen: u64) -> Local
     ensures { result ≡ at_node seen local.now }
@@ -131,7 +131,7 @@ fn at_node(local: &Local, seen: u64) -> Local
     }
 }
 
-/// Decides where the two nodes are still neighbours.
+/// Decides if the two nodes are still neighbours.
 #[inline(always)]
 fn at_link(local: &Local, seen: u64) -> Local
     ensures { result ≡ at_link seen local.now }
@@ -143,7 +143,7 @@ fn at_link(local: &Local, seen: u64) -> Local
     }
 }
 
-/// Begins again where there is no reply.
+/// Begins again if there is no reply.
 #[inline(always)]
 fn at_end(local: &Local) -> Local
     ensures { result ≡ at_end local.now.reply local.now }
@@ -197,7 +197,7 @@ fn local_after(local: &Local, seen: u64) -> Local
     }
 }
 
-/// What a thread holds after that step, of which it saw `seen`, and its answer where the step ends the call.
+/// Returns the thread's state after its next step, in which it saw `seen`, and the reply if the step ends the call.
 #[inline(always)]
 pub fn fed_by(local: &Local, seen: u64) -> Fed
     requires { IsSmall local.now }
@@ -210,7 +210,7 @@ pub fn fed_by(local: &Local, seen: u64) -> Fed
     }
 }
 
-/// The key that the step puts in (`true`) or takes out (`false`).
+/// Returns the key that the thread's next step adds (`true`) or removes (`false`); `None` if it does not change the set.
 #[inline(always)]
 pub fn effect_of(local: &Local, _seen: u64) -> Option<(Key, bool)>
     ensures { result ≡ effect_of local.now _seen }

@@ -72,7 +72,7 @@ impl Finder {
         Ok(())
     }
 
-    /// Where among those that wait the change stands that turns a key and has the nearest end.
+    /// The index, among those that wait, of the change that turns a key and has the nearest end.
     fn nearest(&self, key: u32) -> Option<usize>
         ensures { IfSome result (λ place. place < length self.now.waiting.items) }
     {

@@ -12,7 +12,7 @@ use lset_judge::{Refusal, first_refused};
 use lset_words::Placed;
 use std::alloc::{AllocError, Global};
 
-/// What was found of the orders of a history.
+/// What `find_order` found of the orders of a history.
 #[derive(Debug, Drop)]
 pub enum Found {
     /// This order explains the calls, from the opening keys, and leaves the keys.
@@ -64,13 +64,14 @@ fn explaining_order(
     }
 }
 
-/// An order of the calls of a history that linearizes them from its opening keys and leaves these keys, or that no order does. In place of
-/// the order that a run would give by the points of its calls, this one is found from their begins and ends: a call that changes nothing
-/// stands as early as its reply allows, and a change as late.
+/// Finds an order of the calls of a history that linearizes them from its opening keys and leaves `keys`, or finds that
+/// there is none. It uses only their begins and ends, no linearization points: in the order a call that changes nothing
+/// comes as early as its reply allows, and a change as late.
 ///
-/// `keys` are the keys left; they rise. `Unknown` comes of a history that `lset_judge::is_judged` is false for. No test has seen it of any
-/// other, and it could come only of one that some order explains. It fails only if memory is refused. With n calls of t threads it takes about
-/// `n (t + log n)` steps, and some 40 bytes a call. (Linearizability is Herlihy and Wing's; the rule is this project's own.)
+/// `keys` must be in strictly increasing order. The result is `Unknown` only for a history of which `lset_judge::is_judged`
+/// is false, or, as far as is proved, for one that some order explains; no test has seen the latter. With n calls of t
+/// threads it takes about `n (t + log n)` steps and some 40 bytes a call. Allocates; `AllocError` if that fails.
+/// (Linearizability is Herlihy and Wing's.)
 pub fn find_order(alloc: Global, history: &History, keys: &[u32]) -> Result<Found, AllocError>
     requires { IsStrictlyIncreasing keys.now }
     ensures { IfOk result (IsFound history.now keys.now) }

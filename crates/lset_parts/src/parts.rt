@@ -12,7 +12,7 @@ use std::alloc::Global;
 use std::marker::Model;
 use thiserror::Error;
 
-/// Why a part does not follow the parts before it. They are looked for in this order.
+/// Why a part does not follow the parts before it: the first of these that applies.
 #[derive(Clone, Copy, Debug, PartialEq, Eq, Error)]
 pub enum PartFault {
     /// Its clock begins after moment 2^63.
@@ -36,7 +36,7 @@ pub enum PartFault {
 const LAST_CLOCK: u64 = 1 << 63;
 
 /// What is kept of the parts of a recording, each of which some order explains: the keys that the last one left, the latest
-/// beginning and the latest moment.
+/// begin and the latest moment.
 #[derive(Drop)]
 pub struct Parts {
     keys: Vec<u32>,
@@ -115,7 +115,8 @@ fn has_full(calls: &[CallRecord]) -> bool
 }
 
 impl Parts {
-    /// No part yet, of a set that opens with these keys, in increasing order. It does not allocate.
+    /// Returns the record of no part, of a set that opens with `keys`, which must be in strictly increasing order. Does not
+    /// allocate: it takes over the vector.
     pub fn new(keys: Vec<u32>) -> Parts
         requires { IsStrictlyIncreasing keys.items }
         ensures { IsKeptOf keys.items [] result }
@@ -128,14 +129,15 @@ impl Parts {
         }
     }
 
-    /// The keys that the last part left, with which the next part has to open.
+    /// Returns the keys that the last part left, with which the next part must open; before the first part, the keys with
+    /// which the set opens.
     pub fn keys(&self) -> &[u32]
         ensures { result.now ≡ self.now.keys }
     {
         &self.keys
     }
 
-    /// The latest moment of all parts: a part whose clock begins there comes after them.
+    /// Returns the latest moment of all parts, 0 before the first: a part whose clock begins there comes after them.
     pub fn latest(&self) -> u64
         ensures { result ≡ self.now.latest }
     {
@@ -149,13 +151,13 @@ impl Parts {
         self.at_rest
     }
 
-    /// One order explains all parts that were added, from the keys with which the first opened, and leaves `keys`.
+    /// Lemma: one order explains all parts that were added, from the keys with which the first opened, and leaves `keys`.
     pub fn explain_the_whole(&self)
         ensures { WholeIsExplained self.now }
     {}
 
-    /// If all calls have ended, and calls follow whose clock begins at `latest` or later: where no order explains those calls from
-    /// `keys`, no order explains the recording up to their end.
+    /// Lemma: if all calls have ended, and calls follow whose clock begins at `latest` or later, then: if no order explains
+    /// those calls from `keys`, no order explains the recording up to their end.
     pub fn need_the_next(&self)
         ensures { NextIsNeeded self.now }
     {}
@@ -182,11 +184,12 @@ impl Parts {
         None
     }
 
-    /// Adds a part that some order explains under some quota: its history, whose moments count from the moment `since` of the whole
-    /// recording, and the keys that it left. `since` is 0 if all parts have one clock, and `latest` if each has its own.
+    /// Adds a part that some order explains under some quota: its history, whose moments count from the moment `since` of
+    /// the whole recording, and the keys that it left. `since` is 0 if all parts have one clock, and `latest()` if each has
+    /// its own.
     ///
-    /// On an error nothing is changed. It allocates a copy of the keys, and keeps nothing of the calls but two moments and whether
-    /// all of them have ended.
+    /// On an error nothing is changed. Allocates a copy of the keys, and keeps nothing of the calls but two moments and
+    /// whether all of them have ended.
     pub fn add(
         &mut self,
         alloc: Global,

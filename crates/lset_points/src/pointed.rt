@@ -12,7 +12,7 @@ use lset_history::{OrderFault, check_order};
 use lset_report::Report;
 use std::alloc::Global;
 
-/// The report of calls, and what is wrong first with its order, if anything is.
+/// The report of calls that was made by their points, and the first thing that is wrong with its order, if anything is.
 #[derive(Drop)]
 pub struct Pointed {
     pub report: Report,
@@ -31,11 +31,14 @@ fn fault_of(alloc: Global, made: &Report) -> Result<Option<OrderFault>, ClashFau
     }
 }
 
-/// Judges calls by the points that were given for their changes, `ceiling` and `full` too. If there is no fault, the order of the report
-/// explains the calls and the keys left. If there is one, no order does that makes each change at its point.
+/// Judges calls by the points that were given for their changes; it judges `ceiling` and `full` too. If there is no fault,
+/// the order of the report explains the calls and leaves the keys. If there is one, no order does that makes each change at
+/// its point.
 ///
-/// An error is that of `report_of`: the first line whose call cannot stand beside those of the lines above, or want of memory. With n
-/// calls it takes about n log n steps, and the memory of their report.
+/// # Errors
+///
+/// That of `report_of`: the first line whose call conflicts with a line above, or that an allocation failed. With n calls it
+/// takes about n log n steps, and the memory of their report.
 pub fn judge_by_points(alloc: Global, calls: Calls) -> Result<Pointed, ClashFault>
     requires { AreCalls (view calls) }
     ensures told { IfOk result (λ p. IsReportOfCalls (view calls) (report.view p.report)) }

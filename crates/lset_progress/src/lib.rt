@@ -26,121 +26,125 @@ ghost use Rattle.lset_progress.specs.Progress.{
 };
 ghost use Rattle.lset_progress.specs.Wrong.{NoCallsEndAlone, NoCallsEndUnhindered, NotLockFree, claiming, crossed, keeping, spinning};
 
-/// While no other thread holds the lock of a CoarseList, a call that runs alone ends within `2N + 3` steps. (Solo termination, of
-/// Herlihy and Shavit's coarse-grained list.)
+/// Theorem: while no other thread holds the lock of a CoarseList, a call that runs alone ends within `2N + 3` steps. (Solo
+/// termination, of Herlihy and Shavit's coarse-grained list.)
 pub fn coarse_calls_end_alone()
     ensures { CallsEndAlone coarse coarse_steps }
 {}
 
-/// While no other thread holds a lock of a FineList, a call that runs alone ends within `4N + 3` steps. (Solo termination, of
-/// Herlihy and Shavit's fine-grained list.)
+/// Theorem: while no other thread holds a lock of a FineList, a call that runs alone ends within `4N + 3` steps. (Solo
+/// termination, of Herlihy and Shavit's fine-grained list.)
 pub fn fine_calls_end_alone()
     ensures { CallsEndAlone fine fine_steps }
 {}
 
-/// While no other thread holds a lock of an OptimisticList, a call that runs alone ends within `8N + 9` steps: it walks from the
-/// head once more at most, since validation fails only where another thread has changed what the walk met. (Solo
-/// termination, of Herlihy and Shavit's optimistic list.)
+/// Theorem: while no other thread holds a lock of an OptimisticList, a call that runs alone ends within `8N + 9` steps: it
+/// walks from the head at most once more, since validation fails only if another thread has changed what the walk read.
+/// (Solo termination, of Herlihy and Shavit's optimistic list.)
 pub fn optimistic_calls_end_alone()
     ensures { CallsEndAlone optimistic optimistic_steps }
 {}
 
-/// While no other thread holds a lock of a LazyList, a call that runs alone ends within `4N + 15` steps, a `ceiling` too: whoever
-/// has marked a node holds its lock until the node is out of the chain. (Solo termination, of Heller and others' lazy list.)
+/// Theorem: while no other thread holds a lock of a LazyList, a call that runs alone ends within `4N + 15` steps, a
+/// `ceiling` too: a thread that has marked a node holds its lock until the node is unlinked. (Solo termination, of Heller
+/// and others' lazy list.)
 pub fn lazy_calls_end_alone()
     ensures { CallsEndAlone lazy lazy_steps }
 {}
 
-/// Whatever the other threads of a LockFreeList are about to do, a call that runs alone ends within `4N + 5` steps. A `ceiling` does
-/// so if no node of the chain is marked: where it meets a marked node it begins again, and it takes none out. (Obstruction
-/// freedom, which is Herlihy, Luchangco and Moir's; the list is Harris's and Michael's.)
+/// Theorem: whatever the other threads of a LockFreeList are about to do, a call that runs alone ends within `4N + 5` steps.
+/// A `ceiling` does so if no node of the chain is marked: if it reaches a marked node it begins again, and it unlinks none.
+/// (Obstruction freedom, which is Herlihy, Luchangco and Moir's; the list is Harris's and Michael's.)
 pub fn lock_free_calls_end_alone()
     ensures { CallsEndUnhindered lock_free lock_free_steps }
 {}
 
-/// Of any `n(2N + 2)(N + n) + n(4N + 5)` steps of `add` and `remove` that the n threads of a LockFreeList make one after another, one
-/// ends its call, whichever threads make them, and whatever else happens between them; and of as many steps of `add`, `remove` and
-/// `contains` too. (Lock freedom, of Harris's and Michael's list, as Herlihy and Shavit tell it.)
+/// Theorem: of any `n(2N + 2)(N + n) + n(4N + 5)` steps of `add` and `remove` that the n threads of a LockFreeList make one
+/// after another, one ends its call, whichever threads make them, and whatever else happens between them; and of as many
+/// steps of `add`, `remove` and `contains` too. (Lock freedom, of Harris's and Michael's list, as Herlihy and Shavit define
+/// it.)
 pub fn lock_free_list_is_lock_free()
     ensures { IsLockFree lock_free lock_free_window }
 {}
 
-/// A `ceiling` of LockFreeList may never end, though every other thread is idle: an ended `remove` has left its marked node in the
-/// chain. So of LockFreeList only `add`, `remove` and `contains` are free of obstruction. (This project's own call.)
+/// Theorem: a `ceiling` of LockFreeList may never end, though every other thread is idle, if a completed `remove` has left
+/// its marked node in the chain. So only `add`, `remove` and `contains` of LockFreeList are obstruction-free.
 pub fn a_lock_free_ceiling_may_never_end()
     ensures { SomeCeilingNeverEnds lock_free }
 {}
 
-/// While a call of a CoarseList is pending, some thread can make a step that is no failed try of the lock. (Freedom from deadlock.)
+/// Theorem: while a call of a CoarseList is pending, some thread can make a step that is not a failed attempt to take the
+/// lock. (Freedom from deadlock.)
 pub fn some_coarse_call_gets_on()
     ensures { SomeThreadGetsOn coarse }
 {}
 
-/// While a call of a CoarseList is pending, there are at most `2N + 3` steps of one thread, of which the last ends a call. (Freedom
-/// from deadlock.)
+/// Theorem: while a call of a CoarseList is pending, there are at most `2N + 3` steps of one thread, of which the last ends
+/// a call. (Freedom from deadlock.)
 pub fn some_coarse_call_can_end()
     ensures { SomeCallCanEnd coarse coarse_steps }
 {}
 
-/// While a call of a FineList is pending, some thread can make a step that is no failed try of a lock. (Freedom from deadlock:
-/// Herlihy and Shavit's order of the nodes.)
+/// Theorem: while a call of a FineList is pending, some thread can make a step that is not a failed attempt to take a lock.
+/// (Freedom from deadlock: Herlihy and Shavit's order of the nodes.)
 pub fn some_fine_call_gets_on()
     ensures { SomeThreadGetsOn fine }
 {}
 
-/// While a call of a FineList is pending, there are at most `n(4N + 3) + 7` steps of the n threads, of which the last ends a call.
-/// (Freedom from deadlock.)
+/// Theorem: while a call of a FineList is pending, there are at most `n(4N + 3) + 7` steps of the n threads, of which the
+/// last ends a call. (Freedom from deadlock.)
 pub fn some_fine_call_can_end()
     ensures { SomeCallCanEnd fine (for_each fine_steps) }
 {}
 
-/// While a call of an OptimisticList is pending, some thread can make a step that is no failed try of a lock. (Freedom from
-/// deadlock: Herlihy and Shavit's order of the nodes.)
+/// Theorem: while a call of an OptimisticList is pending, some thread can make a step that is not a failed attempt to take a
+/// lock. (Freedom from deadlock: Herlihy and Shavit's order of the nodes.)
 pub fn some_optimistic_call_gets_on()
     ensures { SomeThreadGetsOn optimistic }
 {}
 
-/// While a call of an OptimisticList is pending, there are at most `n(8N + 9) + 7` steps of the n threads, of which the last ends a
-/// call. (Freedom from deadlock.)
+/// Theorem: while a call of an OptimisticList is pending, there are at most `n(8N + 9) + 7` steps of the n threads, of which
+/// the last ends a call. (Freedom from deadlock.)
 pub fn some_optimistic_call_can_end()
     ensures { SomeCallCanEnd optimistic (for_each optimistic_steps) }
 {}
 
-/// While a call of a LazyList is pending, some thread can make a step that is no failed try of a lock. (Freedom from deadlock:
-/// Herlihy and Shavit's order of the nodes.)
+/// Theorem: while a call of a LazyList is pending, some thread can make a step that is not a failed attempt to take a lock.
+/// (Freedom from deadlock: Herlihy and Shavit's order of the nodes.)
 pub fn some_lazy_call_gets_on()
     ensures { SomeThreadGetsOn lazy }
 {}
 
-/// While a call of a LazyList is pending, there are at most `n(4N + 15) + 7` steps of the n threads, of which the last ends a call.
-/// (Freedom from deadlock.)
+/// Theorem: while a call of a LazyList is pending, there are at most `n(4N + 15) + 7` steps of the n threads, of which the
+/// last ends a call. (Freedom from deadlock.)
 pub fn some_lazy_call_can_end()
     ensures { SomeCallCanEnd lazy (for_each lazy_steps) }
 {}
 
-/// The law of `lock_free_calls_end_alone` refuses a LockFreeList whose walk tries to take a marked node out again where that has
-/// failed, and does not start again from the head.
+/// Lemma: the law of `lock_free_calls_end_alone` refuses a LockFreeList whose walk attempts to unlink a marked node again
+/// after that has failed, and does not start again from the head.
 pub fn a_spinning_walk_is_refused()
     ensures { NoCallsEndUnhindered spinning }
 {}
 
-/// The law of `lock_free_list_is_lock_free` refuses that LockFreeList too, whether steps of `contains` count or not.
+/// Lemma: the law of `lock_free_list_is_lock_free` refuses a LockFreeList whose walk attempts to unlink a marked node again
+/// after that has failed, whether steps of `contains` count or not.
 pub fn a_spinning_walk_is_not_lock_free()
     ensures { NotLockFree spinning }
 {}
 
-/// It also refuses a LockFreeList in which two calls of `add` hinder each other for ever: each writes its number beside the place of its
-/// node, and goes on only if it still finds it there.
+/// Lemma: the law of `lock_free_list_is_lock_free` refuses a LockFreeList in which two calls of `add` hinder each other for
+/// ever: each writes its number beside the place of its node, and continues only if it still finds it there.
 pub fn two_that_claim_a_place_are_not_lock_free()
     ensures { NotLockFree claiming }
 {}
 
-/// The law of `optimistic_calls_end_alone` refuses an OptimisticList that keeps a lock where its validation fails.
+/// Lemma: the law of `optimistic_calls_end_alone` refuses an OptimisticList that keeps a lock if its validation fails.
 pub fn a_kept_lock_is_refused()
     ensures { NoCallsEndAlone keeping }
 {}
 
-/// The law of `some_lazy_call_gets_on` refuses a LazyList whose `remove` takes its two locks in the other order.
+/// Lemma: the law of `some_lazy_call_gets_on` refuses a LazyList whose `remove` takes its two locks in the other order.
 pub fn crossed_locks_are_refused()
     ensures { SomeThreadGetsOn crossed → ⊥ }
 {}

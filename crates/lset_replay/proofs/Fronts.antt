@@ -1,4 +1,4 @@
--- The first events of a schedule: a run of more events is theirs too, and what is told of it.
+-- The first events of a schedule: a run of more events is theirs too, and what is reported of it.
 use Rattle.std.proofs.Common.{◌≡◌, ℕ, zero, suc, ◌<◌, ◌≤◌, List, [], ◌∷◌, length, take, sym, refl, subst, ap, ◌∙◌, arith}
 use Rattle.std.specs.Prelude.{Option, Some, None}
 use Rattle.std.proofs.lemmas.List.{length-take-le}

@@ -25,7 +25,7 @@ abbrev pub moment_of : Option Linearized → Option ℕ
 moment_of None = None
 moment_of (Some p) = Some p.moment
 
--- what a place tells of its call
+-- what a place has of its call
 changes : Option ℕ → Bool
 changes None = false
 changes (Some m) = true

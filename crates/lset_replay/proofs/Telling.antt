@@ -1,4 +1,4 @@
--- From event to event of a trace: what the tracer tells of each is what the run has there.
+-- From event to event of a trace: what the tracer returns of each is what the run has there.
 use Rattle.std.proofs.Common.{◌≡◌, ℕ, suc, ◌<◌, Bool, true, false, List, [], ◌∷◌, ◌++◌, length, map, sym}
 use Rattle.std.proofs.Common.{refl, subst, ap, ◌∙◌, arith, get_or-set_same}
 use Rattle.std.specs.Prelude.{Option, Some, None, IsSomeAnd}

@@ -1,4 +1,4 @@
--- The front of a schedule: its events before the first that is not enabled, or all of them, and what is told of them.
+-- A prefix of a schedule: its events before the first that is not enabled, or all of them, and what is reported of them.
 use Rattle.std.specs.Prelude.{ℕ, List, take, Option}
 use Rattle.lset_words.specs.declared.history.Point.{Point}
 use Rattle.lset_steps.specs.declared.Event.{Event}

@@ -53,12 +53,12 @@ writes_node (deed.Access (Load word) seen) = false
 writes_node (deed.Access (Store word value) seen) = is_node_word word
 writes_node (deed.Access (Exchange word old new) seen) = seen == old && is_node_word word
 
--- the chain that is kept becomes that of the world, and is told where it is another
+-- the chain that is kept becomes that of the world, and is passed on if it is another
 abbrev pub NotesChain : Bool → View → List ChainKey → Option (Vec ChainKey Global) → List ChainKey → Type 0
 NotesChain false v before chain later = chain ≡ None
 NotesChain true v before chain later = AreChainKeys v later × TellsDifference before later chain
 
--- AN EVENT, that leads to a moment, was made in the world w, is kept in r', and is told, but for the chain: its line and thread, what
+-- AN EVENT, that leads to a moment, was made in the world w, is kept in r', and is returned, but for the chain: its line and thread, what
 -- the thread holds before and after, what it did, the change that it made, and the call that it ended.
 pub record MadeEvent (keep : ℕ → Entry → Trace → Trace) (T : Table) (next : LineEvent) (moment : ℕ) (w : WorldState) (r : Recorder)
     (x : TracedEvent) (w' : WorldState) (r' : Recorder) : Type 0 where

@@ -1,4 +1,4 @@
--- [Trace]: what is told of the events of a run, one after another.
+-- [Trace]: what is returned of the events of a run, one after another.
 use Rattle.std.specs.Prelude.{◌≡◌, ◌≢◌, ℕ, suc, ◌<◌, Bool, true, false, List, length, Option, Some, None, IsSomeAnd}
 use Rattle.std.specs.Prelude.{slice_index_or, Vec}
 use Rattle.std.specs.declared.alloc.Global.{Global}
@@ -48,12 +48,12 @@ pub record EndsCall (T : Table) (op : Opening) (es : ℕ → Event) (k thread : 
   pub stands : StandsAt op.quota (contents_of (views T op es)) (counts_of (views T op es)) (traced_call T op es (suc k) c.call)
       (Some c.moment)
 
--- an end is told just where the event answered
+-- there is an end exactly if the event had a reply
 abbrev pub TellsEnd : Table → Opening → (ℕ → Event) → ℕ → ℕ → Option Reply → Option CallEnd → Type 0
 TellsEnd T op es k thread None end = end ≡ None
 TellsEnd T op es k thread (Some reply) end = IsSomeAnd end (λ c. EndsCall T op es k thread reply c)
 
--- the later of two chains is told just where it is another
+-- the later of two chains is there exactly if it is another
 abbrev pub TellsDifference : List ChainKey → List ChainKey → Option (Vec ChainKey Global) → Type 0
 TellsDifference before later None = before ≡ later
 TellsDifference before later (Some chain) = (before ≢ later) × (chain.items ≡ later)
@@ -83,12 +83,12 @@ abbrev pub EndsTrace : Table → Opening → List LineEvent → ℕ → Option (
 EndsTrace T op events k None = k ≡ length events
 EndsTrace T op events k (Some (line, cause)) = (first : IsFirstRefused T op events line cause) × (first.index ≡ k)
 
--- THE FIRST EVENTS are told, up to the first that is not enabled:
+-- THE FIRST EVENTS are returned, up to the first that is not enabled:
 pub record TellsEvents (T : Table) (op : Opening) (events : List LineEvent) (chains : Bool) (traced : List TracedEvent)
     (refused : Option (ℕ × StepFault)) : Type 0 where
   -- they are enabled one after another,
   pub run : Run T op (event_at (only_events events)) (length traced)
-  -- each is told,
+  -- each is returned,
   pub each : (k : ℕ) (none : TracedEvent) → k < length traced
       → TellsEvent T op events (event_at (only_events events)) chains k (slice_index_or traced k none)
   -- and after them comes none, or one that is refused.

@@ -4,14 +4,14 @@ ghost use Rattle.lset_replay.specs.Events.{events_of_line};
 use lset_schedule::Line;
 use lset_steps::Event;
 
-/// An event of a schedule, and the number of its line in the schedule's text.
+/// An event of a schedule, and the number of its line in the schedule's text, counted from 1.
 #[derive(Clone, Copy)]
 pub struct LineEvent {
     pub line: u64,
     pub event: Event,
 }
 
-/// The event that the line with a number stands for, and how many times it comes.
+/// Returns the event that a line of a schedule stands for, with the line's number, and how many times it comes.
 pub fn event_of(number: u64, line: Line) -> (LineEvent, u32)
     ensures { events_of_line number line ≡ replicate result.1 result.0 }
 {

@@ -4,8 +4,8 @@ ghost use Rattle.lset_replay.specs.declared.fault.ReplayFault.TheVariants.{Memor
 use std::alloc::AllocError;
 use thiserror::Error;
 
-/// Why a schedule is not replayed: its first event that is not enabled, by the number of its line in the
-/// schedule's text, whose header lines count too; or what is missing for the replay.
+/// Why `replay` refuses a schedule: the first event that is not enabled, by the number of its line in the schedule's text,
+/// counted from 1 with the header; or that an allocation failed.
 #[derive(Clone, Copy, Debug, PartialEq, Eq, Error)]
 pub enum ReplayFault {
     /// There is no such thread.

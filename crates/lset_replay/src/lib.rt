@@ -1,4 +1,4 @@
-//! Replays schedules step by step, and tells what happened: the history of the calls, an order of them that
+//! Replays schedules step by step, and reports what happened: the history of the calls, an order of them that
 //! explains it, and the keys that are left.
 #![tactic(auto)]
 

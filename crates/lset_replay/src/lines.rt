@@ -13,21 +13,22 @@ use crate::{Listener, TracedEvent};
 use lset_schedule::Line;
 use std::alloc::AllocError;
 
-/// Makes the events of a schedule, one after another, and tells of each.
+/// Executes the events of a schedule one by one, and returns what each of them did.
 pub trait Runner {
-    /// Why an event is not made.
+    /// Why an event is refused.
     type Fault: Copy;
 
-    /// What becomes of a runner that makes the first so many of these events.
+    /// What becomes of a runner that executes the first so many of these events.
     ghost has_made: { Self → List LineEvent → ℕ → Self → Type 0 };
 
-    /// What it tells of the event behind so many.
+    /// What it returns of the event after the first so many.
     ghost tells: { Self → List LineEvent → ℕ → TracedEvent → Type 0 };
 
-    /// What is so where it does not make that event, in this line and for this cause.
+    /// What is so if it does not execute that event, in this line and for this cause.
     ghost stops: { Self → List LineEvent → ℕ → ℕ × Self.Fault → Type 0 };
 
-    /// Makes the next event, which leads to a moment.
+    /// Executes the next event, which leads to the moment `moment`. The inner error is why the event is refused; the outer
+    /// one that an allocation failed.
     fn make(
         &mut self,
         next: LineEvent,
@@ -39,8 +40,9 @@ pub trait Runner {
             (λ cause. stops there.first there.events there.behind (next.line, cause))) };
 }
 
-/// Makes the events of the lines, the first of which has the number `first`, and tells the listener of them, one after another,
-/// up to the first that is not made, whose line and cause it answers.
+/// Executes the events of `lines`, the first of which has the number `first`, and passes what each did to `listener`, up to
+/// the first that `runner` refuses. Returns the line and the cause of that one, or `None`. `lines` must have at most
+/// 1,000,000 events. `AllocError` if an allocation of runner or listener fails.
 pub fn run_lines<R: Runner, L: Listener>(
     runner: &mut R,
     listener: &mut L,

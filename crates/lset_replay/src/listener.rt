@@ -10,7 +10,7 @@ pub trait Listener {
     /// What becomes of a listener that hears of just these events.
     ghost has_heard: { Self → List TracedEvent → Self → Type 0 };
 
-    /// Hears of the next event, which has this number, counted from 1. An error is want of memory.
+    /// Takes the next event; `number` is its number, counted from 1. `AllocError` if an allocation fails.
     fn hear(&mut self, number: u32, event: TracedEvent) -> Result<(), AllocError>
         ensures { OnOk result ((first : Self) (earlier : List TracedEvent) → number ≡ length earlier + 1
             → has_heard first earlier self.old → has_heard first (earlier ++ event ∷ []) self.new) };

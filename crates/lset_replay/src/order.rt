@@ -6,7 +6,7 @@ use crate::places::Linearized;
 use lset_words::{Placed, Point};
 use std::alloc::{AllocError, Global};
 
-/// A call that stands, and its rank: the lesser the earlier.
+/// A call of an order, and its rank: the order goes by rank.
 #[derive(Clone, Copy)]
 pub struct Ranked {
     pub rank: u32,
@@ -39,7 +39,7 @@ impl Ranked {
     }
 }
 
-/// An order, and for each of its places the point.
+/// An order of calls, and for each of its places the linearization point.
 #[derive(Drop)]
 pub struct Ordered {
     pub order: Vec<Placed>,
@@ -81,8 +81,8 @@ fn points_of(alloc: Global, ranked: &[Ranked]) -> Result<Vec<Point>, AllocError>
     Ok(points)
 }
 
-/// The order of calls with these places: moment after moment, and at one moment the change first, then the
-/// others by their numbers; and its points.
+/// Returns the order of calls with these linearization points: by moment, and at one moment the change first, then the
+/// others by their numbers; and the points. Allocates; `AllocError` if that fails.
 pub fn in_order(alloc: Global, places: &[Option<Linearized>]) -> Result<Ordered, AllocError>
     requires few { length places.now ≤ MOST_EVENTS }
     requires inside { StandUpTo MOST_EVENTS places.now }

@@ -3,7 +3,7 @@ ghost use Rattle.lset_replay.specs.Trace.{needs_key, found_in, changed_at, read_
 
 use lset_words::{Call, Reply};
 
-/// A call under way: its number, and the moment at which it began.
+/// A pending call: its number, and the moment at which it began.
 #[derive(Clone, Copy)]
 pub struct OpenCall {
     pub number: u32,
@@ -11,8 +11,8 @@ pub struct OpenCall {
     pub begun: u32,
 }
 
-/// Whether this reply of a call that changes nothing fits where the call's key is in the set, or else where it is
-/// not.
+/// Whether this reply of a call that changes nothing is correct if the call's key is in the set (`true`), or if it is not
+/// (`false`).
 pub fn needs_key(call: Call, reply: Reply) -> bool
     ensures { result ≡ needs_key call reply }
 {
@@ -23,7 +23,7 @@ pub fn needs_key(call: Call, reply: Reply) -> bool
     }
 }
 
-/// The key that a `ceiling` answers, or that there is none.
+/// Returns the key that a `ceiling` replied, `None` if it replied that there is none.
 pub fn found_in(reply: Reply) -> Option<u32>
     ensures { result ≡ found_in reply }
 {
@@ -33,7 +33,7 @@ pub fn found_in(reply: Reply) -> Option<u32>
     }
 }
 
-/// Where a call stands in the order: its moment, its reply there, and whether it changes the set there.
+/// The linearization point of a call, and its reply there: the moment, the reply, and whether it changes the set.
 #[derive(Clone, Copy)]
 pub struct Linearized {
     pub moment: u32,
@@ -42,7 +42,7 @@ pub struct Linearized {
 }
 
 impl Linearized {
-    /// The place of a call that changes the set at a moment.
+    /// Returns the linearization point of a call that changes the set at a moment; its reply is `True`.
     pub fn changed(moment: u32) -> Linearized
         ensures { result ≡ changed_at moment }
     {
@@ -53,7 +53,8 @@ impl Linearized {
         }
     }
 
-    /// The place of a call that changes nothing, where there is a moment that its reply fits.
+    /// Returns the linearization point of a call that changes nothing, at the moment at which its reply is correct; `None`
+    /// if there is no such moment.
     pub fn read(moment: Option<u32>, reply: Reply) -> Option<Linearized>
         ensures { result ≡ read_at moment reply }
     {

@@ -28,8 +28,8 @@ use lset_steps::{Event, Told};
 use lset_words::{Call, Key, Reply};
 use std::alloc::{AllocError, Global};
 
-/// The history of a run so far, and what its calls need for their places: the call under way of each
-/// thread, the place of each call that has one, and when keys were put in and taken out.
+/// The history of a run so far, and what the linearization points of its calls depend on: the pending call of each thread,
+/// the point of each call that has one, and when keys were added and removed.
 #[derive(Drop)]
 pub struct Recorder {
     pub history: History,
@@ -39,7 +39,8 @@ pub struct Recorder {
 }
 
 impl Recorder {
-    /// Before any event of a run that opens with these keys, which rise strictly.
+    /// Returns the recorder before any event of a run that opens with these keys, which must be in strictly increasing
+    /// order. Allocates; `AllocError` if that fails.
     pub fn new(
         alloc: Global,
         threads: u32,
@@ -71,7 +72,8 @@ impl Recorder {
         }
     }
 
-    /// The least moment of an open call, up to a last one, that this reply fits, where the call changes nothing.
+    /// Returns the first moment of a pending call, up to `last`, at which this reply is correct, if the call changes
+    /// nothing; `None` if there is none.
     pub fn fit(&self, made: OpenCall, reply: Reply, last: u32) -> Option<u32>
         requires { made.begun ≤ last }
         ensures { result ≡ fit (moments_of self.now.changes) made reply last }
@@ -175,7 +177,7 @@ impl Recorder {
         self.under_way[thread as usize] = None;
     }
 
-    /// Follows the event that leads to a moment, and what it told.
+    /// Records an event that led to a moment, and what it did. May allocate.
     #[inline(always)]
     pub fn follow(&mut self, event: Event, told: Told, moment: u32) -> Result<(), AllocError>
         requires { MayRecord self.old moment event told }

@@ -25,23 +25,27 @@ fn refusal(cause: StepFault, line: u64) -> ReplayFault
     }
 }
 
-/// Replays a schedule on the list of its kind: its history, an order that explains it, and the keys left.
+/// Executes a schedule on the list of its kind, and returns the history of the run, a linearization of it, and the remaining
+/// keys.
 ///
-/// `schedule` is within its limits, as `read_schedule` gives it: 1 to 64 threads, a quota of 0 to 16,384, at most 1,048,576
-/// opening keys, which rise strictly, and at most 1,000,000 events. Where its version has words for its calls and opening
-/// keys, the report is of the same version and has words for all it tells, so that `write_report` takes it.
+/// `schedule` must be within the limits, as every schedule from `read_schedule` is: 1 to 64 threads, a quota of 0 to 16,384,
+/// at most 1,048,576 opening keys in strictly increasing order, and at most 1,000,000 events. If its version has its calls
+/// and opening keys, `write_report` takes the report, which has the same version.
 ///
-/// A call that changed the set stands in the order at the event that did, also while it is open. Each other ended call
-/// stands at its least moment that its reply fits. (Herlihy and Wing's linearizability; the schedules are this project's
-/// own.)
+/// A call that changed the set is placed at the event of its change, even if it is pending. Any other completed call is
+/// placed at the first moment of the call at which its reply is correct. (Herlihy and Wing's linearizability.)
 ///
-/// The first event that is not enabled is refused, with the number of its line:
+///     let schedule = read_schedule(alloc, text.as_bytes())?; // as in crates/first_program
+///     let report = replay(alloc, &schedule)?;
 ///
+/// # Errors
+///
+/// For the first event that is not enabled, with the number of its line:
 /// - `NoThread`: there is no such thread;
-/// - `Busy`: the thread begins a call and has one open;
-/// - `Idle`: the thread makes a step and has no call open.
+/// - `Busy`: the thread begins a call while it has one pending;
+/// - `Idle`: the thread makes a step while it has no call pending.
 ///
-/// `Memory` stands where a growth was refused.
+/// `Memory`: an allocation failed. Does not block.
 pub fn replay(alloc: Global, schedule: &Schedule) -> Result<Report, ReplayFault>
     requires { IsInLimits (view schedule.now) }
     ensures replays { Replays (table_of schedule.now.kind) (view schedule.now) result }
@@ -52,10 +56,10 @@ pub fn replay(alloc: Global, schedule: &Schedule) -> Result<Report, ReplayFault>
     Ok(placed.report)
 }
 
-/// Replays a schedule as `replay` does, with the same report or fault, and tells for each place of the order the
-/// moment at which its call stands and whether it changes the set there. Each point lies in the bar of its call: from its
-/// beginning to its end, or to the last moment of the run where it is open. The schedule is within its limits, as
-/// what `read_schedule` gives. (Herlihy and Wing's linearization points.)
+/// Executes a schedule as `replay` does, with the same report or error, and returns for each place of the order the
+/// linearization point: the moment at which the call takes effect, and whether it changes the set there. Each point is in
+/// the bar of its call: from its begin to its end, or to the last moment of the run if it is pending. `schedule` must be
+/// within the limits, as every schedule from `read_schedule` is. Allocates. (Herlihy and Wing's linearization points.)
 pub fn replay_with_points(alloc: Global, schedule: &Schedule) -> Result<PlacedReport, ReplayFault>
     requires { IsInLimits (view schedule.now) }
     ensures replays { ReplaysWithPoints (table_of schedule.now.kind) (view schedule.now) result }

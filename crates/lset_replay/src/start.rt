@@ -11,7 +11,7 @@ use lset_steps::{Machine, World};
 use lset_words::layout_opening;
 use std::alloc::{AllocError, Global};
 
-/// The world and the recorder before any event of a schedule.
+/// Returns the world and the recorder before any event of a schedule. Allocates.
 pub fn start_of<M: Machine>(
     alloc: Global,
     schedule: &Schedule,

@@ -2,8 +2,8 @@ use lset_steps::{Action, ChainKey, Local, StepFault};
 use lset_words::{Call, Key, Kind, Reply};
 use std::fmt;
 
-/// What an event of a run did: a thread began a call, which has this number in the history, or made one access and saw this value
-/// (of a store, the value stored; of an exchange, what the word held before).
+/// What an event of a run did. `Begin`: a thread began a call, which has this number in the history. `Access`: a thread made
+/// one access and saw this value; of a store it is the value stored, of an exchange the value that the word held before.
 #[derive(Clone, Copy)]
 pub enum Deed {
     Begin(Call, u32),
@@ -36,7 +36,7 @@ fn print_access<W: fmt::Write>(
         .finish_non_exhaustive()
 }
 
-/// The end of a call: its number in the history, its reply, and the moment at which it stands in the order.
+/// The end of a call: its number in the history, its reply, and the moment at which it takes effect.
 #[derive(Clone, Copy, Debug, PartialEq, Eq)]
 pub struct CallEnd {
     pub call: u32,
@@ -44,9 +44,9 @@ pub struct CallEnd {
     pub moment: u32,
 }
 
-/// An event of a run, and what it did: the number of its line in the schedule's text, its thread and what the thread held before
-/// and after, the key that it put in (`true`) or took out (`false`), the end of the call where it ended one, and the
-/// chain after it, where chains are asked for and the event changed it.
+/// An event of a run: the number of its line in the schedule's text, its thread, what it did, the thread's state before and
+/// after, the key that it added (`true`) or removed (`false`), if it changed the set, the end of the call, if it ended one,
+/// and the chain after it, if chains are asked for and the event changed it.
 #[derive(Drop)]
 pub struct TracedEvent {
     pub line: u64,
@@ -74,8 +74,8 @@ impl fmt::Debug for TracedEvent {
     }
 }
 
-/// The events of a schedule, whose set opens with the keys `opening`, one after another, up to the first that is not enabled;
-/// and of that one, the number of its line and the first cause.
+/// The events of a schedule whose set opens with the keys `opening`, one after another, up to the first that is not enabled;
+/// and of that one the number of its line and the first cause.
 #[derive(Debug, Drop)]
 pub struct Trace {
     pub kind: Kind,

@@ -31,7 +31,7 @@ use lset_steps::{Action, ChainKey, Event, Local, Machine, StepFault, World};
 use lset_words::Reply;
 use std::alloc::{AllocError, Global};
 
-/// The thread of an event.
+/// Returns the thread of an event.
 pub fn thread_of(event: Event) -> u32
     ensures { result ≡ thread_of event }
 {
@@ -59,7 +59,7 @@ fn look<M: Machine>(world: &World<M>, recorder: &Recorder, event: Event) -> Opti
     Some((world.holds(thread_of(event))?, deed))
 }
 
-/// The number of the call that a thread has open.
+/// Returns the number of a thread's pending call.
 pub fn open_number(recorder: &Recorder, thread: u32) -> Option<u32>
     ensures { result ≡ open_number_of (open_call_at recorder.now.under_way.items thread) }
 {
@@ -67,7 +67,7 @@ pub fn open_number(recorder: &Recorder, thread: u32) -> Option<u32>
     Some(open.number)
 }
 
-/// The end of the call with a number, where there is an answer.
+/// Returns the end of the call with a number, if it has a reply.
 pub fn call_end(recorder: &Recorder, number: Option<u32>, answer: Option<Reply>) -> Option<CallEnd>
     ensures { result ≡ end_with answer number recorder.now.places.items }
 {
@@ -101,7 +101,7 @@ fn is_node_word(word: u64) -> bool
     word > 2 && word % 3 != 2
 }
 
-/// Whether a deed writes the key or the link of a node: any other leaves the chain as it was.
+/// Whether an event writes the key or the link of a node; any other leaves the chain as it was.
 pub fn writes_node(deed: Deed) -> bool
     ensures { result ≡ writes_node deed }
 {
@@ -112,7 +112,7 @@ pub fn writes_node(deed: Deed) -> bool
     }
 }
 
-/// The chain of the world after a deed, where chains are asked for and it is another than the one that is kept, in whose
+/// The chain of the world after an event, if chains are asked for and it differs from the one that is kept, in whose
 /// place it then comes.
 fn changed_chain<M: Machine>(
     alloc: Global,
@@ -137,7 +137,7 @@ fn changed_chain<M: Machine>(
     Ok(Some(chain))
 }
 
-/// What a trace has come to: the world, its recorder, and the chain that was told last, where chains are told.
+/// The state of a trace: the world, its recorder, and the chain that was passed on last, if chains are asked for.
 #[derive(Drop)]
 struct Tracer<M: Machine> {
     alloc: Global,
@@ -148,7 +148,7 @@ struct Tracer<M: Machine> {
 }
 
 impl<M: Machine> Tracer<M> {
-    /// Makes an event in the world, follows it to the moment, and tells it.
+    /// Executes an event in the world, records it at the moment, and returns what it did.
     fn trace_event(
         &mut self,
         next: LineEvent,
@@ -262,9 +262,10 @@ impl<L: Listener + Drop> Task for Tracing<'_, L> {
     }
 }
 
-/// Tells a listener of the events that `trace` has of a schedule, one after another, and gives it back; and of the first
-/// event that is not enabled the number of its line and the first cause. The schedule is within its limits, as what
-/// `read_schedule` gives. It fails only where memory was refused, also by the listener. (This project's own.)
+/// Passes the events that `trace` returns to a listener, one after another. Returns the listener, and of the first event
+/// that is not enabled the number of its line and the first cause. `schedule` must be within the limits, as every schedule
+/// from `read_schedule` is. With `chains`, each event that changed the chain has the chain after it. `AllocError` if an
+/// allocation fails, also one of the listener.
 pub fn trace_to<L: Listener + Drop>(
     alloc: Global,
     schedule: &Schedule,
@@ -300,15 +301,15 @@ impl Listener for Events {
     }
 }
 
-/// Tells the events of a schedule on the list of its kind, one after another, up to the first that is not enabled.
+/// Returns the events of a schedule on the list of its kind, one after another, up to the first that is not enabled; and of
+/// that one the number of its line and the first cause.
 ///
-/// Of each it tells what it did, what its thread held before and after, the change that it made, and the call that it
-/// ended, with the moment at which that call stands in the order of the schedule's report. `schedule` is within its limits,
-/// as `read_schedule` gives it.
+/// Of each event it has what it did, the state of its thread before and after, the change that it made, and the call that it
+/// ended, with the moment at which that call takes effect in the order of the schedule's report. `schedule` must be within
+/// the limits, as every schedule from `read_schedule` is.
 ///
-/// With `chains`, each event that changed the chain or a mark in it has the chain after it. That takes a walk along the
-/// chain for each event that wrote the key or the link of a node. It fails only where memory was refused. (This project's
-/// own.)
+/// With `chains`, each event that changed the chain or a mark in it has the chain after it; that costs a walk along the
+/// chain for each event that writes the key or the link of a node. Allocates each event; `AllocError` if that fails.
 pub fn trace(alloc: Global, schedule: &Schedule, chains: bool) -> Result<Trace, AllocError>
     requires { IsSchedule (view schedule.now) }
     ensures { IfOk result (λ t. IsTraceOf (table_of schedule.now.kind) (view schedule.now) chains t) }

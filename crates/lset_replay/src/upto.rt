@@ -24,8 +24,8 @@ use lset_steps::laws::{has_account, listed_content};
 use lset_steps::{Machine, StepFault, World};
 use std::alloc::{AllocError, Global};
 
-/// The report of the events of a schedule before the first that is not enabled, or of all, with its points; how many events those
-/// are; and of the one that is not enabled the number of its line and the first cause.
+/// The report of a prefix of a schedule's events, with its linearization points: of the events before the first that is not
+/// enabled, or of all. `events` is their number, `refused` the line of the event that is not enabled, and the first cause.
 #[derive(Drop)]
 pub struct FrontReport {
     pub placed: PlacedReport,
@@ -136,11 +136,11 @@ impl Task for Replaying<'_> {
     }
 }
 
-/// Replays the events of a schedule on the list of its kind, one after another, up to the first that is not enabled: the report of
-/// just the events before it, with the points of its order, as `replay_with_points` tells them of a whole schedule; how many
-/// events those are; and of the one that is not enabled the number of its line and the first cause (`NoThread`, `Busy` or
-/// `Idle`). The schedule is within its limits, as what `read_schedule` gives. It fails only where memory was refused.
-/// (Herlihy and Wing's linearization points.)
+/// Executes the events of a schedule on the list of its kind, up to the first that is not enabled. Returns the report of the
+/// events before it, with the linearization points that `replay_with_points` returns of a whole schedule; their number; and
+/// of the event that is not enabled the number of its line and the first cause (`NoThread`, `Busy` or `Idle`). `schedule`
+/// must be within the limits, as every schedule from `read_schedule` is. Allocates; `AllocError` if that fails. (Herlihy and
+/// Wing's linearization points.)
 pub fn replay_upto(alloc: Global, schedule: &Schedule) -> Result<FrontReport, AllocError>
     requires { IsInLimits (view schedule.now) }
     ensures front { IfOk result (λ f. ReplaysUpto (table_of schedule.now.kind) (view schedule.now) f) }

@@ -293,7 +293,7 @@ ReportsReadBack = (r : ReportValue) (bytes : List ℕ)
     → (IsReport r → reading (report_text r) ≡ Ok r)
     × (reading bytes ≡ Ok r → IsReport r × (bytes ≡ report_text r))
 
--- ---- want of memory
+-- ---- failed allocations
 
 abbrev pub line_number : ReportFault → ℕ
 line_number e = e.line
@@ -313,7 +313,7 @@ pub record RunsOut (first : ℕ) (parts : List (List ℕ)) (read : Result Report
   -- and neither it nor a line above it has a fault
   pub good : IsFaultlessTo line_number e.line read
 
--- what a function returned, seen by `view`, is what reading the bytes gives, or want of memory
+-- what a function returned, seen by `view`, is what reading the bytes gives, or that an allocation failed
 abbrev pub Gives : {X : Type 0} → (X → ReportValue) → Result X ReportFault → List ℕ → Type 0
 Gives view (Ok x) bytes = reading bytes ≡ Ok (view x)
 Gives view (Err e) bytes = (reading bytes ≡ Err e) ⊎ RunsOut 1 (cut_at 10 bytes) (reading bytes) e

@@ -40,7 +40,7 @@ const LAST_OF_HEADER: u64 = 4;
 /// The first line after the header.
 const FIRST_LINE: u64 = LAST_OF_HEADER + 1;
 
-/// What a text has told up to some line.
+/// What was read of a report up to some line.
 #[derive(Drop)]
 pub struct Reader {
     pub version: Version,
@@ -217,21 +217,19 @@ fn report(alloc: Global, bytes: &[u8]) -> Result<Report, ReportFault>
     Ok(reader.into_report())
 }
 
-/// The report that the bytes are the text of, or the first fault of the bytes.
+/// Reads a report, of either version, from its bytes. Allocates.
 ///
-/// A fault is its line, and the first check of that line that fails, in the order of `ReportCause`:
+/// Line 1 decides the version. In version 2 lines of opening keys come before all calls, in strictly increasing order; in
+/// version 1 a line with `opening`, `ceiling`, `nothing` or `at-5` is refused as `Line`. Whether the order explains the
+/// history and leaves the keys is not looked at here, but by `check_order`. With n bytes it takes about `n log n` steps,
+/// whatever the numbers are.
 ///
-/// - `NotEnded` comes before all others;
-/// - a header line that is due where no byte is left has the fault of that header line;
-/// - `Memory` stands in place of any other answer, where a growth was refused. Its line is the last that was read, which is
-///   not `end` and has no other fault, and neither has a line above it.
+/// # Errors
 ///
-/// The first line alone tells the version, and the other lines have its words: in version 1 a line with `opening`,
-/// `ceiling`, `nothing` or `at-5` has the fault `Line`. In version 2 the lines of opening keys come before all calls, and
-/// they rise.
-///
-/// Whether order and keys explain the history is for `check_order`. With n bytes it takes about `n log n` steps, whatever
-/// the numbers are. (This project's own format.)
+/// The first line that is wrong, and the first check that it fails. `NotEnded` comes before all others; the others come in
+/// the order of `ReportCause`. If a header line is due and no byte is left, it is the error of that line. `Memory`, in place
+/// of any other answer, if an allocation fails: its line is the last that was read, which is not `end` and has no other
+/// error, and neither has a line above it.
 pub fn read_report(alloc: Global, bytes: &[u8]) -> Result<Report, ReportFault>
     // What is read is a report with a history, and the bytes are its text.
     ensures found { IfOk result (λ r. IsReport (view r) × (bytes.now ≡ report_text (view r))) }
@@ -246,7 +244,7 @@ pub fn read_report(alloc: Global, bytes: &[u8]) -> Result<Report, ReportFault>
     report(alloc, bytes)
 }
 
-/// A text is read as the one report that it is the text of, and the text of every report is read.
+/// Lemma: a file is read as the one report whose text it is, and the text of every report is read.
 pub fn reports_read_back()
     ensures { ReportsReadBack }
 {}

@@ -30,11 +30,11 @@ pub enum ReportCause {
     History,
     /// The line has bytes and no newline, or the text has no byte left before the line `end`.
     NotEnded,
-    /// There was no memory for what stands up to and with this line.
+    /// An allocation for this line, or for one above, failed.
     Memory,
 }
 
-/// The first fault of a report's text, and its line, counted from 1.
+/// The first error of a report: its line, counted from 1, and the cause.
 #[derive(Clone, Copy, Debug, PartialEq, Eq, Error)]
 #[error("line {line}: {cause:?}")]
 pub struct ReportFault {

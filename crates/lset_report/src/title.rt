@@ -10,7 +10,7 @@ const TITLE_ONE: &str = "listset-report 1";
 /// its replies.
 const TITLE_TWO: &str = "listset-report 2";
 
-/// The first line of a report's text of a version.
+/// Returns line 1 of a report of a version.
 pub fn title(version: Version) -> &'static str
     ensures { result.now ≡ title version }
 {

@@ -1,4 +1,4 @@
--- Reading what comes after a header line by line, as the loop does: which line a fault stands in, and that want of memory is none.
+-- Reading what comes after a header line by line, as the loop does: which line an error is in, and that a failed allocation is none.
 use Rattle.std.proofs.Common.{◌≡◌, ℕ, ◌+◌, inl, inr, Bool, true, false, cond, ltb, List, [], ◌∷◌, length}
 use Rattle.std.proofs.Common.{Option, Some, None, Result, Ok, Err, refl, ap, ◌∙◌, arith, codes}
 use Rattle.std.specs.Prelude.{◌≢◌, IfErr, MatchOption}
@@ -48,7 +48,7 @@ not_due text One ls line not = first_as event One causes text.kinds (cut_at 32 l
 not_due text Two [] line not = absurd (not refl refl)
 not_due text Two (l ∷ ls) line not = first_as event Two causes text.kinds (cut_at 32 line)
 
--- ---- no check fails by want of memory
+-- ---- no check fails by a failed allocation
 
 either_fails : {A : Type 0} (b : Bool) (r s : Result A Cause) → (r ≡ Err Memory → ⊥) → (s ≡ Err Memory → ⊥)
     → cond b r s ≡ Err Memory → ⊥

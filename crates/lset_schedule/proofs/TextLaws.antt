@@ -86,7 +86,7 @@ reads_text p is =
 
 -- ---- as a reader's clauses
 
--- a cause that cannot be another one is want of memory
+-- a cause that cannot be another one is a failed allocation
 is_memory : (c : Cause) → (c ≢ Memory → ⊥) → c ≡ Memory
 is_memory Memory h = refl
 is_memory c h = absurd (h (λ e. cc))

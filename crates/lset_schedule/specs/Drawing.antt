@@ -1,4 +1,4 @@
--- The lines that a seed stands for: the turns of the generator, one after another. (This project's own format.)
+-- The lines that a seed stands for: the turns of the generator, one after another.
 use Rattle.std.specs.Prelude.{◌≡◌, ℕ, zero, suc, ◌-◌, ◌%◌, ◌<◌, ◌⊎◌, ◌==◌, if◌then◌else◌, Option, Some, None, List, [], ◌∷◌, ◌++◌}
 use Rattle.std.specs.Prelude.{length}
 use Rattle.rand_core.specs.Stream.{Stream, next_u32}

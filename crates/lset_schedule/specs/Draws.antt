@@ -1,4 +1,4 @@
--- Calls drawn from a generator of numbers, and the programs that a seed stands for. (This project's own format.)
+-- Calls drawn from a generator of numbers, and the programs that a seed stands for.
 use Rattle.std.specs.Prelude.{ℕ, zero, suc, ◌+◌, ◌%◌, ◌^◌, ◌==◌, List, [], ◌∷◌, map, if◌then◌else◌}
 use Rattle.std.specs.List.{range_with_len}
 use Rattle.rand_core.specs.Pcg32Seed.{pcg32_seed}

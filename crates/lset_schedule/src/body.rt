@@ -31,22 +31,22 @@ use lset_text::{Header, Version, cut, is_above, number, read_header};
 use lset_words::MOST_OPENING;
 use std::alloc::Global;
 
-/// A line of events, as the texts of one title have it.
+/// A line of events of a schedule or a draft.
 pub trait EventLine: Copy {
     /// Its kinds, and for how many events a line of each counts.
     ghost lines: { EventLines Self };
 
-    /// What a line of a text of this version tells, without its newline. `Event` where the line has not the pieces and
-    /// words of one, `Number` where a number is none, or outside its limits.
+    /// Reads a line of a file of this version, without its newline. `Event` if the line does not have the fields and names
+    /// of a line of events, `Number` if a number is none or outside its limits.
     fn read(version: Version, line: &[u8]) -> Result<Self, Cause>
         ensures { result ≡ line_in version causes lines.kinds line.now };
 
-    /// For how many events the line counts.
+    /// Returns how many events the line counts as.
     fn count(self) -> u32
         ensures { result ≡ lines.count self };
 }
 
-/// What a text tells: its header, opening keys, and then events.
+/// What a schedule or draft has: its header, opening keys, and then lines of events.
 #[derive(Drop)]
 pub struct Body<L> {
     pub header: Header,
@@ -83,7 +83,7 @@ impl<L: EventLine> Body<L> {
         }
     }
 
-    /// The piece of the key in a line, where the line may be one of an opening key and has its form.
+    /// The field of the key in a line, if the line may be one of an opening key and has its form.
     fn key_due<'a>(&self, version: Version, line: &'a [u8]) -> Option<&'a [u8]>
         ensures { MatchOption result
             (line_in version causes (kinds_after L.lines version self.now.lines.items) line.now
@@ -145,7 +145,7 @@ impl<L: EventLine> Body<L> {
     }
 }
 
-/// What a text of this version tells with the lines after this header.
+/// What a file of this version has in the lines after this header.
 fn read_body<L: EventLine>(
     alloc: Global,
     version: Version,
@@ -172,7 +172,7 @@ fn read_body<L: EventLine>(
     Ok(body)
 }
 
-/// What a text of this version with this title tells, or its first fault.
+/// Reads a file of this version with this title. Returns what it has, or its first error. Allocates.
 #[tactic(auto, unfolding(lset_text::specs::Texts::text_from))]
 pub fn read_text<L: EventLine>(
     alloc: Global,

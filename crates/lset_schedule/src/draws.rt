@@ -72,7 +72,8 @@ fn program(
     draw_calls(alloc, calls, keys, &mut rng)
 }
 
-/// The layout of a set that opens empty, from which calls of keys below `keys` are drawn.
+/// Returns the layout of a set that opens empty, of which calls with keys below `keys` are drawn; or why there is none, as
+/// `generate` and `programs` do.
 pub fn layout_to_draw(threads: u32, quota: u32, keys: u32) -> Result<Layout, GenFault>
     ensures sizes { IfOk result (λ l. l ≡ record { threads = threads; quota = quota; opening = 0 }) }
     ensures accepted { IfOk result (λ _. IsAccepted threads quota keys) }
@@ -87,12 +88,14 @@ pub fn layout_to_draw(threads: u32, quota: u32, keys: u32) -> Result<Layout, Gen
     }
 }
 
-/// A program of `calls` calls for each of `threads` threads, 1 to 64. Each thread has a generator of its
-/// own, made from the wrapping sum of `seed` and the thread; each call draws two numbers from it, which
-/// choose the kind of the call and its key, below `keys`. (This project's own format.)
+/// Draws a program of `calls` calls for each of `threads` threads, 1 to 64; the same arguments give the same programs. Each
+/// thread has a generator, seeded by the wrapping sum of `seed` and the thread. Each call draws two numbers from it, which
+/// choose the kind of the call and its key, below `keys`. Allocates.
 ///
-/// `GenFault::Threads` where the threads are outside their limits, else `GenFault::Keys` where `keys` is 0,
-/// and `GenFault::Memory` where memory was refused; never `GenFault::Quota`.
+/// # Errors
+///
+/// The first that applies: `Threads` if `threads` is outside its limits, `Keys` if `keys` is 0, `Memory` if an allocation
+/// fails. It never returns `Quota`.
 pub fn programs(
     alloc: Global,
     threads: u32,

@@ -7,7 +7,7 @@ use lset_words::{MOST_QUOTA, MOST_THREADS};
 use std::alloc::{AllocError, AllocFailed};
 use thiserror::Error;
 
-/// What is wrong with a line.
+/// What is wrong with a line of a schedule.
 #[derive(Clone, Copy, Debug, PartialEq, Eq)]
 pub enum Cause {
     /// The first line is neither `listset-schedule 1` nor `listset-schedule 2`.
@@ -33,7 +33,7 @@ pub enum Cause {
     Memory,
 }
 
-/// The first fault of a text, and its line, counted from 1.
+/// The first error of a schedule: its line, counted from 1, and the cause.
 #[derive(Clone, Copy, Debug, PartialEq, Eq, Error)]
 #[error("line {line}: {cause:?}")]
 pub struct ScheduleFault {
@@ -74,7 +74,7 @@ impl From<HeaderFault> for ScheduleFault {
     }
 }
 
-/// Why there is no schedule, or are no programs, of the numbers asked for: the first cause that applies.
+/// Why `generate` or `programs` refuses its arguments: the first of these that applies.
 #[derive(Clone, Copy, Debug, PartialEq, Eq, Error)]
 pub enum GenFault {
     /// The threads are none, or more than 64.

@@ -61,7 +61,7 @@ fn is_over<M: Machine>(world: &World<M>, threads: u32, events: usize, left: u32)
     left == 0 && !has_open_call(world, threads)
 }
 
-/// The event of a thread's turn, where `left` calls are left to begin.
+/// The event of a thread's turn, if `left` calls are left to begin.
 fn next_event<M: Machine, R: Rng>(
     world: &World<M>,
     thread: u32,
@@ -125,15 +125,18 @@ fn generated_lines<M: Machine, R: Rng>(
     Ok(lines)
 }
 
-/// A random schedule of at most 10,000 events, one a line, that `replay` refuses for nothing but want of memory.
+/// Draws a random schedule of at most 10,000 events, one a line; the same arguments give the same schedule. It has the
+/// machine's kind and version 1, and `replay` refuses none of its events.
 ///
-/// It is of the machine's kind and of the first version, for 1 to 64 `threads` with a `quota` of 0 to 16,384 slots. Each
-/// draw is a number from one generator, made from `seed`. In each of at most 100,000 turns a draw chooses a thread: one
-/// with an open call goes a step; else, while fewer than `calls` calls were begun, two draws choose the kind of its call
-/// and its key, below `keys`. The turns end where no call is open and none is left. (This project's own format.)
+/// `threads` must be 1 to 64, `quota` 0 to 16,384, `keys` at least 1. All draws come from one generator, seeded by `seed`.
+/// In each of at most 100,000 turns a draw chooses a thread. If it has a pending call, it makes a step; else, while fewer
+/// than `calls` calls have begun, two draws choose the kind of its call and its key, below `keys`. The turns end when no
+/// call is pending and none remains. Allocates.
 ///
-/// The first that holds: `GenFault::Threads` or `Quota`, outside its limits; `Keys`, where `keys` is 0. `Memory` stands
-/// where memory was refused.
+/// # Errors
+///
+/// The first that applies: `Threads` or `Quota` if that is outside its limits, `Keys` if `keys` is 0. `Memory` if an
+/// allocation fails.
 pub fn generate<M: Machine>(
     alloc: Global,
     threads: u32,

@@ -1,5 +1,5 @@
-//! Schedules, which tell which thread begins which call and which thread takes its next steps, and their
-//! text, read, written and drawn at random. (This project's own format.)
+//! Schedules, which say which thread begins which call and which thread makes its next steps, and their text: read, written
+//! and drawn at random.
 #![tactic(auto)]
 
 mod body;
@@ -25,18 +25,17 @@ const TITLE_ONE: &str = "listset-schedule 1";
 /// The first line of a schedule's text, in the second version: it has the call `ceiling` too.
 const TITLE_TWO: &str = "listset-schedule 2";
 
-/// The first line after the header of a schedule's text, counted from 1.
+/// The first line after the header of a schedule, counted from 1.
 pub const FIRST_LINE: u64 = 5;
 
-/// The most events of a schedule, the steps of a `go` line counted one by one. (This project's own limit, as
-/// are those below.)
+/// The maximum number of events of a schedule, with the steps of a `go` line counted one by one.
 pub const MOST_EVENTS: u32 = 1_000_000;
 
-/// The most steps of one `go` line.
+/// The maximum number of steps of one `go` line.
 pub const MOST_STEPS: u32 = 10_000;
 
-/// The most events of a generated schedule.
+/// The maximum number of events of a schedule that `generate` draws.
 pub const MOST_GENERATED: u32 = 10_000;
 
-/// The most turns of the generator of schedules.
+/// The maximum number of turns of `generate`.
 pub const MOST_TURNS: u32 = 100_000;

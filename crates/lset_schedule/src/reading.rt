@@ -79,7 +79,7 @@ impl EventLine for Line {
     }
 }
 
-/// The version that the first line of a text tells.
+/// The version that line 1 states.
 fn told_version(bytes: &[u8]) -> Version
     ensures { result ≡ version_told (cut_at 10 bytes.now) }
 {
@@ -95,12 +95,19 @@ fn schedule(alloc: Global, bytes: &[u8]) -> Result<Schedule, ScheduleFault>
     Ok(Schedule::of_header(version, body.header, body.opening, body.lines))
 }
 
-/// The schedule that the bytes are the text of, or the first fault of the bytes: its line, and the first
-/// check of that line that fails, in the order of `Cause` but for `NotEnded`, which comes before all others
-/// where a line has bytes and no newline. `Memory` comes last. A header line that is due where no byte is
-/// left has the fault of that header line. The first line alone decides the version: a text of the first
-/// version has no `ceiling` and no opening keys, and their lines are refused with `Event`, as is the line of an opening key
-/// after one of an event.
+/// Reads a schedule, of either version, from its bytes. Allocates.
+///
+/// Line 1 decides the version. A schedule of version 1 has no `ceiling` and no opening keys.
+///
+///     let schedule = read_schedule(alloc, b"listset-schedule 1\nlist coarse\nthreads 1\nquota 1\nbegin 0 add 5\ngo 0 7\n")?;
+///     let report = replay(alloc, &schedule)?; // as in crates/first_program
+///
+/// # Errors
+///
+/// The first line that is wrong, and the first check that it fails. `NotEnded`, if the line has bytes and no newline, comes
+/// before all others; the others come in the order of `Cause`. If a header line is due and no byte is left, it is the error
+/// of that line. Lines that only version 2 has are `Event` in version 1, as is an opening key below an event. `Memory` if an
+/// allocation fails; the line then has no other error.
 #[tactic(auto, using(crate::proofs::TextLaws::found_in, crate::proofs::TextLaws::only_in))]
 pub fn read_schedule(alloc: Global, bytes: &[u8]) -> Result<Schedule, ScheduleFault>
     // What is read is a schedule, and the bytes are its text.
@@ -110,13 +117,13 @@ pub fn read_schedule(alloc: Global, bytes: &[u8]) -> Result<Schedule, ScheduleFa
         → MatchResult result (λ s. view s ≡ p) (λ e. e.cause ≡ Cause.Memory) }
     // Which fault it is.
     ensures exact { Gives view result (reading bytes.now) }
-    // Want of memory is told of a line after the header, where neither it nor a line above has a fault.
+    // `Memory` is returned with a line after the header, if neither it nor a line above has another error.
     ensures memory { IfErr result (λ e. e.cause ≡ Cause.Memory → IsGoodLine bytes.now e.line) }
 {
     schedule(alloc, bytes)
 }
 
-/// A text is read as the one schedule that it is the text of, and the text of every schedule is read.
+/// Lemma: a file is read as the one schedule whose text it is, and the text of every schedule is read.
 pub fn schedules_read_back()
     ensures { SchedulesReadBack }
 {}

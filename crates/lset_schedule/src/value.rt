@@ -5,9 +5,8 @@ use crate::{FIRST_LINE, TITLE_ONE, TITLE_TWO};
 use lset_text::{Header, Version};
 use lset_words::{Call, Kind};
 
-/// A line of a schedule. In `Begin(thread, call)` the thread begins the call; in `Go(thread, steps)` it
-/// takes that many steps, 1 to 10,000. A call may be any; that the text of a schedule's version has it is
-/// asked where the schedule is written.
+/// A line of a schedule. `Begin(thread, call)`: the thread begins the call. `Go(thread, steps)`: the thread makes that many
+/// steps, 1 to 10,000. Any call is allowed here; `write_schedule` requires that the schedule's version has it.
 #[derive(Clone, Copy, Debug, PartialEq, Eq)]
 pub enum Line {
     Begin(u32, Call),
@@ -15,7 +14,7 @@ pub enum Line {
 }
 
 impl Line {
-    /// How many events the line counts for.
+    /// Returns how many events the line counts as: 1, or the steps of a `Go`.
     pub fn event_count(self) -> u32
         ensures { result ≡ event_count self }
     {
@@ -36,10 +35,10 @@ pub(crate) fn title(version: Version) -> &'static str
     }
 }
 
-/// A schedule of at most 1,000,000 events: the version of its text, the kind of list, its threads, 1 to 64, the slots of
-/// each, 0 to 16,384, the keys with which its set opens, at most 1,048,576 and rising strictly, and its lines. The number of
-/// a thread in a line may be any `u32`. A schedule of the first version that is to be written has no opening keys and
-/// begins no `ceiling`, for which the text of that version has no lines.
+/// A schedule of at most 1,000,000 events: the version of its format, the kind of list, its threads, 1 to 64, the slots of
+/// each, 0 to 16,384, the keys with which its set opens, at most 1,048,576 and in strictly increasing order, and its lines.
+/// The thread of a line may be any `u32`. A schedule of version 1 that is to be written must have no opening keys and begin
+/// no `ceiling`, for which that version has no lines.
 #[derive(Debug, Drop)]
 pub struct Schedule {
     pub version: Version,
@@ -51,7 +50,7 @@ pub struct Schedule {
 }
 
 impl Schedule {
-    /// The schedule of this version with what a header tells, these opening keys and these lines.
+    /// The schedule of this version with this header, these opening keys and these lines.
     pub(crate) fn of_header(
         version: Version,
         header: Header,
@@ -70,8 +69,8 @@ impl Schedule {
         }
     }
 
-    /// The number of the line of the first event in the text of this schedule, counted from 1: the lines of the header and
-    /// of the opening keys come before it. In a schedule without events it is the line that an event would have.
+    /// Returns the number of the line of the first event in the schedule's text, counted from 1: the lines of the header and
+    /// of the opening keys come before it. If there are no events, it is the line that one would have.
     pub fn first_event_line(&self) -> u64
         ensures { result ≡ first_event_line (view self.now) }
     {

@@ -38,9 +38,9 @@ fn put_lines(out: &mut String, lines: &[Line]) -> Result<(), AllocError>
     Ok(())
 }
 
-/// The text of a schedule, in its version: the only one that is read as this schedule. The calls that it begins are those of
-/// its version, and in the first it has no opening keys; what `read_schedule` and `generate` give is such. The only error is
-/// want of memory.
+/// Returns the text of a schedule in its version, the only text that is read as this schedule. The version must have the
+/// calls that the schedule begins, and if it is version 1 there must be no opening keys; what `read_schedule` and `generate`
+/// return is such. Allocates; `AllocError` if that fails.
 pub fn write_schedule(alloc: Global, schedule: &Schedule) -> Result<Vec<u8>, AllocError>
     requires { HasWordsOfVersion (view schedule.now) }
     ensures { IfOk result (λ v. v.items ≡ schedule_text (view schedule.now)) }

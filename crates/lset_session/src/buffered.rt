@@ -1,5 +1,5 @@
 //! Sessions whose answers are held back. A session hands each answer to its writer before it makes the next call. Here the
-//! answers wait in 4,096 bytes of room, and leave together: before the session reads again, where there is no more room, and
+//! answers wait in a buffer of 4,096 bytes, and leave together: before the session reads again, when the buffer is full, and
 //! as the session ends. So a client that sends many lines at once costs a few writes, and what it was answered has left
 //! before its next line is waited for.
 ghost use Rattle.std.specs.Prelude.{◌≡◌, ◌≢◌, ◌<◌, ◌≤◌, None, false, Option, List, ℕ};
@@ -13,7 +13,7 @@ use lset_words::SetCalls;
 use std::cell::RefCell;
 use std::sync::Wait;
 
-/// The most bytes of answers that wait. (This project's own limit.)
+/// The maximum number of bytes of answers that wait.
 const ROOM: usize = 4096;
 
 /// Answers that have not left yet, and the writer by which they leave, until a write has failed.
@@ -45,7 +45,7 @@ impl<O: Sink> Buffer<O> {
         }
     }
 
-    /// Lets the answers leave, and tells whether all have left. A write that fails is the last.
+    /// Writes the answers, and returns whether all were written. After a write that fails, it makes no other.
     fn flush(&mut self) -> bool
         ensures whole { IsTrue result → (self.new.len ≡ 0)
             × Appends (O.written self.old.writer) (O.written self.new.writer) (take self.old.len self.old.bytes) }
@@ -89,7 +89,7 @@ impl<O: Sink> Buffer<O> {
     }
 }
 
-/// Lets the answers of the buffer leave, and tells whether all have left.
+/// Writes the answers of the buffer, and returns whether all were written.
 fn flush<O: Sink>(buffer: &RefCell<Buffer<O>>) -> bool {
     match buffer.try_borrow_mut() {
         Ok(mut buffer) => buffer.flush(),
@@ -144,12 +144,12 @@ impl<O: Sink> Sink for Buffered<'_, O> {
     }
 }
 
-/// Holds a session as `session` does, with a reader and a writer of its own, and holds its answers back: up to 4,096 bytes of
-/// them wait, and are handed to `writer` before each read of `reader`, where there is no more room, and as the session ends.
+/// Serves one client as `session` does, and buffers its answers: up to 4,096 bytes of them, which it writes before each read of
+/// `reader`, when the buffer is full, and as the session ends. Neither device may have failed; `seat` must be a seat of `set`.
 ///
-/// Where a write fails the session ends with `WriteFault`, and no write follows. What was written is then a front of the
-/// answers; the calls whose answers waited stay made, and are counted. It may wait as its set, its reader and its writer do,
-/// and takes no memory.
+/// If a write fails, the session ends with `WriteFault`, and no write follows. What was written is then a prefix of the
+/// answers; calls whose answers were not written stay made, and are counted. May block as its set, its reader and its writer
+/// do. Does not allocate.
 pub fn buffered_session<R: Wait, I: Source + Drop, O: Sink + Drop, S: SetCalls>(
     rt: &R,
     reader: I,

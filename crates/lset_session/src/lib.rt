@@ -1,5 +1,5 @@
 //! Sessions: requests in lines and their answers, over any reader and writer and on any set whose calls are made from
-//! seats. (This project's own line protocol.)
+//! seats.
 #![tactic(auto)]
 
 mod buffered;
@@ -12,8 +12,8 @@ pub use devices::{Device, Sink, Source, write_all};
 pub use requests::{Request, read_request};
 pub use sessions::{Ended, Why, session};
 
-/// The most bytes of a line, without its newline.
+/// The maximum length of a line of a session, in bytes without its newline.
 pub const LONGEST_LINE: usize = 64;
 
-/// The most lines of a session.
+/// The maximum number of lines of a session.
 pub const MOST_LINES: u32 = 1_000_000;

@@ -32,7 +32,7 @@ pub enum Why {
     WriteFault,
 }
 
-/// The end of a session, and the calls that it made.
+/// The end of a session: why it ended, and how many calls it made.
 #[derive(Clone, Copy, Debug, PartialEq, Eq)]
 pub struct Ended {
     pub why: Why,
@@ -68,7 +68,7 @@ fn reply_line(reply: Reply) -> ArrayString<14>
     line
 }
 
-/// Answers a request, and tells whether the answer was written whole.
+/// Answers a request, and returns whether the answer was written whole.
 fn answer<R: Wait, W: Sink, S: SetCalls>(
     rt: &R,
     writer: &mut W,
@@ -94,7 +94,7 @@ fn answer<R: Wait, W: Sink, S: SetCalls>(
     }
 }
 
-/// Writes the line after which a session ends so, and tells how it has ended.
+/// Writes the line after which a session ends so, and returns how it has ended.
 fn last_line<W: Sink>(writer: &mut W, text: &[u8], why: Why) -> Why
     requires works { W.has_failed writer.old ≡ false }
     ensures { (whole : Bool) × (result ≡ (if whole then why else Why.WriteFault))
@@ -118,7 +118,7 @@ fn count_of(request: Request) -> u64
     }
 }
 
-/// Answers the line that has ended. `None` where the session goes on.
+/// Answers the line that has ended. `None` if the session continues.
 fn line_in<R: Wait, W: Sink, S: SetCalls>(
     rt: &R,
     writer: &mut W,
@@ -151,7 +151,7 @@ fn line_in<R: Wait, W: Sink, S: SetCalls>(
     None
 }
 
-/// Takes one byte. `None` where the session goes on.
+/// Takes one byte. `None` if the session continues.
 fn byte_in<R: Wait, W: Sink, S: SetCalls>(
     rt: &R,
     writer: &mut W,
@@ -180,7 +180,7 @@ fn byte_in<R: Wait, W: Sink, S: SetCalls>(
     None
 }
 
-/// Takes the bytes of one read. `None` where the session goes on.
+/// Takes the bytes of one read. `None` if the session continues.
 fn bytes_in<R: Wait, W: Sink, S: SetCalls>(
     rt: &R,
     writer: &mut W,
@@ -206,14 +206,21 @@ fn bytes_in<R: Wait, W: Sink, S: SetCalls>(
     None
 }
 
-/// Answers the lines of `reader` on `writer`, and makes their calls on `seat`, which is a seat of `set`.
+/// Reads a client's lines from `reader`, makes their calls from `seat`, which must be a seat of `set`, and writes an answer for
+/// each line to `writer`. Neither device may have failed.
 ///
-/// Requests and answers end with a newline. `ADD k`, `REMOVE k`, `CONTAINS k` and `CEILING k` get `TRUE`, `FALSE`, `FULL`,
-/// `AT x` (the key x) or `NONE` (no key), `QUIT` gets `BYE`, and any other line `BAD`. Each answer is handed to `writer`
-/// whole before the next call is made. It may wait as its set, its reader and its writer do, and takes no memory.
+/// Each line ends with a newline. `ADD k`, `REMOVE k`, `CONTAINS k` and `CEILING k` are answered by `TRUE`, `FALSE`, `FULL`,
+/// `AT x` (the key x) or `NONE` (no key), `QUIT` by `BYE`, and any other line by `BAD`. Each answer is written whole before
+/// the next call is made. `server_tests` has uses of it, in `src/`.
 ///
-/// The session ends with `QUIT`, where no byte is left, with `LONG` as the 65th byte of a line comes, with `LIMIT` after
-/// the 1,000,000th line unless it was `QUIT`, or where a read or a write fails. (This project's own line protocol.)
+/// The session ends with:
+/// - `Quit`: a line was `QUIT`;
+/// - `End`: no byte is left; a rest without a newline is dropped;
+/// - `Long`: a line has more than 64 bytes; it is answered by `LONG`;
+/// - `Limit`: 1,000,000 lines were answered, the last was not `QUIT`, and `LIMIT` was written;
+/// - `ReadFault`, `WriteFault`: a read or a write failed. Calls that were made stay made, and are counted.
+///
+/// May block as its set, its reader and its writer do. Does not allocate.
 pub fn session<R: Wait, I: Source, O: Sink, S: SetCalls>(
     rt: &R,
     reader: &mut I,

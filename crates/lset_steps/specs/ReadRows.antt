@@ -1,5 +1,5 @@
--- The rows of a contains and of a ceiling that take no lock and write nothing (Herlihy and Shavit's wait-free contains, in this
--- project's own rows): 20 and 23 load a link, 21 and 24 the key behind it, and 22 and 25 the mark of the node at which it stops.
+-- The rows of a contains and of a ceiling that take no lock and write nothing (Herlihy and Shavit's wait-free contains):
+-- rows 20 and 23 load a link, 21 and 24 the key behind it, and 22 and 25 the mark of the node at which it stops.
 use Rattle.std.specs.Prelude.{ℕ, ◌/◌, ◌%◌, if◌then◌else◌, Some, None, ◌==◌, nat_lt}
 use Rattle.lset_words.specs.declared.Call.{Call}
 use Rattle.lset_words.specs.declared.Call.TheVariants.{Add, Remove, Contains, Ceiling}

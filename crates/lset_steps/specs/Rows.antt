@@ -1,5 +1,5 @@
 -- What the rows of all tables share: the nodes and words that they name, and what a call does at the first key that is not below
--- its own. (This project's own tables.)
+-- its own.
 use Rattle.std.specs.Prelude.{ℕ, ◌-◌, ◌<◌, ◌≤◌, Bool, if◌then◌else◌, Option, Some, None, ◌==◌, nat_lt}
 use Rattle.lset_words.specs.declared.TheConstants.{MOST_THREADS, MOST_QUOTA, MOST_NODES}
 use Rattle.lset_words.specs.declared.Call.{Call}

@@ -1,4 +1,4 @@
--- [Machine] and [Run]: machines as tables of steps, states, one event, and runs of events. (This project's own tables.)
+-- [Machine] and [Run]: machines as tables of steps, states, one event, and runs of events.
 use Rattle.std.specs.Prelude.{◌≡◌, ◌≢◌, ℕ, ◌<◌, ◌*◌, ◌+◌, ◌-◌, ◌/◌, ◌%◌, nat_lt, Bool, if◌then◌else◌, List, map, length, Option}
 use Rattle.std.specs.Prelude.{None, ◌==◌, slice_index, slice_index_or, slice_set, zero, suc}
 use Rattle.std.specs.List.{range_with_len}

@@ -15,8 +15,8 @@ mod world;
 use lset_words::{Call, Key, Kind, Layout, Reply};
 pub use world::{ChainKey, StepFault, World, opening_words};
 
-/// What a thread holds of its own: its number, its quota and the slots that it has used, the call with
-/// its program counter (0 where none is open) and reply, and the registers. (This project's own table.)
+/// The private state of a thread: its number, its quota and the slots that it has used, its call with the program counter (0
+/// if no call is pending) and the reply, and the registers. One value of the program counter is one row of the list's table.
 #[derive(Clone, Copy)]
 pub struct Local {
     pub thread: u32,
@@ -34,7 +34,7 @@ pub struct Local {
 }
 
 impl Local {
-    /// What thread `t` holds before its first call.
+    /// Returns the state of thread `t`, which must be below the layout's threads, before its first call.
     pub fn idle(layout: &Layout, t: u32) -> Local
         ensures { result ≡ idle layout.now.quota t }
     {
@@ -62,8 +62,8 @@ impl Local {
     }
 }
 
-/// One access of one word: the word's index, then the values. An exchange writes its second value where
-/// the word holds the first.
+/// One atomic access of one 64-bit word: the word's index, then the values. An exchange writes its second value if the word
+/// holds the first.
 #[derive(Clone, Copy)]
 pub enum Action {
     Load(u64),
@@ -71,30 +71,31 @@ pub enum Action {
     Exchange(u64, u64, u64),
 }
 
-/// What a thread holds after a step, and its answer where the step ends the call.
+/// A thread's state after a step, and the reply if the step ends the call.
 #[derive(Clone, Copy)]
 pub struct Fed {
     pub local: Local,
     pub answer: Option<Reply>,
 }
 
-/// An event of a run: a thread begins a call, or makes one atomic step of its open call.
+/// An event of a run: a thread begins a call, or makes one atomic step of its pending call. Threads are numbered from 0.
 #[derive(Clone, Copy, Debug, PartialEq, Eq)]
 pub enum Event {
     Begin(u32, Call),
     Go(u32),
 }
 
-/// What an event told: the answer where it ended a call, and the key that it put in (`true`) or took out
-/// (`false`).
+/// What an event did: the reply, if it ended a call; and the key that it added (`true`) or removed (`false`), if it changed
+/// the set.
 #[derive(Clone, Copy, Debug, PartialEq, Eq)]
 pub struct Told {
     pub answer: Option<Reply>,
     pub change: Option<(Key, bool)>,
 }
 
-/// A list set, step by step, by its table (the five: Herlihy and Shavit's algorithms, by this project's own tables).
-/// `seen` is the value that was loaded or stored, or that the word held before an exchange.
+/// A list set as a step table: each function is about one step of one thread. The five lists are Herlihy and Shavit's
+/// algorithms. `seen` is the value that was loaded or stored, or that the word held before an exchange, which succeeded if
+/// that is its first value.
 pub trait Machine {
     const KIND: Kind;
 
@@ -102,22 +103,23 @@ pub trait Machine {
 
     ghost table: { Table };
 
-    /// What the thread holds when it has begun the call.
+    /// Returns the thread's state when it has begun the call. It must have no call pending.
     fn begin(call: Call, local: &Local) -> Local
         ensures { result ≡ table.begin call local.now };
 
-    /// The next step of a thread with an open call. `local` is that of a world of a run.
+    /// Returns the next step of a thread with a pending call. `local` must be a state of a world of a run.
     fn next(local: &Local) -> Action
         requires { Occurs table local.now }
         ensures { result ≡ table.next local.now };
 
-    /// What the thread holds after its next step. `local` and `seen` are those of a world of a run.
+    /// Returns the thread's state after its next step, and the reply if that ends the call. `local` and `seen` must be of a
+    /// world of a run.
     fn feed(local: &Local, seen: u64) -> Fed
         requires { Sees table local.now seen }
         ensures { result ≡ table.feed local.now seen };
 
-    /// The key that the next step puts in (`true`) or takes out (`false`). `local` and `seen` are those
-    /// of a world of a run.
+    /// Returns the key that the next step adds (`true`) or removes (`false`); `None` if it does not change the set. `local`
+    /// and `seen` must be of a world of a run.
     fn effect(local: &Local, seen: u64) -> Option<(Key, bool)>
         requires { Sees table local.now seen }
         ensures { result ≡ table.effect local.now seen };
@@ -125,10 +127,10 @@ pub trait Machine {
     ghost lawful: { Lawful table };
 }
 
-/// A list whose `contains` takes no lock and writes nothing, so that it waits for nobody (Herlihy and Shavit's
-/// wait-free `contains`).
+/// A list whose `contains` takes no lock and writes nothing, so that it does not block (Herlihy and Shavit's wait-free
+/// `contains`).
 pub trait OpenReads: Machine {
-    /// The most steps of a `contains`, whatever the other threads do. Each of them is a load.
+    /// Returns the maximum number of steps of a `contains`, whatever the other threads do. Each of them is a load.
     fn bound(layout: &Layout) -> u64
         ensures { result ≡ most_reads layout.now }
     {

@@ -6,8 +6,8 @@ use crate::rows::{TAIL_WORD, begun, ceiling_at, key_index, link_index};
 use crate::{Action, Fed, Local};
 use lset_words::{Call, Reply};
 
-/// A thread that has begun a call, at the first row of its kind: a `contains` and a `ceiling` have rows of their own,
-/// which take no lock and write nothing (Herlihy and Shavit's wait-free `contains`; the `ceiling` is this project's own).
+/// Returns the state of a thread that has begun a call, at the first row of its kind. A `contains` and a `ceiling` have rows
+/// of their own, which take no lock and write nothing (Herlihy and Shavit's wait-free `contains`).
 #[inline(always)]
 pub fn begun_reading(call: Call, local: &Local) -> Local
     ensures { result ≡ begun_reading call local.now }
@@ -20,7 +20,7 @@ pub fn begun_reading(call: Call, local: &Local) -> Local
     begun(pc, call, local)
 }
 
-/// A step within the call.
+/// A step after which the call goes on, with this state.
 #[inline(always)]
 pub fn continued(local: Local) -> Fed
     ensures { result ≡ continued local }
@@ -31,7 +31,7 @@ pub fn continued(local: Local) -> Fed
     }
 }
 
-/// The last step of the call, with its reply.
+/// A step that ends the call with this reply.
 #[inline(always)]
 pub fn leaves_with(reply: Reply, local: Local) -> Fed
     ensures { result ≡ leaves_with reply local }
@@ -42,7 +42,7 @@ pub fn leaves_with(reply: Reply, local: Local) -> Fed
     }
 }
 
-/// The next step of a `contains` or a `ceiling`.
+/// Returns the next step of a `contains` or a `ceiling` that takes no lock.
 #[inline(always)]
 pub fn read_action(local: &Local) -> Action
     requires { IsSmall local.now }
@@ -75,7 +75,7 @@ fn ceiling_key(local: &Local, seen: u64) -> Fed
 }
 
 /// A `ceiling` that has read the link of the node at which it stops: it answers that node's key, or starts again from the
-/// head where the node has a mark.
+/// head if the node has a mark.
 #[inline(always)]
 fn ceiling_mark(local: &Local, seen: u64) -> Fed
     ensures { result ≡ ceiling_mark local.now seen }
@@ -91,8 +91,9 @@ fn ceiling_mark(local: &Local, seen: u64) -> Fed
     }
 }
 
-/// What the thread holds after the next step of a `contains` or a `ceiling`. A `contains` goes on to the first key that is
-/// not below its own, and answers whether this is its own, in a node without a mark.
+/// Returns the thread's state after the next step of a `contains` or a `ceiling` that takes no lock, and the reply if that
+/// ends the call. A `contains` walks to the first key that is not below its own, and replies whether it is its own, in a
+/// node without a mark.
 #[inline(always)]
 pub fn read_fed(local: &Local, seen: u64) -> Fed
     ensures { result ≡ read_fed local.now seen }

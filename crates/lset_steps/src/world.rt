@@ -13,7 +13,7 @@ use std::alloc::{AllocError, Global};
 use std::marker::{Model, PhantomData};
 use thiserror::Error;
 
-/// Why an event is not enabled in a world.
+/// Why `World::step` refused an event: the first of these that applies.
 #[derive(Clone, Copy, Debug, PartialEq, Eq, Error)]
 pub enum StepFault {
     /// There is no such thread.
@@ -34,7 +34,8 @@ pub struct ChainKey {
     pub marked: bool,
 }
 
-/// The words of a list and what each thread holds, after the events of a run of the machine `M`.
+/// The words of a list and the state of each thread, after the events of a run of the machine `M`. It executes a run event
+/// by event, in one thread.
 #[derive(Drop)]
 pub struct World<M: Machine> {
     alloc: Global,
@@ -69,7 +70,7 @@ fn first_opening_node(layout: &Layout) -> u64
     2 + u64::from(layout.threads()) * u64::from(layout.quota())
 }
 
-/// The node of the opening key `i`, or the tail where there are no more.
+/// The node of the opening key `i`, or the tail if there are no more.
 fn opening_next(layout: &Layout, i: u64) -> u64
     requires { i ≤ layout.now.opening }
     ensures node { result ≡ opening_next layout.now i }
@@ -141,9 +142,9 @@ fn opening_word_at(layout: &Layout, keys: &[u32], i: u64) -> u64
     }
 }
 
-/// The words of a list before any event, for a table of the sizes of `layout` and as many opening keys, as many as it has
-/// words, at most 6,291,465: a chain from the head over the nodes of these keys to the tail, free locks, and unused slots of
-/// zeros. It fails only where memory was refused. (This project's own table.)
+/// Returns the words of a list before any event: a chain from the head over the nodes of the opening keys to the tail, free
+/// locks, and unused slots of zeros. `keys` must be as many as the opening keys of `layout`. Allocates one vector, of
+/// `layout.words()` words, at most 6,291,465; `AllocError` if that fails.
 pub fn opening_words(alloc: Global, layout: &Layout, keys: &[u32]) -> Result<Vec<u64>, AllocError>
     requires { length keys.now ≡ layout.now.opening }
     ensures words { IfOk result (λ v. v.items ≡ (opening (opening_of layout.now keys.now)).words) }
@@ -173,7 +174,7 @@ fn idle_locals(alloc: Global, layout: &Layout) -> Result<Vec<Local>, AllocError>
     Ok(locals)
 }
 
-/// Does one access, and tells what it saw.
+/// Makes one access, and returns the value that it saw.
 #[inline(always)]
 fn access(words: &mut Vec<u64>, action: Action) -> u64
     requires { word_named action < length words.old.items }
@@ -208,8 +209,8 @@ fn sight(words: &[u64], action: Action) -> u64
 }
 
 impl<M: Machine> World<M> {
-    /// The world before any event of a list that opens empty: the opening words, and every thread idle. It fails only
-    /// where memory was refused.
+    /// Returns the world of a list that opens empty, before any event: every thread is idle. The layout must have no opening
+    /// keys. Allocates the table and the states of the threads; `AllocError` if that fails.
     pub fn new(alloc: Global, layout: Layout) -> Result<World<M>, AllocError>
         requires { layout.opening ≡ 0 }
         ensures { IfOk result (λ w. w ≡ record {
@@ -220,9 +221,9 @@ impl<M: Machine> World<M> {
         World::opened(alloc, layout, &[])
     }
 
-    /// The world before any step of a list that opens with these keys, which rise strictly and are as many as the layout says:
-    /// their nodes are in the chain, as if they had been put in before moment 0, and any thread may take them out. It fails
-    /// only where memory was refused.
+    /// Returns the world of a list that opens with `keys`, before any event: every thread is idle. `keys` must be in
+    /// strictly increasing order, and as many as the layout's opening keys. They are in the set from moment 0, and any
+    /// thread may remove them. Allocates the table and the states of the threads; `AllocError` if that fails.
     pub fn opened(alloc: Global, layout: Layout, keys: &[u32]) -> Result<World<M>, AllocError>
         requires many { length keys.now ≡ layout.opening }
         requires rising { IsStrictlyIncreasing keys.now }
@@ -241,7 +242,7 @@ impl<M: Machine> World<M> {
         })
     }
 
-    /// The word with the index `w`, below the number of words.
+    /// Returns the word with index `w`, which must be below the number of words.
     pub fn word(&self, w: u64) -> u64
         requires { w < word_count self.now.sizes }
         ensures { result ≡ slice_index self.now.state.words w }
@@ -249,7 +250,7 @@ impl<M: Machine> World<M> {
         self.words[w as usize]
     }
 
-    /// Whether thread `t`, below the number of threads, has an open call.
+    /// Whether thread `t`, which must be below the number of threads, has a pending call.
     pub fn busy(&self, t: u32) -> bool
         requires { t < self.now.sizes.threads }
         ensures { IsTrue result ↔ ((local_of self.now.state t).pc ≢ 0) }
@@ -257,7 +258,7 @@ impl<M: Machine> World<M> {
         self.locals[t as usize].pc != 0
     }
 
-    /// What thread `t` holds; `None` where there is no such thread.
+    /// Returns the state of thread `t`; `None` if there is no such thread.
     pub fn holds(&self, t: u32) -> Option<Local>
         ensures { MatchOption result (self.now.sizes.threads ≤ t) (λ l.
             (t < self.now.sizes.threads) × (l ≡ local_of self.now.state t)) }
@@ -269,8 +270,8 @@ impl<M: Machine> World<M> {
         }
     }
 
-    /// The next access of thread `t`, and the value that it will see; `None` where the thread has no open call, or
-    /// there is no such thread.
+    /// Returns the next access of thread `t` and the value that it will see; `None` if there is no such thread, or it has no
+    /// pending call.
     pub fn next(&self, t: u32) -> Option<(Action, u64)>
         ensures { MatchOption result (Enabled self.now.state (Event.Go t) → ⊥) (λ s. Enabled self.now.state (Event.Go t)
             × (s.0 ≡ M.table.next (local_of self.now.state t)) × (s.1 ≡ seen_next M.table self.now.state t)) }
@@ -281,16 +282,17 @@ impl<M: Machine> World<M> {
         Some(self.next_access(t))
     }
 
-    /// The keys of the set, rising: those of the unmarked nodes of the chain between head and tail. It
-    /// fails only where memory was refused.
+    /// Returns the keys of the set in strictly increasing order: those of the unmarked nodes of the chain between head and
+    /// tail. Allocates one vector; `AllocError` if that fails, and the world is as it was.
     pub fn content(&self) -> Result<Vec<u32>, AllocError>
         ensures { IfOk result (λ v. IsContent (view_of self.now.sizes self.now.state) v.items) }
     {
         self.walk(|met| if met.marked { None } else { Some(met.key) })
     }
 
-    /// The keys of the nodes of the chain between head and tail, from head to tail, each with whether its node is
-    /// marked. It fails only where memory was refused. (Herlihy and Shavit's lists; the marks are Harris's.)
+    /// Returns the keys of the nodes of the chain between head and tail, in the chain's order, each with whether its node is
+    /// marked. Allocates one vector; `AllocError` if that fails, and the world is as it was. (Herlihy and Shavit's lists;
+    /// the marks are Harris's.)
     pub fn chain(&self) -> Result<Vec<ChainKey>, AllocError>
         ensures keys { IfOk result (λ v. AreChainKeys (view_of self.now.sizes self.now.state) v.items) }
         ensures content { IfOk result (λ v.
@@ -402,7 +404,7 @@ impl<M: Machine> World<M> {
         }
     }
 
-    /// Makes the next step of a thread whose call stands at the row `PC`. The row is a number that the compiler knows, so that of
+    /// Makes the next step of a thread whose call is at the row `PC`. The row is a number that the compiler knows, so that of
     /// the machine's `next`, `feed` and `effect` this row alone is left, and of what the thread holds only what the row changes
     /// is written.
     #[inline(always)]
@@ -416,7 +418,7 @@ impl<M: Machine> World<M> {
         self.go_holding(t, Local { pc: PC, ..held })
     }
 
-    /// Makes the next step of a thread whose call stands at a row that `go` does not name.
+    /// Makes the next step of a thread whose call is at a row that `go` does not name.
     fn go_elsewhere(&mut self, t: u32) -> Told
         requires { Enabled self.old.state (Event.Go t) }
         ensures new { self.new ≡ record self.old { state = after M.table self.old.state (Event.Go t) } }
@@ -460,8 +462,14 @@ impl<M: Machine> World<M> {
         }
     }
 
-    /// Makes one event, and tells what it answered and changed. An event that is not enabled is refused
-    /// with the first cause that applies, of `NoThread`, `Busy` and `Idle`, and changes nothing.
+    /// Executes one event, and returns the reply and the change of the set that it made. Does not allocate.
+    ///
+    /// # Errors
+    ///
+    /// For an event that is not enabled, the first that applies; the world is then as it was:
+    /// - `NoThread`: there is no such thread;
+    /// - `Busy`: the thread begins a call while it has one pending;
+    /// - `Idle`: the thread makes a step while it has no call pending.
     #[inline(always)]
     pub fn step(&mut self, event: Event) -> Result<Told, StepFault>
         ensures { StepResult M.table self.old event result self.new }

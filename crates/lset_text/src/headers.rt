@@ -19,8 +19,7 @@ use lset_words::{Kind, MOST_QUOTA, MOST_THREADS};
 use std::alloc::AllocError;
 use thiserror::Error;
 
-/// What the header of a text tells: the kind of list, its threads, 1 to 64, and the slots of each, 0 to
-/// 16,384.
+/// What the header of a file states: the kind of list, its threads, 1 to 64, and the slots of each, 0 to 16,384.
 #[derive(Clone, Copy, Debug, PartialEq, Eq)]
 pub struct Header {
     pub kind: Kind,
@@ -28,7 +27,7 @@ pub struct Header {
     pub quota: u32,
 }
 
-/// What is wrong with the line of a header.
+/// What is wrong with a line of a header.
 #[derive(Clone, Copy, Debug, PartialEq, Eq)]
 pub enum HeaderCause {
     /// The line is not the title.
@@ -43,7 +42,7 @@ pub enum HeaderCause {
     NotEnded,
 }
 
-/// The first fault of a header, and its line, counted from 1.
+/// The first error of a header: its line, counted from 1, and the cause.
 #[derive(Clone, Copy, Debug, PartialEq, Eq, Error)]
 #[error("line {line}: {cause:?}")]
 pub struct HeaderFault {
@@ -72,7 +71,7 @@ fn kind_of_line(line: &[u8]) -> Option<Kind>
     read_kind(kind)
 }
 
-/// The number from `low` to `high` that a line tells after a word, a space between them; `None` for any other line.
+/// Returns the number in a line that has `word`, a space, and a number from `low` to `high`; `None` for any other line.
 pub fn number_of_line(line: &[u8], word: &[u8], low: u32, high: u32) -> Option<u32>
     ensures { result ≡ number_after word.now low high line.now }
 {
@@ -104,8 +103,8 @@ fn due(text: &[u8], line: u64, cause: HeaderCause) -> Result<(&[u8], &[u8]), Hea
     Err(HeaderFault::at(line, cause))
 }
 
-/// The version of a text whose second version has this title: the second where the text begins with a line that is
-/// the title, and else the first.
+/// Returns the version of a file: the second if the file begins with a line that is `title`, the title of its second
+/// version; else the first.
 pub fn version_of(text: &[u8], title: &[u8]) -> Version
     ensures { result ≡ version_in title.now (cut_at 10 text.now) }
 {
@@ -120,11 +119,15 @@ pub fn version_of(text: &[u8], title: &[u8]) -> Version
     }
 }
 
-/// The header at the head of a text with this title, and what comes after it, or the first fault of the
-/// header. Where a header line is due and no byte is left, the fault is the one of that line; a line that
-/// has bytes and no newline is `NotEnded` before anything else of it is looked at.
+/// Reads the header of a file with the given title, lines 1 to 4. Returns the header and what follows it.
+///
+/// # Errors
+///
+/// The first error, with its line from 1 to 4. If a header line is due and no byte is left, it is the error of that line:
+/// `Header`, `Kind`, `Threads` or `Quota`. A line that has bytes and no newline is `NotEnded`, before anything else of it is
+/// looked at.
 pub fn read_header<'a>(title: &[u8], text: &'a [u8]) -> Result<(Header, &'a [u8]), HeaderFault>
-    // What is read stands there.
+    // What is read is in the text.
     ensures found { IfOk result (λ p. IsHeader p.0 × (text.now ≡ text_of (header_lines title.now p.0) ++ p.1.now)) }
     // Which fault it is.
     ensures exact { MatchResult result
@@ -135,7 +138,7 @@ pub fn read_header<'a>(title: &[u8], text: &'a [u8]) -> Result<(Header, &'a [u8]
     header_due(title, text)
 }
 
-/// A header is read from its text, whatever comes after it.
+/// Lemma: a header is read from its text, whatever follows it.
 pub fn headers_read_back()
     ensures { HeadersReadBack }
 {}
@@ -169,9 +172,11 @@ fn header_due<'a>(title: &[u8], text: &'a [u8]) -> Result<(Header, &'a [u8]), He
         quota,
     };
     Ok((header, rest))
+    /// Appends the four lines of a header to `out`. If an allocation fails, returns `AllocError`; `out` may then end with part
+    /// of them.
 }
 
-/// Writes the four lines of the header at the end of `out`. The only error is want of memory.
+/// Appends the four lines of a header to `out`. `AllocError` if an allocation fails.
 pub fn put_header(out: &mut String, title: &str, header: Header) -> Result<(), AllocError>
     ensures { OnOk result (string_bytes out.new ≡ string_bytes out.old ++ text_of (header_lines title.now header)) }
 {

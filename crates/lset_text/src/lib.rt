@@ -1,5 +1,5 @@
-//! What the texts of schedules and of reports share: lines and their pieces, numbers, words, the four lines of the
-//! header, and the lines of opening keys. (This project's own format.)
+//! What schedules and reports share: lines and their fields, numbers, names, the four lines of the header, and the lines of
+//! opening keys.
 #![tactic(auto)]
 
 mod forms;

@@ -1,8 +1,8 @@
 ghost use Rattle.std.specs.Prelude.{◌≡◌};
 ghost use Rattle.lset_text.specs.Numbers.{number_in, NumbersReadBack};
 
-/// The number from `low` to `high` that the piece spells: `0`, or digits of which the first is not `0`.
-/// `None` for any other piece. It looks no further than the digit that passes `high`.
+/// Returns the number from `low` to `high` that a field spells: `0`, or digits of which the first is not `0`. `None` for any
+/// other field. It looks no further than the digit that exceeds `high`.
 #[tactic(auto, unfolding(crate::specs::Numbers::number_in))]
 pub fn number(piece: &[u8], low: u32, high: u32) -> Option<u32>
     ensures { result ≡ number_in low high piece.now }
@@ -26,7 +26,7 @@ pub fn number(piece: &[u8], low: u32, high: u32) -> Option<u32>
     Some(value as u32)
 }
 
-/// The numbers of a range are read from their decimals, and from nothing else.
+/// Lemma: the numbers of a range are read from their decimals, and from nothing else.
 pub fn numbers_read_back()
     ensures { NumbersReadBack }
 {}

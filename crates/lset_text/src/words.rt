@@ -20,14 +20,14 @@ use crate::numbers::number;
 use lset_words::{Call, Key, Kind, Reply};
 use std::fmt;
 
-/// The version of a text: the words of a `ceiling` and of its replies stand in the second alone.
+/// The version of a file format. Only the second has opening keys, the call `ceiling` and its replies.
 #[derive(Clone, Copy, Debug, PartialEq, Eq)]
 pub enum Version {
     One,
     Two,
 }
 
-/// The word of a call, without its key.
+/// The name of a call in a file, without its key.
 #[derive(Clone, Copy)]
 pub enum CallWord {
     Add,
@@ -37,7 +37,7 @@ pub enum CallWord {
 }
 
 impl CallWord {
-    /// The call with this word and key.
+    /// Returns the call with this name and the given key.
     pub fn with_key(self, key: Key) -> Call
         ensures { result ≡ with_key self key }
     {
@@ -50,7 +50,7 @@ impl CallWord {
     }
 }
 
-/// The word for a kind of list, as `lock-free`.
+/// Returns the name of a kind of list in a file, such as `lock-free`.
 pub fn kind_word(kind: Kind) -> &'static str
     ensures { result.now ≡ kind_text kind }
 {
@@ -63,7 +63,7 @@ pub fn kind_word(kind: Kind) -> &'static str
     }
 }
 
-/// The kind of list that the piece is the word for; `None` for any other piece.
+/// Returns the kind of list that a field names; `None` for any other field.
 #[tactic(auto, unfolding(crate::specs::Spellings::kind_of))]
 pub fn read_kind(piece: &[u8]) -> Option<Kind>
     ensures { result ≡ kind_of piece.now }
@@ -78,7 +78,7 @@ pub fn read_kind(piece: &[u8]) -> Option<Kind>
     }
 }
 
-/// The word for a call, as `add`.
+/// Returns the name of a call in a file, such as `add`.
 pub fn call_word(call: Call) -> &'static str
     ensures { result.now ≡ call_text call }
 {
@@ -90,7 +90,7 @@ pub fn call_word(call: Call) -> &'static str
     }
 }
 
-/// The call word of a version that the piece is; `None` for any other piece.
+/// Returns the name of a call that a field is in this version; `None` for any other field.
 #[tactic(auto, unfolding(crate::specs::Spellings::call_word_of))]
 pub fn read_call(version: Version, piece: &[u8]) -> Option<CallWord>
     ensures { result ≡ call_word_in version piece.now }
@@ -104,7 +104,7 @@ pub fn read_call(version: Version, piece: &[u8]) -> Option<CallWord>
     }
 }
 
-/// A reply as it is spelled: `true`, `at-5`.
+/// A reply as files spell it: `true`, `at-5`.
 #[derive(Clone, Copy)]
 pub struct ReplyWord(pub Reply);
 
@@ -125,14 +125,14 @@ impl fmt::Display for ReplyWord {
     }
 }
 
-/// The word for a reply, to be written.
+/// Returns a reply as files spell it, to be written.
 pub fn reply_word(reply: Reply) -> ReplyWord
     ensures { result ≡ record { 0 = reply } }
 {
     ReplyWord(reply)
 }
 
-/// The reply of a version that the piece is the word for, where it has no number; `None` for any other piece.
+/// The reply of a version that a field spells, if it has no number; `None` for any other field.
 #[tactic(auto, unfolding(crate::specs::Spellings::reply_of))]
 fn read_plain_reply(version: Version, piece: &[u8]) -> Option<Reply>
     ensures { result ≡ reply_of (plain_in version) piece.now }
@@ -154,7 +154,7 @@ fn read_at(piece: &[u8]) -> Option<Reply>
     Some(Reply::At(Key(number(key, 0, u32::MAX)?)))
 }
 
-/// The reply of a version that the piece spells; `None` for any other piece.
+/// Returns the reply that a field spells in this version; `None` for any other field.
 pub fn read_reply(version: Version, piece: &[u8]) -> Option<Reply>
     ensures { result ≡ reply_in version piece.now }
 {
@@ -165,7 +165,7 @@ pub fn read_reply(version: Version, piece: &[u8]) -> Option<Reply>
     }
 }
 
-/// Whether the piece is a reply word of a version, or, in the second, begins with `at-`.
+/// Whether a field is a reply in this version, or, in the second, begins with `at-`.
 pub fn is_reply(version: Version, piece: &[u8]) -> bool
     ensures { result ≡ is_reply_in version piece.now }
 {
@@ -176,7 +176,7 @@ pub fn is_reply(version: Version, piece: &[u8]) -> bool
     }
 }
 
-/// Kinds, calls and replies are read from their words, and from nothing else.
+/// Lemma: kinds, calls and replies are read from their names, and from nothing else.
 pub fn words_read_back()
     ensures kinds { KindsReadBack }
     ensures calls { CallsReadBack }

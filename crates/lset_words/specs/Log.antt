@@ -1,4 +1,4 @@
--- What happens in a run, and the calls that it makes. No machine is named here: a log tells of each event what a set shows of it.
+-- What happens in a run, and the calls that it makes. No machine is named here: a log has of each event what a set shows of it.
 -- Moment k is after the first k events, and entry k of a log is the event between the moments k and k + 1.
 use Rattle.std.specs.Prelude.{ℕ, zero, suc, ◌==◌, ◌||◌, ◌&&◌, Bool, true, false, if◌then◌else◌, List, [], ◌∷◌, ◌++◌, map, Option}
 use Rattle.std.specs.Prelude.{Some, None, is_none}

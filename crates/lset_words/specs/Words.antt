@@ -1,5 +1,5 @@
 -- The words of a list's table: word 0 is the list's lock, words 1 and 2 hold the numbers of threads and slots, and then
--- each node has three words. (This project's own table.)
+-- each node has three words.
 use Rattle.std.specs.Prelude.{◌≡◌, ◌≢◌, ℕ, ◌+◌, ◌*◌, ◌<◌, ◌≤◌, ◌^◌, ◌⊎◌, All, Bool, if◌then◌else◌, List, [], length}
 use Rattle.std.specs.List.Sorted.{IsStrictlyIncreasing}
 use Rattle.lset_words.specs.declared.TheConstants.{MOST_THREADS, MOST_QUOTA, MOST_OPENING}

@@ -1,7 +1,7 @@
 use crate::{MOST_OPENING, MOST_QUOTA, MOST_THREADS};
 use thiserror::Error;
 
-/// Why there is no layout for the numbers asked for.
+/// Why `layout` or `layout_opening` has no layout for its arguments.
 #[derive(Clone, Copy, Debug, PartialEq, Eq, Error)]
 pub enum LayoutFault {
     /// The threads are none, or more than 64.

@@ -1,7 +1,7 @@
 use crate::{Call, Reply};
 
-/// One call of a history (Herlihy and Wing): its thread, and the moments of its beginning and of its
-/// end, counted in events from 1. A call without an end is open.
+/// One call of a history (Herlihy and Wing): its thread, the call, and the moments at which it begins and ends, counted in
+/// events from 1. A call without an end is pending.
 #[derive(Clone, Copy, Debug, PartialEq, Eq)]
 pub struct CallRecord {
     pub thread: u32,
@@ -10,14 +10,15 @@ pub struct CallRecord {
     pub ended: Option<(u32, Reply)>,
 }
 
-/// A place in an order of calls: the number of a call, and the reply that it has there.
+/// A place in an order of calls: the number of a call, from 0, and the reply that the order gives it.
 #[derive(Clone, Copy, Debug, PartialEq, Eq)]
 pub struct Placed {
     pub call: u32,
     pub reply: Reply,
 }
 
-/// Where a call of an order stands: the moment, and whether it changes the set there.
+/// The linearization point of a call in an order: the moment, counted in events from 1, and whether the call changes the set
+/// there.
 #[derive(Clone, Copy, Debug, PartialEq, Eq)]
 pub struct Point {
     pub moment: u32,

@@ -1,9 +1,13 @@
 //! Keys, calls, replies, the layout of a list's words, and the records of which histories are made.
 //!
-//! The definitions in which the whole theorem is told stand in this crate's specs: the sequential set, the history of a run, an order
-//! of the calls that explains it, the content that it leaves; what a run is, lset_steps defines. The crates that prove the theorem of each
-//! list, that run the lists in threads, that replay a schedule and that check a report have no other crate in common: whoever believes
-//! them has one place to read, and none of them bends a definition to its own proof.
+//! The definitions of the whole theorem are in this crate's specs: the sequential set, the history of a run, an order of the
+//! calls that explains it, the content that it leaves; what a run is, lset_steps defines. The crates that prove the theorem
+//! of each list, that run the lists in threads, that replay a schedule and that check a report have no other crate in
+//! common: whoever believes them has one place to read, and none of them bends a definition to its own proof.
+//!
+//! In this library a function allocates only if it takes `alloc: Global`, or a value that was made with one; it blocks only
+//! if it takes a runtime `rt` with `Wait`. The table of words, the limits and the call `ceiling` are not from the
+//! literature.
 #![tactic(auto)]
 
 ghost use Rattle.std.specs.Prelude.{◌≡◌, ℕ, ◌+◌, ◌/◌, ◌%◌, ◌<◌, ◌^◌, IsTrue, ◌↔◌, Bool, IfOk, IfErr};
@@ -19,37 +23,37 @@ pub use history::{CallRecord, Placed, Point};
 pub use set_calls::SetCalls;
 pub use table::{Layout, key_index, link_index, lock_index, slot_node, words_are_apart};
 
-/// The most threads of a list. (This project's own limit, as are those below.)
+/// The maximum number of threads of a list.
 pub const MOST_THREADS: u32 = 64;
 
-/// The most slots of a thread.
+/// The maximum quota: how many keys a thread can add over the life of a list, each in a slot of its own.
 pub const MOST_QUOTA: u32 = 16_384;
 
-/// The most keys with which a list opens.
+/// The maximum number of keys with which a list opens.
 pub const MOST_OPENING: u32 = 1_048_576;
 
-/// The most nodes of a table: head, tail, every slot of every thread, and the opening keys.
+/// The maximum number of nodes of a table: head, tail, every slot of every thread, and the opening keys.
 pub const MOST_NODES: u64 = 2 + MOST_THREADS as u64 * MOST_QUOTA as u64 + MOST_OPENING as u64;
 
-/// The most words of a table.
+/// The maximum number of 64-bit words of a table.
 pub const MOST_WORDS: u64 = 3 + 3 * MOST_NODES;
 
-/// The node that is the head of each list's chain.
+/// The number of the node that is the head of each list's chain.
 pub const HEAD: u64 = 0;
 
-/// The node that is its tail.
+/// The number of the node that is the tail of each list's chain.
 pub const TAIL: u64 = 1;
 
-/// The index of CoarseList's lock.
+/// The index of the word that is CoarseList's one lock.
 pub const LOCK: u64 = 0;
 
-/// A key of the set: every `u32` is one.
+/// A key of a set: any `u32`.
 #[derive(Clone, Copy, Debug, PartialEq, Eq, PartialOrd, Ord, Hash)]
 pub struct Key(pub u32);
 
 impl Key {
-    /// The key word of a node that has this key, above the head's 0 and below the tail's `2^32 + 1`.
-    /// (This project's own table.)
+    /// Returns the key word of a node with this key: the key plus 1, which is above the head's 0 and below the tail's `2^32
+    /// + 1`.
     pub fn word(self) -> u64
         ensures { result ≡ key_word_of self }
     {
@@ -57,7 +61,8 @@ impl Key {
     }
 }
 
-/// The five lists of Herlihy and Shavit's chapter on linked lists.
+/// The five lists of Herlihy and Shavit's chapter on linked lists: coarse-grained, fine-grained, optimistic, lazy and
+/// lock-free.
 #[derive(Clone, Copy, Debug, PartialEq, Eq)]
 pub enum Kind {
     Coarse,
@@ -67,18 +72,19 @@ pub enum Kind {
     LockFree,
 }
 
-/// A call of a set (Herlihy and Shavit's interface).
+/// A call of a set: `add`, `remove` or `contains` of a key (Herlihy and Shavit's interface), or `ceiling`, the smallest key
+/// at or above a given one.
 #[derive(Clone, Copy, Debug, PartialEq, Eq)]
 pub enum Call {
     Add(Key),
     Remove(Key),
     Contains(Key),
-    /// The least key at or above this one (this project's own).
+    /// The smallest key at or above this one.
     Ceiling(Key),
 }
 
 impl Call {
-    /// The key that the call is about.
+    /// Returns the key that is the call's argument.
     pub fn key(self) -> Key
         ensures { result ≡ key_of self }
     {
@@ -88,8 +94,8 @@ impl Call {
     }
 }
 
-/// What a call answers. `Full` is this project's own: an `add` of a thread whose quota is used up. So are the answers
-/// of a `ceiling`: the key that it found, or that there is none.
+/// What a completed call returns. `add`, `remove` and `contains` reply `True` or `False`; `add` replies `Full` if its thread
+/// has used up its quota. `ceiling` replies `At` with the key that it found, or `Nothing` if there is none.
 #[derive(Clone, Copy, Debug, PartialEq, Eq)]
 pub enum Reply {
     True,
@@ -99,9 +105,11 @@ pub enum Reply {
     Nothing,
 }
 
-/// The layout for `threads` threads, 1 to 64, with a quota of `quota` slots, 0 to 16,384.
-/// `LayoutFault::Threads` where the threads are outside their limits, else `LayoutFault::Quota` where
-/// the quota is.
+/// Returns the layout of a list that opens empty, for `threads` threads, 1 to 64, with `quota` slots each, 0 to 16,384.
+///
+/// # Errors
+///
+/// The first that applies: `LayoutFault::Threads` if `threads` is outside its limits, `LayoutFault::Quota` if `quota` is.
 pub fn layout(threads: u32, quota: u32) -> Result<Layout, LayoutFault>
     ensures sizes { IfOk result (λ l. l ≡ record { threads = threads; quota = quota; opening = 0 }) }
     ensures refused { IfErr result (RefusesSizes (record { threads = threads; quota = quota; opening = 0 })) }
@@ -109,10 +117,13 @@ pub fn layout(threads: u32, quota: u32) -> Result<Layout, LayoutFault>
     layout_opening(threads, quota, 0)
 }
 
-/// The layout for `threads` threads, 1 to 64, with a quota of `quota` slots, 0 to 16,384, and a list that opens with `opening`
-/// keys, 0 to 1,048,576, each in a node that is no thread's slot. (This project's own: the lists of the book open empty.)
-/// `LayoutFault::Threads` where the threads are outside their limits, else `LayoutFault::Quota` where the quota is, else
-/// `LayoutFault::Opening` where the opening keys are.
+/// Returns the layout of a list that opens with keys, for `threads` threads, 1 to 64, with `quota` slots each, 0 to 16,384,
+/// and `opening` opening keys, 0 to 1,048,576. Each opening key has a node that is no thread's slot.
+///
+/// # Errors
+///
+/// The first that applies: `LayoutFault::Threads` if `threads` is outside its limits, `LayoutFault::Quota` if `quota` is,
+/// `LayoutFault::Opening` if `opening` is.
 pub fn layout_opening(threads: u32, quota: u32, opening: u32) -> Result<Layout, LayoutFault>
     ensures sizes { IfOk result (λ l. l ≡ record { threads = threads; quota = quota; opening = opening }) }
     ensures refused { IfErr result (RefusesSizes (record { threads = threads; quota = quota; opening = opening })) }
@@ -129,8 +140,8 @@ pub fn layout_opening(threads: u32, quota: u32, opening: u32) -> Result<Layout, 
     Ok(Layout::of(threads, quota, opening))
 }
 
-/// The link word of a node whose next node has the number `next`, below `2^63`. (This project's own
-/// table; that mark and link share one word is Harris's.)
+/// Returns the link word of a node whose next node has the number `next`, below `2^63`, and whose mark is `mark`. Mark and
+/// link share one word (Harris).
 pub fn pack(next: u64, mark: bool) -> u64
     requires { next < 2 ^ 63 }
     ensures { result ≡ packed next mark }
@@ -138,7 +149,8 @@ pub fn pack(next: u64, mark: bool) -> u64
     if mark { 2 * next + 1 } else { 2 * next }
 }
 
-/// The next node's number and the mark of a link word. Every word is one.
+/// Returns the number of the next node and the mark that a link word holds. Every `word` is a link word; `unpack(pack(next,
+/// mark))` is `(next, mark)`.
 pub fn unpack(word: u64) -> (u64, bool)
     ensures next { result.0 ≡ word / 2 }
     ensures mark { IsTrue result.1 ↔ (word % 2 ≡ 1) }

@@ -5,7 +5,8 @@ ghost use Rattle.lset_words.specs.Records.{Record, called};
 use crate::{Call, Reply};
 use std::sync::Wait;
 
-/// A running set whose calls are made from seats.
+/// A running set whose calls are made from seats: the right to call as one thread. `session` serves any set that implements
+/// it.
 pub trait SetCalls {
     type Seat;
 
@@ -18,8 +19,10 @@ pub trait SetCalls {
     /// How many seats a seat holds, itself included.
     ghost held_by: { Self.Seat → ℕ };
 
-    /// Makes the call from the seat, and gives the reply. The record of the seat grows by the call with that reply, and
-    /// nothing else of the seat changes. It may wait for the locks of others.
+    /// Makes `call` from the seat `seat`, which must be of this set, and returns the reply. The seat's record grows by the
+    /// call with that reply; nothing else of the seat changes.
+    ///
+    /// May block while another thread holds a lock that the call needs. Does not allocate.
     fn make_call<R: Wait>(&self, rt: &R, seat: &mut Self::Seat, call: Call) -> Reply
         requires { is_of self.now seat.old }
         ensures record { record_of seat.new ≡ called (record_of seat.old) (record { call = call; reply = result }) }

@@ -4,7 +4,7 @@ ghost use Rattle.lset_words.specs.Words.{Sizes, IsWithin, node_count, word_count
 use crate::{MOST_NODES, MOST_WORDS};
 use std::marker::Model;
 
-/// The index of the key word of a node, below `2^62`. (This project's own table, as what follows.)
+/// Returns the index of the key word of the node numbered `node`, below `2^62`.
 pub fn key_index(node: u64) -> u64
     requires { node < 2 ^ 62 }
     ensures { result ≡ key_index node }
@@ -12,7 +12,7 @@ pub fn key_index(node: u64) -> u64
     3 + 3 * node
 }
 
-/// The index of the link word of a node, below `2^62`.
+/// Returns the index of the link word of the node numbered `node`, below `2^62`.
 pub fn link_index(node: u64) -> u64
     requires { node < 2 ^ 62 }
     ensures { result ≡ link_index node }
@@ -20,7 +20,7 @@ pub fn link_index(node: u64) -> u64
     4 + 3 * node
 }
 
-/// The index of the lock word of a node, below `2^62`.
+/// Returns the index of the lock word of the node numbered `node`, below `2^62`.
 pub fn lock_index(node: u64) -> u64
     requires { node < 2 ^ 62 }
     ensures { result ≡ lock_index node }
@@ -28,16 +28,16 @@ pub fn lock_index(node: u64) -> u64
     5 + 3 * node
 }
 
-/// The node that is slot `slot` of the thread `thread`, where each thread has `quota` slots. Every number may
-/// be asked for; where `slot` is not below the quota, it is a node of the next thread, or none.
+/// Returns the number of the node that is slot `slot` of thread `thread`, if each thread has `quota` slots. Every number is
+/// allowed; if `slot` is not below `quota`, the result is a node of a later thread, or no node.
 pub fn slot_node(quota: u32, thread: u32, slot: u32) -> u64
     ensures { result ≡ slot_node quota thread slot }
 {
     2 + u64::from(thread) * u64::from(quota) + u64::from(slot)
 }
 
-/// Where the words of a list lie, for 1 to 64 threads with a quota of 0 to 16,384 slots each. (This
-/// project's own table.)
+/// The places of a list's words in its table, for 1 to 64 threads with a quota of 0 to 16,384 slots each, and 0 to 1,048,576
+/// opening keys. `layout` and `layout_opening` make one.
 #[derive(Clone, Copy)]
 pub struct Layout {
     threads: u32,
@@ -68,7 +68,7 @@ impl Layout {
         }
     }
 
-    /// The number of threads, 1 to 64.
+    /// Returns the number of threads, 1 to 64.
     pub fn threads(&self) -> u32
         ensures value { result ≡ self.now.threads }
         ensures within { IsWithin self.now }
@@ -76,7 +76,7 @@ impl Layout {
         self.threads
     }
 
-    /// The slots of each thread, 0 to 16,384.
+    /// Returns the number of slots of each thread, 0 to 16,384.
     pub fn quota(&self) -> u32
         ensures value { result ≡ self.now.quota }
         ensures within { IsWithin self.now }
@@ -84,7 +84,7 @@ impl Layout {
         self.quota
     }
 
-    /// The keys with which the list opens, 0 to 1,048,576.
+    /// Returns the number of keys with which the list opens, 0 to 1,048,576.
     pub fn opening(&self) -> u32
         ensures value { result ≡ self.now.opening }
         ensures within { IsWithin self.now }
@@ -92,7 +92,7 @@ impl Layout {
         self.opening
     }
 
-    /// The number of nodes: head, tail, slots and opening keys.
+    /// Returns the number of nodes: head, tail, every slot of every thread, and one for each opening key.
     pub fn nodes(&self) -> u64
         ensures count { result ≡ node_count self.now }
         ensures few { result ≤ MOST_NODES }
@@ -100,7 +100,7 @@ impl Layout {
         2 + u64::from(self.threads) * u64::from(self.quota) + u64::from(self.opening)
     }
 
-    /// The number of words of the table, at most 6,291,465.
+    /// Returns the number of words of the table, at most 6,291,465.
     pub fn words(&self) -> u64
         ensures count { result ≡ word_count self.now }
         ensures few { result ≤ MOST_WORDS }
@@ -108,7 +108,7 @@ impl Layout {
         3 + 3 * self.nodes()
     }
 
-    /// The index of the key word of node `i`, below `nodes`.
+    /// Returns the index of the key word of node `i`, which must be below `nodes()`. The index is below `words()`.
     pub fn key_word(&self, i: u64) -> u64
         requires { i < node_count self.now }
         ensures index { result ≡ key_index i }
@@ -118,7 +118,7 @@ impl Layout {
         key_index(i)
     }
 
-    /// The index of the link word of node `i`, below `nodes`.
+    /// Returns the index of the link word of node `i`, which must be below `nodes()`. The index is below `words()`.
     pub fn link_word(&self, i: u64) -> u64
         requires { i < node_count self.now }
         ensures index { result ≡ link_index i }
@@ -128,7 +128,7 @@ impl Layout {
         link_index(i)
     }
 
-    /// The index of the lock word of node `i`, below `nodes`.
+    /// Returns the index of the lock word of node `i`, which must be below `nodes()`. The index is below `words()`.
     pub fn lock_word(&self, i: u64) -> u64
         requires { i < node_count self.now }
         ensures index { result ≡ lock_index i }
@@ -138,7 +138,7 @@ impl Layout {
         lock_index(i)
     }
 
-    /// The node that is slot `j`, below the quota, of thread `t`, below the threads.
+    /// Returns the number of the node that is slot `j` of thread `t`. `j` must be below `quota()`, `t` below `threads()`.
     pub fn slot(&self, t: u32, j: u32) -> u64
         requires thread { t < self.now.threads }
         requires slot { j < self.now.quota }
@@ -150,7 +150,7 @@ impl Layout {
     }
 }
 
-/// Different words of the table have different indices, and different slots are different nodes.
+/// Lemma: different words of the table have different indices, and different slots are different nodes.
 pub fn words_are_apart()
     ensures words { WordsApart }
     ensures slots { SlotsApart }

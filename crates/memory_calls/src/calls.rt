@@ -1,7 +1,7 @@
 use anyhow::{Error, Result};
 use std::alloc::{AllocError, Global};
 
-/// An error where an answer is not as wanted.
+/// An error if an answer is not the expected one.
 pub fn check(is_as_wanted: bool) -> Result<()> {
     if is_as_wanted {
         Ok(())
@@ -15,7 +15,7 @@ pub fn check(is_as_wanted: bool) -> Result<()> {
 pub struct Calls {
     /// The last one.
     pub name: &'static str,
-    /// The one that answered want of memory.
+    /// The one that returned `Memory`.
     pub refused: Option<&'static str>,
 }
 
@@ -27,7 +27,7 @@ impl Calls {
         }
     }
 
-    /// Whether the last call may answer want of memory: the first call that does, since one growth alone is refused.
+    /// Whether the last call may return `Memory`: only the first call that does, since one allocation alone fails.
     pub fn may_be_refused(&mut self) -> bool {
         if self.refused.is_some() {
             return false;
@@ -36,8 +36,8 @@ impl Calls {
         true
     }
 
-    /// Takes a block of memory in the name of the call that comes next. A growth that is passed over behind that block, and
-    /// before one of another name, is this call's.
+    /// Allocates a block of memory in the name of the call that comes next. An allocation that is counted behind that block,
+    /// and before one of another name, is this call's.
     pub fn announce(&mut self, alloc: Global, name: &'static str) -> Result<(), AllocError> {
         self.name = name;
         if Box::new(alloc, 0).is_ok() || self.may_be_refused() {

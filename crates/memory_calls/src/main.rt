@@ -1,12 +1,12 @@
 //! Makes public calls of the libraries that what the program listset prints does not show one by one, compares what each
-//! answers, and tells which call answered want of memory (or `Spawn`, where a thread is refused for it). That call is made
+//! answers, and prints which call returned `Memory` (or `Spawn`, if a thread is refused for it). That call is made
 //! again, with memory, and then has to answer as if nothing had been refused.
 //!
 //! Run as it stands no growth is refused. `tests/failed_allocations.py` refuses them in turn: it has the one allocation of a fixed
 //! number fail, and by the number on the standard input this program takes as many blocks before its first call.
 #![tactic(auto)]
 
-/// The answer of a call, which is made again where it is want of memory.
+/// The answer of a call, which is made again if it is `Memory`.
 macro_rules! answer {
     ($calls:ident, $name:expr, $memory:pat, $call:expr) => {{
         $calls.name = $name;
@@ -29,7 +29,7 @@ use std::alloc::{AllocError, Global};
 use std::io::{self, Read};
 use std::process::ExitCode;
 
-/// The number on the input, 0 where there is none.
+/// The number on the input, 0 if there is none.
 fn number_on(input: &mut impl Read) -> io::Result<u32> {
     let mut buffer = [0; 16];
     let count = input.read(&mut buffer)?;
@@ -45,7 +45,7 @@ fn take_blocks(alloc: Global, count: u32) -> Result<(), AllocError> {
     Ok(())
 }
 
-/// What is told of the calls, all of whose answers were as wanted.
+/// What is printed of the calls, if all of them returned what they must.
 fn told(alloc: Global, calls: &Calls, blocks: u32) -> (&'static str, &'static str) {
     match calls.refused {
         Some(name) => (name, " wanted memory"),

@@ -23,7 +23,7 @@ fn opened(alloc: Global, seats: u32) -> Result<(LiveSet<LazyList>, Vec<Seat<Lazy
     open::<LazyList>(alloc, seats, 4)
 }
 
-/// The same, made again where it was refused.
+/// A result, made again if it was refused.
 fn open_seats(
     alloc: Global,
     calls: &mut Calls,
@@ -113,7 +113,7 @@ fn work_again<R: Threads + Wait + Sync>(
     }
 }
 
-/// Two programs on two threads. Where they were refused they are run again.
+/// Two programs on two threads. If they were refused they are run again.
 pub fn programs_on_threads<R: Threads + Wait + Sync>(
     rt: &R,
     alloc: Global,
@@ -182,7 +182,7 @@ fn serve_client<R: Net<Listener = TcpListener, Stream = TcpStream> + Threads + W
     }
 }
 
-/// A session with one client. Where it was refused, another server has another client.
+/// A session with one client. If it was refused, another server has another client.
 pub fn a_session<
     R: Net<Listener = TcpListener, Stream = TcpStream> + Threads + Wait + Clock + Sync,
 >(rt: &R, alloc: Global, calls: &mut Calls) -> Result<()> {

@@ -13,7 +13,7 @@ use Rattle.tool_base.specs.declared.trouble.Trouble.{Trouble}
 use Rattle.tool_base.specs.Trouble.{of_report}
 use Rattle.tool_base.specs.Tools.{AnswerValue, Made, IsTaken, IsInputTrouble}
 
--- The order of a report has this first fault, and so it does not explain the history. Want of memory is no fault of an order.
+-- The order of a report has this first fault, and so it does not explain the history. A failed allocation is no fault of an order.
 pub record IsRefused (r : ReportValue) (fault : OrderFault) : Type 0 where
   pub first_fault : IsFault r.history r.order r.keys fault
   pub of_the_order : fault ≢ Memory
@@ -24,7 +24,7 @@ abbrev pub IsVerdict : ReportValue → Option OrderFault → Type 0
 IsVerdict r None = Explains r.history r.order r.keys
 IsVerdict r (Some fault) = IsRefused r fault
 
--- the line about a refused order; there is none about want of memory
+-- the line about a refused order; there is none about a failed allocation
 abbrev pub refusal_text : OrderFault → List ℕ
 refusal_text (Unknown number) = codes "refused Unknown " ++ decimal number ++ codes "\n"
 refusal_text (Twice number) = codes "refused Twice " ++ decimal number ++ codes "\n"

@@ -9,7 +9,7 @@ use Rattle.tool_base.specs.declared.trouble.Trouble.TheVariants.{CannotListen, W
 use Rattle.tool_base.specs.Trouble.{trouble_text}
 use Rattle.tool_base.specs.Trouble as trouble
 
--- an answer without where its text lies in memory
+-- an answer, without the place of its text in memory
 pub record AnswerValue : Type 0 where
   pub text : List ℕ
   pub status : ℕ
@@ -30,7 +30,7 @@ Outcome = Result ℕ Trouble
 abbrev pub Delivers : Made → Option (List ℕ) → Option (List ℕ) → Outcome → Type 0
 -- the text of an answer is written whole,
 Delivers (Ok answer) old new (Ok status) = (status ≡ answer.status) × Appends old new answer.text
--- or a front of it, where a write failed;
+-- or a prefix of it, if a write failed;
 Delivers (Ok answer) old new (Err t) =
     (t ≡ CannotWrite) × (front : List ℕ) × (rest : List ℕ) × (answer.text ≡ front ++ rest) × Appends old new front
 -- a trouble writes nothing.
@@ -41,7 +41,7 @@ abbrev pub status_of : Outcome → ℕ
 status_of (Ok status) = status
 status_of (Err t) = trouble.status_of t
 
--- the line on standard error, of which a front is written where a write fails
+-- the line on standard error, of which a prefix is written if a write fails
 abbrev pub line_of : Outcome → List ℕ
 line_of (Ok status) = []
 line_of (Err t) = trouble_text t

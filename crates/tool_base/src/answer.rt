@@ -22,7 +22,7 @@ const CANNOT_LISTEN: &[u8] = b"listset: cannot listen\n";
 
 const OUT_OF_MEMORY: &[u8] = b"listset: out of memory\n";
 
-/// What a tool makes of its input: the text for its output, and the exit status once that is written.
+/// The result of a tool: the text for its output, and the exit status if that is written.
 #[derive(Drop)]
 pub struct Answer {
     pub text: Vec<u8>,
@@ -42,7 +42,8 @@ impl Answer {
     }
 }
 
-/// The line about a trouble, as the program writes it on standard error. `AllocError` where memory for it is refused.
+/// Returns the line about an error that the program writes to standard error, `listset: ..` with a newline. Allocates;
+/// `AllocError` if that fails.
 pub fn line_of_trouble(alloc: Global, trouble: Trouble) -> Result<Vec<u8>, AllocError>
     ensures { IfOk result (λ line. line.items ≡ trouble_text trouble) }
 {
@@ -100,7 +101,7 @@ fn tell_line<F: Write>(faults: &mut F, line: &[u8])
     let _whole = put(faults, line);
 }
 
-/// Writes a line that takes memory, as far as the writes succeed, and none where memory is refused.
+/// Writes a line that allocates, as far as the writes succeed, and none if the allocation fails.
 fn tell_made<F: Write>(alloc: Global, faults: &mut F, trouble: Trouble)
     ensures { AppendsFront (F.contents faults.old) (F.contents faults.new) (trouble_text trouble) }
 {
@@ -109,8 +110,8 @@ fn tell_made<F: Write>(alloc: Global, faults: &mut F, trouble: Trouble)
     }
 }
 
-/// Writes the line about a trouble, as far as the writes succeed. A line that has a number or a name takes memory, and is
-/// not written where that is refused.
+/// Writes the line about an error, as far as the writes succeed. A line that has a number or a name allocates, and is
+/// not written if that fails.
 fn tell<F: Write>(alloc: Global, faults: &mut F, trouble: Trouble)
     ensures { AppendsFront (F.contents faults.old) (F.contents faults.new) (trouble_text trouble) }
 {
@@ -128,9 +129,11 @@ fn tell<F: Write>(alloc: Global, faults: &mut F, trouble: Trouble)
     }
 }
 
-/// Ends a tool: writes the text of an answer on `output`, or one line about a trouble on `faults`, and gives
-/// the exit status. A write that fails, or takes no byte, is not tried again; where it was on `output` it is
-/// the trouble, on `faults` it leaves the status as it is.
+/// Ends a tool, and returns the exit status. Writes the text of an answer to `output`, or the one line about an error to
+/// `faults`.
+///
+/// A write that fails, or takes no byte, is not repeated. On `output` it is then the error, `CannotWrite`; on `faults` it
+/// leaves the status as it is. A line with a number or a name in it allocates, and is not written if that fails.
 pub fn deliver<W: Write, F: Write>(
     alloc: Global,
     made: Result<Answer, Trouble>,

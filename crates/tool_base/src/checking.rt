@@ -14,7 +14,8 @@ use lset_report::{Report, read_report};
 use std::alloc::Global;
 use std::io::{Read, Write};
 
-/// The line about an order with this fault. Want of memory is no fault of the order.
+/// Returns the line that `check` prints about an order with this fault: `refused`, its name and, except for `WrongSet`, the
+/// number of the call. Of `Memory`, which is no fault of the order, it is empty.
 pub fn refusal_text(alloc: Global, fault: OrderFault) -> Result<Vec<u8>, Trouble>
     ensures of_the_order { OnOk result (fault ≢ order.Memory) }
     ensures line { IfOk result (λ text. text.items ≡ refusal_text fault) }
@@ -59,9 +60,13 @@ fn answer_of(alloc: Global, bytes: &[u8]) -> Result<Answer, Trouble>
     answer_on(alloc, &report)
 }
 
-/// Judges the order of the report whose text the bytes are: `ok` with status 0, or `refused`, the name of the first fault
-/// and, but for `WrongSet`, the number of its call, with status 1. The error is `TooLong` where there are more than
-/// `LONGEST` bytes, `Line` with the first fault of a text that is no report's, and `Memory` where memory was refused.
+/// Judges the order of a report, given as the bytes of its text. The answer is `ok` with status 0, or `refused`, the name of
+/// the first fault and, except for `WrongSet`, the number of its call, with status 1. Allocates.
+///
+/// # Errors
+///
+/// `TooLong` if there are more than `LONGEST` bytes; `Line` with the first error of a text that is not a report; `Memory` if
+/// an allocation fails.
 pub fn checked(alloc: Global, bytes: &[u8]) -> Result<Answer, Trouble>
     ensures checks { Checks bytes.now (view result) }
     ensures read { IfErr result (λ t. t ≢ CannotRead) }
@@ -79,11 +84,15 @@ fn checked_input<R: Read>(alloc: Global, input: &mut R) -> Result<Answer, Troubl
     checked(alloc, &bytes)
 }
 
-/// Checks the report on the input: whether its order linearizes its history (Herlihy and Wing) and leaves just its
-/// keys. Writes `ok` on the output, or `refused`, the name of the first fault and, but for `WrongSet`, the number of
-/// its call. Where the input is no report, or cannot be read or judged, it writes one line about that on `faults`
-/// and nothing on the output. Gives the exit status: 0 where `ok` was written, 3 where memory was refused, else 1. A
-/// failing write on `faults` leaves the status as it is.
+/// Does what `check` does: judges whether the order of the report on `input` linearizes its calls (Herlihy and Wing) and
+/// leaves exactly its keys, and returns the exit status.
+///
+/// Writes `ok` to `output`, or `refused`, the name of the first fault and, except for `WrongSet`, the number of its call. If
+/// the input is not a report, or cannot be read or judged, it writes one line about that to `faults` and nothing to
+/// `output`.
+///
+/// The status is 0 if `ok` was written, 3 if an allocation failed, else 1. A write to `faults` that fails leaves it as it
+/// is. Allocates; blocks as its input and output do.
 pub fn tool_check<R: Read, W: Write, F: Write>(
     alloc: Global,
     input: &mut R,

@@ -73,8 +73,12 @@ fn schedule_for(alloc: Global, request: RandomRequest) -> Result<Schedule, GenFa
     on_list(request.kind, Generating { alloc, request })
 }
 
-/// The schedule that the values ask for, which are those of `tool_gen`: its text, with status 0. The error is `Bad` with the
-/// first value that is missing or wrong, and `Memory` where memory was refused.
+/// Returns the text of the schedule that `gen` prints for these values, which are those of `tool_gen`, with status 0.
+/// Allocates.
+///
+/// # Errors
+///
+/// `Bad` with the first value that is missing or wrong; `Memory` if an allocation fails.
 pub fn generated(alloc: Global, values: &[String]) -> Result<Answer, Trouble>
     ensures { Generates (map string_bytes values.now) (tools.view result) }
 {
@@ -84,14 +88,14 @@ pub fn generated(alloc: Global, values: &[String]) -> Result<Answer, Trouble>
     Ok(Answer { text, status: 0 })
 }
 
-/// Writes a random schedule, of version 1, on the output.
+/// Does what `gen` does: writes a random schedule, of version 1, to `output`, and returns the exit status.
 ///
-/// `values` are KIND THREADS QUOTA CALLS KEYS SEED in this order; those past the last are not looked at. KIND is the word
-/// for a list, the rest are decimals without leading zeros: THREADS 1 to 64, QUOTA 0 to 16,384, CALLS 0 to 10,000, KEYS 1
-/// to 4,294,967,295, SEED 0 to 2^64 - 1. The schedule ends at 10,000 events, so it may begin fewer calls.
+/// `values` are KIND THREADS QUOTA CALLS KEYS SEED in this order; further ones are not looked at. KIND is the name of a
+/// list, the others are decimals without leading zeros: THREADS 1 to 64, QUOTA 0 to 16,384, CALLS 0 to 10,000, KEYS 1 to
+/// 4,294,967,295, SEED 0 to 2^64 - 1. The schedule ends at 10,000 events, so it may begin fewer calls.
 ///
-/// The exit status is 0 where it was written. Else one line on `faults` says why, where it can be written: 2 for the first
-/// wrong value or one that is missing, 3 where memory was refused, 1 for anything else.
+/// The status is 0 if it was written. Else one line on `faults` says why, if it can be written: status 2 for the first value
+/// that is missing or wrong, 3 if an allocation failed, 1 for anything else. Allocates.
 pub fn tool_gen<W: Write, F: Write>(
     alloc: Global,
     values: &[String],

@@ -1,5 +1,5 @@
-//! The tools of the program, over any reader and writers: each makes an answer of its input or of its values, writes it on
-//! an output, or one line about what is wrong on another, and gives the exit status.
+//! The tools of the program, over any reader and writers: each makes an answer of its input or of its arguments, writes it
+//! to an output, or one line about an error to another, and returns the exit status.
 #![tactic(auto)]
 
 mod answer;

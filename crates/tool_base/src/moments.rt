@@ -4,16 +4,16 @@ ghost use Rattle.tool_base.specs.Moments.{moment_of, moments_of, width_of};
 use crate::trouble::ValueName;
 use lset_text::number;
 
-/// The greatest moment that an option may name.
+/// The largest moment that an option may name.
 pub const MOST_MOMENT: u32 = u32::MAX;
 
-/// The width of a text picture where no option names one.
+/// The width of a picture as text, in characters, if no option names one.
 pub const DEFAULT_WIDTH: u32 = 100;
 
-/// The greatest width that an option may name.
+/// The largest width that an option may name, in characters.
 pub const MOST_WIDTH: u32 = u32::MAX;
 
-/// The moments from one to another, which is not before it.
+/// A window of moments: from `from` to `to`, which is at least `from`.
 #[derive(Clone, Copy)]
 pub struct Moments {
     /// 1 to `MOST_MOMENT`.
@@ -22,7 +22,7 @@ pub struct Moments {
     pub to: u32,
 }
 
-/// The moment that the text spells, `least` to `MOST_MOMENT`, or `absent` where there is no text.
+/// The moment that the text spells, `least` to `MOST_MOMENT`, or `absent` if there is no text.
 fn moment(text: Option<&str>, least: u32, absent: u32) -> Option<u32>
     requires { least ≤ absent }
     ensures value { result ≡ moment_of least (option_map (λ t. t.now) text.entry) absent }
@@ -34,9 +34,9 @@ fn moment(text: Option<&str>, least: u32, absent: u32) -> Option<u32>
     }
 }
 
-/// The moments that the options `--from` and `--to` ask for, whose texts these are. Each is a decimal without leading
-/// zeros: `from` 1 to `MOST_MOMENT`, and 1 where it is not given, `to` the first of them to `MOST_MOMENT`, and `MOST_MOMENT`
-/// where it is not given. The error names the first option that is wrong.
+/// Reads the window of moments of the options `--from` and `--to`. Each is a decimal without leading zeros: `from` 1 to
+/// `MOST_MOMENT`, and 1 if it is not given; `to` from `from` to `MOST_MOMENT`, and `MOST_MOMENT` if it is not given. The
+/// error names the first option that is wrong.
 #[tactic(auto, unfolding(crate::specs::Moments::moments_of))]
 pub fn read_moments(from: Option<&str>, to: Option<&str>) -> Result<Moments, ValueName>
     ensures value { result ≡ moments_of (option_map (λ t. t.now) from.entry) (option_map (λ t. t.now) to.entry) }
@@ -47,8 +47,8 @@ pub fn read_moments(from: Option<&str>, to: Option<&str>) -> Result<Moments, Val
     Ok(Moments { from, to })
 }
 
-/// The width that the option `--width` asks for, whose text this is: a decimal without leading zeros, 1 to `MOST_WIDTH`, and
-/// `DEFAULT_WIDTH` where it is not given. The error names the option.
+/// Reads the width of the option `--width`, in characters: a decimal without leading zeros, 1 to `MOST_WIDTH`, and
+/// `DEFAULT_WIDTH` if it is not given. The error names the option.
 pub fn read_width(text: Option<&str>) -> Result<u32, ValueName>
     ensures { result ≡ width_of (option_map (λ t. t.now) text.entry) }
 {

@@ -25,9 +25,12 @@ fn report_of(alloc: Global, bytes: &[u8]) -> Result<Answer, Trouble>
     Ok(Answer { text, status: 0 })
 }
 
-/// Replays the schedule whose text the bytes are: the text of its report, with status 0. The error is `TooLong` where there
-/// are more than `LONGEST` bytes, `Line` with the first fault of the text, or with the first event that is not enabled,
-/// and `Memory` where memory was refused.
+/// Replays a schedule, given as the bytes of its text. The answer is the text of its report, with status 0. Allocates.
+///
+/// # Errors
+///
+/// `TooLong` if there are more than `LONGEST` bytes; `Line` with the first error of the text, or with the first event that
+/// is not enabled; `Memory` if an allocation fails.
 pub fn replayed(alloc: Global, bytes: &[u8]) -> Result<Answer, Trouble>
     ensures replays { Replays bytes.now (view result) }
     ensures read { IfErr result (λ t. t ≢ CannotRead) }
@@ -45,9 +48,11 @@ fn replayed_input<R: Read>(alloc: Global, input: &mut R) -> Result<Answer, Troub
     replayed(alloc, &bytes)
 }
 
-/// Replays the schedule on the input: writes its report on the output, or one line about what is wrong on
-/// `faults`, and gives the exit status: 0 where the report was written, 3 where memory was refused, else 1.
-/// A failing write on `faults` leaves the status as it is.
+/// Does what `replay` does: replays the schedule on `input`, writes its report to `output`, or one line about an error to
+/// `faults` and nothing to `output`, and returns the exit status.
+///
+/// The status is 0 if the report was written, 3 if an allocation failed, else 1. A write to `faults` that fails leaves it as
+/// it is. Allocates; blocks as its input and output do.
 pub fn tool_replay<R: Read, W: Write, F: Write>(
     alloc: Global,
     input: &mut R,

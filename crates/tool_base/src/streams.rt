@@ -4,7 +4,7 @@ ghost use Rattle.std.specs.Io.KnownBytes.{Appends};
 use std::alloc::Global;
 use std::io::{Read, Write};
 
-/// The most bytes that an input may have.
+/// The maximum number of bytes of an input.
 pub const LONGEST: usize = 67_108_864;
 
 /// Why an input was not read.
@@ -15,9 +15,12 @@ pub enum InputFault {
     Memory,
 }
 
-/// All bytes of the input, which is read until a read gives no byte. `CannotRead` where a read failed,
-/// which is not tried again, `TooLong` where the input has more than `LONGEST` bytes, `Memory` where
-/// memory was refused.
+/// Reads all bytes of an input, until a read returns none. Allocates; blocks as the input does.
+///
+/// # Errors
+///
+/// `CannotRead` if a read fails, which is not repeated; `TooLong` if the input has more than `LONGEST` bytes; `Memory` if an
+/// allocation fails.
 pub fn input_of<R: Read>(alloc: Global, input: &mut R) -> Result<Vec<u8>, InputFault>
     ensures whole { IfOk result (λ v. IfSome (R.remaining input.old) (λ bytes. v.items ≡ bytes)) }
     ensures short { IfOk result (λ v. length v.items ≤ LONGEST) }
@@ -42,8 +45,8 @@ pub fn input_of<R: Read>(alloc: Global, input: &mut R) -> Result<Vec<u8>, InputF
     }
 }
 
-/// Writes the text, and tells whether all of it was written. A write that fails, or takes no byte, is not
-/// tried again.
+/// Writes a text, and returns whether all of it was written. A write that fails, or takes no byte, is not repeated; a prefix
+/// may have been written then.
 pub fn put<W: Write>(output: &mut W, text: &[u8]) -> bool
     ensures front { (done rest : List ℕ) × (text.now ≡ done ++ rest)
         × Appends (W.contents output.old) (W.contents output.new) done }

@@ -13,7 +13,7 @@ use std::alloc::AllocError;
 const LACKS: &str =
     "NAME: it is none of lock, second-lock, hand-over-hand, second-walk, same-node, marks-in-validation, mark-in-contains, mark-in-ceiling, mark, mark-in-add, mark-in-remove, mark-at-key, new-slot or last-slot";
 
-/// Why a line of the keys with which a set is to open is refused.
+/// Why a line of the keys with which a set opens is refused.
 #[derive(Clone, Copy)]
 pub enum KeyCause {
     /// The line is not `key` and one further piece.
@@ -41,17 +41,17 @@ pub enum LineCause {
     Idle,
     /// A broken list cannot make the event of the line.
     Lost,
-    /// A thread does not come to where the line of a draft sends it.
+    /// A thread does not get to where the line of a draft sends it.
     Waits,
     /// The text is no report.
     Report(ReportCause),
     /// The text is none of calls, or they have no report.
     Calls(CallsCause),
-    /// The text is not one of rising keys.
+    /// The input is not a list of keys in strictly increasing order.
     Keys(KeyCause),
 }
 
-/// A value or an option that a command takes.
+/// An argument or an option of a command.
 #[derive(Clone, Copy)]
 pub enum ValueName {
     Kind,
@@ -71,7 +71,7 @@ pub enum ValueName {
     Width,
 }
 
-/// Why programs are not run to their ends. Want of memory is a trouble of its own.
+/// Why the programs of `run` are not executed to their ends. A failed allocation is `Trouble::Memory`.
 #[derive(Clone, Copy)]
 pub enum WorkName {
     /// The programs are not as many as the seats, or the seats do not hold all seats of the set.
@@ -84,7 +84,7 @@ pub enum WorkName {
     Opening,
 }
 
-/// Why sessions are not served to their ends. Want of memory is a trouble of its own.
+/// Why the sessions of `serve` are not served to their ends. A failed allocation is `Trouble::Memory`.
 #[derive(Clone, Copy)]
 pub enum ServeName {
     /// The seats do not hold all seats of the set.
@@ -99,7 +99,7 @@ pub enum ServeName {
     Left,
 }
 
-/// What ends a run of the program with a line on standard error.
+/// An error that ends a run of the program with a line on standard error.
 #[derive(Clone, Copy)]
 pub enum Trouble {
     /// A file could not be opened, or a read failed.
@@ -116,7 +116,7 @@ pub enum Trouble {
     Memory,
     /// A line of the input, counted from 1, is refused.
     Line(u64, LineCause),
-    /// A value or an option of the command line is missing or is none of those that may stand there.
+    /// An argument or an option of the command line is missing or wrong.
     Bad(ValueName),
     /// The system gives no listening socket.
     CannotListen,
@@ -127,7 +127,7 @@ pub enum Trouble {
 }
 
 impl Trouble {
-    /// The exit status.
+    /// Returns the exit status that the program ends with: 1, 2 or 3.
     pub fn status(self) -> u8
         ensures { result ≡ status_of self }
     {
@@ -229,7 +229,7 @@ impl From<AllocError> for Trouble {
 }
 
 impl LineCause {
-    /// Its name, as the line on standard error has it.
+    /// Returns the cause's name, as the line on standard error has it.
     pub fn name(self) -> &'static str
         ensures { result.now ≡ name_of self }
     {
@@ -290,7 +290,7 @@ impl LineCause {
 }
 
 impl ValueName {
-    /// Its word, as the help and the line on standard error have it.
+    /// Returns the name of the argument or option, as the help and the line on standard error have it.
     pub fn word(self) -> &'static str
         ensures { result.now ≡ value_word self }
     {
@@ -315,7 +315,7 @@ impl ValueName {
 }
 
 impl WorkName {
-    /// Its name, as the line on standard error has it.
+    /// Returns the cause's name, as the line `listset: work: CAUSE` has it.
     pub fn name(self) -> &'static str
         ensures { result.now ≡ work_name self }
     {
@@ -329,7 +329,7 @@ impl WorkName {
 }
 
 impl ServeName {
-    /// Its name, as the line on standard error has it.
+    /// Returns the cause's name, as the line `listset: serve: CAUSE` has it.
     pub fn name(self) -> &'static str
         ensures { result.now ≡ serve_name self }
     {

@@ -7,16 +7,16 @@ use crate::trouble::ValueName;
 use lset_text::{number, read_kind};
 use lset_words::{Kind, MOST_QUOTA, MOST_THREADS};
 
-/// The most calls that a command asks for. (This project's own limit.)
+/// The maximum number of calls that an argument may ask for.
 pub const MOST_CALLS_ASKED: u32 = 10_000;
 
-/// The most keys from which calls are drawn.
+/// The maximum number of keys of which calls are drawn: all keys are below it.
 pub const MOST_KEYS_ASKED: u32 = u32::MAX;
 
-/// The greatest seed.
+/// The largest seed.
 pub const MOST_SEED: u64 = u64::MAX;
 
-/// What a command takes from its values: a list, the sizes and the calls of a run, and the seed from which
+/// The arguments of `gen`, and the first ones of `run`: a list, the sizes and the calls of a run, and the seed from which
 /// they are drawn.
 #[derive(Clone, Copy)]
 pub struct RandomRequest {
@@ -34,15 +34,15 @@ pub struct RandomRequest {
     pub seed: u64,
 }
 
-/// The list whose word the value with this index, from 0, is; `None` where it is missing or no such word.
+/// Returns the list that the argument with this index, from 0, names; `None` if it is missing or names none.
 pub fn kind_at(values: &[String], index: usize) -> Option<Kind>
     ensures { result ≡ kind_at (map string_bytes values.now) index }
 {
     read_kind(values.get(index)?.as_bytes())
 }
 
-/// The number from `low` to `high` that the value with this index, from 0, spells, as a decimal without leading zeros;
-/// `None` where the value is missing or spells none of them.
+/// Returns the number from `low` to `high` that the argument with this index, from 0, spells as a decimal without leading
+/// zeros; `None` if it is missing or spells no such number.
 pub fn number_at(values: &[String], index: usize, low: u32, high: u32) -> Option<u32>
     ensures value { result ≡ number_at (map string_bytes values.now) index low high }
     ensures range { IfSome result (λ n. (low ≤ n) × (n ≤ high)) }
@@ -74,9 +74,9 @@ fn seed_at(values: &[String], index: usize) -> Option<u64>
     long_number(values.get(index)?.as_str())
 }
 
-/// What the values ask for, in the order KIND, THREADS, QUOTA, CALLS, KEYS, SEED, with the ranges of
-/// `RandomRequest`; numbers are decimals without leading zeros. The error names the first value that is missing or
-/// wrong. Values past the last are not looked at.
+/// Reads the arguments KIND, THREADS, QUOTA, CALLS, KEYS and SEED, in this order, with the ranges of `RandomRequest`;
+/// numbers are decimals without leading zeros. The error names the first that is missing or wrong. Further arguments are not
+/// looked at.
 #[tactic(auto, unfolding(crate::specs::Generating::random_request_of))]
 pub fn read_random_request(values: &[String]) -> Result<RandomRequest, ValueName>
     ensures value { result ≡ random_request_of (map string_bytes values.now) }

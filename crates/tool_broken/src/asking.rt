@@ -16,7 +16,7 @@ use tool_base::{LONGEST, LineCause, Trouble, ValueName};
 /// The line of a schedule's text that names the list.
 const KIND_LINE: u64 = 2;
 
-/// The broken list of this name. The error is `Bad(Lacks)` where there is none.
+/// Returns the broken list of this name. The error is `Bad(Lacks)` if there is none.
 pub fn broken_of(name: &[u8]) -> Result<BrokenList, Trouble>
     ensures found { IfOk result (λ broken. name.now ≡ name_of broken) }
     ensures unknown { IfErr result (λ t. (t ≡ Bad Lacks) × HasNone name.now) }
@@ -24,7 +24,7 @@ pub fn broken_of(name: &[u8]) -> Result<BrokenList, Trouble>
     named(name).ok_or(Trouble::Bad(ValueName::Lacks))
 }
 
-/// The schedule whose text the bytes are, which has to name the list from which the check was removed.
+/// Reads a schedule, which must name the list from which the check was removed.
 pub fn schedule_of(alloc: Global, broken: BrokenList, bytes: &[u8]) -> Result<Schedule, Trouble>
     ensures schedule { IfOk result (λ s. IsScheduleOf broken bytes.now (plan.view s)) }
     ensures trouble { IfErr result (λ t. IsTextTrouble broken bytes.now t) }
@@ -40,7 +40,7 @@ pub fn schedule_of(alloc: Global, broken: BrokenList, bytes: &[u8]) -> Result<Sc
     Ok(schedule)
 }
 
-/// The word for the cause at which a run ends.
+/// Returns the cause of the line about the event at which a run ends.
 pub fn cause_of(fault: BrokenStepError) -> LineCause
     ensures { (line : ℕ) → Trouble.Line line result ≡ trouble_at line fault }
 {
@@ -64,7 +64,7 @@ impl Listener for Silent {
     }
 }
 
-/// The report of the run of the schedule whose text the bytes are, by the broken list.
+/// Runs a schedule, given as the bytes of its text, on the broken list, and returns the report.
 pub fn report_of(alloc: Global, broken: BrokenList, bytes: &[u8]) -> Result<Report, Trouble>
     ensures report { IfOk result (λ r. IsReported broken bytes.now (report.view r)) }
     ensures trouble { IfErr result (λ t. IsTextTrouble broken bytes.now t ⊎ IsRunTrouble broken bytes.now t) }

@@ -19,12 +19,15 @@ fn replayed_by(alloc: Global, broken: BrokenList, bytes: &[u8]) -> Result<Answer
     Ok(Answer { text, status: 0 })
 }
 
-/// Runs the schedule whose text the bytes are by the broken list of this name: the text of the report, of the second
-/// version, with status 0. The report's order is that of the steps that the list's table names, and may explain nothing.
+/// Runs a schedule, given as the bytes of its text, on the broken list of this name. The answer is the text of the report,
+/// of version 2, with status 0. The report's order is that of the steps that the list's table names as its linearization
+/// points, and may explain nothing. Allocates.
 ///
-/// The error is `Bad(Lacks)` where no list has this name, `TooLong`, `Line` with the first fault of the text, with `Kind` in line 2
-/// where the schedule names another list, or with the event at which the run ends: it is not enabled, or, `Lost`, the list is
-/// broken beyond running; and `Memory`.
+/// # Errors
+///
+/// `Bad(Lacks)` if no list has this name; `TooLong`; `Line` with the first error of the text, with `Kind` in line 2 if the
+/// schedule names another list, or with the event at which the run ends: it is not enabled, or, `Lost`, it would access a
+/// word outside the table; `Memory` if an allocation fails.
 pub fn replayed_broken(alloc: Global, name: &[u8], bytes: &[u8]) -> Result<Answer, Trouble>
     ensures replays { ByName (λ l made. Replays l bytes.now made) name.now (view result) }
     ensures read { IfErr result (λ t. t ≢ CannotRead) }
@@ -41,9 +44,10 @@ fn replayed_input<R: Read>(alloc: Global, name: &[u8], input: &mut R) -> Result<
     replayed_by(alloc, broken, &bytes)
 }
 
-/// Runs the schedule on the input by the broken list of this name: writes the report on the output and nothing
-/// more, or one line about what is wrong on `faults`, and gives the exit status: 0 where the report was written, 2 where no list
-/// has the name, 3 where memory was refused, else 1. A failing write on `faults` leaves the status as it is.
+/// Does what `replay --lacks NAME` does: runs the schedule on `input` on the broken list of this name, writes only the
+/// report to `output`, or one line about an error to `faults`, and returns the exit status. It is 0 if the report was
+/// written, 2 if no list has the name, 3 if an allocation failed, else 1. A write to `faults` that fails leaves it as it is.
+/// Allocates.
 pub fn tool_replay_broken<R: Read, W: Write, F: Write>(
     alloc: Global,
     name: &str,

@@ -26,9 +26,9 @@ fn shown_by(
     drawn(alloc, &picture, form, window)
 }
 
-/// Draws the report that `replayed_broken` makes, as `show` draws any report: status 0 if its order explains it, and 1 if that is
-/// refused, with last lines that say whether another order explains it. The errors are those of `replayed_broken`, and `Bad(From)` if
-/// the window begins past the picture.
+/// Draws the report that `replayed_broken` makes, as `show` draws any report: with status 0 if its order explains it; with
+/// status 1 if the order is refused, and last lines that say whether another order explains it. Allocates. The errors are
+/// those of `replayed_broken`, and `Bad(From)` if the window begins past the picture.
 pub fn shown_broken(
     alloc: Global,
     name: &[u8],
@@ -57,9 +57,10 @@ fn shown_input<R: Read>(
     shown_by(alloc, broken, &bytes, form, window)
 }
 
-/// Draws the report of the run of the schedule on the input, by the broken list of this name, on the output, or
-/// writes one line about what is wrong on `faults`. Gives the exit status: 0 where the picture was written, 1 where it tells why
-/// the order is refused, 2 where no list has the name or the window begins past the picture, 3 where memory was refused, else 1.
+/// Does what `show --lacks NAME` does: draws the report of the schedule on `input` on the broken list of this name, to
+/// `output`, or writes one line about an error to `faults`, and returns the exit status. It is 0 if the picture was written,
+/// 1 if it says why the order is refused, 2 if no list has the name or the window begins past the picture, 3 if an
+/// allocation failed, else 1. Allocates.
 pub fn tool_show_broken<R: Read, W: Write, F: Write>(
     alloc: Global,
     name: &str,

@@ -49,10 +49,10 @@ fn traced_by(
     }
 }
 
-/// Traces the run of the schedule whose text the bytes are, by the broken list of this name: the text of a trace, as
-/// of `trace`, with a line `lacks NAME` behind its list, and the chain after each event that changed it where `chains`. Its status
-/// is 1 where the run ends before the last event, and else 0. The errors are those of `replayed_broken`, but for the event at which
-/// a run ends.
+/// Traces the run of a schedule, given as the bytes of its text, on the broken list of this name. The answer is a trace, as
+/// of `trace`, with a line `lacks NAME` below its list and, with `chains`, the chain after each event that changed it. Its
+/// status is 1 if the run ends before the last event, else 0. Allocates. The errors are those of `replayed_broken`, except
+/// for the event at which a run ends.
 pub fn traced_broken(
     alloc: Global,
     name: &[u8],
@@ -79,9 +79,10 @@ fn traced_input<R: Read>(
     traced_by(alloc, broken, &bytes, chains)
 }
 
-/// Traces the run of the schedule on the input, by the broken list of this name, on the output, or writes one line
-/// about what is wrong on `faults`. Gives the exit status: 0 where the trace of all events was written, 2 where no list has the
-/// name, 3 where memory was refused, else 1, also where the run ends before the last event.
+/// Does what `trace --lacks NAME` does: traces the run of the schedule on `input` on the broken list of this name, to
+/// `output`, or writes one line about an error to `faults`, and returns the exit status. It is 0 if the trace of all events
+/// was written, 2 if no list has the name, 3 if an allocation failed, else 1, also if the run ends before the last event.
+/// Allocates.
 pub fn tool_trace_broken<R: Read, W: Write, F: Write>(
     alloc: Global,
     name: &str,

@@ -37,7 +37,7 @@ use Rattle.tool_draft.specs.declared.value.DraftLine.TheVariants.{Plain, Out, To
 use Rattle.tool_draft.specs.Drafts.{DraftValue, view, drafted, title, header_in, pieces_of, draft_text, IsDraftLine, IsDraft}
 use Rattle.tool_draft.specs.DraftReading.{to_kind, events, reading}
 
--- where nothing is told, a second thing is known too
+-- if nothing is read, a second thing is known too
 pub also_none : {A B R : Type 0} (P : R → Type 0) (o : Option R) → (A → B) → MatchOption o A P → MatchOption o B P
 also_none P None more a = more a
 also_none P (Some r) more p = p

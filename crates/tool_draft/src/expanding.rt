@@ -18,7 +18,7 @@ use lset_steps::{Event, Machine, World};
 use lset_words::layout_opening;
 use std::alloc::{AllocError, Global};
 
-/// Makes the events of a line of a schedule, where so many events are left.
+/// Executes the events of a line of a schedule, if that many events are left.
 fn make_plain<M: Machine>(world: &mut World<M>, line: Line, left: u32) -> Result<(), DraftCause>
     ensures { MakesPlain M.table world.old left line result world.new }
 {
@@ -34,7 +34,7 @@ fn make_plain<M: Machine>(world: &mut World<M>, line: Line, left: u32) -> Result
     Ok(())
 }
 
-/// Makes the events for which a line stands, where so many events are left, and answers the line of a schedule.
+/// Executes the events that a line stands for, if that many events are left, and returns the line of a schedule.
 fn make_line<M: Machine>(
     world: &mut World<M>,
     line: DraftLine,
@@ -76,7 +76,7 @@ fn start_of<M: Machine>(alloc: Global, draft: &Draft) -> Result<World<M>, AllocE
     World::<M>::opened(alloc, layout, keys)
 }
 
-/// The lines of a schedule for which the lines of a draft stand on the list of the machine `M`.
+/// The lines of a schedule that the lines of a draft stand for on the list of the machine `M`.
 fn lines_on<M: Machine>(alloc: Global, draft: &Draft) -> Result<Vec<Line>, DraftFault>
     requires { IsDraft (view draft.now) }
     ensures { MatchResult result (λ v. AreLinesOfDraft M.table (view draft.now) v.items) (IsRefusal M.table (view draft.now)) }
@@ -118,19 +118,20 @@ impl Task for Expanding<'_> {
     }
 }
 
-/// The schedule of a draft on the list of its kind: each line gets the number of events that it stands for.
+/// Turns a draft into a schedule on the list of its kind: each line gets the number of steps that it stands for. Allocates.
 ///
-/// `draft` is within its limits, as `read_draft` gives it. A line without a count gets the least, at least 1, after which
-/// the call of the thread has ended, or the thread stands before the row; all else stays. The schedule is of the first
-/// version where it opens with no keys and begins no `ceiling`, and else of the second. (This project's own.)
+/// `draft` must be within the limits, as every draft from `read_draft` is. A line without a count gets the smallest, at
+/// least 1, after which the thread's call has ended, or the thread is at the row; all else stays. The schedule has version 1
+/// if it has no opening keys and begins no `ceiling`, else version 2.
 ///
-/// The first line that stands for none of a schedule is refused, with its number:
+/// # Errors
 ///
-/// - `TooMany`: it has more events than are left of 1,000,000;
+/// For the first line that stands for no line of a schedule, with its number:
+/// - `TooMany`: with it there are more than 1,000,000 events;
 /// - `Refused`: an event is not enabled;
-/// - `Waits`: the thread does not come to where the line sends it within 10,000 steps and the events that are left.
+/// - `Waits`: the thread does not get to where the line sends it within 10,000 steps or the events left.
 ///
-/// `Memory` stands where memory was refused.
+/// `Memory`: an allocation failed.
 pub fn schedule_of(alloc: Global, draft: &Draft) -> Result<Schedule, DraftFault>
     requires { IsDraft (view draft.now) }
     ensures { MatchResult result (λ s. Expands (table_of draft.now.kind) (view draft.now) (plan.view s))

@@ -6,14 +6,14 @@ use lset_steps::StepFault;
 use std::alloc::AllocError;
 use thiserror::Error;
 
-/// Why a line of a draft is no line of a schedule.
+/// Why a line of a draft does not become a line of a schedule.
 #[derive(Clone, Copy, Debug, PartialEq, Eq)]
 pub enum DraftCause {
     /// With this line there are more than 1,000,000 events.
     TooMany,
     /// An event of the line is not enabled.
     Refused(StepFault),
-    /// The thread does not come to where the line sends it, within the 10,000 steps that a line may have and the events that
+    /// The thread does not get to where the line sends it, within the 10,000 steps that a line may have and the events that
     /// are left.
     Waits,
 }
@@ -26,8 +26,8 @@ impl From<StepFault> for DraftCause {
     }
 }
 
-/// Why there is no schedule of a draft: the first of its lines that is no line of a schedule, by its number in the draft's text,
-/// or that there was no memory.
+/// Why a draft does not become a schedule: the first of its lines that does not, by its number in the draft's text, or that
+/// an allocation failed.
 #[derive(Clone, Copy, Debug, PartialEq, Eq, Error)]
 pub enum DraftFault {
     #[error("line {0}: {1:?}")]

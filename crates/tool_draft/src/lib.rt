@@ -1,5 +1,5 @@
-//! Drafts of schedules: texts in which a line may say where a thread is to stop in place of how many steps it takes. They are
-//! read, and made schedules by counting. (This project's own format.)
+//! Drafts of schedules: files in which a line may say where a thread stops instead of how many steps it makes. They are
+//! read, and become schedules by counting.
 #![tactic(auto)]
 
 mod expanding;
@@ -18,5 +18,5 @@ pub use value::{Draft, DraftLine};
 
 const TITLE: &str = "listset-draft 2";
 
-/// The greatest row at which a line of a draft may send a thread.
+/// The largest row to which a line of a draft may send a thread.
 pub const MOST_ROW: u32 = 255;

@@ -27,7 +27,7 @@ fn to(thread: &[u8], row: &[u8]) -> Result<DraftLine, Cause>
     Ok(DraftLine::To(thread, row))
 }
 
-/// What three pieces tell that are `go`, a thread and `out`; `None` where the words are others.
+/// Reads three fields that are `go`, a thread and `out`; `None` if they are others.
 fn out_in(word: &[u8], thread: &[u8], end: &[u8]) -> Option<Result<DraftLine, Cause>>
     ensures { (version : Version) → MatchOption result
         (have_form version out_kind.0 (word.now ∷ thread.now ∷ end.now ∷ []) ≡ false)
@@ -40,7 +40,7 @@ fn out_in(word: &[u8], thread: &[u8], end: &[u8]) -> Option<Result<DraftLine, Ca
     }
 }
 
-/// What four pieces tell that are `go`, a thread, `to` and a row; `None` where the words are others.
+/// Reads four fields that are `go`, a thread, `to` and a row; `None` if they are others.
 fn to_in(word: &[u8], thread: &[u8], place: &[u8], row: &[u8]) -> Option<Result<DraftLine, Cause>>
     ensures { (version : Version) → MatchOption result
         (have_form version to_kind.0 (word.now ∷ thread.now ∷ place.now ∷ row.now ∷ []) ≡ false)
@@ -53,7 +53,7 @@ fn to_in(word: &[u8], thread: &[u8], place: &[u8], row: &[u8]) -> Option<Result<
     }
 }
 
-/// What a line tells that has the words of one without a count; `None` for any other line.
+/// Reads a line that has the fields of one without a count; `None` for any other line.
 fn stop(line: &[u8]) -> Option<Result<DraftLine, Cause>>
     ensures { (version : Version) → MatchOption result
         ((have_form version out_kind.0 (cut_at 32 line.now) ≡ false)
@@ -100,9 +100,12 @@ fn draft(alloc: Global, bytes: &[u8]) -> Result<Draft, ScheduleFault>
     })
 }
 
-/// The draft that the bytes are the text of, or the first fault of the bytes: its line, and the first check of that line that
-/// fails, as `read_schedule` tells it of a text of the second version. A line without a count is taken for one event. A thread or
-/// a row that is no number has the fault `Number`, and so has a row outside 1 to 255.
+/// Reads a draft from its bytes. A line without a count counts as one event. Allocates.
+///
+/// # Errors
+///
+/// The first line that is wrong, and the first check that it fails, in the order in which `read_schedule` makes them on a
+/// schedule of version 2. A thread or a row that is not a number is `Number`, and so is a row outside 1 to 255.
 pub fn read_draft(alloc: Global, bytes: &[u8]) -> Result<Draft, ScheduleFault>
     // What is read is a draft, and the bytes are its text.
     ensures found { IfOk result (λ d. IsDraft (view d) × (bytes.now ≡ draft_text (view d))) }
@@ -111,7 +114,7 @@ pub fn read_draft(alloc: Global, bytes: &[u8]) -> Result<Draft, ScheduleFault>
         → MatchResult result (λ x. view x ≡ d) (λ e. e.cause ≡ Cause.Memory) }
     // Which fault it is.
     ensures exact { Gives view result (reading bytes.now) }
-    // Want of memory is told of a line after the header, where neither it nor a line above has a fault.
+    // `Memory` is returned with a line after the header, if neither it nor a line above has another error.
     ensures memory { IfErr result (λ e. e.cause ≡ Cause.Memory → IsGoodAfterHeader bytes.now (reading bytes.now) e.line) }
 {
     draft(alloc, bytes)

@@ -1,4 +1,4 @@
-//! A thread steps: so many times, or until it stands before a row.
+//! A thread steps: a number of times, or until it is at a row.
 ghost use Rattle.std.specs.Prelude.{◌≡◌, ◌<◌, length, ◌==◌};
 ghost use Rattle.lset_steps.specs.Steps.{local_of};
 ghost use Rattle.tool_draft.specs.Counts.{StepsTo, TakesSteps};
@@ -6,7 +6,7 @@ ghost use Rattle.tool_draft.specs.Counts.{StepsTo, TakesSteps};
 use crate::DraftCause;
 use lset_steps::{Event, Machine, StepFault, World};
 
-/// Whether a thread stands before a row, or, where the row is 0, has no call open.
+/// Whether a thread is at a row or, if the row is 0, has no call pending.
 fn stands_before<M: Machine>(world: &World<M>, thread: u32, row: u32) -> bool
     requires { thread < world.now.sizes.threads }
     ensures { result ≡ (local_of world.now.state thread).pc == row }
@@ -17,7 +17,7 @@ fn stands_before<M: Machine>(world: &World<M>, thread: u32, row: u32) -> bool
     }
 }
 
-/// Steps a thread until it stands before a row, at least once and at most so many times; it answers how many steps it took.
+/// Steps a thread until it is at a row, at least once and at most `most` times; returns how many steps it made.
 pub fn steps_to<M: Machine>(
     world: &mut World<M>,
     thread: u32,
@@ -36,7 +36,7 @@ pub fn steps_to<M: Machine>(
     Err(DraftCause::Waits)
 }
 
-/// Takes so many steps of a thread.
+/// Makes this many steps of a thread.
 pub fn take_steps<M: Machine>(
     world: &mut World<M>,
     thread: u32,

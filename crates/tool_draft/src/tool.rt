@@ -47,9 +47,13 @@ fn schedule_text_of(alloc: Global, bytes: &[u8]) -> Result<Answer, Trouble>
     Ok(Answer { text, status: 0 })
 }
 
-/// Makes a schedule of the draft whose text the bytes are: the schedule's text, with status 0. The error is `TooLong` where
-/// there are more than `LONGEST` bytes, `Line` with the first fault of the text, or with the first line that stands for none of a
-/// schedule, and `Memory` where memory was refused.
+/// Turns a draft, given as the bytes of its text, into a schedule. The answer is the schedule's text, with status 0.
+/// Allocates.
+///
+/// # Errors
+///
+/// `TooLong` if there are more than `LONGEST` bytes; `Line` with the first error of the text, or with the first line that
+/// does not become a line of a schedule; `Memory` if an allocation fails.
 pub fn drafted(alloc: Global, bytes: &[u8]) -> Result<Answer, Trouble>
     ensures drafts { Drafts bytes.now (view result) }
     // Bytes that are here can be read.
@@ -68,9 +72,9 @@ fn drafted_input<R: Read>(alloc: Global, input: &mut R) -> Result<Answer, Troubl
     drafted(alloc, &bytes)
 }
 
-/// Makes a schedule of the draft on the input: writes the schedule on the output, or one line about what is wrong on
-/// `faults`, and gives the exit status: 0 where the schedule was written, 3 where memory was refused, else 1. A failing write on
-/// `faults` leaves the status as it is.
+/// Does what `draft` does: turns the draft on `input` into a schedule, writes it to `output`, or one line about an error to
+/// `faults`, and returns the exit status. It is 0 if the schedule was written, 3 if an allocation failed, else 1. A write to
+/// `faults` that fails leaves it as it is. Allocates.
 pub fn tool_draft<R: Read, W: Write, F: Write>(
     alloc: Global,
     input: &mut R,

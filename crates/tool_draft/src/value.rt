@@ -4,8 +4,8 @@ ghost use Rattle.tool_draft.specs.Drafts.{first_event_line, least_count, view};
 use lset_schedule::{FIRST_LINE, Line};
 use lset_words::Kind;
 
-/// A line of a draft. `Plain` is a line of a schedule. In `Out(thread)` the thread takes steps until its call has ended, in
-/// `To(thread, row)` until it stands before that row of its list's table, 1 to 255; in both it takes one step at least.
+/// A line of a draft. `Plain` is a line of a schedule. `Out(thread)`: the thread makes steps until its call has ended.
+/// `To(thread, row)`: it makes steps until it is at that row of its list's table, 1 to 255. Both make at least one step.
 #[derive(Clone, Copy)]
 pub enum DraftLine {
     Plain(Line),
@@ -25,9 +25,9 @@ impl DraftLine {
     }
 }
 
-/// A draft of a schedule: the kind of list, its threads, 1 to 64, the slots of each, 0 to 16,384, the keys with which its set
-/// opens, at most 1,048,576 and rising strictly, and its lines, for at most 1,000,000 events where each line without a count
-/// is taken for one.
+/// A draft of a schedule: the kind of list, its threads, 1 to 64, the slots of each, 0 to 16,384, the keys with which its
+/// set opens, at most 1,048,576 and in strictly increasing order, and its lines, of at most 1,000,000 events if each line
+/// without a count counts as one.
 #[derive(Drop)]
 pub struct Draft {
     pub kind: Kind,
@@ -38,7 +38,8 @@ pub struct Draft {
 }
 
 impl Draft {
-    /// The number of the line of the first event in the text of this draft, and in that of its schedule, counted from 1.
+    /// Returns the number of the line of the first event, counted from 1, in the text of this draft and in that of its
+    /// schedule.
     pub fn first_event_line(&self) -> u64
         ensures { result ≡ first_event_line (view self.now) }
     {

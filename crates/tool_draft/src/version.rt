@@ -26,7 +26,7 @@ fn are_of_first(lines: &[Line]) -> bool
     true
 }
 
-/// The least version whose text has these opening keys and the calls of these lines.
+/// Returns the smallest version of a schedule that has these opening keys and the calls of these lines.
 pub fn least_version(opening: &[u32], lines: &[Line]) -> Version
     ensures first { result ≡ Version.One → HasOpening Version.One opening.now × AllByRecursion (HasCallOfLine Version.One) lines.now }
     ensures least { HasOpening Version.One opening.now → AllByRecursion (HasCallOfLine Version.One) lines.now → result ≡ Version.One }

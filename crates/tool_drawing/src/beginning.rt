@@ -27,8 +27,8 @@ fn first_begun(calls: &[CallRecord], key: u32) -> Option<u32> {
     None
 }
 
-/// The moment at which the call begins that a refusal is about: it names the call, of two the one that had ended; or the set is
-/// wrong, and the call is the first with the first key that is.
+/// Returns the moment at which the call begins that a refusal is about: the call that it names, of two the one that had
+/// ended; or, if the set is wrong, the first call of the first key that is.
 pub fn clash_begins(picture: &Picture) -> Option<u32> {
     let calls = picture.history.calls();
     match &picture.refusal {

@@ -33,9 +33,9 @@ fn clashes_in(keys: &[u32], refusal: &Refusal, number: usize, made: &CallRecord)
     }
 }
 
-/// Whether the call with that number, `made`, clashes in the order of a picture that is refused: the refusal names it, or where
-/// the set is wrong, its key is one that the order leaves and the keys lack, or the other way round. No call clashes where
-/// nothing is refused.
+/// Whether the call with that number, `made`, clashes in the order of a picture that is refused: the refusal names it or, if
+/// the set is wrong, its key is one that the order leaves and the keys lack, or the reverse. No call clashes if nothing is
+/// refused.
 pub fn is_clash(picture: &Picture, number: usize, made: &CallRecord) -> bool
     ensures { result ≡ is_clash (view picture.now) number made.now }
 {

@@ -8,8 +8,8 @@ use lset_text::{call_word, reply_word};
 use lset_words::{Call, CallRecord, Reply};
 use std::alloc::{AllocError, Global};
 
-/// What is drawn on a thread's row at a moment: a call begins, stands and changes the set, stands and changes nothing,
-/// ends.
+/// What is drawn on a thread's row at a moment: a call begins, takes effect and changes the set, takes effect and changes
+/// nothing, ends.
 #[derive(Clone, Copy)]
 pub enum Sign {
     Begin(Call),
@@ -25,8 +25,7 @@ pub struct Mark {
     pub sign: Sign,
 }
 
-/// What is drawn at a moment: the signs of the rows, the text of the set, if it is told there, and how many characters
-/// all of it is wide.
+/// What is drawn at a moment: the signs of the rows, the text of the set, if it is shown there, and its width in characters.
 #[derive(Drop)]
 pub struct Column {
     pub moment: u32,
@@ -35,7 +34,7 @@ pub struct Column {
     pub width: usize,
 }
 
-/// Where something lies: at moments before those that are drawn, after them, or, be it in part, at them.
+/// Where something is: at moments before those that are drawn, after them, or at least in part at them.
 #[derive(Clone, Copy)]
 pub enum Side {
     Before,
@@ -61,7 +60,7 @@ impl Drawing {
         self.before || self.after
     }
 
-    /// In place of a window of all moments that is not drawn whole: of a refused order that from the clash on.
+    /// Returns the window to draw instead of all moments, if they do not fit: of a refused order it begins at the clash.
     pub fn window_of_clash(&self, picture: &Picture, window: Window) -> Option<Window> {
         if !(self.after && window.is_whole()) {
             return None;
@@ -70,7 +69,7 @@ impl Drawing {
         Some(Window { from, ..window })
     }
 
-    /// Where a stretch of moments lies, from its first one to its last, if it has one.
+    /// Returns where a stretch of moments is, from its first one to its last, if it has one.
     pub fn side_of(&self, first: u32, last: Option<u32>) -> Side {
         if self.last < first {
             Side::After
@@ -81,7 +80,7 @@ impl Drawing {
         }
     }
 
-    /// Where the bar of a call lies.
+    /// Returns where the bar of a call is.
     pub fn side_of_bar(&self, made: CallRecord) -> Side {
         self.side_of(made.begun, made.ended.map(|(end, _)| end))
     }
@@ -132,7 +131,7 @@ fn add_ended(marks: &mut Vec<Mark>, picture: &Picture, moment: u32) -> Result<()
     Ok(())
 }
 
-/// Writes a call, as `add 5`.
+/// Appends a call, such as `add 5`.
 pub fn put_call(out: &mut String, call: Call) -> Result<(), AllocError> {
     let word = call_word(call);
     let key = call.key().0;
@@ -156,7 +155,7 @@ fn put_sign(out: &mut String, sign: Sign) -> Result<(), AllocError> {
     }
 }
 
-/// Writes the signs of a thread among those of a moment, as `[add 5-*-`.
+/// Appends the signs of a thread among those of a moment, such as `[add 5-*-`.
 pub fn put_signs(out: &mut String, marks: &[Mark], thread: u32) -> Result<(), AllocError> {
     for mark in marks {
         if mark.thread == thread {
@@ -180,7 +179,7 @@ fn width_of(alloc: Global, moment: u32, marks: &[Mark], set: &str) -> Result<usi
     Ok(most.min(MOST_WIDTH))
 }
 
-/// The columns of these moments. The set is told, where points are known, in the first one and in those with a change.
+/// The columns of these moments. The set is shown, if points are known, in the first one and in those with a change.
 fn columns_at(
     alloc: Global,
     picture: &Picture,
@@ -213,7 +212,7 @@ fn columns_at(
     Ok(columns)
 }
 
-/// What is drawn of a picture in a window.
+/// Returns what is drawn of a picture in a window. Allocates.
 pub fn drawing_in(alloc: Global, picture: &Picture, window: Window) -> Result<Drawing, AllocError> {
     let moments = moments_shown(alloc, picture, window)?;
     let columns = columns_at(alloc, picture, &moments)?;

@@ -1,6 +1,6 @@
-//! Pictures of histories: a bar for each call, a point where it stands in the order, the set below, and the order, as text and as
-//! SVG. Contracts speak of a picture as a value. How it looks is theirs no more: what writes it fails only where memory is
-//! refused, and tests hold the bytes.
+//! Pictures of histories: a bar for each call, a point where it takes effect, the set below, and the order, as text and as
+//! SVG. Contracts speak of a picture as a value. They do not say how it looks: what writes it fails only if an allocation
+//! fails, and tests hold the bytes.
 #![tactic(auto)]
 
 mod beginning;
@@ -24,11 +24,12 @@ pub use picture::{Picture, Window};
 pub use svg::write_svg;
 pub use text::write_picture;
 
-/// The most columns of a picture. (This project's own limit, as are those below.)
+/// The maximum number of columns of a picture.
 pub const MOST_COLUMNS: usize = 64;
 
-/// The most keys of a set that are shown; of more keys the number is told.
+/// The maximum number of keys of a set that are shown; of more keys a picture has the number.
 pub const MOST_KEYS_SHOWN: usize = 8;
 
-/// The most characters of a column that are left free for its pieces; no piece of a history with an order is longer.
+/// The maximum number of characters of a column that are left free for its pieces; no piece of a history with an order is
+/// longer.
 pub const MOST_WIDTH: usize = 255;

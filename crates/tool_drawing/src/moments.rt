@@ -54,8 +54,8 @@ fn is_past(calls: &[CallRecord], points: &[Point], from: u32) -> bool
     is_told(calls, points) && !(any_reaches(calls, from) || any_stands(points, from))
 }
 
-/// Whether a moment, counted from 1, comes after the last one at which a call of the picture begins, stands or ends, so that a
-/// window from there has no column. Of a picture without calls no moment does.
+/// Whether a moment, counted from 1, comes after the last one at which a call of the picture begins, takes effect or ends,
+/// so that a window from there has no column. Of a picture without calls no moment does.
 pub fn is_past_the_last(picture: &Picture, from: u32) -> bool
     ensures test { result ≡ is_past_the_last (view picture.now) from }
     ensures exactly { IsTrue result ↔ IsPastTheLast (view picture.now) from }
@@ -63,7 +63,7 @@ pub fn is_past_the_last(picture: &Picture, from: u32) -> bool
     is_past(picture.history.calls(), points_of(picture), from)
 }
 
-/// The earlier of two moments, where the second counts if it is not before `from`.
+/// The earlier of two moments; the second counts if it is not before `from`.
 fn sooner(best: Option<u32>, from: u64, moment: u32) -> Option<u32> {
     match best {
         _ if u64::from(moment) < from => best,
@@ -72,7 +72,7 @@ fn sooner(best: Option<u32>, from: u64, moment: u32) -> Option<u32> {
     }
 }
 
-/// The first moment, not before `from`, at which a call begins, stands or ends.
+/// Returns the first moment, not before `from`, at which a call begins, takes effect or ends.
 pub fn next_moment(picture: &Picture, from: u64) -> Option<u32> {
     let mut best = None;
     for made in picture.history.calls() {
@@ -87,7 +87,7 @@ pub fn next_moment(picture: &Picture, from: u64) -> Option<u32> {
     best
 }
 
-/// The moments of a window that have a column.
+/// Returns the moments of a window that have a column.
 pub fn moments_shown(
     alloc: Global,
     picture: &Picture,

@@ -14,7 +14,7 @@ fn put_counted(out: &mut String, count: usize, word: &str) -> Result<(), AllocEr
     write!(out, "{count} {word}{plural}")
 }
 
-/// Writes the heading, as `fine list, 2 threads, quota 4: 3 calls in 35 events`.
+/// Appends the heading, such as `fine list, 2 threads, quota 4: 3 calls in 35 events`.
 pub fn put_heading(out: &mut String, picture: &Picture) -> Result<(), AllocError> {
     let kind = kind_word(picture.kind);
     write!(out, "{kind} list, ")?;
@@ -29,8 +29,8 @@ pub fn put_heading(out: &mut String, picture: &Picture) -> Result<(), AllocError
     Ok(())
 }
 
-/// Writes which moments are drawn, and by which options those before and after them are:
-/// `moments 20 to 33 of 35; --to 19 goes before; --from 34 goes on`.
+/// Appends which moments are drawn, and which options draw those before and after them: `moments 20 to 33 of 35; --to 19
+/// goes before; --from 34 goes on`.
 pub fn put_cut(out: &mut String, picture: &Picture, drawing: &Drawing) -> Result<(), AllocError> {
     let first = drawing.from.max(1);
     let last = drawing.last;
@@ -78,7 +78,7 @@ fn put_place(out: &mut String, number: usize, standing: Standing) -> Result<(), 
     writeln!(out, " {reply}{no_change}{still_open}")
 }
 
-/// Where a place lies: its point, or, where that is not known, the bar of its call. Of a call that the history has not, it lies
+/// Where a place is: its point or, if that is not known, the bar of its call. Of a call that the history has not, it is
 /// nowhere.
 fn side_of(standing: Standing, drawing: &Drawing) -> Option<Side> {
     match standing.point {
@@ -87,7 +87,7 @@ fn side_of(standing: Standing, drawing: &Drawing) -> Option<Side> {
     }
 }
 
-/// Whether a place that lies nowhere is shown: where all is drawn, or the refusal is of its call.
+/// Whether a place that is nowhere is shown: if all is drawn, or the refusal is of its call.
 fn is_told(picture: &Picture, drawing: &Drawing, place: Placed) -> bool {
     match &picture.refusal {
         _ if !drawing.is_cut() => true,
@@ -160,8 +160,8 @@ fn put_order(out: &mut String, picture: &Picture, drawing: &Drawing) -> Result<(
     put_left_out(out, left)
 }
 
-/// Writes what stands below the rows: the order, as far as its points are drawn, with how many places are left out, and the
-/// keys that are left; `legend`, where there are points; and at last, where an event of a schedule is refused, which.
+/// Appends what is below the rows: the order, as far as its points are drawn, with how many places are left out, and the
+/// remaining keys; `legend`, if there are points; and last, if an event of a schedule is refused, which.
 pub fn put_lines_below(
     out: &mut String,
     picture: &Picture,

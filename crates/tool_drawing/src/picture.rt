@@ -5,9 +5,9 @@ use lset_history::{History, Refusal};
 use lset_steps::StepFault;
 use lset_words::{CallRecord, Kind, Placed, Point};
 
-/// The picture of a history: its bars are the calls, by number; the order of the calls, with the point of each place where
-/// they are known; the keys that are left; of a refused order, why; and of a schedule, which event is refused. The points never
-/// fall along the order; they are drawn where there is one for each place and no refusal.
+/// The picture of a history: its bars are the calls, by number; the order of the calls, with the point of each place if they
+/// are known; the remaining keys; of a refused order, why; and of a schedule, which event is refused. The points never
+/// decrease along the order; they are drawn if there is one for each place and no refusal.
 #[derive(Drop)]
 pub struct Picture {
     pub kind: Kind,
@@ -15,7 +15,7 @@ pub struct Picture {
     /// Of a schedule: how many events were made.
     pub events: Option<u32>,
     pub order: Vec<Placed>,
-    /// One for each place of the order, or none where the order is refused.
+    /// One for each place of the order, or none if the order is refused.
     pub points: Vec<Point>,
     pub keys: Vec<u32>,
     pub refusal: Option<Refusal>,
@@ -23,7 +23,8 @@ pub struct Picture {
     pub refused: Option<(u64, StepFault)>,
 }
 
-/// The moments that are drawn, from the first to the last; of those only the first 64 at which something happens.
+/// The moments that are drawn, from the first to the last, counted from 1; of those only the first 64 at which something
+/// happens.
 #[derive(Clone, Copy)]
 pub struct Window {
     pub from: u32,
@@ -31,7 +32,7 @@ pub struct Window {
 }
 
 impl Window {
-    /// Whether it holds each moment.
+    /// Whether the window has every moment.
     pub fn is_whole(self) -> bool {
         self.from <= 1 && self.to == u32::MAX
     }
@@ -44,7 +45,7 @@ pub fn are_known(picture: &Picture) -> bool
     picture.refusal.is_none() && picture.points.len() == picture.order.len()
 }
 
-/// The points that are drawn.
+/// Returns the points that are drawn.
 pub fn points_of(picture: &Picture) -> &[Point]
     ensures { result.now ≡ points_of (view picture.now) }
 {
@@ -55,7 +56,7 @@ pub fn points_of(picture: &Picture) -> &[Point]
     }
 }
 
-/// A place of the order with its call, where the history has it, and its point, where it is known.
+/// A place of the order with its call, if the history has it, and its point, if it is known.
 #[derive(Clone, Copy)]
 pub struct Standing {
     pub placed: Placed,
@@ -71,7 +72,7 @@ fn standing_of(picture: &Picture, index: usize, placed: Placed) -> Standing {
     }
 }
 
-/// The place of the order with this index, from 0.
+/// Returns the place of the order with this index, from 0.
 pub fn standing_at(picture: &Picture, index: usize) -> Option<Standing> {
     let placed = picture.order.get(index)?;
     Some(standing_of(picture, index, *placed))

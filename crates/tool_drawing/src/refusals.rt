@@ -111,7 +111,7 @@ fn put_reason(out: &mut String, refusal: &Refusal, told: &[u32]) -> Result<(), A
     }
 }
 
-/// Writes why the order of a picture is refused, in a line; where it is not, nothing.
+/// Appends a line that says why the order of a picture is refused; nothing if it is not.
 pub fn put_refusal(out: &mut String, picture: &Picture) -> Result<(), AllocError> {
     if let Some(refusal) = &picture.refusal {
         out.push_str("refused ")?;
@@ -121,7 +121,7 @@ pub fn put_refusal(out: &mut String, picture: &Picture) -> Result<(), AllocError
     Ok(())
 }
 
-/// Writes, after an empty line, which event of a schedule is refused, in the words of a trace.
+/// Appends, after an empty line, which event of a schedule is refused, in the words of a trace.
 pub fn put_refused(out: &mut String, line: u64, cause: StepFault) -> Result<(), AllocError> {
     let word = match cause {
         StepFault::NoThread => "NoThread",

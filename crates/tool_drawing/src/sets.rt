@@ -13,7 +13,7 @@ pub struct Reached {
     next: usize,
 }
 
-/// The set with which a history opens.
+/// Returns the set with which a history opens.
 pub fn reached_at_first(alloc: Global, picture: &Picture) -> Result<Reached, AllocError> {
     let mut keys = BTreeSet::new(alloc);
     for key in picture.history.opening() {
@@ -35,7 +35,7 @@ fn change_set(keys: &mut BTreeSet<u32>, call: Call) -> Result<(), AllocError> {
     Ok(())
 }
 
-/// The change that a place makes, where it stands not after the moment.
+/// The change that a place makes, if it is not after the moment.
 fn settled(standing: Standing, moment: u32) -> Option<Option<Call>> {
     let point = standing.point?;
     if moment < point.moment {
@@ -85,14 +85,14 @@ fn first_keys(keys: &[u32]) -> &[u32] {
     &keys[..keys.len().min(MOST_KEYS_SHOWN)]
 }
 
-/// Writes a set, as `{5,9}`.
+/// Appends a set, such as `{5,9}`.
 pub fn put_set(out: &mut String, keys: &[u32]) -> Result<(), AllocError> {
     out.push_str("{")?;
     put_keys(out, ",", first_keys(keys), keys.len())?;
     out.push_str("}")
 }
 
-/// The text of the set that was reached, of which no more keys are read than are shown.
+/// Returns the text of the set that was reached. It reads no more keys than are shown.
 pub fn set_text(alloc: Global, reached: &Reached) -> Result<String, AllocError> {
     let mut first = Vec::new(alloc);
     let mut others = reached.keys.iter();
@@ -108,7 +108,7 @@ pub fn set_text(alloc: Global, reached: &Reached) -> Result<String, AllocError> 
     Ok(out)
 }
 
-/// Writes the line of the keys that are left, as `keys  5 9`.
+/// Appends the line of the remaining keys, such as `keys  5 9`.
 pub fn put_keys_line(out: &mut String, keys: &[u32]) -> Result<(), AllocError> {
     out.push_str("keys")?;
     if !keys.is_empty() {

@@ -7,19 +7,19 @@ const THREADS: [&str; 8] = [
     "thread-0", "thread-1", "thread-2", "thread-3", "thread-4", "thread-5", "thread-6", "thread-7",
 ];
 
-/// The class of what is of a thread.
+/// Returns the class of the elements of a thread.
 pub fn thread_class(thread: u32) -> &'static str {
     THREADS[(thread % 8) as usize]
 }
 
-/// A place on the sheet, from its left and from its top.
+/// A place on the sheet, by its distances from the left and from the top, in pixels of the SVG.
 #[derive(Clone, Copy)]
 pub struct Spot {
     pub x: u64,
     pub y: u64,
 }
 
-/// How far from the left a moment stands: after the columns of earlier moments.
+/// Returns the distance of a moment from the left: it is after the columns of earlier moments.
 pub fn x_of(columns: &[Column], moment: u64) -> u64 {
     let mut x = 88u64;
     for column in columns {
@@ -30,22 +30,22 @@ pub fn x_of(columns: &[Column], moment: u64) -> u64 {
     x
 }
 
-/// How far from the left the columns end.
+/// Returns the distance of the columns' end from the left.
 pub fn right_edge(columns: &[Column]) -> u64 {
     x_of(columns, 4_294_967_296)
 }
 
-/// How far from the top the row of a thread stands; that of the set stands under the last one.
+/// Returns the distance of a thread's row from the top; the row of the set is below the last one.
 pub fn lane_y(thread: u32) -> u64 {
     40 * u64::from(thread) + 90
 }
 
-/// How far from the top a line of text under the rows stands.
+/// Returns the distance from the top of a line of text below the rows.
 pub fn line_y(threads: u32, number: usize) -> u64 {
     40 * u64::from(threads) + 126 + 16 * number.min(1_000_000) as u64
 }
 
-/// Adds a text of these classes that begins there.
+/// Appends a text of these classes that begins at a place.
 pub fn put_text(
     out: &mut String,
     class: &str,
@@ -60,12 +60,12 @@ pub fn put_text(
     )
 }
 
-/// Adds a text of no thread.
+/// Appends a text that belongs to no thread.
 pub fn put_plain(out: &mut String, x: u64, y: u64, text: &str) -> Result<(), AllocError> {
     put_text(out, "plain", "", Spot { x, y }, text)
 }
 
-/// Adds a line of a class between two places.
+/// Appends a line of a class between two places.
 pub fn put_line(out: &mut String, class: &str, start: Spot, end: Spot) -> Result<(), AllocError> {
     let Spot { x, y } = start;
     let Spot { x: x2, y: y2 } = end;
@@ -75,7 +75,7 @@ pub fn put_line(out: &mut String, class: &str, start: Spot, end: Spot) -> Result
     )
 }
 
-/// Adds a circle of these classes around a place.
+/// Appends a circle of these classes around a place.
 pub fn put_circle(
     out: &mut String,
     kind: &str,

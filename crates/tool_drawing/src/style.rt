@@ -1,5 +1,5 @@
-/// The style sheet of each SVG: what the elements of each class look like. Its rules hold inside the sheet alone, also where the
-/// SVG stands in a page. The colours of the threads are told apart by readers who do not see all colours, and each has a
+/// The style sheet of each SVG: what the elements of each class look like. Its rules apply inside the sheet only, also if
+/// the SVG is part of a page. Readers who do not see all colours can tell the threads' colours apart, and each has a
 /// contrast of at least 4.5 to its ground; what clashes is thick as well as red.
 pub const STYLE: &str = "\
 <style>

@@ -52,7 +52,7 @@ fn put_sheet(
     out.push_str("<rect class=\"ground\" width=\"100%\" height=\"100%\"/>\n")
 }
 
-/// Adds the lines above the rows: the heading, why the order is refused, and which moments are drawn, where that are not all.
+/// Adds the lines above the rows: the heading, why the order is refused, and which moments are drawn, if not all.
 fn put_above(
     alloc: Global,
     out: &mut String,
@@ -129,7 +129,7 @@ fn put_bar(
     put_line(out, &class, Spot { x, y }, Spot { x: end, y })
 }
 
-/// Adds the call above its beginning, where it begins in the window.
+/// Adds the call above its begin, if it begins in the window.
 fn put_begin(
     alloc: Global,
     out: &mut String,
@@ -147,7 +147,7 @@ fn put_begin(
     put_text(out, thread_class(made.thread), clash, Spot { x, y }, &call)
 }
 
-/// Adds the reply after the end, where it comes in the window.
+/// Adds the reply after the end, if that is in the window.
 fn put_end(
     alloc: Global,
     out: &mut String,
@@ -191,7 +191,7 @@ fn put_bars(
     Ok(())
 }
 
-/// Where the point of a place lies, where it is drawn, its thread, and whether the set changes there.
+/// Where the point of a place is, if it is drawn, its thread, and whether the set changes there.
 fn dot_of(standing: Standing, drawing: &Drawing) -> Option<(Spot, u32, bool)> {
     let (made, point) = (standing.made?, standing.point?);
     if point.moment < drawing.from || drawing.last < point.moment {
@@ -249,13 +249,14 @@ fn put_below(out: &mut String, threads: u32, below: &str) -> Result<(), AllocErr
     Ok(())
 }
 
-/// The picture as an SVG, of the moments in `window`, of those only the first 64 at which something happens.
+/// Draws a picture as an SVG, of the moments in `window`, counted from 1; of those only the first 64 at which something
+/// happens.
 ///
-/// Moments count from 1, and begin at a clash as those of `write_picture` do. A call is a line in the colour of its thread,
-/// dashed where it is open, thick where it clashes in a refused order (`is_clash`). A point is a circle, filled where the
-/// set changes, with a thin line down to the set. Below stands the order as text. The style sheet has a dark ground for who
-/// prefers one; nothing in it is a script or a reference to anything outside. The only error is want of memory. (This
-/// project's own.)
+/// If a window of all moments is not drawn whole, it begins, of a refused order, with the call that the refusal is about. A
+/// call is a line in the colour of its thread, dashed if it is pending, thick if it clashes in a refused order (`is_clash`).
+/// A point is a circle, filled if the set changes, with a thin line down to the set. Below is the order as text. The style
+/// sheet has a dark ground for readers who prefer one; nothing in it is a script or a reference to anything outside.
+/// Allocates; `AllocError` if that fails.
 pub fn write_svg(alloc: Global, picture: &Picture, window: Window) -> Result<Vec<u8>, AllocError> {
     let mut drawing = drawing_in(alloc, picture, window)?;
     if let Some(window) = drawing.window_of_clash(picture, window) {

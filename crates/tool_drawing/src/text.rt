@@ -1,4 +1,4 @@
-//! A picture as text: a row for each thread, a bar for each call, a point where the call stands in the order, the set below
+//! A picture as text: a row for each thread, a bar for each call, a point where the call takes effect, the set below
 //! them, and the order.
 use crate::columns::{Column, Drawing, Mark, Sign, drawing_in, end_at_last, put_signs};
 use crate::orders::{put_cut, put_heading, put_lines_below};
@@ -111,7 +111,7 @@ fn put_sets(alloc: Global, out: &mut String, columns: &[Column]) -> Result<(), A
     put_row(out, &row)
 }
 
-/// Writes the rows: the moments, the threads, and, where points are known, the set.
+/// Writes the rows: the moments, the threads and, if points are known, the set.
 fn put_rows(
     alloc: Global,
     out: &mut String,
@@ -182,7 +182,7 @@ fn fitted(
     Ok(drawing)
 }
 
-/// Writes which moments are drawn, where that are not all, and the rows; of a history without calls nothing.
+/// Writes which moments are drawn, if not all, and the rows; of a history without calls nothing.
 fn put_drawn_rows(
     alloc: Global,
     out: &mut String,
@@ -200,11 +200,12 @@ fn put_drawn_rows(
     out.push_str("\n")
 }
 
-/// The picture as text: a row for each thread, with a bar for each call and its point, from the moment `window.from` to the
-/// moment `window.to`, of those only the first 64 at which something happens, and only as many as let each row have at most
-/// `width` characters, but one at any width; the set; and the order. Moments count from 1. Where a window of all moments is not
-/// drawn whole, it begins, of a refused order, with the call that the refusal is about. The only error is want of memory.
-/// (The picture with bars and points is Herlihy and Wing's; its text is this project's own.)
+/// Draws a picture as text: a row for each thread, with a bar for each call and its point; the set; and the order.
+///
+/// It draws the moments, counted from 1, from `window.from` to `window.to`: of those only the first 64 at which something
+/// happens, and only as many as let each row have at most `width` characters, but at least one. If a window of all moments
+/// is not drawn whole, it begins, of a refused order, with the call that the refusal is about. Allocates; `AllocError` if
+/// that fails. (The picture with bars and points is Herlihy and Wing's.)
 pub fn write_picture(
     alloc: Global,
     picture: &Picture,

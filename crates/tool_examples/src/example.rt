@@ -16,8 +16,8 @@ use crate::texts;
 use lset_report::reports_read_back;
 use lset_words::Kind;
 
-/// A classic interleaving of calls on one of the five lists (most of them from Herlihy and Shavit's chapter on linked lists, and
-/// drawn up for their steps here): a schedule in which the list needs the one thing that it is remembered by.
+/// A classic interleaving of calls on one of the five lists: a schedule in which the list needs the one thing that it is
+/// remembered by. Most of them are from Herlihy and Shavit's chapter on linked lists, with steps of the tables here.
 #[derive(Clone, Copy)]
 pub enum Example {
     FailedTries,
@@ -63,7 +63,7 @@ pub const ALL: [Example; 18] = [
 ];
 
 impl Example {
-    /// The name by which it is asked for.
+    /// Returns the name by which `example` prints it.
     pub fn name(self) -> &'static str
         ensures { result.now ≡ name_of self }
     {
@@ -89,7 +89,7 @@ impl Example {
         }
     }
 
-    /// The list that it is about.
+    /// Returns the list that it is about.
     pub fn kind(self) -> Kind
         ensures { result ≡ kind_of self }
     {
@@ -113,7 +113,7 @@ impl Example {
         }
     }
 
-    /// What happens in it, in half a line.
+    /// Returns what happens in it, in half a line.
     pub fn about(self) -> &'static str
         ensures { result.now ≡ about_of self }
     {
@@ -152,7 +152,7 @@ impl Example {
         }
     }
 
-    /// The text of its schedule, on the list that it is about.
+    /// Returns the text of its schedule, on the list that it is about.
     pub fn schedule_text(self) -> &'static str
         ensures constant { result.now ≡ text_of self }
         ensures schedule { IsScheduleOf self result.now }
@@ -185,8 +185,8 @@ impl Example {
         }
     }
 
-    /// The text of the report that a list without the check in question would give of the schedule, for the six examples
-    /// that have one. No order explains its calls and keys, whether the one that stands there, which `check` refuses, or another.
+    /// Returns the text of the report that a list without the check in question would make of the schedule; only six
+    /// examples have one. No order explains its calls and keys: neither the one in it, which `check` refuses, nor another.
     pub fn broken_report_text(self) -> Option<&'static str>
         ensures constant { option_copied result ≡ broken_of self }
         ensures report { IfSome result (λ text. IsBrokenReportOf self text.now) }
@@ -221,7 +221,7 @@ impl Example {
     }
 }
 
-/// The example whose name these bytes are; `None` for a name that no example has.
+/// Returns the example whose name these bytes are; `None` if no example has it.
 pub fn named(name: &[u8]) -> Option<Example>
     ensures found { IfSome result (λ example. name.now ≡ name_of example) }
     ensures only { (example : Example) → name.now ≡ name_of example → result ≡ Some example }
@@ -234,7 +234,7 @@ pub fn named(name: &[u8]) -> Option<Example>
     None
 }
 
-/// No two examples have one name, and each is listed.
+/// Lemma: no two examples have the same name, and each is listed.
 pub fn names_are_distinct()
     ensures names { NamesAreDistinct }
     ensures listed { EachIsListed }

@@ -34,7 +34,7 @@ fn shown(broken: bool, name: &[u8]) -> Option<&'static str>
     }
 }
 
-/// What `example` writes of the name that the bytes spell, as `exampled`.
+/// Returns what `example` prints for a name, given as bytes; the answers and errors are those of `exampled`.
 pub fn exampled_by(alloc: Global, broken: bool, name: &[u8]) -> Result<Answer, Trouble>
     ensures { Exampled broken (Some name.now) (view result) }
 {
@@ -43,9 +43,9 @@ pub fn exampled_by(alloc: Global, broken: bool, name: &[u8]) -> Result<Answer, T
     Ok(Answer { text, status: 0 })
 }
 
-/// What `example` writes: the list of names where no name is given, else the schedule of the example with this name, or
-/// with `broken` its broken report. `Trouble::Bad(ValueName::Name)` where no example has that under this name,
-/// `Trouble::Memory` where memory was refused.
+/// Returns what `example` prints: the list of names if no name is given, else the schedule of the example with this name, or
+/// with `broken` its broken report. Allocates. The error is `Trouble::Bad(ValueName::Name)` if no example has that under
+/// this name, `Trouble::Memory` if an allocation fails.
 pub fn exampled(alloc: Global, broken: bool, name: Option<&str>) -> Result<Answer, Trouble>
     ensures { Exampled broken (option_copied name.entry) (view result) }
 {
@@ -58,10 +58,10 @@ pub fn exampled(alloc: Global, broken: bool, name: Option<&str>) -> Result<Answe
     }
 }
 
-/// Writes on the output the names of all examples, or, where a name is given, the schedule of that example, or with
-/// `broken` the report that a list without the check in question would give of it; or one line about the name on
-/// `faults`. Gives the exit status: 0 where the text was written, 2 where no example has it under this name, 3 where memory
-/// was refused, else 1. A failing write on `faults` leaves the status as it is.
+/// Does what `example` does: writes the names of all examples to `output` or, if a name is given, the schedule of that
+/// example, or with `broken` the report that a list without the check in question would make of it; or one line about an
+/// error to `faults`. Returns the exit status: 0 if the text was written, 2 if no example has it under this name, 3 if an
+/// allocation failed, else 1. A write to `faults` that fails leaves it as it is. Allocates.
 pub fn tool_example<W: Write, F: Write>(
     alloc: Global,
     broken: bool,

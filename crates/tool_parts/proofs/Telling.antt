@@ -1,4 +1,4 @@
--- What a text tells of a part, and what is made of an only part.
+-- What a file has of a part, and what is made of an only part.
 use Rattle.std.proofs.Common.{◌≡◌, false, ℕ, ◌+◌, ◌<◌, List, [], ◌∷◌, ◌++◌, length, Option, Some, None, Ok, Err, refl, sym, subst, ap, ◌∙◌, arith, inl, inr}
 use Rattle.std.specs.Prelude.{◌⊎◌, IfSome, IfOk, IfErr, Result, All}
 use Rattle.std.specs.List.Sorted.{IsStrictlyIncreasing}

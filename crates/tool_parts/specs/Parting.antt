@@ -156,7 +156,7 @@ abbrev pub JudgesFile : Option KeyPart → (Option (List ℕ) → Type 0) → Ke
 JudgesFile asked IsFile old new made =
     (made ≡ Err CannotRead) ⊎ ((held : Option (List ℕ)) × IsFile held × JudgesInput asked held old new made)
 
--- memory is refused, whatever the files hold
+-- an allocation failed, whatever the files hold
 abbrev pub no_memory : FilesMade
 no_memory = Err (line_of_stop OutOfMemory)
 

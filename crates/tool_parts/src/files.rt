@@ -154,15 +154,17 @@ fn end_files<W: Write, F: Write>(
     }
 }
 
-/// Judges the recording whose parts are in the files of the paths, in this order: each was recorded after the one before, opens with the
-/// keys that it left, and has a clock of its own. With `keys`, `I/N`, it judges the calls of the keys alone whose remainder by N is I.
+/// Does what `judge` does with several files: judges the recording whose parts are in the files of these paths, in this
+/// order, and returns the exit status. Each part was recorded after the one before, opens with the keys that it left, and
+/// has a clock of its own. With `keys`, `I/N`, it judges only the calls of the keys whose remainder by N is I.
 ///
-/// Writes `ok P parts, N calls` on the output if one order explains all calls and leaves the keys that the last part left. Else it writes
-/// which part ends this, and why: no order explains it, it opens with other keys than the part before left, or it is none that begins and
-/// ends decide. If a file is not read, or its text has a fault, it writes one line about that on `faults`. Gives the exit status: 0 if `ok`
-/// was written, 2 if `keys` are wrong, 3 if memory was refused, else 1.
+/// Writes `ok P parts, N calls` to `output` if one order explains all calls and leaves the keys that the last part left.
+/// Else it writes which part ends this, and why: no order explains it, it opens with other keys than the part before left,
+/// or begins and ends do not decide it. If a file is not read, or its text has an error, it writes one line about that to
+/// `faults`.
 ///
-/// It keeps the text and the calls of one part at a time. (Parts of a history: this project's own, over Herlihy and Wing's locality.)
+/// The status is 0 if `ok` was written, 2 if `keys` are wrong, 3 if an allocation failed, else 1. Allocates; it keeps the
+/// text and the calls of one part at a time. (Parts of a history, over Herlihy and Wing's locality.)
 pub fn tool_judge_parts<H: Files, W: Write, F: Write>(
     rt: &H,
     alloc: Global,

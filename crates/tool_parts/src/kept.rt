@@ -20,7 +20,7 @@ use tool_judge::refused_answer;
 pub(crate) enum Finding {
     /// No order explains it: the lines that say so, and whether all calls of the parts before have ended.
     Refused(Vec<u8>, bool),
-    /// It opens with other keys than the part before left: the least key that stands in one of the two lists alone.
+    /// It opens with other keys than the part before left: the smallest key that is in only one of the two lists.
     OtherKeys(Option<u32>),
     /// The judge does not decide it.
     Undecided,
@@ -30,7 +30,7 @@ pub(crate) enum Finding {
     Early,
 }
 
-/// What a text tells of a part: the history of its calls, and the keys left.
+/// What a file has of a part: the history of its calls, and the remaining keys.
 #[derive(Drop)]
 pub(crate) struct Told {
     pub history: History,
@@ -44,7 +44,7 @@ pub(crate) struct Kept {
     pub calls: u64,
 }
 
-/// The least key that stands in one of two lists alone, if both rise.
+/// The smallest key that is in only one of two lists, if both are in increasing order.
 fn first_difference(keys: &[u32], others: &[u32]) -> Option<u32>
     ensures { result ≡ first_difference keys.now others.now }
 {

@@ -48,8 +48,8 @@ fn slash_in(text: &[u8]) -> Option<usize>
     text.iter().position(|b| *b == b'/')
 }
 
-/// The part of the keys that a text `I/N` names: two decimals without leading zeros, I below N, N up to 4294967295. `None` for any
-/// other text. It does not allocate.
+/// Reads a part of the keys, `I/N`: two decimals without leading zeros, I below N, N up to 4294967295. `None` for any other
+/// text. Does not allocate.
 pub fn read_key_part(text: &str) -> Option<KeyPart>
     ensures read { result ≡ key_part_of text.now }
     ensures below { IfSome result (λ p. p.part < p.parts) }

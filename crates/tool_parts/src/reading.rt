@@ -1,4 +1,4 @@
-//! What a text tells of a part, and one input judged by some of its keys.
+//! What a file has of a part, and one input judged by some of its keys.
 
 ghost use Rattle.std.specs.Prelude.{◌≡◌, ◌⊎◌, ◌<◌, IfOk, IfErr, IfSome};
 ghost use Rattle.std.specs.List.Sorted.{IsStrictlyIncreasing};
@@ -20,7 +20,7 @@ use std::io::{Read, Write};
 use tool_base::{Answer, Trouble, ValueName, deliver, input_of};
 use tool_judge::{keys_of, ok_line};
 
-/// What a recording tells of the keys of a part; nothing, if begins and ends do not decide the whole of it.
+/// What a recording has of the keys of a part; nothing, if begins and ends do not decide the whole of it.
 fn told_of_keys(
     alloc: Global,
     history: &History,
@@ -117,11 +117,14 @@ fn judge_keys<R: Read>(alloc: Global, keys: &str, input: &mut R) -> Result<Answe
     judge_part(alloc, &bytes, asked)
 }
 
-/// Judges the recorded calls on the input, but only those of the keys that `I/N` names: keys whose remainder by N is I. Writes `ok N calls`
-/// on the output, with the number of these calls, if some order of them explains their replies and leaves these keys; if it is written for
-/// each I below N, one order explains the whole recording. Else it writes why not, as `tool_judge` does, or `undecided` if the recording
-/// is none that begins and ends decide; or one line on `faults` about the input or the words. Gives the exit status: 0 if `ok` was written,
-/// 2 if the words are wrong, 3 if memory was refused, else 1.
+/// Does what `judge --keys I/N` does: judges the recorded calls on `input`, but only those of keys whose remainder by N is
+/// I, and returns the exit status.
+///
+/// Writes `ok N calls` to `output`, with the number of these calls, if some order of them explains their replies and leaves
+/// these keys; if it is written for each I below N, one order explains the whole recording. Else it writes why not, as
+/// `tool_judge` does, or `undecided` if begins and ends do not decide the recording; or one line about an error to `faults`.
+///
+/// The status is 0 if `ok` was written, 2 if `keys` is wrong, 3 if an allocation failed, else 1. Allocates.
 pub fn tool_judge_keys<R: Read, W: Write, F: Write>(
     alloc: Global,
     keys: &str,

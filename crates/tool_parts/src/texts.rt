@@ -18,7 +18,7 @@ const EARLY: &[u8] = b"undecided: one of its calls ended before a call of an ear
 
 const PENDING: &[u8] = b"calls of an earlier part are pending, so the whole may have an order\n";
 
-/// Where a part stands among the files.
+/// The place of a part among the files.
 #[derive(Clone, Copy)]
 pub(crate) struct Place<'a> {
     /// From 1.
@@ -46,7 +46,7 @@ pub(crate) fn parts_ok_text(alloc: Global, parts: usize, calls: u64) -> Result<V
     Ok(text.into_bytes())
 }
 
-/// The key that stands in one of two lists alone.
+/// The key that is in only one of two lists.
 fn key_note(alloc: Global, key: Option<u32>) -> Result<Vec<u8>, AllocError>
     ensures { IfOk result (λ text. text.items ≡ key_note key) }
 {

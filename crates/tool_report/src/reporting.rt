@@ -77,11 +77,16 @@ fn answer_on(alloc: Global, bytes: &[u8]) -> Result<Answer, Trouble>
     Ok(Answer { text, status: 0 })
 }
 
-/// Makes a report of the recorded calls whose text the bytes are: its text, with status 0. If each change has its point, the order is that
-/// of the points; else it is one that is found, which explains the calls, and if none does the answer says so, with status 1. The error is
-/// `TooLong` for more than `LONGEST` bytes; `Line` with the first fault of the text, or with the first line whose call cannot stand beside
-/// those of the lines above, or with the first change that has no point if none is found and none is refuted, as of a `ceiling`;
-/// `LongReport` if the report has more than `LONGEST` bytes, so that `check` could not read it; and `Memory` if memory was refused.
+/// Turns recorded calls, given as the bytes of their text, into a report. The answer is the report's text, with status 0. If
+/// each change has its point, the order is that of the points. Else an order is found that explains the calls; if none does,
+/// the answer says so, with status 1. Allocates.
+///
+/// # Errors
+///
+/// `TooLong` if there are more than `LONGEST` bytes. `Line` with the first error of the text; or with the first line whose
+/// call conflicts with a line above; or, if no order is found and none is refuted, as of a `ceiling`, with the first change
+/// that has no point. `LongReport` if the report has more than `LONGEST` bytes, so that `check` could not read it. `Memory`
+/// if an allocation fails.
 pub fn report_bytes(alloc: Global, bytes: &[u8]) -> Result<Answer, Trouble>
     ensures reports { Reports bytes.now (view result) }
     ensures read { IfErr result (λ t. t ≢ CannotRead) }
@@ -99,9 +104,9 @@ fn report_input<R: Read>(alloc: Global, input: &mut R) -> Result<Answer, Trouble
     report_bytes(alloc, &bytes)
 }
 
-/// Makes a report of the calls on the input: writes it on the output, or that no order explains them, or one line about what is wrong on
-/// `faults`, and gives the exit status: 0 if the report was written, 3 if memory was refused, else 1. A failing write on `faults` leaves the
-/// status as it is.
+/// Does what `report` does: turns the recorded calls on `input` into a report, writes it to `output`, or that no order
+/// explains them, or one line about an error to `faults`, and returns the exit status. It is 0 if the report was written, 3
+/// if an allocation failed, else 1. A write to `faults` that fails leaves it as it is. Allocates.
 pub fn tool_report<R: Read, W: Write, F: Write>(
     alloc: Global,
     input: &mut R,

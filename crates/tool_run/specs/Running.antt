@@ -93,7 +93,7 @@ pub record AreCutOff (asked : LivesRequest) (SoMany : ℕ → Type 0) : Type 0 w
   pub in_turn : AreLives asked.run 0 [] lives
   pub left : SoMany (length (keys_left [] lives))
 
--- what ends a run: memory was refused, or a thread of a life, or a life would open with too many keys
+-- what ends a run: an allocation failed, a thread of a round was refused, or a round would open with too many keys
 abbrev pub EndsRun : LivesRequest → Trouble → Type 0
 EndsRun asked Memory = Unit {0}
 EndsRun asked (Work work.Spawn) = AreCutOff asked (λ n. n ≤ MOST_OPENING)

@@ -5,7 +5,7 @@ ghost use Rattle.tool_run.specs.Counting.{HasRoom, counts_of, counts_with};
 
 use lset_words::Reply;
 
-/// How many calls were made, and how many of them answered true, false and full.
+/// How many calls were made, and how many of them returned true, false and full.
 #[derive(Clone, Copy)]
 pub struct Counts {
     pub calls: usize,
@@ -34,7 +34,7 @@ fn count(reply: Reply, replies: &[Reply]) -> usize
 }
 
 impl Counts {
-    /// Where no call was made.
+    /// Returns the counts of no call.
     pub fn none() -> Counts
         ensures { result ≡ counts_of [] }
     {
@@ -59,7 +59,7 @@ impl Counts {
         }
     }
 
-    /// With the calls of programs that have these replies.
+    /// Returns these counts with the calls added whose replies these are.
     pub fn with_all(self, lists: &[Vec<Reply>]) -> Counts
         requires { HasRoom self (length (flat_map (λ l. l.items) lists.now)) }
         ensures { result ≡ counts_with self (flat_map (λ l. l.items) lists.now) }

@@ -24,8 +24,8 @@ fn trouble_of(cause: WorkCause) -> Trouble
     }
 }
 
-/// Runs the programs that the request stands for on a set of the list `M`, which is that of the request, that opens with these
-/// keys. `WorkName::Opening` where they are more than a set opens with.
+/// Runs the programs of a round of `run`, in threads, on a set of the list `M`, which must be that of the request, and which
+/// opens with these keys. `WorkName::Opening` if they are more than 1,048,576.
 pub fn life<M: Running + Send + Sync, R: Threads + Wait + Sync>(
     rt: &R,
     alloc: Global,
@@ -42,7 +42,7 @@ pub fn life<M: Running + Send + Sync, R: Threads + Wait + Sync>(
     if opening.len() > MOST_OPENING as usize {
         return Err(Trouble::Work(WorkName::Opening));
     }
-    // the sizes are within their limits, so memory alone is wanting where this fails
+    // the sizes are within their limits, so only an allocation can fail here
     let Ok(programs) = programs(
         alloc,
         request.threads,

@@ -19,7 +19,7 @@ use std::sync::Wait;
 use std::thread::Threads;
 use tool_base::Trouble;
 
-/// What is left of lives: counts over all of them, and the keys of the last one.
+/// What `run` prints of its rounds: counts over all of them, and the keys that the last one left.
 #[derive(Drop)]
 pub struct Summary {
     pub counts: Counts,
@@ -51,7 +51,7 @@ fn lives_on<M: Running + Send + Sync, R: Threads + Wait + Sync>(
     Ok(Summary { counts, keys })
 }
 
-/// Runs the lives on sets of the list that the request names.
+/// Runs the rounds on sets of the list that the request names.
 pub fn summary_of<R: Threads + Wait + Sync>(
     rt: &R,
     alloc: Global,

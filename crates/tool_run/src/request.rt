@@ -6,10 +6,10 @@ ghost use Rattle.tool_run.specs.Asked.{life_of, lives_in, lives_request_of};
 use lset_text::number;
 use tool_base::{RandomRequest, ValueName, read_random_request};
 
-/// The most lives of a run. (This project's own limit.)
+/// The maximum number of rounds of `run`.
 pub const MOST_LIVES: u32 = 100;
 
-/// What `run` takes from its values: what the first life is, and how many lives there are.
+/// The arguments of `run`: what the first round is, and how many rounds there are.
 #[derive(Clone, Copy)]
 pub struct LivesRequest {
     /// The first life.
@@ -19,7 +19,7 @@ pub struct LivesRequest {
 }
 
 impl LivesRequest {
-    /// What the life with this number, from 0, is: as the first one, but for its seed.
+    /// Returns what the round with this number, from 0, is: as the first one, except for its seed.
     pub fn life(&self, number: u32) -> RandomRequest
         ensures { result ≡ life_of self.now.run number }
     {
@@ -28,7 +28,7 @@ impl LivesRequest {
     }
 }
 
-/// How many lives the seventh value asks for, 1 to `MOST_LIVES`, and 1 where it is missing; `None` where it spells no such
+/// How many rounds the seventh argument asks for, 1 to `MOST_LIVES`, and 1 if it is missing; `None` if it spells no such
 /// number.
 fn lives_in(values: &[String]) -> Option<u32>
     ensures value { result ≡ lives_in (map string_bytes values.now) }
@@ -40,9 +40,9 @@ fn lives_in(values: &[String]) -> Option<u32>
     }
 }
 
-/// What the values ask for: those of `read_random_request`, and then LIVES, a decimal without leading zeros, 1 to `MOST_LIVES`, and 1
-/// where it is missing. The error names the first value that is missing, but for LIVES, or wrong. Values past LIVES are not
-/// looked at.
+/// Reads the arguments of `run`: those of `read_random_request`, and then LIVES, a decimal without leading zeros, 1 to
+/// `MOST_LIVES`, and 1 if it is missing. The error names the first that is missing, except for LIVES, or wrong. Further
+/// arguments are not looked at.
 #[tactic(auto, unfolding(crate::specs::Asked::lives_request_of))]
 pub fn read_lives_request(values: &[String]) -> Result<LivesRequest, ValueName>
     ensures value { result ≡ lives_request_of (map string_bytes values.now) }

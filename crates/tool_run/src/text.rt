@@ -22,8 +22,8 @@ fn put_keys(out: &mut String, keys: &[u32]) -> Result<(), AllocError>
     Ok(())
 }
 
-/// The text of what lives left: how many calls were made, how many of them have each reply, how many keys are left, and each
-/// key. The only error is want of memory. (This project's own format.)
+/// Returns the text of what rounds left: how many calls were made, how many of them have each reply, how many keys remain,
+/// and each key. Allocates; `AllocError` if that fails.
 pub fn summary_text(alloc: Global, summary: &Summary) -> Result<Vec<u8>, AllocError>
     ensures { IfOk result (λ v. v.items ≡ summary_text summary.now.counts summary.now.keys.items) }
 {

@@ -26,23 +26,26 @@ fn run_text<R: Threads + Wait + Sync>(
     Ok(Answer { text, status: 0 })
 }
 
-/// Runs random programs on threads, in one life of a set after the other, and writes what they came to.
+/// Does what `run` does: runs random programs in threads, in rounds on one set after another, writes what came of them, and
+/// returns the exit status.
 ///
-/// `values` are KIND THREADS QUOTA CALLS KEYS SEED LIVES in this order; those past LIVES are not looked at. KIND is the
-/// word for a list, the rest are decimals without leading zeros:
+/// `values` are KIND THREADS QUOTA CALLS KEYS SEED LIVES in this order; further ones are not looked at. KIND is the name of
+/// a list, the others are decimals without leading zeros:
+/// - THREADS, 1 to 64; QUOTA, 0 to 16,384 successful adds of a thread in a round; CALLS, 0 to 10,000 of a thread in a round;
+/// - KEYS, 1 to 4,294,967,295: keys are drawn below it; SEED, 0 to 2^64 - 1; LIVES, the number of rounds, 1 to 100, and 1 if
+///   it is missing.
 ///
-/// - THREADS, 1 to 64; QUOTA, 0 to 16,384 successful adds of a thread in a life; CALLS, 0 to 10,000 of a thread in a life;
-/// - KEYS, 1 to 4,294,967,295: keys are drawn below it; SEED, 0 to 2^64 - 1; LIVES, 1 to 100, and 1 where it is left out.
+/// Round `i`, from 0, runs its programs at the same time on one set. They are drawn from the wrapping sum of SEED and `64 *
+/// i`. The first set opens empty, each other one with the keys that the round before left. After the last round it writes
+/// the lines `calls N`, `true N`, `false N`, `full N`, `keys N` and each remaining key (`key k`), in increasing order, to
+/// `output`.
 ///
-/// Life `i`, from 0, runs its programs at once on one set. They are drawn from the wrapping sum of SEED and `64 * i`, and
-/// the set opens with the keys that the life before left, the first one empty. After the last life come on `output` the
-/// lines `calls N`, `true N`, `false N`, `full N`, `keys N` and each key left (`key k`), rising. It waits for its threads.
+/// The status is 0 if that was written. Else one line on `faults` says why, if it can be written:
+/// - 2: the first argument that is missing or wrong;
+/// - 3: an allocation failed;
+/// - 1: anything else, such as a round that would open with more than 1,048,576 keys.
 ///
-/// The exit status is 0 where that was written. Else one line on `faults` says why, where it can be written:
-///
-/// - 2: the first wrong value, or one that is missing;
-/// - 3: memory was refused;
-/// - 1: anything else, as a life that would open with more than 1,048,576 keys.
+/// Allocates, and blocks until its threads have ended.
 pub fn tool_run<R: Threads + Wait + Sync, W: Write, F: Write>(
     rt: &R,
     alloc: Global,

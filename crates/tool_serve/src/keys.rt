@@ -10,7 +10,7 @@ use lset_words::MOST_OPENING;
 use std::alloc::Global;
 use tool_base::{KeyCause, LineCause, Trouble};
 
-/// Why a text gives no keys.
+/// Why a text has no keys with which a set can open.
 #[derive(Clone, Copy)]
 pub enum KeysFault {
     /// A line, counted from 1, is refused.
@@ -37,7 +37,7 @@ struct Left<'a> {
     text: &'a [u8],
 }
 
-/// What stands in a line after the word, if that is one further piece.
+/// What a line has after the word, if that is one further field.
 fn piece_after<'a>(line: &'a [u8], word: &[u8]) -> Option<&'a [u8]>
     ensures form { is_some result ≡ is_word_and_piece word.now line.now }
     ensures pieces { IfSome result (λ p. cut_at 32 line.now ≡ word.now ∷ p.now ∷ []) }
@@ -53,7 +53,7 @@ fn piece_after<'a>(line: &'a [u8], word: &[u8]) -> Option<&'a [u8]>
 }
 
 impl<'a> Left<'a> {
-    /// The same without its first line, where that is the word and one further piece.
+    /// The text without its first line, if that is the word and one further field; else the text.
     fn without(self, word: &[u8]) -> Left<'a>
         requires { self.line < 2 ^ 32 }
         ensures lines { lines_of result ≡ without word.now (lines_of self.entry) }
@@ -69,7 +69,7 @@ impl<'a> Left<'a> {
     }
 }
 
-/// What comes after the lines that a server prints before its keys, as far as they stand there.
+/// What comes after the lines that a server prints before its keys, as far as they are there.
 fn after_head(text: &[u8]) -> Left<'_>
     ensures lines { lines_of result ≡ after_head text.now }
     ensures first { result.line ≤ 4 }
@@ -81,7 +81,7 @@ fn after_head(text: &[u8]) -> Left<'_>
         .without(b"calls")
 }
 
-/// The key that a line tells.
+/// The key in a line.
 fn key_of_line(line: &[u8]) -> Result<u32, KeyCause>
     ensures { result ≡ key_in line.now }
 {
@@ -129,20 +129,21 @@ fn keys_of_lines(alloc: Global, left: Left<'_>) -> Result<Vec<u32>, KeysFault>
     Ok(keys)
 }
 
-/// The keys of a text with which a set is to open: lines `key K`, each K above the one before.
+/// Reads the keys with which a set opens: lines `key K`, each K above the one before. Allocates.
 ///
-/// The lines that a server prints before its keys, `listening A`, `sessions N` and `calls N`, may stand at the head, each
-/// or not, in this order, whatever A and N are. So all that one server printed opens the next.
+/// The lines that a server prints before its keys, `listening A`, `sessions N` and `calls N`, may come first, each or not,
+/// in this order, whatever A and N are. So what one server printed opens the next.
 ///
-/// `KeysFault::Line` tells the first line that is refused, and the first check of it that fails:
+/// # Errors
 ///
+/// `KeysFault::Line` for the first line that is refused, with the first check that it fails:
 /// - `NotEnded`: it has bytes and no newline;
-/// - `Line`: it is not `key` and one further piece;
-/// - `Number`: the key is no decimal up to 4,294,967,295 without leading zeros;
-/// - `TooMany`: `MOST_OPENING` keys stand above it;
+/// - `Line`: it is not `key` and one further field;
+/// - `Number`: the key is not a decimal from 0 to 4,294,967,295 without leading zeros;
+/// - `TooMany`: there are `MOST_OPENING` keys above it;
 /// - `Opening`: the key is not above the one before.
 ///
-/// `KeysFault::Memory` stands where memory was refused.
+/// `KeysFault::Memory`: an allocation failed.
 pub fn read_keys(alloc: Global, text: &[u8]) -> Result<Vec<u32>, KeysFault>
     // Which keys, and which fault it is.
     ensures exact { Gives (λ v. v.items) result (keys_in text.now) }
@@ -152,7 +153,8 @@ pub fn read_keys(alloc: Global, text: &[u8]) -> Result<Vec<u32>, KeysFault>
     keys_of_lines(alloc, after_head(text))
 }
 
-/// What a server prints gives the keys that it leaves: all of it, what it prints at its end, and the lines of the keys alone.
+/// Lemma: what a server prints is read as the keys that it leaves: all that it prints, what it prints at its end, and the
+/// lines of the keys alone.
 pub fn printed_keys_are_read()
     ensures { PrintedKeysAreRead }
 {}

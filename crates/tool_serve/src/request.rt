@@ -5,13 +5,13 @@ ghost use Rattle.tool_serve.specs.Serving.{IsWithinLimits, serve_request_of};
 use lset_words::{Kind, MOST_QUOTA, MOST_THREADS};
 use tool_base::{ValueName, kind_at, number_at};
 
-/// The most sessions that the command asks for. (This project's own limit.)
+/// The maximum number of sessions that an argument may ask for.
 pub const MOST_SESSIONS_ASKED: u32 = 10_000;
 
-/// The greatest port.
+/// The largest port.
 pub const MOST_PORT: u32 = 65_535;
 
-/// A list, the size of its set, and what is served.
+/// The arguments of `serve`: a list, the size of its set, the port, and how many sessions to serve.
 #[derive(Clone, Copy)]
 pub struct ServeRequest {
     /// The list.
@@ -26,9 +26,8 @@ pub struct ServeRequest {
     pub sessions: u32,
 }
 
-/// What the values ask for, in the order KIND, SEATS, QUOTA, PORT, SESSIONS, with the ranges of `ServeRequest`; numbers
-/// are decimals without leading zeros. The error names the first value that is missing or wrong. Values past the last are
-/// not looked at.
+/// Reads the arguments KIND, SEATS, QUOTA, PORT and SESSIONS, in this order, with the ranges of `ServeRequest`; numbers are
+/// decimals without leading zeros. The error names the first that is missing or wrong. Further arguments are not looked at.
 #[tactic(auto, unfolding(crate::specs::Serving::serve_request_of))]
 pub fn read_serve_request(values: &[String]) -> Result<ServeRequest, ValueName>
     ensures value { result ≡ serve_request_of (map string_bytes values.now) }

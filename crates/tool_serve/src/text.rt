@@ -7,7 +7,7 @@ ghost use Rattle.tool_serve.specs.Serving.{first_line, served_text};
 use lset_server::Served;
 use std::alloc::{AllocError, Global};
 
-/// The line that names the port on which the server listens.
+/// Returns the line that names the port on which the server listens.
 pub fn first_line(alloc: Global, port: u16) -> Result<String, AllocError>
     ensures { IfOk result (λ s. string_bytes s ≡ first_line port) }
 {
@@ -30,7 +30,7 @@ fn put_keys(out: &mut String, keys: &[u32]) -> Result<(), AllocError>
     Ok(())
 }
 
-/// How many sessions were held and how many calls were made, and each key that is left.
+/// Returns the last lines of a server: how many sessions it served and how many calls it made, and each remaining key.
 pub fn served_text(alloc: Global, served: &Served) -> Result<Vec<u8>, AllocError>
     ensures { IfOk result (λ v. v.items ≡ served_text served.now.sessions served.now.calls served.now.keys.items) }
 {

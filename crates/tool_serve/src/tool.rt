@@ -172,20 +172,20 @@ fn serve_values_with<
     serve_request(rt, alloc, request, &keys, output)
 }
 
-/// Serves a set, which opens empty, on the loopback.
+/// Does what `serve` does without FILE: serves a set, which opens empty, on the loopback, and returns the exit status.
 ///
-/// `values` are KIND SEATS QUOTA PORT SESSIONS in this order; those past the last are not looked at. KIND is the word for a
-/// list, the rest are decimals without leading zeros:
-///
-/// - SEATS, 1 to 64: how many connections there are at once; QUOTA, 0 to 16,384 successful adds of a seat;
+/// `values` are KIND SEATS QUOTA PORT SESSIONS in this order; further ones are not looked at. KIND is the name of a list,
+/// the others are decimals without leading zeros:
+/// - SEATS, 1 to 64: how many connections it serves at once; QUOTA, 0 to 16,384 successful adds of a seat;
 /// - PORT of 127.0.0.1, 0 to 65,535 (0 lets the system choose); SESSIONS, 0 to 10,000 connections before it ends.
 ///
-/// It opens the set, listens, writes `listening 127.0.0.1:P`, flushes it, and only then starts its threads and accepts: if a thread
-/// is refused, that line is written. At the end it writes
-/// `sessions N`, `calls N` and each key left (`key k`), rising, on `output`. It waits for its connections.
+/// It opens the set, listens, writes `listening 127.0.0.1:P`, flushes it, and only then starts its threads and accepts: if a
+/// thread is refused, that line is written. At the end it writes `sessions N`, `calls N` and each remaining key (`key k`),
+/// in increasing order, to `output`.
 ///
-/// The exit status is 0 where all was written. Else one line on `faults` says why, where it can be written: 2 for the first
-/// wrong value or one that is missing, 3 where memory was refused, 1 for anything else.
+/// The status is 0 if all was written. Else one line on `faults` says why, if it can be written: 2 for the first argument
+/// that is missing or wrong, 3 if an allocation failed, 1 for anything else. Allocates, and blocks until its connections
+/// have ended.
 pub fn tool_serve<
     R: Net<Listener = TcpListener, Stream = TcpStream> + Threads + Wait + Clock + Sync,
     W: Write,
@@ -198,11 +198,14 @@ pub fn tool_serve<
     deliver(alloc, made, output, faults)
 }
 
-/// Serves a set as `tool_serve` does, but one that opens with the keys of the input, as `read_keys` reads them: what
-/// `tool_serve` or `tool_serve_with` has printed opens the next. The values come first, and the input is read only where
-/// none of them is wrong; then the set opens, and then it listens. Where the input cannot be read, has more than `LONGEST`
-/// bytes or a line that is refused, it writes one line about that on `faults`, nothing on `output`, and the status is 1. The
-/// server itself keeps nothing: the keys are those on `output` at its end.
+/// Does what `serve` does with FILE: serves a set as `tool_serve` does, but one that opens with the keys of `input`, as
+/// `read_keys` reads them, and returns the exit status. What `tool_serve` or `tool_serve_with` has printed opens the next
+/// set.
+///
+/// The arguments are read first, and the input only if none of them is wrong; then the set opens, and then it listens. If
+/// the input cannot be read, has more than `LONGEST` bytes or a line that is refused, it writes one line about that to
+/// `faults`, nothing to `output`, and the status is 1. The server keeps nothing: the keys are those on `output` at its end.
+/// Allocates, and blocks until its connections have ended.
 pub fn tool_serve_with<
     R: Net<Listener = TcpListener, Stream = TcpStream> + Threads + Wait + Clock + Sync,
     I: Read,

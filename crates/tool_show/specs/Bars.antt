@@ -14,5 +14,5 @@ BarsAreApart calls = AllPairs (λ (x y : CallRecord). x.thread ≡ y.thread → 
 pub record IsInBars (v : PictureValue) : Type 0 where
   -- the bars of each thread lie apart,
   pub apart : BarsAreApart v.history.calls
-  -- and where no refusal is told, each place has a point in its call's bar, and the points never fall along the order.
+  -- and if there is no refusal, each place has a point in its call's bar, and the points never decrease along the order.
   pub points : v.refusal ≡ None → HasPoints v.history.calls v.order (map moment_of v.points)

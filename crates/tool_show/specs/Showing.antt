@@ -68,7 +68,7 @@ IsFirstFault bytes t =
     ⊎ (has_calls_title bytes ≡ true) × judging.IsFirstFault (calls_reading.reading bytes) t
     ⊎ (has_report_title bytes ≡ false) × (has_calls_title bytes ≡ false) × IsScheduleFault (schedule.reading bytes) t
 
--- 1 where a refusal is told, of an order or of an event
+-- 1 if a refusal is stated, of an order or of an event
 abbrev pub status_of : PictureValue → ℕ
 status_of v = if is_none v.refusal && is_none v.refused then 0 else 1
 

@@ -4,7 +4,7 @@ ghost use Rattle.tool_show.specs.Asking.{form_of, asked_of};
 use tool_base::{ValueName, read_moments, read_width};
 use tool_drawing::Window;
 
-/// How a picture is drawn.
+/// How a picture is drawn: as text of a width, or as an SVG.
 #[derive(Clone, Copy)]
 pub enum Form {
     /// As text, with as many columns as let its rows have at most so many characters.
@@ -19,9 +19,9 @@ fn form_of(svg: bool, width: u32) -> Form
     if svg { Form::Svg } else { Form::Text(width) }
 }
 
-/// What the options of `show` ask for: whether `--svg` is on, and the texts of `--from`, `--to` and `--width`, as
-/// `read_moments` and `read_width` read them. An SVG has no width, and a width that is given with it is read all the same. The
-/// error names the first option that is wrong.
+/// Reads the options of `show`: whether `--svg` is on, and the values of `--from`, `--to` and `--width`, as `read_moments`
+/// and `read_width` read them. An SVG has no width, but a width that is given with it must be right too. The error names the
+/// first option that is wrong.
 #[tactic(auto, unfolding(crate::specs::Asking::asked_of))]
 pub fn read_asked(
     svg: bool,

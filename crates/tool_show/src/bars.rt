@@ -3,14 +3,14 @@ ghost use Rattle.tool_show.specs.Bars.{BarsAreApart};
 
 use lset_history::{History, Placed, points_exist};
 
-/// No two bars of one thread of a history overlap.
+/// Lemma: no two bars of one thread of a history overlap.
 pub fn bars_are_apart(history: &History)
     ensures { BarsAreApart history.now.calls }
 {
     let _calls = history.calls();
 }
 
-/// An order of a history's calls has points in their bars exactly where no place is too early.
+/// Lemma: an order of a history's calls has points in their bars exactly if no place is too early.
 pub fn order_has_its_points(history: &History, order: &[Placed])
     ensures { HasItsPoints history.now.calls order.now }
 {

@@ -40,9 +40,9 @@ pub(crate) fn of_key(
     Ok(text)
 }
 
-/// The lines with which the picture of a refused order ends: whether any other order explains the report and leaves its keys; if none
-/// does, why, as `judge` says it. A report with `ceiling` or `full` may be one of which it is not known. The lines of any other picture are
-/// none. The only error is that memory was refused.
+/// Returns the last lines of the picture of a refused order: whether any other order explains the report and leaves its keys
+/// and, if none does, why, as `judge` says it. Of a report with `ceiling` or `full` it may be unknown. Of any other picture
+/// there are no such lines. Allocates; `AllocError` if that fails.
 pub fn ending(alloc: Global, picture: &Picture) -> Result<Vec<u8>, AllocError>
     ensures { IfOk result (λ text. IsEnding (view picture.now) text.items) }
 {

@@ -1,5 +1,5 @@
-//! Pictures of schedules, of reports and of recorded calls, and the tool that draws them: the bars of the calls, the points at which they stand
-//! in the order, of a refused order why, and of a refused event which.
+//! Pictures of schedules, of reports and of recorded calls, and the tool that draws them: the bars of the calls, the points
+//! at which they take effect, of a refused order why, and of a refused event which.
 #![tactic(auto)]
 
 mod asking;

@@ -48,7 +48,7 @@ fn first_marked(
         .collect(alloc)
 }
 
-/// The points that are drawn of an order, of which this refusal is told.
+/// The points that are drawn of an order that has this refusal, if any.
 fn drawn_points(
     alloc: Global,
     history: &History,
@@ -63,9 +63,9 @@ fn drawn_points(
     }
 }
 
-/// The picture of a report, whose order and keys may be any: its history, its order and its keys, with the first points of
-/// the order (`first_points`) where the order explains the history and leaves just the keys, and else with the refusal
-/// (`why_refused`) and no points. An error is want of memory. The time is that of `check_order`.
+/// Returns the picture of a report, whose order and keys may be any: its history, its order and its keys, with the first
+/// points of the order (`first_points`) if the order explains the history and leaves exactly the keys, and else with the
+/// refusal (`why_refused`) and no points. It takes about as long as `check_order`. Allocates; `AllocError` if that fails.
 /// (The pictures of Herlihy and Wing's histories.)
 pub fn picture_of_report(alloc: Global, report: Report) -> Result<Picture, AllocError>
     ensures { IfOk result (λ p. IsPictureOfReport (reports.view report) (view p)) }

@@ -11,11 +11,11 @@ use lset_schedule::Schedule;
 use std::alloc::{AllocError, Global};
 use tool_drawing::Picture;
 
-/// The picture of a schedule's replay: the calls of its history, the order that explains it, with the points at which the
-/// calls of the run stand (`replay_upto`), and the keys that are left. The schedule is within its limits, as what
-/// `read_schedule` gives. Where an event is not enabled, it is the picture of the events before the first such one, and tells the
-/// number of its line and the cause (`NoThread`, `Busy` or `Idle`). An error is want of memory. (The pictures of Herlihy and
-/// Wing's histories, with their linearization points.)
+/// Returns the picture of a schedule's replay: the calls of its history, the order that explains it, with the linearization
+/// points of the run (`replay_upto`), and the remaining keys. `schedule` must be within the limits, as every schedule from
+/// `read_schedule` is. If an event is not enabled, it is the picture of the events before the first such one, with the
+/// number of its line and the cause (`NoThread`, `Busy` or `Idle`). Allocates; `AllocError` if that fails. (The pictures of
+/// Herlihy and Wing's histories, with their linearization points.)
 pub fn picture_of_replay(alloc: Global, schedule: &Schedule) -> Result<Picture, AllocError>
     requires { IsSchedule (plan.view schedule.now) }
     ensures { IfOk result (λ p. IsPictureOfSchedule (plan.view schedule.now) (view p)) }

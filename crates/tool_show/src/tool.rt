@@ -125,7 +125,7 @@ fn text_of(
     }
 }
 
-/// 1 where the picture tells a refusal, of an order or of an event, and else 0.
+/// 1 if the picture states a refusal, of an order or of an event, else 0.
 fn status_of(picture: &Picture) -> u8
     ensures { result ≡ status_of (view picture.now) }
 {
@@ -156,9 +156,9 @@ fn drawn_above(
     })
 }
 
-/// A picture as text, with its ending, or as an SVG, of the moments in `window`; the status is 1 where it tells a refusal, of an
-/// order or of an event, and else 0. The error is `Bad(From)` where the window begins past the last moment at which something
-/// happens, and `Memory`.
+/// Draws a picture, of the moments in `window`, as text with its last lines, or as an SVG. The status is 1 if it states a
+/// refusal, of an order or of an event, else 0. The error is `Bad(From)` if the window begins past the last moment at which
+/// something happens, `Memory` if an allocation fails.
 pub fn drawn(
     alloc: Global,
     picture: &Picture,
@@ -181,18 +181,20 @@ fn answer_of(alloc: Global, bytes: &[u8], form: Form, window: Window) -> Result<
     drawn_above(alloc, &picture, says.as_deref(), form, window)
 }
 
-/// The answer of `show` on an input of these bytes: the picture of that schedule, report or recording, of the moments in `window`. Of
-/// recorded calls it is that of an order that explains them; if there is none, of the calls of the window that `judge` shows, with its lines
-/// below; and if begins and ends do not decide, of their report by their points.
+/// Draws a schedule, a report or recorded calls, given as the bytes of the text, in the moments of `window`. Of recorded
+/// calls it draws an order that explains them; if there is none, the calls of the window that `judge` shows, with its lines
+/// below; and if begins and ends do not decide, their report by their points. Allocates.
 ///
-/// Its status is 1 where the order of the report or an event of the schedule is refused, or no order explains the calls, and else 0. A
-/// schedule with such an event is drawn up to it.
+/// The status is 1 if the order of the report or an event of the schedule is refused, or if no order explains the calls,
+/// else 0. A schedule with such an event is drawn up to it.
+///
+/// # Errors
 ///
 /// - `TooLong`: there are more than `LONGEST` bytes.
-/// - `Line`: the first fault of `read_report` in a text with the first line of a report, of either version, of `judge_bytes` in one with that
-///   of recorded calls, and of `read_schedule` in any other.
+/// - `Line`: the first error of `read_report` in a text with the first line of a report, of either version, of `judge_bytes`
+///   in one with that of recorded calls, and of `read_schedule` in any other.
 /// - `Bad(From)`: all that happens in the picture is before `window.from`.
-/// - `Memory`: it was refused.
+/// - `Memory`: an allocation failed.
 pub fn shown(alloc: Global, bytes: &[u8], form: Form, window: Window) -> Result<Answer, Trouble>
     ensures shows { Shows window bytes.now (tools.view result) }
     // Bytes that are here can be read.
@@ -216,11 +218,12 @@ fn drawn_of<R: Read>(
     shown(alloc, &bytes, form, window)
 }
 
-/// Draws the schedule, the report or the recorded calls on the input: writes its picture on the output, in that form, of the
-/// moments in the window, or one line about what is wrong on `faults` and nothing on the output. The first line of the
-/// input says which it is. Gives the exit status: 0 where the picture was written, 1 where it was written and tells why the order or
-/// which event is refused, 2 where the window begins past the last moment of the picture, 3 where memory was refused, else 1. A
-/// failing write on `faults` leaves the status as it is.
+/// Does what `show` does: draws the schedule, the report or the recorded calls on `input`, as its first line says, writes
+/// the picture to `output`, or one line about an error to `faults` and nothing to `output`, and returns the exit status.
+///
+/// The status is 0 if the picture was written, 1 if it was written and says why the order or which event is refused, 2 if
+/// the window begins past the last moment of the picture, 3 if an allocation failed, else 1. A write to `faults` that fails
+/// leaves it as it is. Allocates.
 pub fn tool_show<R: Read, W: Write, F: Write>(
     alloc: Global,
     form: Form,

@@ -60,7 +60,7 @@ how_written : (old mid : Option (List ℕ)) (r : Result Bool AllocError) → OnE
 how_written old mid (Ok whole) kept grown = grown
 how_written old mid (Err refused) kept grown = kept
 
--- or memory was refused before
+-- or an allocation failed before
 ended : (IsMade : Made → Type 0) (old mid new fold fnew : Option (List ℕ)) (r : Result Bool AllocError) (ends status : ℕ)
     → ((text : List ℕ) → IsMade (Ok (record { text = text; status = ends }))) → IsMade (Err Memory) → Written old mid r
     → HowItEnds (made_for r ends) mid new fold fnew status → Ends IsMade old new fold fnew status

@@ -1,4 +1,4 @@
--- What is told of events that are made a second time.
+-- What is returned of events that are executed a second time.
 use Rattle.std.specs.Prelude.{◌≡◌, ℕ, length, Option, Some, None}
 use Rattle.lset_words.specs.declared.Reply.{Reply}
 use Rattle.lset_steps.specs.Steps.{Table, Enabled, local_of, told, after}
@@ -12,7 +12,7 @@ abbrev pub reply_in : Option CallEnd → Option Reply
 reply_in None = None
 reply_in (Some end) = Some end.reply
 
--- An event was made in the world w, and is told: its line and thread, what the thread holds before and after, what it did, the change
+-- An event was made in the world w, and is returned: its line and thread, the thread's state before and after, what it did, the change
 -- that it made, and the reply of the call that it ended. Of the numbers of calls and of the moments at which they stand nothing is
 -- said.
 pub record IsMadeAgain (T : Table) (w : WorldState) (next : LineEvent) (x : TracedEvent) (w' : WorldState) : Type 0 where

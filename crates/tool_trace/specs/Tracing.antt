@@ -49,7 +49,7 @@ Traces bytes (Err t) = IsInputTrouble bytes t ⊎ (IsTaken bytes × IsFirstFault
 abbrev pub Grows : Option (List ℕ) → Option (List ℕ) → Type 0
 Grows old new = (text : List ℕ) × Appends old new text
 
--- what is left to tell once a text was written, whole or not, or memory was refused before
+-- what is left to deliver once a text was written, whole or not, or an allocation failed before
 abbrev pub made_for : Result Bool AllocError → ℕ → Made
 made_for (Ok true) status = Ok (record { text = []; status = status })
 made_for (Ok false) status = Err CannotWrite

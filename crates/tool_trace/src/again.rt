@@ -32,7 +32,7 @@ impl Tally {
     }
 }
 
-/// A run of a schedule of which a first pass has told what is known.
+/// A second run of a schedule, of which a first pass has found the moments at which calls take effect.
 #[derive(Drop)]
 pub struct Again<'a, M: Machine> {
     known: &'a Known,
@@ -40,7 +40,7 @@ pub struct Again<'a, M: Machine> {
     tally: Tally,
 }
 
-/// The thread's own state before an event that is enabled, and what the event will do where so many calls have begun.
+/// The thread's own state before an event that is enabled, and what the event will do if this many calls have begun.
 fn look<M: Machine>(world: &World<M>, begun: u32, event: Event) -> Option<(Local, Deed)>
     requires { HasPlaces world.now }
     ensures { Enabled world.now.state event → result ≡ Some (
@@ -59,7 +59,7 @@ fn look<M: Machine>(world: &World<M>, begun: u32, event: Event) -> Option<(Local
 }
 
 impl<'a, M: Machine> Again<'a, M> {
-    /// Before any event, in a world in which each thread has a place.
+    /// Returns the run before any event.
     pub fn new(known: &'a Known, world: World<M>) -> Again<'a, M>
         requires { HasPlaces world }
         ensures { HasPlaces result.world }
@@ -74,7 +74,7 @@ impl<'a, M: Machine> Again<'a, M> {
         }
     }
 
-    /// Makes an event, and tells it; or why it is not enabled.
+    /// Executes an event, and returns what it did, or why it is not enabled.
     pub fn tell(&mut self, next: LineEvent) -> Result<TracedEvent, StepFault>
         requires { HasPlaces self.old.world }
         ensures made { MatchResult result (λ told. IsMadeAgain M.table self.old.world next told self.new.world)

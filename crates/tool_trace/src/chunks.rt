@@ -11,7 +11,7 @@ const MOST_OF_LINE: usize = 1_024;
 /// A piece of a text.
 pub type Chunk = ArrayString<ROOM>;
 
-/// Whether a chunk has no room for a further line.
+/// Whether a chunk has no space for a further line.
 pub fn is_full(chunk: &Chunk) -> bool {
     ROOM - MOST_OF_LINE < chunk.as_str().len()
 }

@@ -19,7 +19,7 @@ fn put_reply(out: &mut Chunk, reply: Reply) {
     }
 }
 
-/// Writes an access, and the value that it saw; of a store that is the value stored, which is not told twice.
+/// Writes an access, and the value that it saw; of a store that is the value stored, which is not written twice.
 fn put_access(out: &mut Chunk, action: Action, seen: u64) {
     let (verb, index) = match action {
         Action::Load(index) => ("load ", index),
@@ -46,7 +46,7 @@ fn put_access(out: &mut Chunk, action: Action, seen: u64) {
     put_value(out, word, seen);
 }
 
-/// A register of nodes, where it has another value than before.
+/// Writes a register of nodes, if it has another value than before.
 fn put_node_change(out: &mut Chunk, name: &str, before: u64, after: u64) {
     if before != after {
         put(out, name);
@@ -54,7 +54,7 @@ fn put_node_change(out: &mut Chunk, name: &str, before: u64, after: u64) {
     }
 }
 
-/// A register of key words, where it has another value than before.
+/// Writes a register of key words, if it has another value than before.
 fn put_key_change(out: &mut Chunk, name: &str, before: u64, after: u64) {
     if before != after {
         put(out, name);
@@ -92,7 +92,7 @@ fn put_begin(out: &mut Chunk, call: Call, number: u32) {
     put_number(out, u64::from(number));
 }
 
-/// What was done, the row at which the thread stands then, and what it holds that is new.
+/// Writes what was done, the row at which the thread is then, and the registers that are new.
 fn put_deed(out: &mut Chunk, deed: Deed, before: &Local, after: &Local) {
     match deed {
         Deed::Begin(call, number) => put_begin(out, call, number),
@@ -130,7 +130,7 @@ fn put_end(out: &mut Chunk, end: Option<CallEnd>) {
     }
 }
 
-/// Writes the line of an event, the one with this number from 1.
+/// Appends the line of an event, which has this number, from 1.
 pub fn put_event(out: &mut Chunk, number: u32, event: &TracedEvent) {
     put(out, "event ");
     put_number(out, u64::from(number));

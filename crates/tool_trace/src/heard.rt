@@ -1,4 +1,4 @@
-//! The text of a trace in memory, with the chains where they are asked for.
+//! The text of a trace in memory, with the chains if they are asked for.
 ghost use Rattle.std.specs.Prelude.{⊤, IfOk};
 ghost use Rattle.lset_schedule.specs.Plan.{IsSchedule, view};
 ghost use Rattle.tool_trace.specs.Tracing.{IsHeard};
@@ -21,7 +21,8 @@ fn cause_word(cause: StepFault) -> &'static str {
     }
 }
 
-/// What a trace has before its first event: its header, and the keys with which the set opens, which are the first chain.
+/// Returns what a trace has before its first event: its header, and the keys with which the set opens, which are the first
+/// chain.
 pub fn head_of(alloc: Global, schedule: &Schedule) -> Result<String, AllocError> {
     let header = Header {
         kind: schedule.kind,
@@ -46,7 +47,7 @@ fn put_end(chunk: &mut Chunk, end: Option<(u64, &str)>) {
     put(chunk, "\n");
 }
 
-/// Writes how a trace ends: with all events, or at the first that is not enabled.
+/// Appends the end of a trace: that all events were made, or the first that is not enabled.
 pub fn put_last(chunk: &mut Chunk, refused: Option<(u64, StepFault)>) {
     put_end(
         chunk,
@@ -54,7 +55,7 @@ pub fn put_last(chunk: &mut Chunk, refused: Option<(u64, StepFault)>) {
     );
 }
 
-/// A listener that writes the lines of each event that it hears of, as `trace` tells them, at the end of its text.
+/// A listener that appends the lines of each event, as `trace` has them, to its text.
 #[derive(Drop)]
 pub struct EventLines {
     text: Vec<u8>,
@@ -62,7 +63,7 @@ pub struct EventLines {
 }
 
 impl EventLines {
-    /// The text so far is what stands before the first event.
+    /// Returns the listener whose text so far is what a trace has before the first event.
     pub fn after(head: String) -> EventLines {
         EventLines {
             text: head.into_bytes(),
@@ -70,8 +71,8 @@ impl EventLines {
         }
     }
 
-    /// The whole text, where all events were heard, or those up to the line at which the run ended for this cause. An error is
-    /// want of memory.
+    /// Returns the whole text, if all events were heard, or those up to the line at which the run ended for this cause.
+    /// `AllocError` if an allocation fails.
     pub fn ended(self, end: Option<(u64, &str)>) -> Result<Vec<u8>, AllocError> {
         let mut lines = self;
         if is_full(&lines.chunk) {
@@ -121,7 +122,7 @@ impl Listener for EventLines {
     }
 }
 
-/// The text of the trace of a schedule, and how it ends. The only error is want of memory.
+/// Returns the text of the trace of a schedule, and how it ends. Allocates; `AllocError` if that fails.
 pub fn text_of_run(
     alloc: Global,
     schedule: &Schedule,

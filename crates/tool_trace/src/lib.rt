@@ -1,7 +1,7 @@
 //! The text of a trace: what each event of a schedule did, one line for each.
 //!
 //! A listener of `lset_replay::trace_to` writes it into memory. The program writes the trace without chains as it goes: a first
-//! replay finds how the events end and where the calls stand, a second one asks for no memory.
+//! replay finds how the events end and when the calls take effect, a second one does not allocate.
 #![tactic(auto)]
 
 mod again;
@@ -15,5 +15,5 @@ mod tool;
 pub use heard::EventLines;
 pub use tool::{tool_trace, traced};
 
-/// The first line of a trace's text.
+/// Line 1 of a trace.
 pub const TITLE: &str = "listset-trace 1";

@@ -23,8 +23,8 @@ use std::alloc::{AllocError, Global};
 use std::io::Write;
 use tool_base::put as put_out;
 
-/// What a first pass over a schedule tells: the moment at which each call stands that ended, by its number, and how the events
-/// end.
+/// What a first pass over a schedule finds: the moment at which each completed call takes effect, by its number, and how the
+/// events end.
 #[derive(Drop)]
 pub struct Known {
     pub moments: Vec<u32>,
@@ -54,7 +54,7 @@ impl Listener for Moments {
     }
 }
 
-/// Makes the events of a schedule for the first time.
+/// Executes the events of a schedule for the first time.
 pub fn known_of(alloc: Global, schedule: &Schedule) -> Result<Known, AllocError>
     requires { IsSchedule (view schedule.now) }
     ensures { IfOk result (λ known. IsHeard (view schedule.now) false known.refused) }
@@ -75,7 +75,7 @@ fn write_out<W: Write>(output: &mut W, text: &[u8]) -> bool
     put_out(output, text)
 }
 
-/// Writes a chunk where it is full, and tells whether that was done whole, if it was.
+/// Writes a chunk if it is full, and returns whether that was done whole, if it was.
 fn pour_full<W: Write>(chunk: &mut Chunk, output: &mut W) -> bool
     ensures { Grows (W.contents output.old) (W.contents output.new) }
 {
@@ -135,7 +135,7 @@ fn write_events<M: Machine, W: Write>(
     write_rest(&mut chunk, None, output)
 }
 
-/// The same on the list of the machine `M`, with what stands before the events.
+/// Writes the trace on the list of the machine `M`, with what comes before the events.
 fn write_on<M: Machine, W: Write>(
     alloc: Global,
     schedule: &Schedule,
@@ -158,7 +158,7 @@ fn write_on<M: Machine, W: Write>(
     Ok(write_events(schedule, known, world, output))
 }
 
-/// Writes the trace of a schedule, of which this is known, and tells whether each write was done whole. Where memory is refused
+/// Writes the trace of a schedule, of which this is known, and returns whether each write was whole. If an allocation fails
 /// nothing is written.
 pub fn write_run<W: Write>(
     alloc: Global,

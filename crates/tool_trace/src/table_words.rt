@@ -5,7 +5,6 @@ use crate::chunks::{Chunk, put, put_number};
 const ABOVE_ALL_KEYS: u64 = 4_294_967_297;
 
 /// A word of a list's table: one of the three of the list, or one of the three of the node with this number.
-/// (This project's own table.)
 #[derive(Clone, Copy)]
 pub enum TableWord {
     ListLock,
@@ -17,7 +16,7 @@ pub enum TableWord {
 }
 
 impl TableWord {
-    /// The word with this index in the table. Every index has one, also past the end of a table.
+    /// Returns the word with this index in the table. Every index has one, also past the end of a table.
     pub fn at(index: u64) -> TableWord {
         let Some(past) = index.checked_sub(3) else {
             return match index {
@@ -71,7 +70,7 @@ fn put_lock(out: &mut Chunk, word: u64) {
     }
 }
 
-/// Writes the name of a word, as `n2.link`.
+/// Appends the name of a word, such as `n2.link`.
 pub fn put_name(out: &mut Chunk, word: TableWord) {
     let (node, field) = match word {
         TableWord::ListLock => return put(out, "list.lock"),
@@ -85,7 +84,7 @@ pub fn put_name(out: &mut Chunk, word: TableWord) {
     put(out, field);
 }
 
-/// Writes a value of a word: of a link the next node, with a star where it is marked.
+/// Appends a value of a word: of a link the next node, with a star if it is marked.
 pub fn put_value(out: &mut Chunk, word: TableWord, value: u64) {
     match word {
         TableWord::Key(_) => put_key(out, value),

@@ -22,7 +22,7 @@ fn status_of(refused: Option<(u64, StepFault)>) -> u8
     }
 }
 
-/// The schedule whose text the bytes are, and what a first pass tells.
+/// The schedule whose text the bytes are, and what a first pass finds.
 fn known_in(alloc: Global, bytes: &[u8]) -> Result<(Schedule, Known), Trouble>
     ensures traced { IfOk result (λ r. IsTraced bytes.now r.1.refused) }
     ensures schedule { IfOk result (λ r. plan.IsSchedule (plan.view r.0)) }
@@ -45,10 +45,14 @@ fn trace_of(alloc: Global, bytes: &[u8], chains: bool) -> Result<Answer, Trouble
     Ok(Answer { text, status })
 }
 
-/// The text of the trace of the schedule whose text the bytes are, with the chain after each event that changed it
-/// where `chains`. The answer's status is 0 where every event is enabled, and 1 where the trace ends at one that is not.
-/// `TooLong` where the bytes are more than `LONGEST`; the first fault of bytes that are no schedule's text, as `replay` names it;
-/// `Memory` where memory was refused.
+/// Traces a schedule, given as the bytes of its text: the answer has a line for each event, with the chain after each event
+/// that changed it if `chains`. Its status is 0 if every event is enabled, and 1 if the trace ends at one that is not.
+/// Allocates.
+///
+/// # Errors
+///
+/// `TooLong` if there are more than `LONGEST` bytes; `Line` with the first error of a text that is not a schedule; `Memory`
+/// if an allocation fails.
 pub fn traced(alloc: Global, bytes: &[u8], chains: bool) -> Result<Answer, Trouble>
     ensures traces { Traces bytes.now (view result) }
     // Bytes that are here can be read.
@@ -67,7 +71,7 @@ fn traced_input<R: Read>(alloc: Global, input: &mut R) -> Result<Answer, Trouble
     trace_of(alloc, &bytes, true)
 }
 
-/// The schedule on the input, and what a first pass tells.
+/// The schedule on the input, and what a first pass finds.
 fn known_input<R: Read>(alloc: Global, input: &mut R) -> Result<(Schedule, Known), Trouble>
     ensures traced { IfOk result (λ r. IfSome (R.remaining input.old) (λ bytes. IsTaken bytes × IsTraced bytes r.1.refused)) }
     ensures schedule { IfOk result (λ r. plan.IsSchedule (plan.view r.0)) }
@@ -77,7 +81,7 @@ fn known_input<R: Read>(alloc: Global, input: &mut R) -> Result<(Schedule, Known
     known_in(alloc, &bytes)
 }
 
-/// What is left to tell once a trace was written, whole or not, or memory was refused before.
+/// What is left to deliver once a trace was written, whole or not, or an allocation failed before.
 fn made_of(
     alloc: Global,
     written: Result<bool, AllocError>,
@@ -121,10 +125,12 @@ fn trace_through<R: Read, W: Write, F: Write>(
     deliver(alloc, made, output, faults)
 }
 
-/// Traces the schedule on the input: writes the text of its trace on the output, with the chain after each event that
-/// changed it where `chains`, or one line about what is wrong on `faults`. It gives the exit status: 0 where the trace of
-/// all events was written, 3 where memory was refused, else 1, also where the trace ends at an event that is not enabled.
-/// A failing write on `faults` leaves the status as it is. Without chains the text is not held in memory.
+/// Does what `trace` does: traces the schedule on `input`, writes the trace to `output`, with the chain after each event
+/// that changed it if `chains`, or one line about an error to `faults`, and returns the exit status.
+///
+/// The status is 0 if the trace of all events was written, 3 if an allocation failed, else 1, also if the trace ends at an
+/// event that is not enabled. A write to `faults` that fails leaves it as it is. Allocates; without `chains` the whole text
+/// is not held in memory.
 pub fn tool_trace<R: Read, W: Write, F: Write>(
     alloc: Global,
     chains: bool,

@@ -175,7 +175,7 @@ fn many_calls(alloc: Global) -> Result<String, Fail> {
     Ok(text)
 }
 
-/// More moments than columns: the first 64 are drawn, and the first line that is left out is told.
+/// More moments than columns: the first 64 are drawn, and the first line that is left out is named.
 #[test]
 fn the_first_columns_of_many(rt: HostRuntime) -> Result<(), Fail> {
     let report = many_calls(rt.alloc())?;

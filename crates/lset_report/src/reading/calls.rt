@@ -5,7 +5,7 @@ ghost use Rattle.lset_report.specs.ReportCalls.{Tracks, threads_of, end_moment, 
 use lset_words::CallRecord;
 use std::alloc::{AllocError, Global};
 
-/// The calls of a report so far, and what tells whether a call may follow them.
+/// The calls of a report that were read so far, and what decides whether a call may follow them.
 #[derive(Drop)]
 pub struct CallsSoFar {
     pub calls: Vec<CallRecord>,
@@ -36,7 +36,7 @@ fn is_open(made: CallRecord) -> bool
 }
 
 impl CallsSoFar {
-    /// No calls of `threads` threads.
+    /// Returns no calls, of `threads` threads. Allocates.
     pub fn new(alloc: Global, threads: u32) -> Result<CallsSoFar, AllocError>
         ensures tracks { IfOk result (λ s. Tracks s) }
         ensures threads { IfOk result (λ s. threads_of s ≡ threads) }
@@ -66,8 +66,8 @@ impl CallsSoFar {
         }
     }
 
-    /// Whether a call of such threads may follow the calls. A moment past the last beginning is taken only as the last end of a
-    /// thread: so these are looked at, and no set of moments is kept.
+    /// Whether a call may follow these calls. A moment above the last begin is taken only if a thread's last call ended at
+    /// it: so these ends are looked at, and no set of moments is kept.
     pub fn may_follow(&self, made: CallRecord) -> bool
         requires { Tracks self.now }
         ensures { result ≡ may_follow (threads_of self.now) self.now.calls.items made }
@@ -83,7 +83,7 @@ impl CallsSoFar {
             && self.last_ends[thread] < made.begun
     }
 
-    /// Adds a call that may follow.
+    /// Adds a call that may follow. May allocate.
     pub fn push(&mut self, made: CallRecord) -> Result<(), AllocError>
         requires tracks { Tracks self.old }
         requires may { may_follow (threads_of self.old) self.old.calls.items made ≡ true }

@@ -15,7 +15,7 @@ use crate::report_fault::ReportCause;
 use lset_text::{Version, cut, is_reply, number, read_call, read_reply};
 use lset_words::{CallRecord, Key, Placed};
 
-/// Which part of a report a text has come to.
+/// The section of a report that reading has come to.
 #[derive(Clone, Copy)]
 pub enum Section {
     Opening,
@@ -25,7 +25,7 @@ pub enum Section {
     Done,
 }
 
-/// A line after the header: an opening key, a call with its number, a place in the order, a key, or the end.
+/// A line of a report after the header: an opening key, a call with its number, a place in the order, a key, or the end.
 #[derive(Clone, Copy)]
 pub enum Line {
     Opening(u32),
@@ -36,7 +36,7 @@ pub enum Line {
 }
 
 impl Line {
-    /// The section of the line.
+    /// Returns the section of the line.
     pub fn section(self) -> Section
         ensures { result ≡ section_after self }
     {
@@ -187,7 +187,7 @@ fn end(word: &[u8]) -> Result<Line, ReportCause>
     Ok(Line::End)
 }
 
-/// What a line tells in a text of a version that has come to a section.
+/// Reads a line of a report of a version that has come to a section.
 pub fn line_of_report(version: Version, section: Section, line: &[u8]) -> Result<Line, ReportCause>
     ensures { result ≡ line_in version causes (kinds version section) line.now }
 {

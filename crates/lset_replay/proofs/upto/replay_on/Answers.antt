@@ -76,7 +76,7 @@ returns-clause-front g c =
     c.deref-2.ensures.value c.in_ok-ordered.ensures.points)
     c.in_ok-keys.ensures
 
--- what is told
+-- what is reported
 abbrev told : (version : Version) (kind : Kind) (history : HistoryValue) (order : List Placed) (keys : List ℕ) → ReportValue
 told version kind history order keys =
     record { version = version; kind = kind; history = history; order = order; keys = keys }
