@@ -33,7 +33,7 @@ noted_of c key = moments_in (lookup (is_at (nat_cmp key)) c.entries)
 abbrev pub moments_of : ChangesValue → ℕ → List ℕ
 moments_of c key = opened_moments c.opening key ++ noted_of c key
 
--- whether a key is there at a moment, where it was there (`present`) or not before all these changes of it
+-- whether a key is there at a moment, if it was there (`present`) or not before all these changes of it
 abbrev pub state_at : Bool → List ℕ → ℕ → Bool
 state_at present [] moment = present
 state_at present (m ∷ ms) moment = if nat_lt moment m then present else state_at (not present) ms moment
@@ -72,7 +72,7 @@ abbrev pub first_passing : Bool → (ℕ → Bool) → ℕ → ℕ → Option �
 first_passing asked f first zero = if is_same asked (f first) then Some first else None
 first_passing asked f first (suc n) = if is_same asked (f first) then Some first else first_passing asked f (suc first) n
 
--- whether a key, or none, is the least one at or above another that is there at a moment, where all keys are below 2^32
+-- whether a key, or none, is the smallest one at or above another that is there at a moment, if all keys are below 2^32
 abbrev pub same_key : Option ℕ → Option ℕ → Bool
 same_key None None = true
 same_key None (Some b) = false
@@ -96,7 +96,7 @@ Rise c = (key : ℕ) → IsStrictlyIncreasing (moments_of c key)
 abbrev pub IsBounded : (ℕ → List ℕ) → Type 0
 IsBounded changes = (key : ℕ) → 2 ^ 32 ≤ key → changes key ≡ []
 
--- a moment above 0 stands with its key
+-- a moment above 0 is recorded with its key
 abbrev pub IsListed : BTreeMap ℕ ℕ → ℕ → ℕ → Type 0
 IsListed keys_at key moment = 0 < moment → get nat_cmp keys_at moment ≡ Some key
 
@@ -108,7 +108,7 @@ pub record AreKept (c : ChangesValue) (keys_at : BTreeMap ℕ ℕ) (keys_now : B
   pub listed : (key : ℕ) → All (IsListed keys_at key) (moments_of c key)
   pub present : (key : ℕ) → is_present_now (moments_of c) key ≡ true → IsTrue (contains nat_cmp keys_now key)
 
--- how many of these moments are not above one, where they rise
+-- how many of these moments are not above one, if they increase
 pub record IsCountUpTo (ms : List ℕ) (moment count : ℕ) : Type 0 where
   pub inside : count ≤ length ms
   pub upto : (i : ℕ) → i < count → slice_index ms i ≤ moment

@@ -14,7 +14,7 @@ use Rattle.lset_history.specs.Faults.{placed_call, set_left_by}
 abbrev pub HasKnownCalls : List CallRecord → List Placed → Type 0
 HasKnownCalls calls order = All (λ (p : Placed). p.call < length calls) order
 
--- a call stands in the order
+-- a call is in the order
 abbrev pub stands : List Placed → ℕ → Bool
 stands order number = list_any (λ p. p.call == number) order
 
@@ -22,7 +22,7 @@ stands order number = list_any (λ p. p.call == number) order
 abbrev pub is_marked : List Bool → ℕ → Bool
 is_marked marks number = get_or marks number false
 
--- the marks that are set are those of the calls that stand in the order
+-- the marks that are set are those of the calls that are in the order
 abbrev pub MarksCalls : List Bool → List Placed → Type 0
 MarksCalls marks order = (number : ℕ) → is_marked marks number ≡ stands order number
 
@@ -35,7 +35,7 @@ pub record IsLeftOut (calls : List CallRecord) (marks : List Bool) (number : ℕ
 abbrev pub LeavesNoneOut : List CallRecord → List Bool → Type 0
 LeavesNoneOut calls marks = (number : ℕ) → IsLeftOut calls marks number → ⊥
 
--- the least number of an ended call that has no mark
+-- the smallest number of a completed call that has no mark
 abbrev pub LeavesOutFirst : List CallRecord → List Bool → ℕ → Type 0
 LeavesOutFirst calls marks number =
     IsLeftOut calls marks number × ((smaller : ℕ) → smaller < number → IsLeftOut calls marks smaller → ⊥)
@@ -66,7 +66,7 @@ abbrev pub PutsInSome : OracleValue → List CallRecord → List Placed → Type
 PutsInSome o calls order = (place : ℕ) × (place < length order)
     × PutsIn (after_order o calls (take place order)) (placed_call calls order place).thread (placed_call calls order place).call
 
--- the lesser of an end and the least end so far
+-- the smaller of an end and the smallest end so far
 abbrev pub least_with : Option ℕ → ℕ → ℕ
 least_with None end = end
 least_with (Some least) end = min least end

@@ -16,7 +16,7 @@ use Rattle.lset_history.specs.History.{HistoryValue}
 abbrev pub set_left_by : SetState → List CallRecord → List Placed → SetState
 set_left_by start calls order = set_left start (map (answered calls) order)
 
--- The order linearizes the history, and the keys are those of the set that it leaves, rising.
+-- The order linearizes the history, and the keys are those of the set that it leaves, in strictly increasing order.
 pub record Explains (h : HistoryValue) (order : List Placed) (keys : List ℕ) : Type 0 where
   pub linearizes : Linearizes h.opening.quota (opening_set h.opening) h.calls order
   pub keys_left : keys ≡ (set_left_by (opening_set h.opening) h.calls order).keys
@@ -26,7 +26,7 @@ pub record Explains (h : HistoryValue) (order : List Placed) (keys : List ℕ) :
 abbrev pub place_at : List Placed → ℕ → Placed
 place_at order i = slice_index_or order i (record { call = 0; reply = True })
 
--- the call that stands at a place
+-- the call at a place
 abbrev pub placed_call : List CallRecord → List Placed → ℕ → CallRecord
 placed_call calls order i = call_numbered calls (place_at order i).call
 
@@ -34,7 +34,7 @@ placed_call calls order i = call_numbered calls (place_at order i).call
 abbrev pub IsUnknown : List CallRecord → List Placed → ℕ → Type 0
 IsUnknown calls order i = length calls ≤ (place_at order i).call
 
--- the call stands at an earlier place too
+-- the call is at an earlier place too
 abbrev pub IsTwice : List Placed → ℕ → Type 0
 IsTwice order i = (earlier : ℕ) × (earlier < i) × ((place_at order earlier).call ≡ (place_at order i).call)
 
@@ -46,12 +46,12 @@ HasWrongReply quota start calls order i =
     IsSomeAnd x.ended (λ (end : ℕ × Reply). end.1 ≢ reply)
     ⊎ (reply_to quota (set_left_by start calls (take i order)) x.thread x.call ≢ reply)
 
--- a call that ended before this one began stands at a later place
+-- a call that ended before this one began has a later place
 abbrev pub IsTooEarly : List CallRecord → List Placed → ℕ → Type 0
 IsTooEarly calls order i =
     (later : ℕ) × (i < later) × (later < length order) × Precedes (placed_call calls order later) (placed_call calls order i)
 
--- an ended call that does not stand in the order
+-- a completed call that is not in the order
 pub record IsMissing (calls : List CallRecord) (order : List Placed) (number : ℕ) : Type 0 where
   pub known : number < length calls
   pub ended : IsSome (call_numbered calls number).ended

@@ -75,7 +75,7 @@ moment_of (Some end) = end.0
 abbrev pub last_moment : CallRecord → ℕ
 last_moment x = max x.begun (moment_of x.ended)
 
--- the latest moment, 0 where there is none
+-- the latest moment, 0 if there is none
 abbrev pub latest_moment : List CallRecord → ℕ
 latest_moment [] = 0
 latest_moment (x ∷ xs) = max (last_moment x) (latest_moment xs)

@@ -19,7 +19,7 @@ content_of keys j = Contains keys j
 abbrev pub contents_of_lists : (ℕ → List ℕ) → Contents
 contents_of_lists lists m = content_of (lists m)
 
--- A set has the keys of a content, rising, and no other rising list has them.
+-- A set has the keys of a content, in strictly increasing order, and no other such list has them.
 pub record HasKeysOf (s : SetState) (content : List ℕ) : Type 0 where
   pub rising : IsStrictlyIncreasing s.keys
   pub members : (j : ℕ) → Contains content j ↔ Contains s.keys j
@@ -47,14 +47,14 @@ abbrev pub LogsTellHistories : Type 0
 LogsTellHistories = (op : Opening) (last : ℕ) (log : Log) (lists : ℕ → List ℕ) (counts : Counts)
     → Account op last log (contents_of_lists lists) counts → (k : ℕ) → k ≤ last → IsHistory op.threads (history_at log k)
 
--- the keys of a set stand in turn, where the answer to the call is the first of them
+-- the keys of a set in turn, if the reply to the call is the first of them
 abbrev pub RisesFor : Call → List ℕ → Type 0
 RisesFor (call.Add k) keys = Unit {0}
 RisesFor (call.Remove k) keys = Unit {0}
 RisesFor (call.Contains k) keys = Unit {0}
 RisesFor (call.Ceiling k) keys = IsStrictlyIncreasing keys
 
--- A reply fits just where the sequential set gives it and stays as it is.
+-- A reply is correct exactly if the sequential set gives it and does not change.
 abbrev pub FitsAreReplies : Type 0
 FitsAreReplies = (quota thread count : ℕ) (keys : List ℕ) (s : SetState) (call : Call) (reply : Reply)
     → ((j : ℕ) → Contains keys j ↔ Contains s.keys j) → RisesFor call s.keys → count_of s thread ≡ count

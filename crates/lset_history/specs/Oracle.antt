@@ -21,12 +21,12 @@ set_of quota keys counts = record { threads = length counts; quota = quota; stat
 abbrev pub set_opened : Opening → OracleValue
 set_opened op = record { threads = op.threads; quota = op.quota; state = opening_set op }
 
--- the set gives that reply to a call of a thread, and goes on
+-- the set gives that reply to a call of a thread, and continues
 pub record Answers (old new : OracleValue) (thread : ℕ) (call : Call) (reply : Reply) : Type 0 where
   pub reply_is : reply ≡ reply_to old.quota old.state thread call
   pub state_is : new ≡ record old { state = after_call old.state thread call reply }
 
--- a call that puts its key in; no other call takes memory
+-- a call that adds its key; no other call allocates
 abbrev pub PutsIn : OracleValue → ℕ → Call → Type 0
 PutsIn o thread (Add k) = reply_to o.quota o.state thread (Add k) ≡ True
 PutsIn o thread (Remove k) = ⊥

@@ -1,4 +1,4 @@
--- How the first moment at which a key, or none, is the least one at or above another is searched for: words of private contracts.
+-- How the first moment at which a key, or none, is the smallest one at or above another is searched for: words of private contracts.
 use Rattle.std.specs.Prelude.{◌≡◌, ℕ, ◌<◌, ◌≤◌, ◌==◌, nat_lt, Bool, true, false, not, if◌then◌else◌, List, All, Option, Some}
 use Rattle.std.specs.Prelude.{None}
 use Rattle.lset_history.specs.Changes.{is_present, is_present_now}
@@ -14,7 +14,7 @@ abbrev pub IsNextPresent : (ℕ → List ℕ) → ℕ → Option ℕ → Type 0
 IsNextPresent changes key None = (j : ℕ) → key < j → is_present_now changes j ≡ false
 IsNextPresent changes key (Some k) = (key < k) × ((j : ℕ) → key < j → j < k → is_present_now changes j ≡ false)
 
--- whether a key j keeps `found` from being the least one at or above `key` at a moment, or keeps that there is none
+-- whether a key j keeps `found` from being the smallest one at or above `key` at a moment, or keeps that there is none
 abbrev pub is_against : (ℕ → List ℕ) → ℕ → Option ℕ → ℕ → ℕ → Bool
 is_against changes key None j moment = if nat_lt j key then false else is_present changes j moment
 is_against changes key (Some x) j moment =

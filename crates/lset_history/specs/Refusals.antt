@@ -1,4 +1,4 @@
--- Why an order is refused: its first fault, told with what is so of it.
+-- Why an order is refused: its first fault, with the facts that show it.
 use Rattle.std.specs.Prelude.{◌≡◌, ◌≢◌, ℕ, ◌<◌, ◌≤◌, ◌+◌, List, take, length, Option, Some, None, IfSome}
 use Rattle.lset_words.specs.declared.Reply.{Reply}
 use Rattle.lset_words.specs.declared.history.CallRecord.{CallRecord}
@@ -13,7 +13,7 @@ use Rattle.lset_history.specs.declared.refusal.Refusal.TheVariants.{WrongSet}
 use Rattle.lset_history.specs.History.{HistoryValue}
 use Rattle.lset_history.specs.Faults.{Explains, IsFault, place_at, placed_call, set_left_by}
 
--- the fault that a refusal tells
+-- the fault that a refusal states
 abbrev pub fault_of : Refusal → OrderFault
 fault_of (Unknown call calls) = fault.Unknown call
 fault_of (Twice call first second) = fault.Twice call
@@ -29,7 +29,7 @@ pub record IsPlace (order : List Placed) (call place index : ℕ) : Type 0 where
   pub inside : index < length order
   pub stands : (place_at order index).call ≡ call
 
--- The call stands at two places, and at no other before the second.
+-- The call is at two places, and at no other before the second.
 pub record StandsTwice (order : List Placed) (call first second : ℕ) : Type 0 where
   pub earlier : ℕ
   pub later : ℕ
@@ -63,7 +63,7 @@ pub record AnsweredOtherwise (h : HistoryValue) (order : List Placed) (call plac
   pub differ : answer ≢ says
   pub recorded : IfSome (call_numbered h.calls call).ended (λ (end : ℕ × Reply). end.1 ≡ says)
 
--- The call stands before another, the first at a later place that precedes it: the other ended before it began.
+-- The call comes before another, the first at a later place that precedes it: the other ended before it began.
 pub record StandsBefore (h : HistoryValue) (order : List Placed) (call begun other ended : ℕ) : Type 0 where
   pub index : ℕ
   pub later : ℕ
@@ -87,7 +87,7 @@ IsTold h order (SetReply call place says keys answer) = AnsweredOtherwise h orde
 IsTold h order (TooEarly call begun other ended) = StandsBefore h order call begun other ended
 IsTold h order (WrongSet left) = left.items ≡ (set_left_by (opening_set h.opening) h.calls order).keys
 
--- THE REFUSAL of an order that does not explain the history and the keys: its first fault, told with what is so of it
+-- THE REFUSAL of an order that does not explain the history and the keys: its first fault, with the facts that show it
 pub record IsRefusalOf (h : HistoryValue) (order : List Placed) (keys : List ℕ) (refusal : Refusal) : Type 0 where
   pub first_fault : IsFault h order keys (fault_of refusal)
   pub told : IsTold h order refusal
@@ -104,7 +104,7 @@ abbrev pub IsFirstFrom : (ℕ → Type 0) → ℕ → ℕ → Option ℕ → Typ
 IsFirstFrom P from past None = (k : ℕ) → from ≤ k → k < past → P k → ⊥
 IsFirstFrom P from past (Some i) = (from ≤ i) × (i < past) × P i × ((k : ℕ) → from ≤ k → k < i → P k → ⊥)
 
--- the reply with which a call ended, where it is another than this one, or none
+-- the reply with which a call ended, if it is another than this one, or none
 abbrev pub IsOtherEnd : CallRecord → Reply → Option Reply → Type 0
 IsOtherEnd x says None = IfSome x.ended (λ (end : ℕ × Reply). end.1 ≡ says)
 IsOtherEnd x says (Some ended) = (end : ℕ) × (x.ended ≡ Some (end, ended)) × (ended ≢ says)

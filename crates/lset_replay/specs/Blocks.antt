@@ -10,7 +10,7 @@ use Rattle.lset_replay.specs.declared.order.Ranked.{Ranked}
 use Rattle.lset_replay.specs.declared.places.Linearized.{Linearized}
 use Rattle.lset_replay.specs.Trace.{place_at}
 
--- the calls that stand at a moment, those that change something there or the others, by their numbers
+-- the calls with their point at a moment, those that change something there or the others, by their numbers
 abbrev pub placed_at : Bool → ℕ → ℕ → List (Option Linearized) → List Placed
 placed_at change moment number [] = []
 placed_at change moment number (None ∷ ps) = placed_at change moment (suc number) ps
@@ -26,16 +26,16 @@ abbrev pub blocks_upto : List (Option Linearized) → ℕ → List Placed
 blocks_upto ps zero = block_at ps 0
 blocks_upto ps (suc moment) = blocks_upto ps moment ++ block_at ps (suc moment)
 
--- no call stands after the last moment
+-- no call has its point after the last moment
 abbrev pub StandUpTo : ℕ → List (Option Linearized) → Type 0
 StandUpTo last ps = (i : ℕ) → i < length ps → IfSome (place_at ps i) (λ p. p.moment ≤ last)
 
--- the ranks by which the calls stand: moment after moment, and at one moment the change first
+-- the ranks of the calls: moment after moment, and at one moment the change first
 abbrev pub rank_at : ℕ → Bool → ℕ
 rank_at moment true = 2 * moment
 rank_at moment false = 2 * moment + 1
 
--- the calls that stand, by their numbers, each with its rank
+-- the calls with a point, by their numbers, each with its rank
 abbrev pub ranked_from : ℕ → List (Option Linearized) → List Ranked
 ranked_from number [] = []
 ranked_from number (None ∷ ps) = ranked_from (suc number) ps
@@ -48,7 +48,7 @@ ranked_from number (Some p ∷ ps) = record {
 abbrev pub point_ranked : ℕ → Point
 point_ranked rank = record { moment = rank / 2; change = rank % 2 == 0 }
 
--- the points of an order: each says where the place of its call is, and the moments do not fall
+-- the points of an order: each has the moment of its call's place, and the moments do not decrease
 abbrev pub point_of : Linearized → Point
 point_of p = record { moment = p.moment; change = p.change }
 

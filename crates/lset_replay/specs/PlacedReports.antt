@@ -1,4 +1,4 @@
--- A report with the points of its order: where the calls of the run stand.
+-- A report with the points of its order, those of the calls of the run.
 use Rattle.std.specs.Prelude.{List, length, Result, Ok, Err}
 use Rattle.lset_words.specs.declared.history.CallRecord.{CallRecord}
 use Rattle.lset_words.specs.declared.history.Placed.{Placed}

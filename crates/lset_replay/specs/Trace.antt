@@ -22,7 +22,7 @@ use Rattle.lset_replay.specs.declared.recorder.Recorder.{Recorder}
 
 -- ---- an open call
 
--- Whether a reply of a call that changes nothing fits where the call's key is in the set, or else where it is not
+-- Whether a reply of a call that changes nothing is correct if the call's key is in the set, or if it is not
 abbrev pub needs_key : Call → Reply → Bool
 needs_key (call.Add k) reply.True = false
 needs_key (call.Add k) reply.False = true
@@ -54,7 +54,7 @@ fit_by changes (call.Contains k) r first more =
     first_passing (needs_key (call.Contains k) r) (λ m. is_present changes k.0 m) first more
 fit_by changes (call.Ceiling k) r first more = first_passing true (has_ceiling changes k.0 (found_in r)) first more
 
--- the first moment of the call, up to a last one, that its reply fits, where the call changes nothing
+-- the first moment of the call, up to a last one, at which its reply is correct, if the call changes nothing
 abbrev pub fit : (ℕ → List ℕ) → OpenCall → Reply → ℕ → Option ℕ
 fit changes o reply last = fit_by changes o.call reply o.begun (last - o.begun)
 
@@ -130,7 +130,7 @@ trace_after moment (stepped thread change reply) s = ended_on moment thread repl
 abbrev pub no_trace : Opening → Trace
 no_trace op = record { calls = []; under_way = replicate op.threads None; places = []; changes = opened_moments op.keys }
 
--- after the first k events, where `keep` says what is kept after each
+-- after the first k events, if `keep` says what is kept after each
 abbrev pub kept_by : (ℕ → Entry → Trace → Trace) → Opening → Log → ℕ → Trace
 kept_by keep op log zero = no_trace op
 kept_by keep op log (suc k) = keep (suc k) (log k) (kept_by keep op log k)

@@ -22,7 +22,7 @@ use Rattle.lset_replay.specs.declared.traced.TracedEvent.{TracedEvent}
 use Rattle.lset_replay.specs.Trace.{Trace, trace_of, entry_told, open_call_at, place_at}
 use Rattle.lset_replay.specs.Tracing.{TellsDifference}
 
--- what an event will do, where so many calls have begun
+-- what an event will do, if this many calls have begun
 abbrev pub deed_ahead : Table → State → ℕ → Event → Deed
 deed_ahead T s begun (event.Begin t call) = deed.Begin call begun
 deed_ahead T s begun (event.Go t) = deed.Access (T.next (local_of s t)) (seen_next T s t)

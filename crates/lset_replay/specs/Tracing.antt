@@ -40,7 +40,7 @@ IsDeedAt T op es k (event.Go t) did =
 abbrev pub traced_call : Table → Opening → (ℕ → Event) → ℕ → ℕ → TracedCall
 traced_call T op es k number = traced_at (calls_at (log_of T op es) k) number
 
--- The event ended this call of its thread with the reply, and there the call stands:
+-- The event ended this call of its thread with the reply, and the call takes effect at that moment:
 pub record EndsCall (T : Table) (op : Opening) (es : ℕ → Event) (k thread : ℕ) (reply : Reply) (c : CallEnd) : Type 0 where
   pub of_thread : (traced_call T op es (suc k) c.call).thread ≡ thread
   pub ended : (traced_call T op es (suc k) c.call).ended ≡ Some (suc k, reply)
@@ -58,7 +58,7 @@ abbrev pub TellsDifference : List ChainKey → List ChainKey → Option (Vec Cha
 TellsDifference before later None = before ≡ later
 TellsDifference before later (Some chain) = (before ≢ later) × (chain.items ≡ later)
 
--- and none where chains are not asked for
+-- and none if chains are not asked for
 abbrev pub TellsChain : Bool → View → View → Option (Vec ChainKey Global) → Type 0
 TellsChain false v w chain = chain ≡ None
 TellsChain true v w chain = (before : List ChainKey) × (later : List ChainKey) × AreChainKeys v before × AreChainKeys w later

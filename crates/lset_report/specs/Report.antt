@@ -6,7 +6,7 @@ use Rattle.lset_history.specs.History.{HistoryValue}
 use Rattle.lset_text.specs.declared.words.Version.{Version}
 use Rattle.lset_report.specs.declared.report.Report.{Report}
 
--- a report without where its lists lie in memory
+-- a report, without the place of its lists in memory
 pub record ReportValue : Type 0 where
   pub version : Version
   pub kind : Kind

@@ -23,7 +23,7 @@ is_open (Some end) = false
 abbrev pub is_last_end : List ℕ → ℕ → Bool
 is_last_end ends moment = list_any (λ end. end == moment) ends
 
--- a call ends after its beginning, where no last call of a thread did
+-- a call ends after its begin, where no last call of a thread did
 abbrev pub ends_apart : List ℕ → ℕ → Option (ℕ × Reply) → Bool
 ends_apart ends begun None = true
 ends_apart ends begun (Some end) = nat_lt begun end.0 && not (is_last_end ends end.0)

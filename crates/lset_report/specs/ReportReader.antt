@@ -34,7 +34,7 @@ pub record Holds (s : Reader) : Type 0 where
   pub tracks : Tracks s.calls
   pub threads : threads_of s.calls ≡ s.header.threads
 
--- what it told so far
+-- what was read so far
 abbrev pub state : Reader → SoFar
 state s = record { section = s.section; report = so_far s }
 

@@ -176,7 +176,7 @@ abbrev pub ends_later : List CallRecord → ℕ → Option (ℕ × Reply) → Bo
 ends_later calls begun None = true
 ends_later calls begun (Some end) = nat_lt begun end.0 && not (is_taken calls end.0)
 
--- which call goes on with a history
+-- which call continues a history
 abbrev pub may_follow : ℕ → List CallRecord → CallRecord → Bool
 may_follow threads calls x =
     nat_lt x.thread threads
@@ -198,7 +198,7 @@ following r number x l = if is_next r number x then Ok l else Err wrong.History
 abbrev pub rising : ReportValue → ℕ → ReportLine → Result ReportLine ReportCause
 rising r k l = if is_above r.history.opening.keys k then Ok l else Err wrong.Opening
 
--- the count of a line, and that an opening key rises, or the history of a call
+-- the count of a line, and that an opening key is above the one before, or the history of a call
 abbrev pub judged : ReportValue → ReportLine → Result ReportLine ReportCause
 judged r (told.Opening k) = counted MOST_OPENING (length r.history.opening.keys) (told.Opening k) >>= rising r k
 judged r (told.Call number x) = counted MOST_CALLS (length r.history.calls) (told.Call number x) >>= following r number x
@@ -206,7 +206,7 @@ judged r (told.Place p) = counted MOST_PLACES (length r.order) (told.Place p)
 judged r (told.Key k) = counted (most_keys r.version) (length r.keys) (told.Key k)
 judged r told.End = Ok told.End
 
--- what a line tells after the report of the lines above
+-- what a line adds to the report of the lines above
 abbrev pub line_after : Section → ReportValue → List ℕ → Result ReportLine ReportCause
 line_after s r line = line_in r.version causes (kinds r.version s) line >>= judged r
 
@@ -273,7 +273,7 @@ no_lines version h = record {
 abbrev pub nothing_told : Version → HeaderTold → SoFar
 nothing_told version h = record { section = section.Opening; report = no_lines version h }
 
--- the version that the first line alone tells
+-- the version that the first line alone states
 abbrev pub version_told : List (List ℕ) → Version
 version_told parts = version_in (title Two) parts
 
@@ -299,7 +299,7 @@ abbrev pub line_number : ReportFault → ℕ
 line_number e = e.line
 
 -- Memory is answered for a line after its other checks. The parts are those of a text from the line `first` on, of which the last
--- comes after the last newline, and reading the text gives `read` where memory is ample.
+-- comes after the last newline, and reading the text gives `read` if memory is ample.
 pub record RunsOut (first : ℕ) (parts : List (List ℕ)) (read : Result ReportValue ReportFault) (e : ReportFault) : Type 0 where
   pub cause : e.cause ≡ wrong.Memory
   -- the line is the last of the header, whose lines take no memory, or one after it,

@@ -25,7 +25,7 @@ abbrev pub IsOver : State → ℕ → ℕ → Type 0
 IsOver s events left =
     (events ≡ MOST_GENERATED) ⊎ ((left ≡ 0) × ((t : ℕ) → t < length s.locals → (local_of s t).pc ≡ 0))
 
--- what stands between two turns, with the answers that are still to come
+-- the state between two turns, with the answers that are still to come
 pub record Progress : Type 0 where
   pub state : State
   pub left : ℕ

@@ -9,7 +9,7 @@ use Rattle.lset_words.specs.declared.Key.{Key}
 use Rattle.lset_words.specs.declared.Call.{Call}
 use Rattle.lset_words.specs.declared.Call.TheVariants.{Add, Remove, Contains}
 
--- what `Pcg32` answers where it is made from a seed
+-- what `Pcg32` returns if it is made from a seed
 abbrev pub seeded : ℕ → Stream
 seeded seed = stream_of (steps_u32 pcg32) (pcg32_of_seed (pcg32_seed 16 seed))
 

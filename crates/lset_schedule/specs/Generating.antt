@@ -56,7 +56,7 @@ pub record IsGenerated (T : Table) (threads quota calls keys : ℕ) (lines : Lis
 abbrev pub IsAccepted : ℕ → ℕ → ℕ → Type 0
 IsAccepted threads quota keys = IsWithin (record { threads = threads; quota = quota; opening = 0 }) × (0 < keys)
 
--- the first of the checks that fails, and Memory where none does
+-- the first of the checks that fails, and Memory if none does
 abbrev pub Refuses : ℕ → ℕ → ℕ → GenFault → Type 0
 Refuses threads quota keys Threads = (threads ≡ 0) ⊎ (MOST_THREADS < threads)
 Refuses threads quota keys Quota = (0 < threads) × (threads ≤ MOST_THREADS) × (MOST_QUOTA < quota)

@@ -17,7 +17,7 @@ use Rattle.lset_schedule.specs.declared.value.Line.{Line}
 use Rattle.lset_schedule.specs.declared.value.Line.TheVariants.{Begin, Go}
 use Rattle.lset_schedule.specs.declared.value.Schedule.{Schedule}
 
--- a schedule without where its lines lie in memory
+-- a schedule, without the place of its lines in memory
 pub record Plan : Type 0 where
   pub version : Version
   pub kind : Kind
@@ -26,7 +26,7 @@ pub record Plan : Type 0 where
   pub opening : List ℕ
   pub lines : List Line
 
--- a version, what a header tells, opening keys, and lines
+-- a version, what a header has, opening keys, and lines
 abbrev pub planned : Version → Header → List ℕ → List Line → Plan
 planned v h keys lines = record {
   version = v;

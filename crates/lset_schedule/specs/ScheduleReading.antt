@@ -55,7 +55,7 @@ pub record EventLines (L : Type 0) : Type 0 where
   pub kinds : List (LineKind L)
   pub count : L → ℕ
 
--- what a text tells
+-- what a file has
 pub record BodyValue (L : Type 0) : Type 0 where
   pub header : Header
   pub keys : List ℕ
@@ -64,7 +64,7 @@ pub record BodyValue (L : Type 0) : Type 0 where
 abbrev pub no_lines : {L : Type 0} → Header → BodyValue L
 no_lines h = record { header = h; keys = []; lines = [] }
 
--- what one line tells
+-- what one line has
 pub data Item (L : Type 0) : Type 0 where
   opens : ℕ → Item L
   event : L → Item L
@@ -72,7 +72,7 @@ pub data Item (L : Type 0) : Type 0 where
 abbrev pub opening_kind : {L : Type 0} → LineKind (Item L)
 opening_kind = (opening_form, λ t. opens t.1.0)
 
--- THE KINDS THAT MAY COME: an opening key only in the second version, and where no line of an event stands above
+-- THE KINDS THAT MAY COME: an opening key only in the second version, and if no line of an event is above
 abbrev pub kinds_after : {L : Type 0} → EventLines L → Version → List L → List (LineKind (Item L))
 kinds_after text One ls = map (kind_as event) text.kinds
 kinds_after text Two [] = opening_kind ∷ map (kind_as event) text.kinds
@@ -115,7 +115,7 @@ schedules version = texts events version (title version)
 abbrev pub plan_in : Version → List (List ℕ) → Result Plan ScheduleFault
 plan_in version parts = text_from (schedules version) parts >>= λ told. Ok (planned version told.header told.keys told.lines)
 
--- The first line alone decides the version: it is the second where that line is the title of the second, and else the first.
+-- The first line alone decides the version: it is the second if that line is the title of the second, else the first.
 -- A text that is that title without a newline is of the second, and is refused as NotEnded as it would be by either.
 abbrev pub version_told : List (List ℕ) → Version
 version_told parts = version_in (title Two) parts
@@ -153,7 +153,7 @@ told t = record { header = t.header; keys = t.opening.items; lines = t.lines.ite
 abbrev pub Counts : {L : Type 0} → EventLines L → TextBody L → Type 0
 Counts text t = (t.total ≡ sum_by text.count t.lines.items) × (t.total ≤ MOST_EVENTS)
 
--- with this line it took what the grammar makes of it, or told what is wrong, or had no memory for a good line
+-- with this line it took what the grammar makes of it, or said what is wrong, or an allocation for a good line failed
 abbrev pub Takes : {L X : Type 0} → Result (BodyValue L) Cause → BodyValue L → Result X Cause → Type 0
 Takes next now (Ok x) = next ≡ Ok now
 Takes {L = L} next now (Err cause) = (next ≡ Err cause) ⊎ ((cause ≡ Memory) × (s : BodyValue L) × (next ≡ Ok s))

@@ -48,12 +48,12 @@ pub data Turn : Type 0 where
   long : Turn
   limit : Turn
 
--- the turn of a line, and those after it: none after QUIT, and the limit where no further line may be answered
+-- the turn of a line, and those after it: none after QUIT, and the limit if no further line may be answered
 abbrev pub turns_after : ℕ → Request → List Turn → List Turn
 turns_after left request.Quit later = line request.Quit ∷ []
 turns_after left other later = line other ∷ (if left == 1 then limit ∷ [] else later)
 
--- the turns of the parts between newlines, where `left` more lines may be answered; the last part has no newline
+-- the turns of the parts between newlines, if `left` more lines may be answered; the last part has no newline
 abbrev pub turns_at : ℕ → List (List ℕ) → List Turn
 turns_at left [] = []
 turns_at left (rest ∷ []) = if nat_lt LONGEST_LINE (length rest) then long ∷ [] else []

@@ -12,12 +12,12 @@ CutAnswers w w' talk =
     (said : List Exchange) × (last : Exchange) × (front : List ℕ) × (b : ℕ) × (cut : List ℕ)
     × (talk ≡ said ++ last ∷ []) × (answer_of last ≡ front ++ b ∷ cut) × Appends w w' (answers_in said ++ front)
 
--- what was written of the answers, where the session has ended so
+-- what was written of the answers, if the session has ended so
 abbrev pub Wrote : Why → Option (List ℕ) → Option (List ℕ) → List Exchange → Type 0
 Wrote why.WriteFault w w' talk = CutAnswers w w' talk
 Wrote end w w' talk = Appends w w' (answers_in talk)
 
--- how the text that was read ends, where the session has ended so: a reader that has failed has ended no text
+-- how the text that was read ends, if the session has ended so: a reader that has failed has ended no text
 abbrev pub text_end : Why → Why
 text_end why.ReadFault = why.End
 text_end end = end

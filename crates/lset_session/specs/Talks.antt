@@ -13,7 +13,7 @@ use Rattle.lset_session.specs.declared.requests.Request.TheVariants as request
 use Rattle.lset_session.specs.SessionText.{Turn, turns_at, end_of, Exchange, turns_in, answers_in, calls_in}
 use Rattle.lset_session.specs.Sessions.{Wrote}
 
--- what was written of the answers, where the session goes on (`None`) or has ended
+-- what was written of the answers, if the session continues (`None`) or has ended
 abbrev pub WroteSoFar : Option Why → Option (List ℕ) → Option (List ℕ) → List Exchange → Type 0
 WroteSoFar None w w' talk = Appends w w' (answers_in talk)
 WroteSoFar (Some end) w w' talk = Wrote end w w' talk
@@ -24,7 +24,7 @@ IsLast why.End = ⊥
 IsLast why.ReadFault = ⊥
 IsLast end = Unit {0}
 
--- the turns of the talk are the first ones; where the session has not ended, those that follow are the turns of the bytes
+-- the turns of the talk are the first ones; if the session has not ended, those that follow are the turns of the bytes
 -- that are pending and of what comes after them
 abbrev pub Told : ℕ → List ℕ → Option Why → ℕ → List ℕ → List Exchange → Type 0
 Told left bytes None left' pending talk =
@@ -35,7 +35,7 @@ Told left bytes (Some w) left' pending talk =
     IsLast w × ((more : List ℕ) → (later : List Turn) × (turns_at left (cut_at 10 (bytes ++ more)) ≡ turns_in talk ++ later)
     × (w ≢ why.WriteFault → (later ≡ []) × (end_of (turns_in talk) ≡ w)))
 
--- Of these bytes, where `left` lines may be answered: how the session goes on (`None`) or ends, and what it did.
+-- Of these bytes, if `left` lines may be answered: how the session continues (`None`) or ends, and what it did.
 pub record Heard (left : ℕ) (bytes : List ℕ) (o : Option Why) (left' : ℕ) (pending : List ℕ) (r r' : Record)
     (w w' : Option (List ℕ)) (calls calls' : ℕ) : Type 0 where
   pub talk : List Exchange
@@ -48,7 +48,7 @@ pub record Heard (left : ℕ) (bytes : List ℕ) (o : Option Why) (left' : ℕ) 
 abbrev pub pending_of : Talk → List ℕ
 pending_of t = take t.len t.line
 
--- what holds of a session that goes on
+-- what holds of a session that continues
 pub record IsTalk (t : Talk) : Type 0 where
   pub room : length t.line ≡ LONGEST_LINE
   pub short : t.len ≤ LONGEST_LINE

@@ -38,7 +38,7 @@ BoundedReads T = (op : Opening) (last k t : ℕ) (es : ℕ → Event) → Run T 
     → ReadsNext T op es k t
 
 -- [Walk was in the chain]: the walk of thread t's last call, open or ended at the moment k, has passed node a with the link word
--- l where the step after some moment since its Begin loaded the node's link word and saw l. (The load of the mark of the node
+-- l if the step after some moment since its Begin loaded the node's link word and saw l. (The load of the mark of the node
 -- that has the key is such a step too.)
 pub record HasPassed (T : Table) (op : Opening) (es : ℕ → Event) (k t a l : ℕ) : Type 0 where
   pub at : ℕ

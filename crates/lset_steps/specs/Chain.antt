@@ -83,7 +83,7 @@ counts_of vs moment thread = (vs moment).used thread
 abbrev pub FitsIn : ℕ → View → ℕ → Call → Reply → Type 0
 FitsIn quota v thread call reply = Fits quota (InContent v) (v.used thread) call reply
 
--- [Unlinked stays]: node i, published in v, in a later world w. Its key stays; where it is unlinked it is frozen and never in the
+-- [Unlinked stays]: node i, published in v, in a later world w. Its key stays; if it is unlinked it is frozen and never in the
 -- chain again; in a list that marks, a marked node is frozen.
 pub record UnlinkedStays (marks : Bool) (v w : View) (i : ℕ) : Type 0 where
   pub published : w.published i

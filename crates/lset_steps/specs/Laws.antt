@@ -59,7 +59,7 @@ pub record StateLaws (marks : Bool) (sz : Sizes) (s : State) : Type 0 where
   pub marked : UnmarkedInChain marks (view_of sz s)
   pub unmarked : marks ≡ false → (i : ℕ) → i < node_count sz → (view_of sz s).link i % 2 ≡ 0
 
--- a lock word is touched only by a try of a thread, or by its storing of 0 where it has the lock
+-- a lock word is touched only by a thread's attempt to take it, or by its storing of 0 if it has the lock
 abbrev pub LockUse : List ℕ → ℕ → Action → Type 0
 LockUse ws t (Load w) = Unit {0}
 LockUse ws t (Store w v) = IsLockWord w → (v ≡ 0) × (slice_index ws w ≡ t + 1)
@@ -69,12 +69,12 @@ LockUse ws t (Exchange w old new) = IsLockWord w → (old ≡ 0) × (new ≡ t +
 abbrev pub Due : Bool → ℕ → (ℕ → View) → ℕ → ℕ → ℕ → Call → Reply → Type 0
 Due done q vs first now t call r = RightReply done q (contents_of vs) (counts_of vs) first now t call (Some r)
 
--- a call ends just where it answers
+-- a call ends exactly if it replies
 abbrev pub Answered : Bool → ℕ → (ℕ → View) → ℕ → ℕ → ℕ → Call → ℕ → Option Reply → Type 0
 Answered done q vs first now t call pc None = pc ≢ 0
 Answered done q vs first now t call pc (Some r) = (pc ≡ 0) × Due done q vs first now t call r
 
--- Each step of thread t with l, the one after the first k events; `change` is what it tells:
+-- Each step of thread t with l, the one after the first k events; `change` is its change:
 pub record StepLaws (T : Table) (op : Opening) (es : ℕ → Event) (k t : ℕ) (s : State) (l : Local)
     (change : Option (Key × Bool)) : Type 0 where
   -- its word is one of the table,
@@ -82,12 +82,12 @@ pub record StepLaws (T : Table) (op : Opening) (es : ℕ → Event) (k t : ℕ) 
   -- it touches a lock word only as a lock,
   pub lock_use : LockUse s.words t (T.next l)
   pub same_call : (T.feed l (seen_next T s t)).local.call ≡ l.call
-  -- the content changes by what it tells, and nothing else,
+  -- the content changes by that, and by nothing else,
   pub content : Changed change (views T op es k) (views T op es (suc k))
   -- a change is that of its call,
   pub by_call : MayChange op.quota l.used l.call (has_changed (log_of T op es) t k) change
   pub counts : (T.feed l (seen_next T s t)).local.used ≡ count_after change l.used
-  -- and where it answers, the call ends with a right reply.
+  -- and if it replies, the call ends with a right reply.
   pub answered : Answered (has_changed (log_of T op es) t (suc k)) op.quota (views T op es)
       (begun_at (log_of T op es) t (suc k)) (suc k) t l.call
       (T.feed l (seen_next T s t)).local.pc (T.feed l (seen_next T s t)).answer

@@ -31,7 +31,7 @@ abbrev pub InRange : Table → Type 0
 InRange T = (op : Opening) (last k t : ℕ) (es : ℕ → Event) → Run T op es last → k ≤ last → t < op.threads
     → ThreadInRange T (sizes op) t (local_of (state_at T op es k) t)
 
--- [Sorted chain]: the chain reaches the tail, node 1, and its keys rise strictly, the tail's too.
+-- [Sorted chain]: the chain reaches the tail, node 1, and its keys increase strictly, the tail's too.
 pub record ChainIsSorted (v : View) : Type 0 where
   pub nodes : List ℕ
   pub chain : IsChain v nodes
@@ -119,7 +119,7 @@ NamedChange T = (op : Opening) (last k : ℕ) (es : ℕ → Event) → Run T op 
     → ChangeIsNamed op.threads op.quota (log_of T op es) (contents_of (views T op es)) (counts_of (views T op es)) k
     (log_of T op es k)
 
--- [Replies fit]: a call that ends at the entry k has made a change and answers True, or its reply fits one of its moments.
+-- [Replies fit]: a call that ends at the entry k has made a change and replies True, or its reply is correct at one of its moments.
 abbrev pub RepliesFit : Table → Type 0
 RepliesFit T = (op : Opening) (last k t : ℕ) (es : ℕ → Event) (change : Option Change) (reply : Reply) → Run T op es last →
     k < last
@@ -150,7 +150,7 @@ abbrev pub HasAccount : Table → Type 0
 HasAccount T = (op : Opening) (last : ℕ) (es : ℕ → Event) → Run T op es last
     → Account op last (log_of T op es) (contents_of (views T op es)) (counts_of (views T op es))
 
--- The content at each moment is one rising list of keys, each below 2^32.
+-- The content at each moment is one list of keys in strictly increasing order, each below 2^32.
 pub record ContentIsListed (v : View) : Type 0 where
   pub keys : List ℕ
   pub rising : IsContent v keys

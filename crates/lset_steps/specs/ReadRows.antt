@@ -43,14 +43,14 @@ read_key l seen =
 abbrev pub read_mark : Local → ℕ → Fed
 read_mark l seen = if seen % 2 == 0 then leaves_with True l else leaves_with False l
 
--- a ceiling goes on to the first key that is not below its own, which is the tail's where there is none
+-- a ceiling walks to the first key that is not below its own, which is the tail's if there is none
 abbrev pub ceiling_key : Local → ℕ → Fed
 ceiling_key l seen =
     if nat_lt seen (target l.call) then continued (record l { pc = 23; ckey = seen })
     else if seen == tail_word then leaves_with Nothing (record l { ckey = seen })
     else continued (record l { pc = 25; ckey = seen })
 
--- and answers it where its node has no mark; else it starts again from the head
+-- and replies it if its node has no mark; else it starts again from the head
 abbrev pub ceiling_mark : Local → ℕ → Fed
 ceiling_mark l seen = if seen % 2 == 0 then leaves_with (ceiling_at l.ckey) l else continued (record l { pc = 23; curr = 0 })
 

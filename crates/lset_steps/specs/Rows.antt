@@ -27,8 +27,8 @@ goes_to pc reply l = record l { pc = pc; reply = reply }
 abbrev pub ceiling_at : ℕ → Reply
 ceiling_at word = if nat_lt word tail_word then At (record { 0 = word - 1 }) else Nothing
 
--- on to the row that adds, to the one that removes, or with a reply to the one that leaves, where the key was found or not, and
--- there is room for another successful add or not; a ceiling leaves with what the key word stands for
+-- on to the row that adds, to the one that removes, or with a reply to the one that leaves: by whether the key was found, and
+-- whether the quota allows another successful add; a ceiling leaves with the key of the key word, or with none
 abbrev pub decided : ℕ → ℕ → ℕ → Call → Bool → Bool → ℕ → Local → Local
 decided adds removes leaves (Add k) found room key l =
     if found then goes_to leaves (Some False) l else if room then goes_to adds None l else goes_to leaves (Some Full) l

@@ -46,7 +46,7 @@ idle q t = record {
 }
 
 -- THE OPENING WORLD: the head leads to the nodes of the opening keys, one after another, and the last of them to the tail.
--- the node of the opening key i, or the tail where there are no more
+-- the node of the opening key i, or the tail if there are no more
 abbrev pub opening_next : Sizes → ℕ → ℕ
 opening_next sz i = if nat_lt i sz.opening then opening_node sz i else 1
 
@@ -132,7 +132,7 @@ pub record Run (T : Table) (op : Opening) (es : ℕ → Event) (last : ℕ) : Ty
 abbrev pub event_at : List Event → ℕ → Event
 event_at es k = slice_index_or es k (Go 0)
 
--- what a run shows of its set: each event with what it told
+-- what a run shows of its set: each event with its reply and change
 abbrev pub entry_of : Table → State → Event → Entry
 entry_of T s (Begin t call) = began t call
 entry_of T s (Go t) = stepped t (told T s (Go t)).change (told T s (Go t)).answer

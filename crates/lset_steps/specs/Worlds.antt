@@ -48,7 +48,7 @@ abbrev pub keys_in : View → List ℕ → List ℕ
 keys_in v [] = []
 keys_in v (b ∷ bs) = if nat_lt 1 b && v.link b % 2 == 0 then (v.key b - 1) ∷ keys_in v bs else keys_in v bs
 
--- [Content], rising: the keys of the unmarked user nodes of the chain, from the head to the tail
+-- [Content], in increasing order: the keys of the unmarked user nodes of the chain, from the head to the tail
 abbrev pub IsContent : View → List ℕ → Type 0
 IsContent v keys = ((ns : List ℕ) × IsChain v ns × (keys ≡ keys_in v ns)) × IsStrictlyIncreasing keys
 

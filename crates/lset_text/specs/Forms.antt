@@ -1,4 +1,4 @@
--- Lines as forms: what stands at each piece of a line, how it is spelled, and how it is read.
+-- Lines as forms: what each field of a line is, how it is spelled, and how it is read.
 use Rattle.std.specs.Prelude.{◌≡◌, ℕ, ◌<◌, ◌≤◌, ◌^◌, ◌&&◌, Bool, true, false, List, [], ◌∷◌, Option, Some, None, is_some}
 use Rattle.std.specs.Prelude.{if◌then◌else◌}
 use Rattle.std.specs.Fmt.{decimal}
@@ -28,7 +28,7 @@ any = number 0 max_number
 abbrev pub moment : Piece
 moment = number 1 max_number
 
--- what a piece tells
+-- the value of a field
 abbrev pub Tells : Piece → Type 0
 Tells (word w) = Unit {0}
 Tells (number low high) = ℕ
@@ -60,7 +60,7 @@ has_form v kind x = is_some (kind_of x)
 has_form v call x = is_some (call_word_in v x)
 has_form v reply x = is_reply_in v x
 
--- and what it tells then
+-- and its value then
 abbrev pub told : Version → (p : Piece) → List ℕ → Option (Tells p)
 told v (word w) x = if bytes_eq x w then Some tt else None
 told v (number low high) x = number_in low high x
@@ -81,7 +81,7 @@ abbrev pub spell : (f : Form) → Told f → List (List ℕ)
 spell [] t = []
 spell (p ∷ f) t = spelled p t.0 ∷ spell f t.1
 
--- the line that tells this
+-- the line with these values
 abbrev pub line_with : (f : Form) → Told f → List ℕ
 line_with f t = line_of (spell f t)
 
@@ -106,11 +106,11 @@ all_told v [] xs = Some tt
 all_told v (p ∷ f) [] = None
 all_told v (p ∷ f) (x ∷ xs) = both (told v p x) (all_told v f xs)
 
--- what a line of a form tells; `None` for any other line
+-- the values of a line of a form; `None` for any other line
 abbrev pub told_in : Version → (f : Form) → List (List ℕ) → Option (Told f)
 told_in v f xs = if have_form v f xs then all_told v f xs else None
 
--- a form of at least one piece, whose words are of letters, digits and dashes, and whose numbers are not too great
+-- a form of at least one piece, whose words are of letters, digits and dashes, and whose numbers are not too large
 abbrev pub IsPiece : Piece → Type 0
 IsPiece (word w) = all_from 45 w ≡ true
 IsPiece (number low high) = high < 2 ^ 64

@@ -52,24 +52,24 @@ title_in title line = if bytes_eq line title then Some title else None
 abbrev pub kind_form : Form
 kind_form = piece.word (codes "list") ∷ piece.kind ∷ []
 
--- the kind that a line tells
+-- the kind that a line names
 abbrev pub kind_in : List ℕ → Option Kind
 kind_in line = option_map (λ t. t.1.0) (told_in Two kind_form (cut_at 32 line))
 
 abbrev pub number_form : List ℕ → ℕ → ℕ → Form
 number_form word low high = piece.word word ∷ piece.number low high ∷ []
 
--- the number of a range that a line tells after a word
+-- the number of a range that a line has after a word
 abbrev pub number_after : List ℕ → ℕ → ℕ → List ℕ → Option ℕ
 number_after word low high line = option_map (λ t. t.1.0) (told_in Two (number_form word low high) (cut_at 32 line))
 
--- The header line that is due, and the parts after it. Where no byte is left the fault is the one of the line that is due.
+-- The header line that is due, and the parts after it. If no byte is left the error is the one of the line that is due.
 abbrev pub line_due : ℕ → HeaderCause → List (List ℕ) → Result (List ℕ × List (List ℕ)) HeaderFault
 line_due line cause [] = Err (fault line cause)
 line_due line cause (rest ∷ []) = Err (fault line (if length rest == 0 then cause else wrong.NotEnded))
 line_due line cause (x ∷ y ∷ more) = Ok (x, y ∷ more)
 
--- what the line that is due tells, and the parts after it
+-- what the line that is due has, and the parts after it
 unfoldable pub told_by_line : {A : Type 0} → ℕ → HeaderCause → (List ℕ → Option A) → List (List ℕ)
     → Result (A × List (List ℕ)) HeaderFault
 told_by_line line cause read parts = do

@@ -1,4 +1,4 @@
--- The kinds of lines that may come in a text: each has its form, and what is made of what it tells.
+-- The kinds of lines that may come in a file: each has its form, and what is made of its fields.
 use Rattle.std.specs.Prelude.{ℕ, List, [], ◌∷◌, Result, Ok, Err, if◌then◌else◌}
 use Rattle.lset_text.specs.declared.words.Version.{Version}
 use Rattle.lset_text.specs.Parts.{cut_at}
@@ -12,7 +12,7 @@ LineKind X = (f : Form) × (Told f → X)
 abbrev pub kind_as : {X Y : Type 0} → (X → Y) → LineKind X → LineKind Y
 kind_as f k = (k.0, λ t. f (k.1 t))
 
--- what is wrong with a line that has the form of no kind, and with one of which a piece has its form and tells nothing
+-- what is wrong with a line that has the form of no kind, and with one of which a field has its form and no value
 pub record LineCauses (C : Type 0) : Type 0 where
   pub form : C
   pub number : C

@@ -24,7 +24,7 @@ abbrev pub Leads : {S C E : Type 0} → Grammar S C E → S → List (List ℕ) 
 Leads g s [] t = s ≡ t
 Leads {S = S} g s (x ∷ xs) t = (next : S) × (g.step s x ≡ Ok next) × Leads g next xs t
 
--- no fault stands in this line or above it, by the number of its line
+-- no error is in this line or above it, by the number of its line
 abbrev pub IsFaultlessTo : {X E : Type 0} → (E → ℕ) → ℕ → Result X E → Type 0
 IsFaultlessTo number line (Ok x) = Unit {0}
 IsFaultlessTo number line (Err e) = line < number e

@@ -9,7 +9,7 @@ use Rattle.std.specs.Str.Parse.{digits_value}
 abbrev pub is_number : List ℕ → Bool
 is_number piece = nat_lt 0 (length piece) && (all_ascii_digits piece && (length piece == 1 || not (slice_index piece 0 == 48)))
 
--- from the least to the greatest
+-- from the smallest to the largest
 abbrev pub is_between : ℕ → ℕ → ℕ → Bool
 is_between low high n = nat_le low n && nat_le n high
 
@@ -18,7 +18,7 @@ unfoldable pub number_in : ℕ → ℕ → List ℕ → Option ℕ
 number_in low high piece =
     if is_number piece && is_between low high (digits_value 10 piece) then Some (digits_value 10 piece) else None
 
--- the greatest thread number, key, number of a call or moment of a text
+-- the largest thread number, key, number of a call or moment of a file
 abbrev pub max_number : ℕ
 max_number = 4294967295
 

@@ -1,4 +1,4 @@
--- The lines `opening K` that stand behind the header of a text of the second version: the keys with which its set opens.
+-- The lines `opening K` below the header of a file of the second version: the keys with which its set opens.
 use Rattle.std.specs.Prelude.{◌≡◌, ℕ, ◌-◌, nat_lt, Bool, true, List, [], length, map, codes, Option, Some, None, slice_get}
 use Rattle.lset_text.specs.declared.words.Version.{Version}
 use Rattle.lset_text.specs.declared.words.Version.TheVariants.{One, Two}

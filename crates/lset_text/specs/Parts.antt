@@ -7,7 +7,7 @@ use Rattle.std.specs.List.{slice_split, flat_map, join_with_byte}
 abbrev pub cut_at : ℕ → List ℕ → List (List ℕ)
 cut_at byte text = slice_split (λ b. b == byte) text
 
--- the line of some pieces: a space stands between two
+-- the line of some fields: a space is between two
 abbrev pub line_of : List (List ℕ) → List ℕ
 line_of pieces = join_with_byte 32 pieces
 
@@ -19,7 +19,7 @@ ended line = line ++ 10 ∷ []
 abbrev pub text_of : List (List ℕ) → List ℕ
 text_of lines = flat_map ended lines
 
--- no such byte stands there
+-- no such byte is there
 abbrev pub Lacks : ℕ → List ℕ → Type 0
 Lacks byte text = All (λ b. b == byte ≡ false) text
 

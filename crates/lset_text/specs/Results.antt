@@ -6,7 +6,7 @@ abbrev pub ◌>>=◌ : {A B E : Type 0} → Result A E → (A → Result B E) �
 (Ok x) >>= f = f x
 (Err e) >>= f = Err e
 
--- the value, or the fault where there is none
+-- the value, or the error if there is none
 abbrev pub or_fail : {A E : Type 0} → E → Option A → Result A E
 or_fail e None = Err e
 or_fail e (Some x) = Ok x

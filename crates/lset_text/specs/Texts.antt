@@ -28,6 +28,6 @@ text_from g parts = do
   head ← map_fault g.of_header (header_of g.title parts)
   lines_from g.lines first_line (g.start head.0) head.1
 
--- where there are two versions, the first line alone tells which
+-- if there are two versions, the first line alone says which
 abbrev pub versioned_from : {S C E : Type 0} → (Version → TextGrammar S C E) → List (List ℕ) → Result S E
 versioned_from g parts = text_from (g (version_in (g Two).title parts)) parts

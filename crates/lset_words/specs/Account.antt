@@ -38,7 +38,7 @@ MayChange quota count call changed None = Unit {0}
 MayChange quota count call changed (Some (k, true)) = (call ≡ Add k) × (changed ≡ false) × (count < quota)
 MayChange quota count call changed (Some (k, false)) = (call ≡ Remove k) × (changed ≡ false)
 
--- the least key of a content at or above k, or that there is none
+-- the smallest key of a content at or above k, or that there is none
 abbrev pub IsCeiling : Content → ℕ → Option ℕ → Type 0
 IsCeiling content k None = (j : ℕ) → k ≤ j → content j → ⊥
 IsCeiling content k (Some x) = (k ≤ x) × content x × ((j : ℕ) → k ≤ j → j < x → content j → ⊥)
@@ -73,7 +73,7 @@ Contents = ℕ → Content
 abbrev pub Counts : Type 0
 Counts = ℕ → ℕ → ℕ
 
--- the reply fits a moment of a call of that thread that begins at `first` and has not ended before `last`
+-- the reply is correct at a moment of a call of that thread that begins at `first` and has not ended before `last`
 pub record FitsSometime (quota : ℕ) (contents : Contents) (counts : Counts) (first last thread : ℕ) (call : Call)
     (reply : Reply) : Type 0 where
   pub moment : ℕ
@@ -81,7 +81,7 @@ pub record FitsSometime (quota : ℕ) (contents : Contents) (counts : Counts) (f
   pub upto : moment ≤ last
   pub fits : Fits quota (contents moment) (counts moment thread) call reply
 
--- a reply is True where the call has made a change; else it fits a moment of the call
+-- a reply is True if the call has made a change; else it is correct at a moment of the call
 abbrev pub RightReply : Bool → ℕ → Contents → Counts → ℕ → ℕ → ℕ → Call → Option Reply → Type 0
 RightReply changed quota contents counts first last thread call None = Unit {0}
 RightReply true quota contents counts first last thread call (Some reply) = reply ≡ True
@@ -95,13 +95,13 @@ pub record Begins (threads : ℕ) (log : Log) (contents : Contents) (counts : Co
   pub content : Same (contents k) (contents (suc k))
   pub same_counts : (u : ℕ) → u < threads → counts (suc k) u ≡ counts k u
 
--- Thread t makes a step between the moments k and k + 1, which tells this change and gives this reply, or none:
+-- Thread t makes a step between the moments k and k + 1, which makes this change and gives this reply, or none:
 pub record Steps (threads quota : ℕ) (log : Log) (contents : Contents) (counts : Counts) (k t : ℕ) (change : Option Change)
     (reply : Option Reply) : Type 0 where
   -- it has a call open,
   pub of_a_thread : t < threads
   pub under_way : is_open log t k ≡ true
-  -- content and counts change by what it tells, and by nothing else,
+  -- content and counts change by that change, and by nothing else,
   pub content : Changes change (contents k) (contents (suc k))
   pub own_count : counts (suc k) t ≡ count_after change (counts k t)
   pub other_counts : (u : ℕ) → u < threads → u ≢ t → counts (suc k) u ≡ counts k u
@@ -117,10 +117,10 @@ Enters threads quota log contents counts k (stepped t change reply) = Steps thre
 
 -- THE ACCOUNT of a run of `last` events
 pub record Account (o : Opening) (last : ℕ) (log : Log) (contents : Contents) (counts : Counts) : Type 0 where
-  -- it begins with the opening keys, which rise,
+  -- it begins with the opening keys, which increase strictly,
   pub rising : IsStrictlyIncreasing o.keys
   pub opens : (k : ℕ) → (contents 0 k → InList o.keys k) × (InList o.keys k → contents 0 k)
   -- no thread has added one yet,
   pub none_yet : (t : ℕ) → t < o.threads → counts 0 t ≡ 0
-  -- and each entry does to it what it tells.
+  -- and each entry does to it what it says.
   pub enters : (k : ℕ) → k < last → Enters o.threads o.quota log contents counts k (log k)

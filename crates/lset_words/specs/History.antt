@@ -7,7 +7,7 @@ use Rattle.lset_words.specs.declared.history.CallRecord.{CallRecord}
 use Rattle.lset_words.specs.declared.history.Placed.{Placed}
 use Rattle.lset_words.specs.SequentialSet.{SetState, Answered, IsLegal}
 
--- what stands at a number that no call has
+-- the value at a number that no call has
 abbrev pub no_call : CallRecord
 no_call = record { thread = 0; call = call.Contains (record { 0 = 0 }); begun = 0; ended = None }
 
@@ -33,11 +33,11 @@ abbrev pub ContinuesHistory : ℕ → List CallRecord → List CallRecord → Ty
 ContinuesHistory threads earlier [] = Unit {0}
 ContinuesHistory threads earlier (x ∷ xs) = MayFollow threads earlier x × ContinuesHistory threads (earlier ++ x ∷ []) xs
 
--- [History]: the calls, by their numbers, of a list of beginnings and ends with rising moments
+-- [History]: the calls, by their numbers, of a list of begins and ends with increasing moments
 abbrev pub IsHistory : ℕ → List CallRecord → Type 0
 IsHistory threads calls = ContinuesHistory threads [] calls
 
--- a call precedes another where it ended before the other began
+-- a call precedes another if it ended before the other began
 abbrev pub Precedes : CallRecord → CallRecord → Type 0
 Precedes earlier later = IsSomeAnd earlier.ended (λ (e : ℕ × Reply). e.0 < later.begun)
 
@@ -51,7 +51,7 @@ answered history p = record {
 
 -- An order of calls linearizes a history, from a state of the set:
 pub record Linearizes (quota : ℕ) (start : SetState) (history : List CallRecord) (order : List Placed) : Type 0 where
-  -- only calls of the history stand there,
+  -- only calls of the history are in it,
   pub known : All (λ (p : Placed). p.call < length history) order
   -- each at most once,
   pub once : AllPairs (λ (p r : Placed). p.call ≢ r.call) order
@@ -61,5 +61,5 @@ pub record Linearizes (quota : ℕ) (start : SetState) (history : List CallRecor
       → Contains order (record { call = number; reply = reply })
   -- the set gives the replies in turn,
   pub legal : IsLegal quota start (map (answered history) order)
-  -- and a call that precedes another stands before it.
+  -- and a call that precedes another comes before it.
   pub in_time : AllPairs (λ (p r : Placed). Precedes (call_numbered history r.call) (call_numbered history p.call) → ⊥) order

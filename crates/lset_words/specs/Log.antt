@@ -21,7 +21,7 @@ abbrev pub Log : Type 0
 Log = ℕ → Entry
 
 -- THE CALLS OF A LOG
--- a call: the moments just after its Begin, its changing step and its answering step, where there are such
+-- a call: the moments just after its Begin, its changing step and its answering step, if there are such
 pub record TracedCall : Type 0 where
   pub thread : ℕ
   pub call : Call

@@ -1,4 +1,4 @@
--- [Placement]: where the calls of a run stand in the order that explains it.
+-- [Placement]: the places of a run's calls in the order that explains it.
 use Rattle.std.specs.Prelude.{◌≡◌, ℕ, zero, suc, ◌<◌, ◌≤◌, ◌==◌, Bool, true, false, not, List, [], ◌∷◌, ◌++◌, map, filter, length}
 use Rattle.std.specs.Prelude.{Option, Some, None, slice_index_or}
 use Rattle.lset_words.specs.declared.Call.TheVariants as call
@@ -8,7 +8,7 @@ use Rattle.lset_words.specs.declared.history.Placed.{Placed}
 use Rattle.lset_words.specs.Log.{TracedCall}
 use Rattle.lset_words.specs.Account.{Contents, Counts, Fits}
 
--- the least moment of the call, which ended at `end`, that its reply fits
+-- the first moment of the call, which ended at `end`, at which its reply is correct
 pub record IsLeastFit (quota : ℕ) (contents : Contents) (counts : Counts) (x : TracedCall) (end : ℕ) (reply : Reply)
     (moment : ℕ) : Type 0 where
   pub from : x.begun ≤ moment
@@ -16,8 +16,8 @@ pub record IsLeastFit (quota : ℕ) (contents : Contents) (counts : Counts) (x :
   pub fits : Fits quota (contents moment) (counts moment x.thread) x.call reply
   pub least : (m : ℕ) → x.begun ≤ m → m < moment → Fits quota (contents m) (counts m x.thread) x.call reply → ⊥
 
--- The moment at which a call stands: that of its change; else, where it has ended, the least that its reply fits; else it does
--- not stand.
+-- The linearization point of a call: the moment of its change; else, if it has ended, the first at which its reply is correct;
+-- else it has none.
 abbrev pub StandsBy : ℕ → Contents → Counts → TracedCall → Option ℕ → Option (ℕ × Reply) → Option ℕ → Type 0
 StandsBy quota contents counts x (Some changed) ended place = place ≡ Some changed
 StandsBy quota contents counts x None None place = place ≡ None
@@ -27,7 +27,7 @@ StandsBy quota contents counts x None (Some end) place =
 abbrev pub StandsAt : ℕ → Contents → Counts → TracedCall → Option ℕ → Type 0
 StandsAt quota contents counts x place = StandsBy quota contents counts x x.changed x.ended place
 
--- a call that stands: its number, and the moment
+-- a call with a point: its number, and the moment
 pub record Standing : Type 0 where
   pub number : ℕ
   pub traced : TracedCall
@@ -38,7 +38,7 @@ reply_by (Some changed) ended = True
 reply_by None None = True
 reply_by None (Some end) = end.1
 
--- the place of a call: with True where it has made a change, also while it is open, and else with its reply
+-- the place of a call: with True if it has made a change, also while it is pending, and else with its reply
 abbrev pub placed_of : Standing → Placed
 placed_of s = record { call = s.number; reply = reply_by s.traced.changed s.traced.ended }
 
@@ -49,7 +49,7 @@ makes_change s = has s.traced.changed
     has None = false
     has (Some moment) = true
 
--- the calls that stand, by their numbers: the calls beside the moments at which they stand
+-- the calls with a point, by their numbers: the calls beside the moments of their points
 abbrev pub standing : ℕ → List TracedCall → List (Option ℕ) → List Standing
 standing number [] places = []
 standing number (x ∷ xs) [] = []
@@ -81,7 +81,7 @@ place_at places number = slice_index_or places number None
 -- The order of placement of the calls of a run, up to the moment `last`
 pub record IsPlacement (quota last : ℕ) (calls : List TracedCall) (contents : Contents) (counts : Counts)
     (order : List Placed) : Type 0 where
-  -- the moment at which each call stands
+  -- the moment of each call's point
   pub places : List (Option ℕ)
   pub one_each : length places ≡ length calls
   pub stands : (number : ℕ) → number < length calls

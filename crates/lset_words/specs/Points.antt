@@ -1,4 +1,4 @@
--- The points of an order of calls: where each of its places stands, as a picture of the history shows it.
+-- The points of an order of calls: the moment of each of its places, as a picture of the history shows it.
 use Rattle.std.specs.Prelude.{◌≡◌, ℕ, ◌<◌, ◌≤◌, ◌↔◌, IsTrue, false, List, length, Option, Some, None, slice_index_or}
 use Rattle.std.specs.List.Sorted.{IsNonDecreasingBy}
 use Rattle.lset_words.specs.declared.Reply.{Reply}
@@ -22,7 +22,7 @@ point_numbered points i = slice_index_or points i (record { moment = 0; change =
 abbrev pub call_placed : List CallRecord → List Placed → ℕ → CallRecord
 call_placed history order i = call_numbered history (place_numbered order i).call
 
--- the end of a call's bar: its own end, or the last moment of the run where it is open
+-- the end of a call's bar: its own end, or the last moment of the run if it is pending
 abbrev pub bar_end : ℕ → Option (ℕ × Reply) → ℕ
 bar_end last None = last
 bar_end last (Some end) = end.0
@@ -41,12 +41,12 @@ pub record LieInBars (last : ℕ) (history : List CallRecord) (order : List Plac
   -- and the moments do not fall along the order.
   pub never_fall : IsNonDecreasingBy moment_of points
 
--- the moment of a point is the one at which the call stands, and its mark says whether the call changes the set there
+-- the moment of a point is the one at which the call takes effect, and its mark says whether the call changes the set there
 pub record IsPointOf (quota : ℕ) (contents : Contents) (counts : Counts) (x : TracedCall) (p : Point) : Type 0 where
   pub stands : StandsAt quota contents counts x (Some p.moment)
   pub change : IsTrue p.change ↔ (x.changed ≡ Some p.moment)
 
--- THE POINTS STAND where the calls of a run do
+-- THE POINTS are those of the calls of a run
 pub record StandAsPlaced (quota : ℕ) (calls : List TracedCall) (contents : Contents) (counts : Counts) (order : List Placed)
     (points : List Point) : Type 0 where
   pub each : (i : ℕ) → i < length order

@@ -48,7 +48,7 @@ NamesGathered u (gathered r g) = NamesGathered u r ⊎ Names u g
 abbrev pub calls_by : ℕ → List Answered → List Answered
 calls_by u order = filter (λ (a : Answered). a.thread == u) order
 
--- a call, as it stands in an order
+-- a call, as an order has it
 abbrev pub placed_by : ℕ → CallMade → Answered
 placed_by u c = record { thread = u; call = c.call; reply = c.reply }
 
@@ -56,7 +56,7 @@ placed_by u c = record { thread = u; call = c.call; reply = c.reply }
 abbrev pub HasOwnCalls : List Answered → Record → Type 0
 HasOwnCalls order r = calls_by (thread_of r) order ≡ map (placed_by (thread_of r)) (own_calls r)
 
--- The own call c, which follows the record r, stands behind just the own calls of r, and behind all calls of the threads of the
+-- The own call c, which follows the record r, comes after just the own calls of r, and after all calls of the threads of the
 -- records that r has gathered.
 pub record Follows (order : List Answered) (r : Record) (c : CallMade) : Type 0 where
   pub before : List Answered
@@ -72,6 +72,6 @@ KeepsItems order (called r c) = KeepsItems order r × Follows order r c
 KeepsItems order (gathered r g) = KeepsItems order r × HasOwnCalls order g × KeepsItems order g
 
 -- THE ORDER KEEPS THE RECORD: the calls of its thread are, in order, its own calls; each gathered record is kept; and each own
--- call stands behind all calls of the threads of the records that were gathered before it.
+-- call comes after all calls of the threads of the records that were gathered before it.
 abbrev pub Keeps : List Answered → Record → Type 0
 Keeps order r = HasOwnCalls order r × KeepsItems order r

@@ -7,7 +7,7 @@ use Rattle.lset_words.specs.declared.Call.TheVariants.{Add, Remove, Contains, Ce
 use Rattle.lset_words.specs.declared.Reply.{Reply}
 use Rattle.lset_words.specs.declared.Reply.TheVariants.{True, False, Full, At, Nothing}
 
--- its keys, rising, and how many successful adds each thread has made
+-- its keys, in increasing order, and how many successful adds each thread has made
 pub record SetState : Type 0 where
   pub keys : List ℕ
   pub counts : List ℕ
@@ -24,7 +24,7 @@ abbrev pub has_key : ℕ → List ℕ → Bool
 has_key k [] = false
 has_key k (x ∷ xs) = x == k || has_key k xs
 
--- rising keys, and k in its place
+-- keys in increasing order, and k in its place
 abbrev pub with_key : ℕ → List ℕ → List ℕ
 with_key k [] = k ∷ []
 with_key k (x ∷ xs) = if nat_lt k x then k ∷ x ∷ xs else x ∷ with_key k xs
@@ -33,7 +33,7 @@ abbrev pub without_key : ℕ → List ℕ → List ℕ
 without_key k [] = []
 without_key k (x ∷ xs) = if x == k then without_key k xs else x ∷ without_key k xs
 
--- the first of rising keys at or above k, which is the least
+-- the first of keys in increasing order at or above k, which is the smallest
 abbrev pub ceiling_in : ℕ → List ℕ → Reply
 ceiling_in k [] = Nothing
 ceiling_in k (x ∷ xs) = if nat_lt x k then ceiling_in k xs else At (record { 0 = x })

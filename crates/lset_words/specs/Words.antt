@@ -35,7 +35,7 @@ sizes o = record { threads = o.threads; quota = o.quota; opening = length o.keys
 abbrev pub empty : ℕ → ℕ → Opening
 empty threads quota = record { threads = threads; quota = quota; keys = [] }
 
--- The numbers are within their limits, and the keys are user keys that rise strictly.
+-- The numbers are within their limits, and the keys are user keys in strictly increasing order.
 pub record Opens (o : Opening) : Type 0 where
   pub within : IsWithin (sizes o)
   pub rising : IsStrictlyIncreasing o.keys
