@@ -29,12 +29,13 @@ use Rattle.broken_lists.specs.Meeting.{keys_met, TellsMet, NotesMet}
 abbrev pub kept_of : Table → Opening → List LineEvent → ℕ → Trace
 kept_of T op events k = kept_by kept_after op (log_of T op (event_at (only_events events))) k
 
--- Why a run ends at an event, where so much is kept: it is refused, or, `Lost`, no history goes on with what it tells.
+-- Why a run ends at an event, if this much is recorded: it is refused, or, `Lost`, no history continues with what it did.
 abbrev pub EndsFor : Table → Opening → WorldState → Trace → ℕ → Event → BrokenStepError → Type 0
 EndsFor T op w s moment e cause = IsRefusedFor T w e cause
     ⊎ ((cause ≡ fault.Lost) × Enabled w.state e × (CanKeep op moment (entry_told e (told T w.state e)) s → ⊥))
 
--- What comes of an event: it is made and told, with the chain, and no call stands after it; or it is not, for this cause.
+-- What comes of an event: it is executed and passed on, with the chain, and no call is placed after it; or it is not, for
+-- this cause.
 abbrev pub MakesEvent : Table → LineEvent → ℕ → WorldState → Recorder → Bool → List ChainKey → Result TracedEvent BrokenStepError → WorldState
     → Recorder → List ChainKey → Type 0
 MakesEvent T next moment w r chains kept result w' r' kept' = MatchResult result (λ x. MadeEvent kept_after T next moment w r x w' r'
@@ -63,8 +64,8 @@ pub record EndsAt (T : Table) (op : Opening) (events : List LineEvent) (k line :
   pub ends : EndsFor T op (world_after T op (only_events events) k) (kept_of T op events k) (suc k)
       (event_at (only_events events) k) cause
 
--- THE REPORT of all k events of a schedule: the calls as the run's events tell them; each at its point, as kept; and the keys that
--- a walk meets in the last world. It is of the second version, which has words for all.
+-- THE REPORT of all k events of a schedule: the calls as the run's events tell them; each at its point, as kept; and the keys
+-- that a walk meets in the last world. It is of the second version, which has words for all.
 pub record IsReportOfRun (T : Table) (p : Plan) (k : ℕ) (r : ReportValue) : Type 0 where
   pub run : Run T (opening_in p) (event_at (only_events (events_of p))) k
   pub all : k ≡ length (events_of p)
@@ -80,7 +81,7 @@ abbrev pub EndsRun : Table → Plan → ℕ → Result Report (ℕ × BrokenStep
 EndsRun T p k (Ok r) = IsReportOfRun T p k (view r)
 EndsRun T p k (Err end) = EndsAt T (opening_in p) (events_of p) k end.0 end.1
 
--- THE RUN of a schedule: its events, told up to its end, with their chains or without
+-- THE RUN of a schedule: its events, passed on up to its end, with their chains or without
 pub record RunsAs (HasHeard : List TracedEvent → Type 0) (T : Table) (p : Plan) (chains : Bool) (ending : Result Report (ℕ × BrokenStepError))
     : Type 0 where
   pub events : ℕ

@@ -29,7 +29,7 @@ pub record CanGo (T : Table) (w : WorldState) (t : ℕ) : Type 0 where
   pub small : IsRunnable (local_of w.state t)
   pub named : word_named (T.next (local_of w.state t)) < length w.state.words
 
--- why an event is refused; where a thread cannot go on, its event is enabled, and is not made
+-- why an event is refused; if a thread cannot continue, its event is enabled, and is not executed
 abbrev pub IsRefusedFor : Table → WorldState → Event → BrokenStepError → Type 0
 IsRefusedFor T w e fault.NoThread = Refused w e step.NoThread
 IsRefusedFor T w e fault.Busy = Refused w e step.Busy
@@ -37,7 +37,7 @@ IsRefusedFor T w e fault.Idle = Refused w e step.Idle
 IsRefusedFor T w (Begin t call) fault.Lost = ⊥
 IsRefusedFor T w (Go t) fault.Lost = Enabled w.state (Go t) × (CanGo T w t → ⊥)
 
--- where the thread of a step can go on
+-- the thread of a step can continue
 abbrev pub Goes : Table → WorldState → Event → Type 0
 Goes T w (Begin t call) = Unit {0}
 Goes T w (Go t) = CanGo T w t

@@ -1,6 +1,6 @@
 -- What is kept of a run of a list that keeps no promise, as a function of what its events tell: as a replay keeps it
--- (Rattle.lset_replay.specs.Trace), but that a change of a key that is so already is none, and that a call whose reply fits at no
--- moment stands at its end.
+-- (Rattle.lset_replay.specs.Trace), but that a change of a key that is so already is none, and that a call whose reply is
+-- correct at no moment is placed at its end.
 use Rattle.std.specs.Prelude.{ℕ, ◌<◌, Bool, List, length, Option, Some, None, slice_set, if◌then◌else◌}
 use Rattle.lset_words.specs.declared.Reply.{Reply}
 use Rattle.lset_words.specs.History.{call_numbered}
@@ -25,7 +25,7 @@ noted_on moment thread (Some (k, present)) s = record {
   changes = noted s.changes moment k.0 present;
 }
 
--- the first moment that fits, or else the end
+-- the first moment at which the reply is correct, or else the end
 abbrev pub fit_or : ℕ → Option ℕ → ℕ
 fit_or end None = end
 fit_or end (Some moment) = moment
@@ -47,7 +47,7 @@ abbrev pub kept_after : ℕ → Entry → Trace → Trace
 kept_after moment (began thread call) s = begun_on moment thread call s
 kept_after moment (stepped thread change reply) s = closed_on moment thread reply (noted_on moment thread change s)
 
--- A HISTORY GOES ON with what an event tells: a call begins that may, or the thread that changes something or answers has a call
+-- A HISTORY CONTINUES with what an event did: a call begins that may, or the thread that changes something or replies has a call
 -- that may end.
 abbrev pub CanKeep : Opening → ℕ → Entry → Trace → Type 0
 CanKeep op moment (began thread call) s =

@@ -23,7 +23,8 @@ abbrev pub IsMet : List ℕ → ℕ → Option Met → Type 0
 IsMet ws node None = is_met ws node ≡ false
 IsMet ws node (Some m) = (is_met ws node ≡ true) × (m.place ≡ met_at ws node) × (m.next ≡ node_link ws node / 2)
 
--- What a walk meets that goes on from a node, up to so many nodes: it stops at the head, at the tail, and where there is no node.
+-- What a walk reaches that continues from a node, up to so many nodes: it stops at the head, at the tail, and where there is
+-- no node.
 abbrev pub met_from : List ℕ → ℕ → ℕ → List ChainKey
 met_from ws zero node = []
 met_from ws (suc left) node =
@@ -33,7 +34,8 @@ met_from ws (suc left) node =
 abbrev pub met : List ℕ → List ChainKey
 met ws = met_from ws (length ws / 3) (node_link ws 0 / 2)
 
--- WHAT IS TOLD of it after an event: what it meets then, exactly if that is another than before; and nothing if chains are not asked for
+-- WHAT IS TOLD of it after an event: what it meets then, exactly if that is another than before; and nothing if chains are
+-- not asked for
 abbrev pub TellsMet : Bool → List ℕ → List ℕ → Option (Vec ChainKey Global) → Type 0
 TellsMet false before later chain = chain ≡ None
 TellsMet true before later chain = TellsDifference (met before) (met later) chain
@@ -43,12 +45,12 @@ abbrev pub KeepsMet : Bool → List ℕ → List ChainKey → Type 0
 KeepsMet false ws kept = Unit {0}
 KeepsMet true ws kept = kept ≡ met ws
 
--- and told where it is another than was kept
+-- and passed on if it is another than was kept
 abbrev pub NotesMet : Bool → List ℕ → List ChainKey → Option (Vec ChainKey Global) → List ChainKey → Type 0
 NotesMet false ws before chain later = chain ≡ None
 NotesMet true ws before chain later = (later ≡ met ws) × TellsDifference before later chain
 
--- a key without a mark, put among rising keys
+-- a key without a mark, put among keys in increasing order
 abbrev pub put_key : ChainKey → List ℕ → List ℕ
 put_key x keys = if x.marked then keys else insert_key nat_cmp keys x.key
 
@@ -56,6 +58,6 @@ abbrev pub put_met : List ChainKey → List ℕ → List ℕ
 put_met [] keys = keys
 put_met (x ∷ xs) keys = put_met xs (put_key x keys)
 
--- AND THE KEYS without a mark among these, each once, rising
+-- AND THE KEYS without a mark among these, each once, in increasing order
 abbrev pub keys_met : List ℕ → List ℕ
 keys_met ws = put_met (met ws) []

@@ -25,12 +25,12 @@ abbrev pub status_of : Made → ℕ
 status_of (Ok answer) = answer.status
 status_of (Err t) = trouble.status_of t
 
--- the text stands at the front of the room, and the rest is as it was; or there is no room for it, and nothing was written
+-- the text is at the front of the buffer, and the rest is as it was; or it does not fit, and nothing was written
 abbrev pub Handed : List ℕ → List ℕ → List ℕ → Type 0
 Handed text old new =
     ((length text ≤ length old) × (new ≡ text ++ drop (length text) old)) ⊎ ((length old < length text) × (new ≡ old))
 
--- What was made reaches the caller: its text where there is room, its status, and the length of the text.
+-- What was made reaches the caller: its text if it fits, its status, and the length of the text.
 pub record IsHanded (made : Made) (old new : List ℕ) (status count : ℕ) : Type 0 where
   pub text : Handed (text_of made) old new
   pub status_is : status ≡ status_of made
@@ -49,7 +49,7 @@ AsAsked (Err wrong) Makes made = made ≡ Err (Bad wrong)
 abbrev pub words_in : List ℕ → List (List ℕ)
 words_in bytes = cut_at 0 (utf8_lossy bytes)
 
--- Something is made of words, where memory is found for them.
+-- Something is made of arguments, or an allocation for them failed.
 abbrev pub OfWords : (List (List ℕ) → Made → Type 0) → List ℕ → Made → Type 0
 OfWords Makes bytes made = (made ≡ Err Memory) ⊎ Makes (words_in bytes) made
 

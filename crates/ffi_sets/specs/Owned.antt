@@ -1,4 +1,4 @@
--- What a seat of C owns: where it is full, a box with what it holds.
+-- What a seat of C owns: if it is full, a box with what it contains.
 use Rattle.std.specs.Prelude.{Bool, true, false}
 use base.Fml.{Fml, ftrue}
 use denote.RawPtr.{Ptr}

@@ -108,7 +108,7 @@ pub record IsBoth (g h both : Held) : Type 0 where
   pub of_second : SameSet h both
   pub seats : AddUp (seat_in g) (spare_in g) (seat_in h) (spare_in h) (seat_in both) (spare_in both)
 
--- Seats of one number are of one set: the caller's duty where two sets are opened.
+-- Seats of one number are of one set: the caller's duty if two sets are opened.
 abbrev pub Gathers : Held → Held → Type 0
 Gathers h h' = number_in h ≡ number_in h' → set_in h ≡ set_in h'
 
@@ -129,7 +129,7 @@ gathers h g = same_number (kind_in h) (kind_in g) && same_number (number_in h) (
 abbrev pub HasNoneToSplit : List SeatValue → ℕ → Type 0
 HasNoneToSplit spare n = ((n ≡ 17) × (spare ≡ [])) ⊎ (n ≡ 13)
 
--- the caller's duty of two seats of C, where both are full
+-- the caller's duty of two seats of C, if both are full
 abbrev pub GathersAt : Bool → Held → Bool → Held → Type 0
 GathersAt true h true h' = Gathers h h'
 GathersAt into h from h' = Unit {0}
@@ -156,7 +156,8 @@ number_of_fault fault.Quota = 11
 number_of_fault fault.Opening = 12
 number_of_fault fault.Memory = 13
 
--- WHY NOTHING IS OPENED: there is no list of this number; else the first of the limits that is not kept; else an allocation failed.
+-- WHY NOTHING IS OPENED: there is no list of this number; else the first of the limits that is not kept; else an allocation
+-- failed.
 abbrev pub RefusesAsked : ℕ → Opening → ℕ → Type 0
 RefusesAsked kind opening n = ((4 < kind) × (n ≡ 14))
     ⊎ ((f : OpenFault) × (kind < 5) × (n ≡ number_of_fault f) × RefusesOpening opening f)
@@ -193,12 +194,12 @@ Closes set count past keys = ⊥
 abbrev pub HasClosed : Held → Held → Type 0
 HasClosed h h' = Closes (set_in h) (count_of (seat_in h) (spare_in h)) (record_of (seat_in h) (spare_in h)) (keys_in h')
 
--- The keys stand at the front of the room, where it is long enough, and the rest of it is as it was; else nothing was written.
+-- The keys are at the front of the buffer, if they fit, and the rest of it is as it was; else nothing was written.
 abbrev pub AreAtFront : List ℕ → List ℕ → List ℕ → Type 0
 AreAtFront keys old new =
     ((length keys ≤ length old) × (new ≡ keys ++ drop (length keys) old)) ⊎ ((length old < length keys) × (new ≡ old))
 
--- The same of the keys of a closed set, and how many they are; where it is none, 2^64 - 1, and nothing was written.
+-- The keys of a closed set are so, and how many they are; if it is none, 2^64 - 1, and nothing was written.
 abbrev pub AreGiven : Option (List ℕ) → List ℕ → List ℕ → ℕ → Type 0
 AreGiven (Some keys) old new n = (n ≡ length keys) × AreAtFront keys old new
 AreGiven None old new n = (n ≡ 18446744073709551615) × (new ≡ old)

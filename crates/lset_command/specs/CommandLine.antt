@@ -67,7 +67,7 @@ trace_app = with_rule (with_rule (file_app (codes "trace")) (flag_rule (codes "c
 abbrev pub example_app : App
 example_app = with_rule (with_rule (new_app (codes "example")) (new_rule (codes "NAME"))) (flag_rule (codes "broken"))
 
--- any number of values, which stand past the last that is looked at
+-- any number of further arguments, past the last that is looked at
 abbrev pub rule_past_the_last : Rule
 rule_past_the_last = any_number (new_rule (codes "MORE"))
 
@@ -128,11 +128,11 @@ listset =
 abbrev pub IsApp : clap.Command → App → Type 0
 IsApp c a = (app_of c ≡ a) × ((out-Command c).has_globals ≡ false)
 
--- such a command, where memory is found
+-- such a command, if any was made
 abbrev pub Makes : Result clap.Command AllocError → App → Type 0
 Makes made a = IfOk made (λ c. IsApp c a)
 
--- one more argument, where the command was made
+-- one more argument, if the command was made
 abbrev pub MakesWithArg : Result clap.Command AllocError → Arg → Result clap.Command AllocError → Type 0
 MakesWithArg old arg new = (a : App) (r : Rule) → Makes old a → rule_of arg ≡ r → arg.global ≡ false → Makes new (with_rule a r)
 
@@ -140,7 +140,7 @@ MakesWithArg old arg new = (a : App) (r : Rule) → Makes old a → rule_of arg 
 abbrev pub MakesWithValue : Result clap.Command AllocError → Text → Result clap.Command AllocError → Type 0
 MakesWithValue old name new = (a : App) → Makes old a → Makes new (with_rule a (new_rule name))
 
--- one more subcommand, where both were made
+-- one more subcommand, if both were made
 abbrev pub MakesWithSubcommand : Result clap.Command AllocError → Result clap.Command AllocError → Result clap.Command AllocError →
     Type 0
 MakesWithSubcommand old sub new = (a b : App) → Makes old a → Makes sub b → Makes new (with_subcommand a b.top)
@@ -165,7 +165,7 @@ values_in rows = flat_map (λ row. values_by row.id rows) rows
 abbrev pub is_on : Text → List Row → Bool
 is_on name rows = option_map_or (λ text. bytes_eq text (codes "true")) (first_of name rows) false
 
--- the flags that are on, and the texts of the options, where they are given
+-- the flags that are on, and the values of the options, if they are given
 pub record OptionValues : Type 0 where
   pub svg : Bool
   pub from : Option Text
@@ -210,7 +210,7 @@ pub record Choice : Type 0 where
   pub values : List Text
   pub options : OptionValues
 
--- what a parse of the words has found; where the words name no command, it is `replay`
+-- what a parse of the command line has found; if it names no command, it is `replay`
 abbrev pub choice_of : Option (Text × List Row) → Choice
 choice_of None = record { command = Replay; values = []; options = options_in [] }
 choice_of (Some found) = record { command = command_named found.0; values = values_in found.1; options = options_in found.1 }

@@ -1,4 +1,4 @@
--- Which tool does the command that the words ask for, and how the program ends where the words are not taken.
+-- Which tool executes the command of the command line, and how the program ends if the command line is wrong.
 use Rattle.std.specs.Prelude.{◌≡◌, ◌≢◌, ℕ, ◌⊎◌, Bool, List, [], slice_get, Option, Some, None, IfSome, Result, Ok, Err}
 use Rattle.std.specs.Io.KnownBytes.{Keeps}
 use Rattle.clap.specs.Words.{Text, fault_of, kind_of, subcommand_of, HasKind}
@@ -32,7 +32,7 @@ use Rattle.tool_serve.specs.Serving as serve
 
 -- ---- words that are taken
 
--- What `replay`, `trace` and `show` make of their input: by the list that it names, or, where an option gives the name of what a
+-- What `replay`, `trace` and `show` make of their input: by the list that it names or, if an option gives the name of what a
 -- list lacks, by that.
 abbrev pub ReplaysFor : Option Text → Option (List ℕ) → Made → Type 0
 ReplaysFor None input made = IfSome input (λ bytes. Replays bytes made)
@@ -68,12 +68,12 @@ ShowsAsked (Err wrong) name input made = made ≡ Err (Bad wrong)
 abbrev pub ShowsBy : OptionValues → Option (List ℕ) → Made → Type 0
 ShowsBy options input made = ShowsAsked (asked_of options.svg options.from options.to options.width) options.lacks input made
 
--- what `serve` makes of its values: with the keys of its input where it has a word for one, and else on an empty set
+-- what `serve` makes of its arguments: with the keys of its input if it was given a FILE, and else on an empty set
 abbrev pub ServesBy : Option Text → List Text → Option (List ℕ) → Option (List ℕ) → Option (List ℕ) → Made → Type 0
 ServesBy None values input old first made = serve.Serves (serve.serve_request_of values) old first made
 ServesBy (Some word) values input old first made = serve.ServesWith (serve.serve_request_of values) input old first made
 
--- What a command makes of its values and options, and of the bytes of its input where they are known. Before that it takes the
+-- What a command makes of its values and options, and of the bytes of its input if they are known. Before that it takes the
 -- output from
 -- the old to the first: `serve` writes the line that names its port, the others write nothing.
 abbrev pub DoesBy : Command → List Text → OptionValues → Option (List ℕ) → Option (List ℕ) → Option (List ℕ) → Made → Type 0
@@ -93,7 +93,7 @@ DoesBy Faults values options input old first made = (first ≡ old) × TellsFaul
 abbrev pub Does : Choice → Option (List ℕ) → Option (List ℕ) → Option (List ℕ) → Made → Type 0
 Does choice input old first made = DoesBy choice.command choice.values choice.options input old first made
 
--- where the path of no file is named, it does so on the standard input; else on what some file holds (that it is the one of this
+-- if the path of no file is named, it does so on the standard input; else on what some file holds (that it is the one of this
 -- path, or read
 -- from its start, no clause says), or it says that it could not be read
 abbrev pub DoesOn : Option Text → Choice → (Option (List ℕ) → Type 0) → Option (List ℕ) → Option (List ℕ) → Option (List ℕ) → Made

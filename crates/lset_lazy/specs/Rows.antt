@@ -17,12 +17,12 @@ use Rattle.lset_steps.specs.RowLaws.{Does, HasReading, nothing}
 abbrev pub on_to : ℕ → Local → Fed
 on_to pc l = continued (record l { pc = pc })
 
--- to row 13, which gives the locks back: with a reply, or to walk again
+-- to row 13, which releases the locks: with a reply, or to walk again
 abbrev pub leaves : Option Reply → Local → Fed
 leaves r l = continued (goes_to 13 r l)
 
--- what a call does with both nodes locked and `curr` unmarked, where `curr` has its key or not: an `add` goes on to row 8, a
--- `remove` to row 11, or it leaves with its reply
+-- what a call does with both nodes locked and `curr` unmarked, by whether `curr` has its key: an `add` continues at row 8, a
+-- `remove` at row 11, or it leaves with its reply
 abbrev pub decides : Call → Local → Fed
 decides (Add k) l =
     if l.ckey == target (Add k) then leaves (Some False) l

@@ -38,11 +38,11 @@ next_action l =
 abbrev pub at_key : ℕ → Local → Local
 at_key seen l = if nat_lt seen (target l.call) then record l { pc = 3; ckey = seen } else record l { pc = 4; ckey = seen }
 
--- where both locks are had: the second walk begins at the head
+-- with both locks taken: the second walk begins at the head
 abbrev pub at_locks : Local → Local
 at_locks l = if l.pred == 0 then record l { pc = 8; node = 0 } else record l { pc = 6; node = 0 }
 
--- where validation fails: both locks are given back, and there is no reply
+-- if validation fails: both locks are released, and there is no reply
 abbrev pub gives_up : Local → Local
 gives_up l = record l { pc = 14; reply = None }
 
@@ -53,11 +53,11 @@ at_node seen l =
     else if l.node == l.pred then record l { pc = 8 }
     else record l { pc = 6 }
 
--- where the second walk has come to pred, and sees its link
+-- where the second walk has reached pred, and sees its link
 abbrev pub at_link : ℕ → Local → Local
 at_link seen l = if seen / 2 == l.curr then decided_on targets l.ckey l else gives_up l
 
--- where both locks are given back: a call without a reply begins again
+-- where both locks are released: a call without a reply begins again
 abbrev pub at_end : Option Reply → Local → Local
 at_end None l = record l { pc = 1 }
 at_end (Some reply) l = record l { pc = 0 }

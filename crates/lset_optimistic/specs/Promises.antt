@@ -26,8 +26,8 @@ world_at op es k = views optimistic op es k
 abbrev pub IsWalking : Local → Type 0
 IsWalking l = (l.pc ≡ 6) ⊎ (l.pc ≡ 7)
 
--- The second walk has arrived: the node that it has come to is pred, and the thread stands at one of the rows from the load of
--- the key of pred (7) to the storing of 0 in its lock (14). A thread whose walk has failed stands at row 14 too, but with
+-- The second walk has arrived: the node that it has reached is pred, and the thread is at one of the rows from the load of
+-- the key of pred (7) to the storing of 0 in its lock (14). A thread whose walk has failed is at row 14 too, but with
 -- another node.
 pub record HasArrived (l : Local) : Type 0 where
   pub from : 7 ≤ l.pc
@@ -60,23 +60,23 @@ pub record WalksAreValid (op : Opening) (last t : ℕ) (es : ℕ → Event) : Ty
   pub passes : (k : ℕ) → k ≤ last → IsWalking (held_at op es k t)
       → WasInChain (views optimistic op es) (begun_at (log_of optimistic op es) t k) k t (held_at op es k t).pred
       (held_at op es k t).node
-  -- Where it has arrived at pred, at a moment j, pred is in the chain then and at each later moment k up to which the thread has
+  -- If it has arrived at pred, at a moment j, pred is in the chain then and at each later moment k up to which the thread has
   -- not stored 0 in the lock of pred; and the lock is the thread's.
   pub arrives : (j k : ℕ) → j ≤ k → k ≤ last → HasArrived (held_at op es j t)
       → ((i : ℕ) → j ≤ i → i < k → GivesBack op es i t (held_at op es j t).pred → ⊥)
       → IsLockedInChain (world_at op es k) t (held_at op es j t).pred
-  -- A thread stands at the row that decides (8), or at those of an Add or a Remove that go on from it (9 to 13), only where its
+  -- A thread is at the row that decides (8), or at those of an Add or a Remove that follow it (9 to 13), only if its
   -- walk has arrived.
   pub decides : (k : ℕ) → k ≤ last → 8 ≤ (held_at op es k t).pc → (held_at op es k t).pc ≤ 13 → HasArrived (held_at op es k t)
 
--- [Validated walk]: where the second walk arrives at pred, pred is in the chain from then to the storing of 0 in its lock,
+-- [Validated walk]: if the second walk arrives at pred, pred is in the chain from then to the storing of 0 in its lock,
 -- although the walk may have passed through nodes that were being unlinked.
 abbrev pub ValidatedWalk : Type 0
 ValidatedWalk = (op : Opening) (last t : ℕ) (es : ℕ → Event) → Run optimistic op es last → t < op.threads →
     WalksAreValid op last t es
 
 -- At a moment from `first` on and before `now` thread t made its load of the link of pred (row 8) and saw that it leads to curr,
--- and the reply fits that moment.
+-- and the reply is correct at that moment.
 pub record FitsAtALoad (op : Opening) (es : ℕ → Event) (first now t : ℕ) (call : Call) (reply : Reply) : Type 0 where
   pub at : ℕ
   pub from : first ≤ at
@@ -86,8 +86,8 @@ pub record FitsAtALoad (op : Opening) (es : ℕ → Event) (first now t : ℕ) (
   pub leads : (world_at op es at).link (held_at op es at t).pred / 2 ≡ (held_at op es at t).curr
   pub fits : FitsIn op.quota (world_at op es at) t call reply
 
--- [Optimistic replies fit]: where a call ends that changed nothing, its reply fits a moment of the call, one at which the thread
--- saw that pred leads to curr, after a walk that had arrived (row 8).
+-- [Optimistic replies fit]: if a call ends that changed nothing, its reply is correct at a moment of the call, one at which
+-- the thread saw that pred leads to curr, after a walk that had arrived (row 8).
 abbrev pub OptimisticRepliesFit : Type 0
 OptimisticRepliesFit = (op : Opening) (last k t : ℕ) (es : ℕ → Event) (reply : Reply) → Run optimistic op es last → k < last →
     t < op.threads

@@ -1,4 +1,5 @@
--- Where a recording may be cut, and what a cut at rest says besides: there parts explain the whole exactly where the whole is explained.
+-- Where a recording may be cut, and what a cut at rest says besides: there parts explain the whole exactly if the whole is
+-- explained.
 use Rattle.std.specs.Prelude.{◌≡◌, ℕ, ◌+◌, ◌<◌, ◌≤◌, List, [], ◌∷◌, ◌++◌, map, length, All, IsSome, IsSomeAnd}
 use Rattle.lset_words.specs.declared.Reply.{Reply}
 use Rattle.lset_words.specs.declared.history.CallRecord.{CallRecord}
@@ -10,8 +11,10 @@ use Rattle.lset_history.specs.Faults.{Explains, set_left_by}
 use Rattle.lset_history.specs.Points.{IsInBar}
 use Rattle.lset_parts.specs.Parts.{Part, AreParts, ExplainsWithoutQuota, HasNoFull, NonePrecedes, call_since, calls_of, whole_calls, keys_left}
 
--- ANY MOMENT IS A CUT. Give each call a moment in its bar, and put those up to some moment into the earlier part and those from it on into
--- the later part: no call of the later part precedes one of the earlier. So a call may be open over a cut, and stands in either part.
+-- ANY MOMENT IS A CUT. Give each call a moment in its bar, and put those up to some moment into the earlier part and those
+-- from it on into
+-- the later part: no call of the later part precedes one of the earlier. So a call may be pending over a cut, and be in
+-- either part.
 abbrev pub PointsCut : Type 0
 PointsCut = (earlier later : List CallRecord) (before after : ℕ → ℕ)
     → ((i : ℕ) → i < length earlier → IsInBar (call_numbered earlier i) (before i))
@@ -49,7 +52,8 @@ KeysAtRestAreForced = (h g : HistoryValue) (order other : List Placed) (left oth
     → h.opening.keys ≡ g.opening.keys → h.calls ≡ g.calls → All (λ (x : CallRecord). IsSome x.ended) h.calls
     → Explains h order left → Explains g other others → left ≡ others
 
--- EACH PART IS NEEDED. Behind parts at rest: if the parts and the calls that follow have an order at all, and it leaves these keys, the
+-- EACH PART IS NEEDED. Behind parts at rest: if the parts and the calls that follow have an order at all, and it leaves these
+-- keys, the
 -- calls that follow have an order of their own, from the keys that the parts left, and it leaves the same keys. So a part that no
 -- order explains refutes the recording up to its end, whatever orders were found for the parts before.
 abbrev pub EachPartIsNeeded : Type 0

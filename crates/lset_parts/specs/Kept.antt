@@ -10,8 +10,8 @@ use Rattle.lset_history.specs.History.{HistoryValue}
 use Rattle.lset_history.specs.Faults.{Explains}
 use Rattle.lset_parts.specs.Parts.{Part, AreParts, ExplainsWithoutQuota, HasNoFull, call_since, whole_calls, keys_left}
 
--- the keys that the last part left, the latest beginning and the latest moment of the whole recording, and whether all of its calls
--- have ended
+-- the keys that the last part left, the latest beginning and the latest moment of the whole recording, and whether all of its
+-- calls have ended
 pub record KeptParts : Type 0 where
   pub keys : List ℕ
   pub began : ℕ
@@ -59,8 +59,8 @@ abbrev pub WholeIsExplained : KeptParts → Type 0
 WholeIsExplained kept = (opening : List ℕ) (ps : List Part) → IsKeptOf opening ps kept
     → (order : List Placed) × ExplainsWithoutQuota opening (whole_calls ps) order kept.keys
 
--- if all calls of the parts have ended, and the calls that follow begin after them: where one order explains the parts and those calls, and
--- leaves some keys, those calls have an order of their own, from the keys that are kept, and it leaves the same keys
+-- if all calls of the parts have ended, and the calls that follow begin after them: if one order explains the parts and those
+-- calls, and leaves some keys, those calls have an order of their own, from the keys that are kept, and it leaves the same keys
 abbrev pub NextIsNeeded : KeptParts → Type 0
 NextIsNeeded kept = (opening left : List ℕ) (ps : List Part) (threads quota since : ℕ) (calls : List CallRecord) (whole : List Placed)
     → IsKeptOf opening ps kept → IsTrue kept.at_rest → kept.latest ≤ since → All (λ (x : CallRecord). 0 < x.begun) calls → HasNoFull calls

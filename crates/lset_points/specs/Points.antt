@@ -17,18 +17,19 @@ use Rattle.lset_calls.specs.Reports.{IsReportOfCalls}
 abbrev pub changes : Call → Reply → Bool
 changes call reply = may_change call && is_true reply
 
--- the call that stands at a place of an order
+-- the call at a place of an order
 abbrev pub call_of : List TracedCall → List Placed → ℕ → TracedCall
 call_of calls order i = traced_at calls (place_at order i).call
 
--- a call stands with this reply at a moment: with `True` at the point at which it changes the set, if it has one; else it changes nothing
+-- a call has its point with this reply at a moment: with `True` at the point at which it changes the set, if it has one; else
+-- it changes nothing
 abbrev pub IsAtPoint : Option ℕ → Call → Placed → ℕ → Type 0
 IsAtPoint None call p moment = changes call p.reply ≡ false
 IsAtPoint (Some point) call p moment = (moment ≡ point) × (p.reply ≡ True)
 
 -- The order makes each change at the point that was given for it: its calls have points in their bars which do not
--- fall; one that changes the set stands at the moment of its change, before the other calls of that moment; each such call stands; and no
--- other call changes the set.
+-- decrease; one that changes the set has its point at the moment of its change, before the other calls of that moment; each
+-- such call is in the order; and no other call changes the set.
 pub record HasGivenPoints (calls : List TracedCall) (order : List Placed) (points : List ℕ) : Type 0 where
   pub in_bars : HasPoints (map record_of calls) order points
   pub at_points : (i : ℕ) → i < length order
@@ -38,8 +39,8 @@ pub record HasGivenPoints (calls : List TracedCall) (order : List Placed) (point
   pub all_stand : (number point : ℕ) → number < length calls → (traced_at calls number).changed ≡ Some point
       → InList order (record { call = number; reply = True })
 
--- THE POINTS DECIDE. If any order explains the report of calls and makes each change at its point, the order of the report explains it.
--- So a report whose order is refused has no order with these points.
+-- THE POINTS DECIDE. If any order explains the report of calls and makes each change at its point, the order of the report
+-- explains it. So a report whose order is refused has no order with these points.
 abbrev pub PointsDecide : Type 0
 PointsDecide = (c : CallsValue) (r : ReportValue) (report : IsReportOfCalls c r) (other : List Placed) (points : List ℕ)
     → AreCalls c → HasGivenPoints report.calls other points → Explains r.history other r.keys → Explains r.history r.order r.keys

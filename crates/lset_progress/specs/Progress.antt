@@ -1,5 +1,5 @@
--- Progress of calls, as laws of runs (Herlihy and Shavit's terms). Nothing is asked of the schedule: each law speaks of each moment
--- of each run.
+-- Progress of calls, as laws of runs (Herlihy and Shavit's terms). Nothing is asked of the schedule: each law speaks of each
+-- moment of each run.
 use Rattle.std.specs.Prelude.{◌≡◌, ◌≢◌, ℕ, zero, suc, ◌+◌, ◌*◌, ◌%◌, ◌<◌, ◌≤◌, ◌⊎◌, Bool, true, false, Some, slice_index}
 use Rattle.lset_words.specs.declared.Call.{Call}
 use Rattle.lset_words.specs.declared.Call.TheVariants as call
@@ -50,16 +50,16 @@ abbrev pub NoMarkInChain : View → Type 0
 NoMarkInChain v = (b : ℕ) → InChain v b → v.link b % 2 ≡ 0
 
 -- [Calls end unhindered]: in a list without locks, whatever the other threads are about to do, a call that runs alone ends within
--- `most` steps (obstruction freedom). But a ceiling begins again at a marked node, and takes it not out: it ends where no node of the
--- chain is marked.
+-- `most` steps (obstruction freedom). But a ceiling begins again at a marked node, and does not unlink it: it ends if no node
+-- of the chain is marked.
 abbrev pub CallsEndUnhindered : Table → (Sizes → ℕ) → Type 0
 CallsEndUnhindered T most = (op : Opening) (k t : ℕ) (es : ℕ → Event) → Run T op es k → t < op.threads
     → IsPending (state_at T op es k) t
     → (IsCeiling (local_of (state_at T op es k) t).call → NoMarkInChain (views T op es k))
     → EndsAlone T (state_at T op es k) t (most (sizes op))
 
--- [A ceiling that never ends]: the call of a thread is a ceiling, every other thread is idle, and however many steps the thread makes
--- alone, none ends its call.
+-- [A ceiling that never ends]: the call of a thread is a ceiling, every other thread is idle, and however many steps the
+-- thread makes alone, none ends its call.
 pub record SomeCeilingNeverEnds (T : Table) : Type 0 where
   pub opening : Opening
   pub events : ℕ → Event
@@ -126,8 +126,8 @@ abbrev pub EndsAmong : Bool → Table → (Sizes → ℕ) → Type 0
 EndsAmong reads T most = (op : Opening) (k n : ℕ) (es : ℕ → Event) → Run T op es (k + n)
     → most (sizes op) ≤ steps_among reads T op es k n → SomeEnds reads T op es k n
 
--- [Lock freedom]: of any `most` steps of adds and removes that follow one another in a run, one ends its call, whichever threads make
--- them, and whatever else happens between them; and of any `most` steps of adds, removes and contains too.
+-- [Lock freedom]: of any `most` steps of adds and removes that follow one another in a run, one ends its call, whichever
+-- threads make them, and whatever else happens between them; and of any `most` steps of adds, removes and contains too.
 abbrev pub IsLockFree : Table → (Sizes → ℕ) → Type 0
 IsLockFree T most = (reads : Bool) → EndsAmong reads T most
 
@@ -148,8 +148,8 @@ optimistic_steps sz = 8 * node_count sz + 9
 abbrev pub lock_free_steps : Sizes → ℕ
 lock_free_steps sz = 4 * node_count sz + 5
 
--- for each thread the steps of its call as it stands, and a walk more for each exchange that can succeed and ends no call: at most
--- a mark for each thread, and for each node that it is taken out
+-- for each thread the steps of its call as it stands, and a walk more for each exchange that can succeed and ends no call: at
+-- most a mark for each thread, and for each node that it is taken out
 abbrev pub lock_free_window : Sizes → ℕ
 lock_free_window sz =
     sz.threads * (2 * node_count sz + 2) * (node_count sz + sz.threads) + sz.threads * lock_free_steps sz

@@ -15,7 +15,7 @@ use Rattle.lset_lazy.specs.Lazy.{lazy}
 use Rattle.lset_lock_free.specs.LockFree.{lock_free}
 use Rattle.lset_progress.specs.Progress.{CallsEndAlone, CallsEndUnhindered, EndsAmong}
 
--- LockFreeList whose walk tries the exchange of row 3 again where it failed, and does not start again from the head
+-- LockFreeList whose walk makes the exchange of row 3 again if it failed, and does not start again from the head
 abbrev pub spins_on : Local → ℕ → Fed
 spins_on l seen = if seen == 2 * l.curr then continued (record l { pc = 2; curr = l.succ }) else continued l
 
@@ -28,8 +28,8 @@ spinning = record {
   effect = lock_free.effect;
 }
 
--- LockFreeList whose add, from its decision, writes its number into the lock word of pred (row 11), and goes on only if it still reads
--- it there (row 12); else it writes it again
+-- LockFreeList whose add, from its decision, writes its number into the lock word of pred (row 11), and goes on only if it
+-- still reads it there (row 12); else it writes it again
 abbrev pub claims_first : Fed → Fed
 claims_first f = record { local = if f.local.pc == 5 then record f.local { pc = 11 } else f.local; answer = f.answer }
 
@@ -55,7 +55,7 @@ claiming = record {
   effect = lock_free.effect;
 }
 
--- OptimisticList that keeps the lock of pred where validation fails: from there it goes to row 15, and leaves row 14 out
+-- OptimisticList that keeps the lock of pred if validation fails: from there it goes to row 15, and leaves row 14 out
 abbrev pub keeps_pred : Option Reply → Local → Local
 keeps_pred None l = record l { pc = 15 }
 keeps_pred (Some r) l = l

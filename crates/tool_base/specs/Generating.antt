@@ -27,7 +27,7 @@ use Rattle.tool_base.specs.Tools.{Made}
 abbrev pub kind_at : List (List ℕ) → ℕ → Option Kind
 kind_at values index = option_and_then kind_of (slice_get values index)
 
--- the number from the least to the greatest that the value with this index spells
+-- the number from the smallest to the largest that the argument with this index spells
 abbrev pub number_at : List (List ℕ) → ℕ → ℕ → ℕ → Option ℕ
 number_at values index low high = option_and_then (number_in low high) (slice_get values index)
 
@@ -56,7 +56,7 @@ pub record IsRequested (T : Table) (request : RandomRequest) (p : Plan) : Type 0
   -- they are the lines that the seed stands for
   pub drawn : AreOfSeed T request.threads request.quota request.calls request.keys request.seed p.lines
 
--- what is made of a request: the text of a schedule as it asks for it, where memory is found; a wrong value is named
+-- what is made of a request: the text of a schedule as it asks for it, or that an allocation failed; a wrong value is named
 abbrev pub Answers : Result RandomRequest ValueName → Made → Type 0
 Answers (Ok request) (Ok answer) =
     (p : Plan) × IsRequested (table_of request.kind) request p × (answer ≡ record { text = schedule_text p; status = 0 })

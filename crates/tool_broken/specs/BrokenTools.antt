@@ -91,12 +91,12 @@ Shows window l bytes (Ok answer) =
 Shows window l bytes (Err t) = (IsTextTrouble l bytes t ⊎ IsRunTrouble l bytes t)
     ⊎ ((r : ReportValue) × IsReported l bytes r × (v : PictureValue) × IsPictureOfReport r v × IsDrawn window v (Err t))
 
--- the status of a trace: 1 where the run ends at an event
+-- the status of a trace: 1 if the run ends at an event
 abbrev pub status_of : Result Report (ℕ × BrokenStepError) → ℕ
 status_of (Ok r) = 0
 status_of (Err end) = 1
 
--- a text, whose status tells how the run ends; how it looks is tested
+-- a text, whose status says how the run ends; how it looks is tested
 pub record IsTraced (l : BrokenList) (bytes : List ℕ) (status : ℕ) : Type 0 where
   pub plan : Plan
   pub schedule : IsScheduleOf l bytes plan

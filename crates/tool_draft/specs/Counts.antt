@@ -15,7 +15,7 @@ steps_on T s t (suc n) = after T (steps_on T s t n) (event.Go t)
 abbrev pub world_on : Table → WorldState → ℕ → ℕ → WorldState
 world_on T w t n = record w { state = steps_on T w.state t n }
 
--- the row before which the thread stands after them; 0 where it has no call open
+-- the row at which the thread is after them; 0 if it has no call pending
 abbrev pub row_on : Table → State → ℕ → ℕ → ℕ
 row_on T s t n = (local_of (steps_on T s t n) t).pc
 
@@ -23,11 +23,11 @@ row_on T s t n = (local_of (steps_on T s t n) t).pc
 abbrev pub AreEnabled : Table → State → ℕ → ℕ → Type 0
 AreEnabled T s t n = (m : ℕ) → m < n → Enabled (steps_on T s t m) (event.Go t)
 
--- after none of the first n steps the thread stands before the row
+-- after none of the first n steps the thread is at the row
 abbrev pub IsNotYet : Table → State → ℕ → ℕ → ℕ → Type 0
 IsNotYet T s t row n = (m : ℕ) → 0 < m → m ≤ n → row_on T s t m ≢ row
 
--- THE LEAST COUNT of steps, at least one, after which a thread stands before a row
+-- THE SMALLEST COUNT of steps, at least one, after which a thread is at a row
 pub record IsLeastCount (T : Table) (s : State) (t row n : ℕ) : Type 0 where
   pub some : 0 < n
   pub there : row_on T s t n ≡ row

@@ -20,7 +20,7 @@ out_kind = (word (codes "go") ∷ any ∷ word (codes "out") ∷ [], λ t. Out t
 abbrev pub to_kind : LineKind DraftLine
 to_kind = (word (codes "go") ∷ any ∷ word (codes "to") ∷ number 1 MOST_ROW ∷ [], λ t. To t.1.0 t.1.1.1.0)
 
--- a line that no schedule has, where it has the words of one, and else one of a schedule
+-- a line that no schedule has, if it has the fields of one, else one of a schedule
 abbrev pub events : EventLines DraftLine
 events = record { kinds = out_kind ∷ to_kind ∷ map (kind_as Plain) schedule.events.kinds; count = least_count }
 

@@ -18,7 +18,7 @@ use Rattle.tool_draft.specs.declared.value.Draft.{Draft}
 use Rattle.tool_draft.specs.declared.value.DraftLine.{DraftLine}
 use Rattle.tool_draft.specs.declared.value.DraftLine.TheVariants.{Plain, Out, To}
 
--- a draft without where its lines lie in memory
+-- a draft, without the place of its lines in memory
 pub record DraftValue : Type 0 where
   pub kind : Kind
   pub threads : ℕ
@@ -26,7 +26,7 @@ pub record DraftValue : Type 0 where
   pub opening : List ℕ
   pub lines : List DraftLine
 
--- what a header tells, opening keys, and lines
+-- what a header has, opening keys, and lines
 abbrev pub drafted : Header → List ℕ → List DraftLine → DraftValue
 drafted h keys lines = record { kind = h.kind; threads = h.threads; quota = h.quota; opening = keys; lines = lines }
 
@@ -65,7 +65,7 @@ first_event_line d = first_line + length d.opening
 
 -- ---- its limits
 
--- for how many events a line stands at least
+-- how many events a line has at least
 abbrev pub least_count : DraftLine → ℕ
 least_count (Plain l) = event_count l
 least_count (Out thread) = 1

@@ -1,4 +1,4 @@
--- The schedule of a draft: each line without a count gets the least one.
+-- The schedule of a draft: each line without a count gets the smallest one.
 use Rattle.std.specs.Prelude.{◌≡◌, ℕ, ◌+◌, ◌-◌, ◌<◌, ◌≤◌, List, [], ◌∷◌, length, min, slice_index_or, take, Result, Ok, Err}
 use Rattle.std.specs.List.{sum_by, AllByRecursion}
 use Rattle.lset_words.specs.Words.{Opening, sizes}
@@ -34,7 +34,7 @@ IsEnabledLine T s (line.Begin t call) = Enabled s (event.Begin t call)
 IsEnabledLine T s (line.Go t n) = AreEnabled T s t n
 
 -- The line of a schedule for which one of a draft stands: the same line, or steps of the thread up to the first after which it
--- stands before the row; the row of a call that has ended is 0.
+-- is at the row; the row of a call that has ended is 0.
 abbrev pub IsLineOf : Table → State → DraftLine → Line → Type 0
 IsLineOf T s (Plain l) made = made ≡ l
 IsLineOf T s (Out t) (line.Begin u call) = ⊥
@@ -42,11 +42,11 @@ IsLineOf T s (Out t) (line.Go u n) = (u ≡ t) × IsLeastCount T s t 0 n
 IsLineOf T s (To t row) (line.Begin u call) = ⊥
 IsLineOf T s (To t row) (line.Go u n) = (u ≡ t) × IsLeastCount T s t row n
 
--- the most steps of a line where so many events are left
+-- the most steps of a line if this many events are left
 abbrev pub most_steps : ℕ → ℕ
 most_steps left = min left MOST_STEPS
 
--- Why a line of a schedule is not made, where so many events are left: whether it has too many is asked before its events are
+-- Why a line of a schedule is not made, if this many events are left: whether it has too many is asked before its events are
 -- made.
 abbrev pub IsPlainFault : Table → WorldState → ℕ → Line → DraftCause → Type 0
 IsPlainFault T w left l cause.TooMany = left < event_count l
@@ -54,7 +54,7 @@ IsPlainFault T w left (line.Begin t call) (cause.Refused why) = (1 ≤ left) × 
 IsPlainFault T w left (line.Go t n) (cause.Refused why) = (n ≤ left) × (m : ℕ) × (m < n) × IsRefusedAt T w t m why
 IsPlainFault T w left l cause.Waits = ⊥
 
--- Why a line of a draft stands for none of a schedule, where so many events are left
+-- Why a line of a draft stands for none of a schedule, if this many events are left
 abbrev pub IsLineFault : Table → WorldState → ℕ → DraftLine → DraftCause → Type 0
 IsLineFault T w left (Plain l) why = IsPlainFault T w left l why
 IsLineFault T w left (Out t) why = IsStopFault T w (most_steps left) t 0 why
@@ -66,7 +66,7 @@ MakesPlain T w left l (Ok done) w' =
     (event_count l ≤ left) × IsEnabledLine T w.state l × (w' ≡ record w { state = after_line T w.state l })
 MakesPlain T w left l (Err why) w' = IsPlainFault T w left l why
 
--- what is made of a line, where so many events are left
+-- what is made of a line, if this many events are left
 pub record IsMade (T : Table) (w : WorldState) (left : ℕ) (d : DraftLine) (made : Line) (w' : WorldState) : Type 0 where
   pub line_of : IsLineOf T w.state d made
   pub enabled : IsEnabledLine T w.state made
@@ -110,7 +110,7 @@ HasLeastVersion p = p.version ≡ Two → HasWordsOfVersion (record p { version 
 
 -- THE SCHEDULE OF A DRAFT
 pub record Expands (T : Table) (d : DraftValue) (p : Plan) : Type 0 where
-  -- has a text that is read, and of the least version;
+  -- has a text that is read, and of the smallest version;
   pub schedule : IsSchedule p
   pub version : HasLeastVersion p
   -- header and opening keys are the draft's;

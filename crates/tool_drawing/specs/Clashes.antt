@@ -15,7 +15,7 @@ has key keys = list_any (λ (k : ℕ). k == key) keys
 abbrev pub is_in_one : ℕ → List ℕ → List ℕ → Bool
 is_in_one key keys others = if has key keys then not (has key others) else has key others
 
--- Of a refused order, with the keys that the report tells: the calls that the refusal names; and of a wrong set, the calls of
+-- Of a refused order, with the keys that the report has: the calls that the refusal names; and of a wrong set, the calls of
 -- the keys
 -- that the order leaves and the report does not tell, or the other way round.
 abbrev pub clashes_in : List ℕ → Refusal → ℕ → CallRecord → Bool

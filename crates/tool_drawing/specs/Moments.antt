@@ -14,7 +14,7 @@ ends_from m (Some end) = nat_le m end.0
 abbrev pub reaches : ℕ → CallRecord → Bool
 reaches m x = nat_le m x.begun || ends_from m x.ended
 
--- it stands there or later
+-- it takes effect there or later
 abbrev pub stands_from : ℕ → Point → Bool
 stands_from m q = nat_le m q.moment
 
@@ -25,7 +25,7 @@ is_told calls points = not (length calls == 0 && length points == 0)
 abbrev pub is_past : List CallRecord → List Point → ℕ → Bool
 is_past calls points m = is_told calls points && not (list_any (reaches m) calls || list_any (stands_from m) points)
 
--- A MOMENT IS PAST THE LAST of a picture where calls begin, stand or end, and none does at this moment or later.
+-- A MOMENT IS PAST THE LAST of a picture if calls begin, take effect or end in it, and none does at this moment or later.
 abbrev pub is_past_the_last : PictureValue → ℕ → Bool
 is_past_the_last p m = is_past p.history.calls (points_of p) m
 

@@ -8,7 +8,7 @@ use Rattle.tool_drawing.specs.declared.picture.Picture.{Picture}
 use Rattle.lset_history.specs.declared.refusal.Refusal.{Refusal}
 use Rattle.lset_steps.specs.declared.world.StepFault.{StepFault}
 
--- a picture without where its lists lie in memory
+-- a picture, without the place of its lists in memory
 pub record PictureValue : Type 0 where
   pub kind : Kind
   pub history : HistoryValue

@@ -13,7 +13,7 @@ abbrev pub shown_of : Bool → Example → Option (List ℕ)
 shown_of false e = Some (examples.text_of e)
 shown_of true e = examples.broken_of e
 
--- what is written where a name was given; without one it is the list of names, which is tested
+-- what is written if a name was given; without one it is the list of names, which is tested
 abbrev pub IsShown : Bool → Option (List ℕ) → List ℕ → Type 0
 IsShown broken None text = ⊤
 IsShown broken (Some name) text = (e : Example) × (name ≡ examples.name_of e) × (shown_of broken e ≡ Some text)
@@ -23,7 +23,8 @@ abbrev pub IsUnknown : Bool → Option (List ℕ) → Type 0
 IsUnknown broken None = ⊥
 IsUnknown broken (Some name) = (e : Example) → name ≡ examples.name_of e → shown_of broken e ≡ None
 
--- what is made of the words, where memory is found: the list of names, or what the name stands for; a wrong name is named
+-- what is made of the arguments: the list of names, or what the name stands for, or that an allocation failed; a wrong name
+-- is named
 abbrev pub Exampled : Bool → Option (List ℕ) → Made → Type 0
 Exampled broken name (Ok answer) = (answer.status ≡ 0) × IsShown broken name answer.text
 Exampled broken name (Err t) = (t ≡ Memory) ⊎ ((t ≡ Bad Name) × IsUnknown broken name)

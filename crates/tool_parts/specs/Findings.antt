@@ -48,7 +48,7 @@ finding_text Early = codes "undecided: one of its calls ended before a call of a
 
 -- ---- WHAT IT SAYS
 
--- the least key that stands in one of two lists alone, if both rise
+-- the smallest key that is in only one of two lists, if both are in increasing order
 abbrev pub first_difference : List ℕ → List ℕ → Option ℕ
 first_difference [] [] = None
 first_difference [] (y ∷ ys) = Some y
@@ -64,7 +64,7 @@ pub record IsRefused (kept : KeptParts) (p : Part) (lines : List ℕ) (rests : B
   pub is_answer : IsRefusedAnswer p.history p.keys refusal answer
   pub lines_are : lines ≡ answer.text
 
--- what it says of a part, where this is kept of the parts before it
+-- what it says of a part, if this is kept of the parts before it
 abbrev pub IsFindingBy : KeptParts → Part → Finding → Type 0
 IsFindingBy kept p (Refused lines rests) = IsRefused kept p lines.items rests
 IsFindingBy kept p (OtherKeys key) = (p.history.opening.keys ≢ kept.keys) × (key ≡ first_difference p.history.opening.keys kept.keys)

@@ -31,7 +31,7 @@ use Rattle.tool_parts.specs.Findings.{IsFindingBy, finding_text, parts_ok_text, 
 
 -- ---- A PART OF A RECORDING
 
--- A text tells this part, of the keys that are asked for: its calls, the history that they are, and the keys left.
+-- A file has this part, of the keys that are asked for: its calls, the history that they are, and the keys left.
 pub record IsPartOf (asked : Option KeyPart) (bytes : List ℕ) (p : Part) : Type 0 where
   pub calls : CallsValue
   pub are : AreCalls calls
@@ -91,7 +91,7 @@ IsKeysTold h left asked None = IsPlain h.calls → ⊥
 IsKeysTold h left asked (Some told) = IsPlain h.calls × (told.history ≡ history_asked (Some asked) h)
     × (told.keys.items ≡ keys_asked (Some asked) left) × IsStrictlyIncreasing told.keys.items
 
--- the part that a text tells is added to those kept, or it ends the judging
+-- the part that a file has is added to those kept, or it ends the judging
 abbrev pub JudgesText : Option KeyPart → List ℕ → Kept → Kept → Option Finding → Type 0
 JudgesText asked bytes old new None =
     (p : Part) × (told : IsPartOf asked bytes p) × IsWholeJudged asked told.history
@@ -107,7 +107,7 @@ abbrev pub JudgesRead : Option KeyPart → List ℕ → Kept → Kept → Result
 JudgesRead asked bytes old new (Ok found) = JudgesText asked bytes old new found
 JudgesRead asked bytes old new (Err t) = IsTrouble bytes t
 
--- the same of an input: of the bytes that were read, which are those of the input where they are known
+-- the same of an input: of the bytes that were read, which are those of the input if they are known
 abbrev pub JudgesInput : Option KeyPart → Option (List ℕ) → Kept → Kept → Result (Option Finding) Trouble → Type 0
 JudgesInput asked input old new (Ok found) =
     (bytes : List ℕ) × IfSome input (λ (known : List ℕ). bytes ≡ known) × IsTaken bytes × JudgesText asked bytes old new found
@@ -169,8 +169,8 @@ abbrev pub FindsAt : ℕ → ℕ → List ℕ → Finding → FilesMade → Type
 FindsAt number parts path finding made =
     (made ≡ Ok (record { text = place_text number parts path ++ finding_text finding; status = 1 })) ⊎ (made ≡ no_memory)
 
--- ALL PARTS ARE EXPLAINED: one order explains the whole recording, from the keys with which the first part opens, and leaves those that
--- the last one left
+-- ALL PARTS ARE EXPLAINED: one order explains the whole recording, from the keys with which the first part opens, and leaves
+-- those that the last one left
 pub record IsWholeExplained (ps : List Part) : Type 0 where
   pub opening : List ℕ
   pub kept : KeptParts
@@ -182,8 +182,8 @@ abbrev pub AllExplained : ℕ → List Part → FilesMade → Type 0
 AllExplained parts ps made =
     (IsWholeExplained ps × (made ≡ Ok (record { text = parts_ok_text parts (length (whole_calls ps)); status = 0 }))) ⊎ (made ≡ no_memory)
 
--- THE FILES ARE GONE OVER, in order, behind these parts: a file that is not opened or not read, or whose text has a fault, ends it, and so
--- does a part with a finding; each other part is added. `IsFile` says which bytes a file may hold.
+-- THE FILES ARE GONE OVER, in order, behind these parts: a file that is not opened or not read, or whose text has a fault,
+-- ends it, and so does a part with a finding; each other part is added. `IsFile` says which bytes a file may hold.
 abbrev pub GoesOver : Option KeyPart → ℕ → (Option (List ℕ) → Type 0) → List (List ℕ) → List Part → FilesMade → Type 0
 GoesOver asked parts IsFile [] ps made = AllExplained parts ps made
 GoesOver asked parts IsFile (path ∷ rest) ps made =
@@ -194,7 +194,7 @@ GoesOver asked parts IsFile (path ∷ rest) ps made =
     × (((finding : Finding) × IsFinding told.history ps p finding × FindsAt (length ps + 1) parts path finding made)
     ⊎ (IsWholeJudged asked told.history × GoesOver asked parts IsFile rest (ps ++ p ∷ []) made)))
 
--- the words for the keys, where there are any
+-- the value of `--keys`, if there is one
 abbrev pub keys_of_words : Option (List ℕ) → Option (Option KeyPart)
 keys_of_words None = Some None
 keys_of_words (Some text) = option_map (λ (asked : KeyPart). Some asked) (key_part_of text)

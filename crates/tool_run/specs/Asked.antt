@@ -9,7 +9,7 @@ use Rattle.tool_base.specs.Generating.{random_request_of}
 use Rattle.tool_run.specs.declared.request.LivesRequest.{LivesRequest}
 use Rattle.tool_run.specs.declared.request.TheConstants.{MOST_LIVES}
 
--- how many lives a word asks for; one, where there is no word
+-- how many rounds an argument asks for; one, if there is none
 abbrev pub lives_of : Option (List ℕ) → Option ℕ
 lives_of None = Some 1
 lives_of (Some word) = number_in 1 MOST_LIVES word

@@ -23,6 +23,6 @@ counts_with c replies = record {
   fulls = c.fulls + count_by (same_reply Full) replies;
 }
 
--- each count may rise by so much
+-- each count may increase by so much
 abbrev pub HasRoom : Counts → ℕ → Type 0
 HasRoom c n = (c.calls + n < 2 ^ 64) × (c.trues + n < 2 ^ 64) × (c.falses + n < 2 ^ 64) × (c.fulls + n < 2 ^ 64)

@@ -36,7 +36,7 @@ pub record Lines : Type 0 where
 abbrev pub lines_of : Left → Lines
 lines_of left = record { line = left.line; parts = cut_at 10 left.text.now }
 
--- the same without the first line, where that is the word and one further piece
+-- the lines without the first, if that is the word and one further field
 abbrev pub without_at : List ℕ → ℕ → List (List ℕ) → Lines
 without_at word line [] = record { line = line; parts = [] }
 without_at word line (rest ∷ []) = record { line = line; parts = rest ∷ [] }
@@ -47,7 +47,7 @@ without_at word line (x ∷ y ∷ more) =
 abbrev pub without : List ℕ → Lines → Lines
 without word lines = without_at word lines.line lines.parts
 
--- what comes after the lines `listening A`, `sessions N` and `calls N`, as far as they stand at the head in this order
+-- what comes after the lines `listening A`, `sessions N` and `calls N`, as far as they come first in this order
 abbrev pub after_head : List ℕ → Lines
 after_head text =
     without (codes "calls") (without (codes "sessions")
@@ -61,7 +61,7 @@ key_causes = record { form = cause.Line; number = cause.Number }
 abbrev pub key_lines : List (LineKind ℕ)
 key_lines = (number_form (codes "key") 0 max_number, λ t. t.1.0) ∷ []
 
--- the key that a line tells
+-- the key that a line has
 abbrev pub key_in : List ℕ → Result ℕ KeyCause
 key_in line = line_in Two key_causes key_lines line
 

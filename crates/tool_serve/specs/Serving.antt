@@ -81,14 +81,14 @@ Answers request opening answer =
 abbrev pub ServesFrom : ServeRequest → List ℕ → Option (List ℕ) → Option (List ℕ) → Made → Type 0
 ServesFrom request opening old new made = Announces made old new × IfOk made (Answers request opening)
 
--- What is made where no file is named: the set opens empty. A wrong value is named, and nothing is written.
+-- What is made if no file is named: the set opens empty. A wrong value is named, and nothing is written.
 abbrev pub Serves : Result ServeRequest ValueName → Option (List ℕ) → Option (List ℕ) → Made → Type 0
 Serves (Ok request) old new made = ServesFrom request [] old new made
 Serves (Err wrong) old new made = (made ≡ Err (Bad wrong)) × Keeps old new
 
 -- ---- what is made with the keys of an input
 
--- the keys of an input, where its bytes are known; a set opens with them
+-- the keys of an input, if its bytes are known; a set opens with them
 abbrev pub AreKeysOf : Option (List ℕ) → List ℕ → Type 0
 AreKeysOf input keys = AreKeys keys × IfSome input (λ bytes. IsTaken bytes × (keys_in bytes ≡ Ok keys))
 

@@ -35,7 +35,7 @@ keys_if None key = []
 keys_if (Some true) key = key ∷ []
 keys_if (Some false) key = []
 
--- THE PICTURE OF A REFUSAL: of the calls of its window alone, of a set that opens as the window has it; and it tells a refusal
+-- THE PICTURE OF A REFUSAL: of the calls of its window alone, of a set that opens as the window has it; and it states a refusal
 pub record IsPictureOfRefusal (kind : Kind) (h : HistoryValue) (left : List ℕ) (refusal : Refusal) (window : Window) (v : PictureValue)
     : Type 0 where
   pub refused : IsRefused h left refusal
@@ -44,7 +44,7 @@ pub record IsPictureOfRefusal (kind : Kind) (h : HistoryValue) (left : List ℕ)
   pub picture_is : IsPictureOfReport (report_with kind (alone h window) order (keys_if window.left window.key.0)) v
   pub is_told : v.refusal ≡ None → ⊥
 
--- and below it stands what `judge` says
+-- and below it is what `judge` says
 abbrev pub IsDrawingOfRefusal : Kind → HistoryValue → List ℕ → Refusal → Drawing → Type 0
 IsDrawingOfRefusal kind h left refusal d =
     (window : Window) × IsPictureOfRefusal kind h left refusal window (view d.picture)

@@ -17,7 +17,7 @@ use Rattle.lset_text.specs.declared.words.Version.{Version}
 use Rattle.tool_drawing.specs.Pictures.{PictureValue}
 use Rattle.tool_show.specs.Bars.{IsInBars}
 
--- an add or a remove changes the set where its reply is True, and no other call does
+-- an add or a remove changes the set if its reply is True, and no other call does
 abbrev pub changes_set : Call → Reply → Bool
 changes_set (Add k) True = true
 changes_set (Add k) False = false
@@ -49,7 +49,7 @@ drawn_points (Some refusal) calls order = []
 abbrev pub report_in : Version → PictureValue → ReportValue
 report_in version v = record { version = version; kind = v.kind; history = v.history; order = v.order; keys = v.keys }
 
--- no refusal where the order explains the history and leaves just the keys, and else its first fault, with what is so of it
+-- no refusal if the order explains the history and leaves exactly the keys, else its first fault, with the facts that show it
 abbrev pub IsJudgement : ReportValue → Option Refusal → Type 0
 IsJudgement r None = Explains r.history r.order r.keys
 IsJudgement r (Some refusal) = IsRefusalOf r.history r.order r.keys refusal
@@ -61,7 +61,7 @@ pub record IsPictureOfReport (r : ReportValue) (v : PictureValue) : Type 0 where
   -- speaks of no events,
   pub events_are : v.events ≡ None
   pub refused_is : v.refused ≡ None
-  -- tells a refusal just where the order is refused,
+  -- states a refusal exactly if the order is refused,
   pub judged : IsJudgement r v.refusal
   -- has the first points of the order elsewhere,
   pub points_are : v.points ≡ drawn_points v.refusal r.history.calls r.order

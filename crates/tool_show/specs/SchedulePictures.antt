@@ -10,10 +10,10 @@ use Rattle.tool_show.specs.ReportPictures.{report_in}
 
 -- THE PICTURE OF A SCHEDULE
 pub record IsPictureOfSchedule (p : Plan) (v : PictureValue) : Type 0 where
-  -- tells how many events were made,
+  -- states how many events were executed,
   pub made : ℕ
   pub events_are : v.events ≡ Some made
-  -- shows the report of just these, with the points at which the calls of the run stand, and after them no event, or the first
+  -- shows the report of just these, with the points of the calls of the run, and after them no event, or the first
   -- that
   -- is not enabled,
   pub replay : IsReplayUpto (table_of p.kind) p made v.refused (report_in p.version v) v.points

@@ -56,12 +56,12 @@ has_calls_title = has_title calls.title
 abbrev pub ShowsText : List ℕ → PictureValue → Type 0
 ShowsText bytes v = ShowsSchedule bytes v ⊎ ShowsReport bytes v ⊎ ShowsCalls bytes v
 
--- the first fault of a text that is no schedule; a schedule has a picture, also where one of its events is refused
+-- the first error of a file that is not a schedule; a schedule has a picture, also if one of its events is refused
 abbrev pub IsScheduleFault : Result Plan ScheduleFault → Trouble → Type 0
 IsScheduleFault (Err fault) t = t ≡ of_schedule fault
 IsScheduleFault (Ok p) t = ⊥
 
--- the first fault of the text: of a report or of recorded calls where it has the title of one, and else of a schedule
+-- the first error of the file: of a report or of recorded calls if it has the title of one, else of a schedule
 abbrev pub IsFirstFault : List ℕ → Trouble → Type 0
 IsFirstFault bytes t =
     (has_report_title bytes ≡ true) × checking.IsFirstFault (report.reading bytes) t
@@ -72,13 +72,13 @@ IsFirstFault bytes t =
 abbrev pub status_of : PictureValue → ℕ
 status_of v = if is_none v.refusal && is_none v.refused then 0 else 1
 
--- what is made of a picture: a text with its status, where it goes on to the first moment of the window
+-- what is made of a picture: a text with its status, if it reaches the first moment of the window
 abbrev pub IsDrawn : Window → PictureValue → Made → Type 0
 IsDrawn window v (Ok answer) = (is_past_the_last v window.from ≡ false) × (answer.status ≡ status_of v)
 IsDrawn window v (Err t) = (t ≡ Memory) ⊎ ((t ≡ Bad From) × (is_past_the_last v window.from ≡ true))
 
--- THE FIRST MOMENT IS REFUSED where something happens in the picture, of a schedule, up to an event that is refused, of a report or of
--- recorded calls, and all of it before that moment.
+-- THE FIRST MOMENT IS REFUSED if something happens in the picture, of a schedule, up to an event that is refused, of a report
+-- or of recorded calls, and all of it before that moment.
 abbrev pub IsPast : Window → List ℕ → Trouble → Type 0
 IsPast window bytes t = (t ≡ Bad From) × (v : PictureValue) × ShowsText bytes v × (is_past_the_last v window.from ≡ true)
 
@@ -86,7 +86,8 @@ IsPast window bytes t = (t ≡ Bad From) × (v : PictureValue) × ShowsText byte
 abbrev pub IsWrong : Window → List ℕ → Trouble → Type 0
 IsWrong window bytes t = IsFirstFault bytes t ⊎ IsPast window bytes t
 
--- What is made of the bytes of an input: a text of the picture of the schedule, the report or the recorded calls whose text they are, which goes on to
+-- What is made of the bytes of an input: a text of the picture of the schedule, the report or the recorded calls whose text
+-- they are, which goes on to
 -- the first moment of the window, with the status of that picture; or a trouble with the input, or its first fault, or a window
 -- past the picture. How the picture looks as text or as SVG is tested.
 abbrev pub Shows : Window → List ℕ → Made → Type 0

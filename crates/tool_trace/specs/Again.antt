@@ -12,9 +12,10 @@ abbrev pub reply_in : Option CallEnd → Option Reply
 reply_in None = None
 reply_in (Some end) = Some end.reply
 
--- An event was made in the world w, and is returned: its line and thread, the thread's state before and after, what it did, the change
--- that it made, and the reply of the call that it ended. Of the numbers of calls and of the moments at which they stand nothing is
--- said.
+-- An event was made in the world w, and is returned: its line and thread, the thread's state before and after, what it did,
+-- the change
+-- that it made, and the reply of the call that it ended. Of the numbers of calls and of the moments at which they take effect
+-- nothing is said.
 pub record IsMadeAgain (T : Table) (w : WorldState) (next : LineEvent) (x : TracedEvent) (w' : WorldState) : Type 0 where
   pub enabled : Enabled w.state next.event
   pub world : w' ≡ record w { state = after T w.state next.event }

@@ -16,7 +16,7 @@ use Rattle.tool_base.specs.Tools as tools
 use Rattle.tool_base.specs.declared.trouble.Trouble.TheVariants.{CannotWrite, Memory}
 use Rattle.std.specs.declared.alloc.AllocError.{AllocError}
 
--- The bytes are the text of a schedule, and these are its events, each told, up to the first that is not enabled.
+-- The bytes are the text of a schedule, and these are its events, up to the first that is not enabled.
 pub record IsTraced (bytes : List ℕ) (refused : Option (ℕ × StepFault)) : Type 0 where
   pub plan : Plan
   pub schedule : IsSchedule plan
@@ -34,12 +34,12 @@ abbrev pub status_of : Option (ℕ × StepFault) → ℕ
 status_of None = 0
 status_of (Some refusal) = 1
 
--- the first fault of the text; a schedule has a trace, also where one of its events is refused
+-- the first error of the file; a schedule has a trace, also if one of its events is refused
 abbrev pub IsFirstFault : Result Plan ScheduleFault → Trouble → Type 0
 IsFirstFault (Err fault) t = t ≡ of_schedule fault
 IsFirstFault (Ok p) t = ⊥
 
--- What is made of the bytes of an input: a text, whose status tells how the events of the schedule end; or a trouble with the input,
+-- What is made of the bytes of an input: a text, whose status says how the events of the schedule end; or an error of the input,
 -- or its first fault. How the trace looks as text is tested.
 abbrev pub Traces : List ℕ → Made → Type 0
 Traces bytes (Ok answer) = IsTaken bytes × (refused : Option (ℕ × StepFault)) × IsTraced bytes refused × (answer.status ≡ status_of refused)

@@ -34,7 +34,7 @@ use Rattle.lset_steps.proofs.Turns.{Turn, Follows, Outcome, node_locks, outcome_
 use Rattle.lset_steps.proofs.Turns.Turn.{passes, changes, answers}
 use Rattle.lset_lazy.specs.Lazy.{lazy, targets, next_action, at_key, gives_up, at_pred, at_curr, released, fed_by, effect_of}
 
--- what the rows from the locks on stand on
+-- what is known at the rows from the locks on
 abbrev Window : View → ℕ → Local → Type 0
 Window v t l = Between v t (target l.call) l.pred l.curr
 

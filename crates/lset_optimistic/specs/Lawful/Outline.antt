@@ -46,7 +46,7 @@ reached_kept {pred = pred} g f = record {
 abbrev pub Window : View → Local → Type 0
 Window v l = Reached v (target l.call) l.pred l.pkey l.curr l.ckey
 
--- what the rows after the second walk stand on: pred and curr are locked, neighbours, and the walk has come to pred
+-- what is known at the rows after the second walk: pred and curr are locked, neighbours, and the walk has reached pred
 abbrev pub Neighbours : View → ℕ → Local → Type 0
 Neighbours v t l = Between v t (target l.call) l.pred l.curr × (l.node ≡ l.pred)
 
@@ -112,7 +112,7 @@ module _ (q t : ℕ) (vs : ℕ → View) (first now : ℕ) (v w : View) (done : 
       (outcome_on done q vs first now t l.call l.reply o)
   stays (at15 e c o) = at15 e (s.locks l.curr c) (outcome_on done q vs first now t l.call l.reply o)
 
--- the decision, where the second walk has come to pred, and pred leads to curr
+-- the decision, if the second walk has reached pred, and pred leads to curr
 pub decision : {sz : Sizes} {t : ℕ} {ws : List ℕ} {used : ℕ → ℕ} (m : Memory false sz ws used) (l : Local) → t < sz.threads →
     Registers sz t l
     → l.used ≡ used t → Window (view sz ws used) l → node_lock ws l.curr ≡ t + 1 → Held (view sz ws used) t l.pred
