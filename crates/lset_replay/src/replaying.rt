@@ -35,8 +35,10 @@ fn refusal(cause: StepFault, line: u64) -> ReplayFault
 /// A call that changed the set is placed at the event of its change, even if it is pending. Any other completed call is
 /// placed at the first moment of the call at which its reply is correct. (Herlihy and Wing's linearizability.)
 ///
-///     let schedule = read_schedule(alloc, text.as_bytes())?; // as in crates/first_program
-///     let report = replay(alloc, &schedule)?;
+/// As in `crates/first_program`:
+///
+///     let schedule = read_schedule(alloc, text.as_bytes())?;
+///     Ok(replay(alloc, &schedule)?)
 ///
 /// # Errors
 ///

@@ -99,8 +99,10 @@ fn schedule(alloc: Global, bytes: &[u8]) -> Result<Schedule, ScheduleFault>
 ///
 /// Line 1 decides the version. A schedule of version 1 has no `ceiling` and no opening keys.
 ///
-///     let schedule = read_schedule(alloc, b"listset-schedule 1\nlist coarse\nthreads 1\nquota 1\nbegin 0 add 5\ngo 0 7\n")?;
-///     let report = replay(alloc, &schedule)?; // as in crates/first_program
+/// As in `crates/first_program`:
+///
+///     let schedule = read_schedule(alloc, text.as_bytes())?;
+///     Ok(replay(alloc, &schedule)?)
 ///
 /// # Errors
 ///

@@ -172,11 +172,10 @@ fn header_due<'a>(title: &[u8], text: &'a [u8]) -> Result<(Header, &'a [u8]), He
         quota,
     };
     Ok((header, rest))
-    /// Appends the four lines of a header to `out`. If an allocation fails, returns `AllocError`; `out` may then end with part
-    /// of them.
 }
 
-/// Appends the four lines of a header to `out`. `AllocError` if an allocation fails.
+/// Appends the four lines of a header to `out`. If an allocation fails, returns `AllocError`; `out` may then end with part of
+/// them.
 pub fn put_header(out: &mut String, title: &str, header: Header) -> Result<(), AllocError>
     ensures { OnOk result (string_bytes out.new ≡ string_bytes out.old ++ text_of (header_lines title.now header)) }
 {
