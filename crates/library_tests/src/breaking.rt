@@ -188,7 +188,7 @@ fn no_list_is_refuted(rt: HostRuntime) -> Result<(), Fail> {
     assert_not_refuted::<LockFreeList, _>(&rt, alloc)
 }
 
-/// Where a thread stands: between two calls, in a call that has not taken effect, or in one that has.
+/// The state of a thread: between two calls, in a call that has not taken effect, or in one that has.
 #[derive(Clone, Copy)]
 enum Stand {
     AtRest,

@@ -1,5 +1,5 @@
 //! The judge, and the order that is found, beside a search of all orders, on 100,000 small histories, with what its refusals say and how
-//! many calls overlap a change; on runs of the five lists; and where it does not decide.
+//! many calls overlap a change; on runs of the five lists; and on histories that it does not decide.
 
 use lset_coarse::CoarseList;
 use lset_fine::FineList;

@@ -111,7 +111,7 @@ fn a_part_with_full(rt: HostRuntime) -> Result<(), Fail> {
     Ok(())
 }
 
-/// Two removes of key 5 that overlap: the first answers true, the second as told.
+/// Two removes of key 5 that overlap: the first answers true, the second as given.
 fn two_removes<R: Abort>(rt: &R, alloc: Global, second: Reply) -> Result<History, Fail> {
     let mut history = History::opened(alloc, 2, 1, Vec::from_slice(alloc, &[5])?);
     for thread in 0..2u32 {

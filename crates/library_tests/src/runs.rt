@@ -12,7 +12,7 @@ use lset_words::{Call, Key, Reply, layout};
 use std::process::Abort;
 use std::test::Fail;
 
-/// The least key and the greatest.
+/// The smallest key and the largest.
 const LEAST: Key = Key(0);
 
 const MOST: Key = Key(u32::MAX);
@@ -139,7 +139,7 @@ const FAILED_TRIES: [Line; 13] = [
     (Event::Begin(2, Call::Add(Key(3))), 1, None),
     (Event::Go(2), 2, None),
     (Event::Go(2), 20, None),
-    // each goes on from where it stood
+    // each continues from its place
     (Event::Go(0), 6, Some(Reply::False)),
     (Event::Go(1), 4, Some(Reply::False)),
     (Event::Go(2), 8, Some(Reply::True)),
@@ -196,7 +196,7 @@ fn the_second_of_two_removes_answers_false(rt: HostRuntime) -> Result<(), Fail> 
     assert_run::<LockFreeList, HostRuntime>(&rt, 2, 1, &LOCK_FREE_REMOVES, &[])
 }
 
-/// Thread 0 stands before its first lock at a node that thread 1 marks and takes out; then, with both locks, it sees the mark.
+/// Thread 0 is before its first lock at a node that thread 1 marks and unlinks; then, with both locks, it sees the mark.
 const LAZY_MARK: [Line; 8] = [
     (Event::Begin(1, Call::Add(Key(3))), 1, None),
     (Event::Go(1), 11, Some(Reply::True)),

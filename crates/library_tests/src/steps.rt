@@ -1,4 +1,4 @@
-//! Runs step by step: what each step tells, and the words of the locks after it.
+//! Runs step by step: what each step does, and the words of the locks after it.
 use crate::worlds::{assert_content, make};
 use lset_coarse::CoarseList;
 use lset_optimistic::OptimisticList;
@@ -58,7 +58,7 @@ const HEAD: u64 = 5;
 
 const TAIL: u64 = 8;
 
-/// Row by row on the empty list: the lock words of the head and of the tail after the step, and whether it told a change.
+/// Row by row on the empty list: the lock words of the head and of the tail after the step, and whether it made a change.
 #[test]
 fn an_add_locks_its_two_nodes_in_order_and_gives_them_back(rt: HostRuntime) -> Result<(), Fail> {
     let rows = [

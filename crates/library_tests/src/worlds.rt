@@ -7,7 +7,7 @@ use std::test::Fail;
 /// An event, how often it is made, and the answer of the last one.
 pub type Line = (Event, u32, Option<Reply>);
 
-/// Makes the event so many times: the answer of the last one. A step past the end of a call is refused.
+/// Executes the event this many times: the reply of the last one. A step past the end of a call is refused.
 pub fn make<M: Machine>(
     world: &mut World<M>,
     event: Event,
@@ -20,7 +20,7 @@ pub fn make<M: Machine>(
     Ok(answer)
 }
 
-/// Makes a call of the thread to its end, where it has one within 1,000 steps: its reply, and the number of its steps.
+/// Makes a call of the thread to its end, if it has one within 1,000 steps: its reply, and the number of its steps.
 pub fn make_call<M: Machine>(
     world: &mut World<M>,
     thread: u32,
@@ -47,7 +47,7 @@ pub fn assert_lines<M: Machine, R: Abort>(
     Ok(())
 }
 
-/// The same on a new world of so many threads and slots, which then has these keys.
+/// Makes the calls on a new world of this many threads and slots, which then has these keys.
 pub fn assert_run<M: Machine, R: Abort + AllocGlobal>(
     rt: &R,
     threads: u32,
@@ -60,7 +60,7 @@ pub fn assert_run<M: Machine, R: Abort + AllocGlobal>(
     assert_content(rt, &world, keys)
 }
 
-/// Makes the calls of thread 0 in turn: each has its reply after so many steps.
+/// Makes the calls of thread 0 in turn: each has its reply after this many steps.
 pub fn assert_calls<M: Machine, R: Abort>(
     rt: &R,
     world: &mut World<M>,

@@ -17,7 +17,7 @@ fn has_sought<M: Running, R: Wait>(rt: &R, set: &LiveSet<M>, mut seat: Seat<M>) 
     (seat, reply)
 }
 
-/// One seat adds 9 in a thread, and the other asks for the least key from 4 on in another.
+/// One seat adds 9 in a thread, and the other asks for the smallest key from 4 on in another.
 fn at_once<M: Running + Send + Sync, R: Threads + Wait + Sync>(
     rt: &R,
     set: &LiveSet<M>,
@@ -34,7 +34,7 @@ fn at_once<M: Running + Send + Sync, R: Threads + Wait + Sync>(
     )
 }
 
-/// A seat asks for the least key from there on, which is this reply.
+/// A seat asks for the smallest key from there on, which is this reply.
 fn seek<M: Running, R: Wait + Abort>(
     rt: &R,
     set: &LiveSet<M>,

@@ -76,7 +76,7 @@ fn each_list_makes_the_steps_of_its_table(rt: HostRuntime) {
     at_each_list!(runs_by_its_table, rt);
 }
 
-/// Which of 12 keys a read that waits for nobody finds.
+/// Which of 12 keys a read that does not block finds.
 fn keys_found<M: RunningReads, R: Abort>(
     rt: &R,
     alloc: Global,

@@ -108,7 +108,7 @@ fn no_counts() -> [AtomicU64; KEYS] {
     [0; KEYS].map(AtomicU64::new)
 }
 
-/// Whether each key is left exactly where it was put in once more than it was taken out.
+/// Whether each key is left exactly if it was added once more than it was removed.
 fn add_up(counts: &[AtomicU64], keys: &[u32]) -> bool {
     (0..).zip(counts).all(|(key, count)| count.load(Ordering::SeqCst)
         == u64::from(keys.contains(&key)))

@@ -72,7 +72,7 @@ fn are_added<R: Abort>(rt: &R, replies: (Reply, Reply)) {
     assert!(rt; replies.1 == Reply::True);
 }
 
-/// Two calls meet at their first step: whether one of them told its pause that it took a lock for which it had waited.
+/// Two calls meet at their first step: whether one of them reported to its pause that it took a lock for which it had waited.
 fn calls_meet<M: Running + Send + Sync, R: Threads + Wait + Clock + Abort + Sync>(
     rt: &R,
     alloc: Global,
@@ -85,7 +85,7 @@ fn calls_meet<M: Running + Send + Sync, R: Threads + Wait + Clock + Abort + Sync
     meeting.took.load(Ordering::SeqCst)
 }
 
-/// Where the first step takes a lock, one of two threads waits for it.
+/// If the first step takes a lock, one of two threads waits for it.
 #[test]
 fn two_calls_meet(rt: HostRuntime) {
     assert!(rt; calls_meet::<CoarseList, HostRuntime>(&rt, rt.alloc()));

@@ -1,4 +1,4 @@
-//! What the tests do with a running set: each stops the test where the set does anything else.
+//! What the tests do with a running set: each stops the test if the set does anything else.
 ghost use Rattle.std.specs.Prelude.{◌≡◌, All};
 
 use lset_live::{LiveSet, Running, Seat, open};

@@ -40,7 +40,7 @@ fn tried<M: Running + Send + Sync, R: Threads + Wait + Abort + Sync, G: Gate + S
     work(rt, alloc, set, seats, programs, gate)
 }
 
-/// The same, where it is not refused.
+/// The outcome, which must not be refused.
 pub fn worked<M: Running + Send + Sync, R: Threads + Wait + Abort + Sync, G: Gate + Sync>(
     rt: &R,
     alloc: Global,

@@ -63,7 +63,7 @@ fn opens_with_a_key<M: Running, R: Wait + Abort>(rt: &R, alloc: Global) {
     gather_and_close(rt, set, seats, &[]);
 }
 
-/// Calls on a set that opened with the keys 0, 7 and the greatest, and has two slots.
+/// Calls on a set that opened with the keys 0, 7 and the largest, and has two slots.
 const CALLS_ON_KEYS: [(Call, Reply); 7] = [
     (Call::Add(Key(7)), Reply::False),
     (Call::Remove(Key(0)), Reply::True),
@@ -74,7 +74,7 @@ const CALLS_ON_KEYS: [(Call, Reply); 7] = [
     (Call::Add(Key(9)), Reply::Full),
 ];
 
-/// The least and the greatest key are opening keys too; one that went out comes in again, in a slot.
+/// The smallest and the largest key are opening keys too; one that was removed is added again, in a slot.
 fn keeps_its_keys<M: Running, R: Wait + Abort>(rt: &R, alloc: Global) {
     let opened = open_with::<M>(alloc, 1, 2, &[0, 7, u32::MAX]);
     let (set, mut seats) = opened.expect(rt, "not opened");

@@ -23,7 +23,7 @@ use stepped_lists::Stepped;
 /// No step of a call has this number.
 const NEVER: u64 = u64::MAX;
 
-/// A thread: the number, from 0, of the step after which it stops, what its pauses were told, and how far its call is.
+/// A thread: the number, from 0, of the step after which it stops, what was reported to its pauses, and how far its call is.
 #[derive(Drop)]
 struct Told {
     stops_at: u64,

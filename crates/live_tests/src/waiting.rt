@@ -13,7 +13,7 @@ pub fn comes<R: Clock>(rt: &R, flag: &AtomicBool) -> bool {
     false
 }
 
-/// Two threads, 0 and 1, each of which waits for the other where it comes for the first time; and whether one of them has taken a
+/// Two threads, 0 and 1, each of which waits for the other when it comes for the first time; and whether one of them has taken a
 /// lock that it waited for.
 #[derive(Drop)]
 pub struct Meeting<'a, R> {

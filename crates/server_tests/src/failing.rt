@@ -15,7 +15,7 @@ pub struct FailingReader<'a> {
 
 impl<'a> FailingReader<'a> {
     /// A reader of `text`, of which no byte was read. `fails_at` is the number of the read that fails, counted from 1; none
-    /// fails where it is 0.
+    /// fails if it is 0.
     pub fn new(text: &'a [u8], fails_at: u64) -> FailingReader<'a> {
         FailingReader {
             text,

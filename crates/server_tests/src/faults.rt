@@ -76,7 +76,7 @@ fn read_fails<R: Wait + Abort>(
     assert!(rt; reader.reads() == at, "{at}");
 }
 
-/// The same where answers wait: they have left before.
+/// With answers that wait: they have been written before.
 fn read_fails_buffered<R: Wait + Abort>(
     rt: &R,
     alloc: Global,

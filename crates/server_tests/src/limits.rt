@@ -5,7 +5,7 @@ use std::alloc::Global;
 use std::process::Abort;
 use std::sync::Wait;
 
-/// These bytes are answered so, also where each read gives one byte.
+/// These bytes are answered so, also if each read returns one byte.
 fn is_answered<R: Wait + Abort>(rt: &R, alloc: Global, line: &[u8], answers: &[u8], why: Why) {
     let ended = Ended { why, calls: 0 };
     let session = held(rt, alloc, &mut Device::new(line));

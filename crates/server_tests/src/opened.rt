@@ -16,7 +16,7 @@ pub const LINES: &[u8] = b"ADD 7\nADD 7\nCONTAINS 7\nMOVE 7\nREMOVE 7\nQUIT\n";
 
 pub const ANSWERS: &[u8] = b"TRUE\nFALSE\nTRUE\nBAD\nTRUE\nBYE\n";
 
-/// Lines that ask for the least key at or above 7, before and after a key is added, and their answers.
+/// Lines that ask for the smallest key at or above 7, before and after a key is added, and their answers.
 pub const CEILINGS: &[u8] = b"CEILING 7\nADD 9\nCEILING 7\nQUIT\n";
 
 pub const FOUND: &[u8] = b"NONE\nTRUE\nAT 9\nBYE\n";
@@ -56,7 +56,7 @@ pub fn held<R: Wait + Abort, I: Source>(rt: &R, alloc: Global, reader: &mut I) -
     (written, ended)
 }
 
-/// The same of a session whose answers wait.
+/// A session whose answers wait.
 pub fn held_buffered<R: Wait + Abort, I: Source + Drop>(
     rt: &R,
     alloc: Global,

@@ -64,7 +64,7 @@ impl Device {
     }
 
     /// Whether a run in which it failed did as it is to: nothing is written on the output after a failing read; after a
-    /// failing write a front of the text stands there; where the line about a trouble fails, the status stays.
+    /// failing write a front of the text stands there; if the line about an error fails, the status stays.
     fn is_met(self, row: Row, run: &Run) -> bool {
         match self {
             Device::Input => run.status == 1 && run.told(CANNOT_READ),

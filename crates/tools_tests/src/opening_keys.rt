@@ -14,7 +14,7 @@ use tool_serve::tool_serve_with;
 /// What a server printed that left one key.
 const PRINTED: &str = "listening 127.0.0.1:4711\nsessions 1\ncalls 1\nkey 7\n";
 
-/// What stands after the first line of a server that holds no session and leaves this key.
+/// What comes after the first line of a server that serves no session and leaves this key.
 const LEFT: &str = "\nsessions 0\ncalls 0\nkey 7\n";
 
 /// More calls than a run makes on its input.

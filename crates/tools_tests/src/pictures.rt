@@ -16,7 +16,7 @@ const ALL: Window = Window {
 /// The width of no row.
 const WIDE: u32 = 4_294_967_295;
 
-/// The picture of a report, in so many events where it is that of a schedule, with these points: each its moment, and whether the
+/// The picture of a report, in this many events if it is that of a schedule, with these points: each its moment, and whether the
 /// set changes there.
 fn picture_of(
     alloc: Global,
@@ -54,7 +54,7 @@ fn assert_text<R: Abort>(rt: &R, alloc: Global, picture: &Picture, text: &str) -
     Ok(())
 }
 
-/// A read that stands at its beginning, one that stands at its end, and a call that begins in the last event.
+/// A read that takes effect at its begin, one at its end, and a call that begins in the last event.
 const BEGUN_LAST: &str = "listset-report 1
 list lock-free
 threads 2
@@ -189,7 +189,7 @@ fn the_first_columns_of_many(rt: HostRuntime) -> Result<(), Fail> {
     Ok(())
 }
 
-/// Two calls, of which the later one stands first.
+/// Two calls, of which the later one is first in the order.
 const EARLY: &str = "listset-report 1
 list coarse
 threads 2

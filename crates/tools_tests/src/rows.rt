@@ -54,7 +54,7 @@ pub struct Row {
     pub faults: &'static str,
 }
 
-/// A tool, its input, its status, what it writes on the output, and the line that it tells.
+/// A tool, its input, its status, what it writes to the output, and the line about an error.
 type Told = (Tool, &'static str, u8, &'static str, &'static str);
 
 const FIRST: Told = (Tool::Replay, SCHEDULE, 0, REPORT, "");
@@ -126,14 +126,14 @@ pub struct Run {
 }
 
 impl Run {
-    /// Whether the tool did all that it does where no device fails.
+    /// Whether the tool did all that it does if no device fails.
     pub fn is_unharmed(&self, row: Row) -> bool {
         self.status == row.status
             && self.output.taken.as_slice() == row.output.as_bytes()
             && self.faults.taken.as_slice() == row.faults.as_bytes()
     }
 
-    /// Whether the tool told nothing but one line about a trouble.
+    /// Whether the tool wrote only one line about an error.
     pub fn told(&self, line: &str) -> bool {
         self.output.calls == 0 && self.faults.taken.as_slice() == line.as_bytes()
     }

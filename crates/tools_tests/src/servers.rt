@@ -14,10 +14,10 @@ use tool_serve::tool_serve;
 
 const LISTENING: &str = "listening 127.0.0.1:";
 
-/// What stands after the first line where no session was held.
+/// What comes after the first line if no session was served.
 const NO_SESSION: &str = "sessions 0\ncalls 0\n";
 
-/// What stands after the first line where the client was served.
+/// What comes after the first line if the client was served.
 const ONE_SESSION: &str = "sessions 1\ncalls 1\nkey 7\n";
 
 /// More calls than a run makes on its output.
@@ -98,7 +98,7 @@ fn is_answered(client: Option<TcpStream>) -> bool {
         && matches!(stream.read(&mut more), Ok(0))
 }
 
-/// Whether the client, where there was one, got no byte.
+/// Whether the client, if there was one, got no byte.
 fn is_turned_away(client: Option<TcpStream>) -> bool {
     let Some(mut stream) = client else {
         return true;
@@ -221,7 +221,7 @@ fn each_call_fails<
     Err(Fail::new("no run ends without a failure"))
 }
 
-/// Each write and the flush in turn, until a run ends without a failure. Where the first line is not out, whole and flushed,
+/// Each write and the flush in turn, until a run ends without a failure. If the first line is not out, whole and flushed,
 /// no client is accepted.
 #[test]
 fn each_call_on_the_output_fails_in_turn(rt: HostRuntime) -> Result<(), Fail> {
@@ -273,7 +273,7 @@ fn a_call_and_the_line_about_it_fail(rt: HostRuntime) -> Result<(), Fail> {
     Err(Fail::new("no run ends without a failure"))
 }
 
-/// A server that does not begin, where the write with a number of the line about it fails: the status stays.
+/// A server that does not begin, and the write with a number of the line about it fails: the status stays.
 fn line_fails<
     R: Net<Listener = TcpListener, Stream = TcpStream> + Threads + Wait + Clock + Sync + Abort,
 >(rt: &R, alloc: Global, [kind, port]: [&str; 2], (status, line): (u8, &str)) -> Result<(), Fail> {
