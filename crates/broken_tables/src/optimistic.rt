@@ -25,8 +25,8 @@ pub fn validation_by_the_link_alone()
 /// was added again with a new node. The key that is added behind the old node is lost. In a correct list the walk compares
 /// nodes.
 ///
-/// `threads 2 | quota 2 | begin 1 add 3 | go 1 10 | begin 0 add 5 | go 0 4 | begin 1 remove 3 | go 1 9 | begin 1 add 3 | go
-/// 1 10 | go 0 8`
+/// `threads 2 | quota 2 | begin 1 add 3 | go 1 10 | begin 0 add 5 | go 0 4 | begin 1 remove 3 | go 1 9 | begin 1 add 3 |
+/// go 1 10 | go 0 8`
 pub fn second_walk_by_the_key_alone()
     ensures changes { UnlinkedNodeChanges arrives_by_key same_key_again 44 4 }
     ensures loses { AddedKeyIsLost arrives_by_key same_key_again 44 0 5 }

@@ -263,8 +263,8 @@ pub extern "C" fn listset_draft(
     hand(alloc, drafted(alloc, text), room, status)
 }
 
-/// What `listset gen` prints for its arguments, which come with a zero byte between two: the schedule; or `listset: bad
-/// NAME`, with status 2, for the first that is missing or wrong.
+/// What `listset gen` prints for its arguments, which come with a zero byte between two: the schedule; or
+/// `listset: bad NAME`, with status 2, for the first that is missing or wrong.
 #[unsafe(no_mangle)]
 pub extern "C" fn listset_gen(
     alloc: Global,

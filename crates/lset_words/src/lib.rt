@@ -52,8 +52,8 @@ pub const LOCK: u64 = 0;
 pub struct Key(pub u32);
 
 impl Key {
-    /// Returns the key word of a node with this key: the key plus 1, which is above the head's 0 and below the tail's `2^32
-    /// + 1`.
+    /// Returns the key word of a node with this key: the key plus 1, which is above the head's 0 and below the tail's
+    /// `2^32 + 1`.
     pub fn word(self) -> u64
         ensures { result ≡ key_word_of self }
     {
@@ -149,8 +149,8 @@ pub fn pack(next: u64, mark: bool) -> u64
     if mark { 2 * next + 1 } else { 2 * next }
 }
 
-/// Returns the number of the next node and the mark that a link word holds. Every `word` is a link word; `unpack(pack(next,
-/// mark))` is `(next, mark)`.
+/// Returns the number of the next node and the mark that a link word holds. Every `word` is a link word;
+/// `unpack(pack(next, mark))` is `(next, mark)`.
 pub fn unpack(word: u64) -> (u64, bool)
     ensures next { result.0 ≡ word / 2 }
     ensures mark { IsTrue result.1 ↔ (word % 2 ≡ 1) }

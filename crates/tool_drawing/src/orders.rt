@@ -29,8 +29,8 @@ pub fn put_heading(out: &mut String, picture: &Picture) -> Result<(), AllocError
     Ok(())
 }
 
-/// Appends which moments are drawn, and which options draw those before and after them: `moments 20 to 33 of 35; --to 19
-/// goes before; --from 34 goes on`.
+/// Appends which moments are drawn, and which options draw those before and after them:
+/// `moments 20 to 33 of 35; --to 19 goes before; --from 34 goes on`.
 pub fn put_cut(out: &mut String, picture: &Picture, drawing: &Drawing) -> Result<(), AllocError> {
     let first = drawing.from.max(1);
     let last = drawing.last;

@@ -35,8 +35,8 @@ fn run_text<R: Threads + Wait + Sync>(
 /// - KEYS, 1 to 4,294,967,295: keys are drawn below it; SEED, 0 to 2^64 - 1; LIVES, the number of rounds, 1 to 100, and 1 if
 ///   it is missing.
 ///
-/// Round `i`, from 0, runs its programs at the same time on one set. They are drawn from the wrapping sum of SEED and `64 *
-/// i`. The first set opens empty, each other one with the keys that the round before left. After the last round it writes
+/// Round `i`, from 0, runs its programs at the same time on one set. They are drawn from the wrapping sum of SEED and
+/// `64 * i`. The first set opens empty, each other one with the keys that the round before left. After the last round it writes
 /// the lines `calls N`, `true N`, `false N`, `full N`, `keys N` and each remaining key (`key k`), in increasing order, to
 /// `output`.
 ///
