@@ -3011,7 +3011,7 @@ function drawCalls(trace, scale) {
   const stems = placed.map((call) => drawStem(call, scale));
   const begun = shown.filter((call) => call.begun <= scale.count);
   const words = begun.length === 0 ? "no call has begun" : begun.slice(-20).map((call) => callInWords(call, scale.now)).join("; ");
-  const frame = { width, height, role: "img", "aria-label": `the history of the calls: ${words}` };
+  const frame = { width, height, viewBox: `0 0 ${width} ${height}`, role: "img", "aria-label": `the history of the calls: ${words}` };
   const signs = scale.areWhole ? "" : label({ class: "note", x: 2, y: height - 4 }, SIGNS_IN_WORDS);
   return tag("svg", frame, ...lanes, drawCursor(scale, height, scale.y(0) - scale.bar / 2 - 2), ...stems, ...bars, ...points, signs);
 }
@@ -3049,7 +3049,7 @@ function drawContents(trace, scale) {
   const name = label({ class: "name", x: 6, y: 17 }, "set");
   const what = trace.lacks === null ? "the set" : "the set by the linearization points of the calls";
   const words = `${what} after event ${scale.count}: {${now.keys.slice(0, 40).join(", ")}}`;
-  const frame = { width: scale.width, height: 50, role: "img", "aria-label": words };
+  const frame = { width: scale.width, height: 50, viewBox: `0 0 ${scale.width} 50`, role: "img", "aria-label": words };
   return tag("svg", frame, name, ...parts, drawCursor(scale, 24), number, drawWindow(scale, trace.total, x));
 }
 
@@ -5432,6 +5432,8 @@ function drawJudgedBar(call, reply, scale, y) {
   return tag("rect", rect) + tag("text", above, words);
 }
 
+const frameOf = ({ width, height }) => ({ width, height, viewBox: `0 0 ${width} ${height}` });
+
 function drawRecorded(calls, width) {
   const inOrder = (numbers) => [...new Set(numbers)].sort((one, other) => one - other);
   const threads = inOrder(calls.map(({ thread }) => thread));
@@ -5445,7 +5447,7 @@ function drawRecorded(calls, width) {
     return tag("g", { class: `bar own still ${colourOf(threads[call.thread])}${call.ended === null ? " open" : ""}` }, bar);
   });
   const lanes = threads.map((thread, at) => drawJudgedLane(scale, at, thread));
-  const frame = { width: scale.width, height: scale.height, role: "img", "aria-label": calls.map(nameOfCall).join(", ") };
+  const frame = { ...frameOf(scale), role: "img", "aria-label": calls.map(nameOfCall).join(", ") };
   return tag("svg", frame, ...lanes, ...bars);
 }
 
@@ -5462,7 +5464,7 @@ function drawJudged(judged) {
   const lanes = Array.from({ length: exercise.threads }, (_, thread) => drawJudgedLane(scale, thread));
   const at = exercise.level === "claim" ? moment : judged.count;
   const line = { class: "cursor", x1: scale.x(at), x2: scale.x(at), y1: 0, y2: scale.height };
-  const frame = { width: scale.width, height: scale.height, role: "group", "aria-label": "the calls, each with a point to place" };
+  const frame = { ...frameOf(scale), role: "group", "aria-label": "the calls, each with a point to place" };
   const calls = exercise.calls.map((call) => drawJudgedCall(call, judged));
   return tag("svg", frame, ...lanes, at === 0 ? "" : tag("line", line), ...calls);
 }

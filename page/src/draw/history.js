@@ -163,7 +163,7 @@ export function drawCalls(trace, scale) {
   const stems = placed.map((call) => drawStem(call, scale));
   const begun = shown.filter((call) => call.begun <= scale.count);
   const words = begun.length === 0 ? "no call has begun" : begun.slice(-20).map((call) => callInWords(call, scale.now)).join("; ");
-  const frame = { width, height, role: "img", "aria-label": `the history of the calls: ${words}` };
+  const frame = { width, height, viewBox: `0 0 ${width} ${height}`, role: "img", "aria-label": `the history of the calls: ${words}` };
   const signs = scale.areWhole ? "" : label({ class: "note", x: 2, y: height - 4 }, SIGNS_IN_WORDS);
   return tag("svg", frame, ...lanes, drawCursor(scale, height, scale.y(0) - scale.bar / 2 - 2), ...stems, ...bars, ...points, signs);
 }
@@ -203,7 +203,7 @@ export function drawContents(trace, scale) {
   const name = label({ class: "name", x: 6, y: 17 }, "set");
   const what = trace.lacks === null ? "the set" : "the set by the linearization points of the calls";
   const words = `${what} after event ${scale.count}: {${now.keys.slice(0, 40).join(", ")}}`;
-  const frame = { width: scale.width, height: 50, role: "img", "aria-label": words };
+  const frame = { width: scale.width, height: 50, viewBox: `0 0 ${scale.width} 50`, role: "img", "aria-label": words };
   return tag("svg", frame, name, ...parts, drawCursor(scale, 24), number, drawWindow(scale, trace.total, x));
 }
 

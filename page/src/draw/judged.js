@@ -85,6 +85,8 @@ function drawJudgedBar(call, reply, scale, y) {
   return tag("rect", rect) + tag("text", above, words);
 }
 
+const frameOf = ({ width, height }) => ({ width, height, viewBox: `0 0 ${width} ${height}` });
+
 // Recorded calls as bars, each thread's in a lane and their moments one after the other: a clock may leave any room between two.
 export function drawRecorded(calls, width) {
   const inOrder = (numbers) => [...new Set(numbers)].sort((one, other) => one - other);
@@ -99,7 +101,7 @@ export function drawRecorded(calls, width) {
     return tag("g", { class: `bar own still ${colourOf(threads[call.thread])}${call.ended === null ? " open" : ""}` }, bar);
   });
   const lanes = threads.map((thread, at) => drawJudgedLane(scale, at, thread));
-  const frame = { width: scale.width, height: scale.height, role: "img", "aria-label": calls.map(nameOfCall).join(", ") };
+  const frame = { ...frameOf(scale), role: "img", "aria-label": calls.map(nameOfCall).join(", ") };
   return tag("svg", frame, ...lanes, ...bars);
 }
 
@@ -116,7 +118,7 @@ export function drawJudged(judged) {
   const lanes = Array.from({ length: exercise.threads }, (_, thread) => drawJudgedLane(scale, thread));
   const at = exercise.level === "claim" ? moment : judged.count;
   const line = { class: "cursor", x1: scale.x(at), x2: scale.x(at), y1: 0, y2: scale.height };
-  const frame = { width: scale.width, height: scale.height, role: "group", "aria-label": "the calls, each with a point to place" };
+  const frame = { ...frameOf(scale), role: "group", "aria-label": "the calls, each with a point to place" };
   const calls = exercise.calls.map((call) => drawJudgedCall(call, judged));
   return tag("svg", frame, ...lanes, at === 0 ? "" : tag("line", line), ...calls);
 }
