@@ -16,7 +16,7 @@ import socket
 import threading
 import time
 
-from harness.cases import KINDS, Wrong, each, test
+from harness.cases import KINDS, Wrong, each, same, test
 from harness.serve_client import SECONDS, SOON, Client, answer_of, asks, have_ended, read_all, resets, serving, takes_turns
 from harness.set_model import SetModel, reply_of
 
@@ -283,6 +283,18 @@ def one_seat(case):
                     if told := one_more.recv(10):
                         raise Wrong(f"one client more than are served is told {told!r}")
         server.ends(6, 13, 15, [8])
+
+
+@test
+def a_port_that_is_asked_for(case):
+    """A server listens on the port that its words name, which was free just before."""
+    with socket.create_server(("127.0.0.1", 0)) as free:
+        port = free.getsockname()[1]
+    with serving(case.program, ONE_LIST, 1, ROOM, 1, port) as server:
+        same(server.port, port, "the port that it says")
+        with server.connect() as connection:
+            asks(connection, b"CONTAINS 7\nQUIT\n", b"FALSE\nBYE\n")
+        server.ends(1, 1, 1, [])
 
 
 # ---- answers that wait, and a client that does not read them

@@ -38,8 +38,8 @@ class Server:
 
 
 @contextlib.contextmanager
-def serving(program, kind, seats, quota, sessions):
-    words = [program, "serve", kind, str(seats), str(quota), "0", str(sessions)]
+def serving(program, kind, seats, quota, sessions, port=0):
+    words = [program, "serve", kind, str(seats), str(quota), str(port), str(sessions)]
     process = subprocess.Popen(words, stdout=subprocess.PIPE, text=True)
     watch = threading.Timer(2 * SECONDS, process.kill)
     watch.start()
