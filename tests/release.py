@@ -56,9 +56,6 @@ MANIFEST = """[package]
 name = "own"
 version = "0.0.0"
 edition = "2021"
-
-[dependencies]
-listset = { path = "@CRATE@" }
 """
 
 
@@ -234,7 +231,8 @@ def the_crate_is_built_offline(case):
     own = case.room / "own"
     (own / "src").mkdir(parents=True)
     (own / "src" / "main.rs").write_text(PROGRAM_WITH_CRATE)
-    (own / "Cargo.toml").write_text(MANIFEST.replace("@CRATE@", str(unpacked_release("*.crate", case.room))))
+    (own / "Cargo.toml").write_text(MANIFEST)
+    well("cargo", "add", "--offline", "--quiet", "--path", unpacked_release("*.crate", case.room), cwd=own, env=WITHOUT_RATTLE)
     well("cargo", "build", "--offline", "--quiet", cwd=own, env=WITHOUT_RATTLE)
     same(well(own / "target/debug/own", SCHEDULES / "snip.broken.report", env=WITHOUT_RATTLE), told_of_broken(case.program), "the judge")
 
@@ -244,3 +242,10 @@ def the_crate_is_built_offline(case):
 def the_page_in_one_file_has_the_engine(case):
     page, script = released_file("listset-page-*.html"), TOP / "tests" / "harness" / "one_file.js"
     replays(case.program, ["node", script, page], env=WITHOUT_RATTLE)
+
+
+@needs("node")
+@test
+def the_page_of_the_package_has_the_commands(case):
+    top = unpacked_release("*-linux-x86_64.tar.gz", case.room)
+    replays(case.program, ["node", top / "share/listset/page/listset.js"], env=WITHOUT_RATTLE)
