@@ -235,7 +235,7 @@ async function driveTold() {
   check("no turn is told before that is asked for", part("ticks").children.length === 0 && part("turns").children.length === 0);
   part("turns-box").open = true;
   await sleep(50);
-  check("what it turns on", textOf("turns-on").startsWith("No: thread 1 takes the marked node out itself"));
+  check("what it turns on", textOf("turns-on").startsWith(inPage("CLASSICS.snip.turnsOn").slice(0, 24)));
   check("a tick for each turn", part("ticks").children.length === 2 && part("turns").children.length === 2);
   const turn = part("turns").children[1];
   turn.focus();
