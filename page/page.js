@@ -1116,7 +1116,7 @@ function lockText(event, row) {
   const name = lockedBy(event.word);
   if (event.deed === "store") return `unlocks ${name}.`;
   if (!isFailed(event)) return `locks ${name}.`;
-  const then = event.changes.pc === row ? "It will try again" : `It goes on all the same, to row ${event.changes.pc}`;
+  const then = event.changes.pc === row ? "It will try again" : `It continues all the same, at row ${event.changes.pc}`;
   return `tries to lock ${name}, but ${event.saw} holds it. ${then}.`;
 }
 
@@ -4698,7 +4698,7 @@ const LESSON_WORDS = {
   list: { form: /^(coarse|fine|optimistic|lazy|lock-free)$/, says: "coarse, fine, optimistic, lazy or lock-free" },
   lacks: { form: /^[a-z][a-z-]{0,40}$/, says: "the name of a broken list", isOptional: true },
   threads: { form: /^([1-9]|[1-5]\d|6[0-4])$/, says: "a number from 1 to 64" },
-  quota: { form: /^(0|[1-9]\d{0,4})$/, says: "a number, the nodes that a thread may put in" },
+  quota: { form: /^(0|[1-9]\d{0,4})$/, says: "a number, the keys that a thread can add" },
   opening: { form: /^\d+( \d+)*$/, says: "keys, rising, with a space between", isOptional: true },
   start: { isBlock: true, isOptional: true },
   question: { isBlock: true },
@@ -4760,7 +4760,7 @@ class CourseReader {
     const parts = this.lessons[this.lessons.length - 1];
     if (parts === undefined) return this.fault(number, `expected "lesson NAME" above "${word}"`);
     const before = Object.keys(parts).pop();
-    if (word in parts) return this.fault(number, `"${word}" stands in this lesson already, at line ${parts[word].number}`);
+    if (word in parts) return this.fault(number, `"${word}" is in this lesson already, at line ${parts[word].number}`);
     if (WORDS.indexOf(word) < WORDS.indexOf(before)) this.fault(number, `expected "${word}" above "${before}"`);
     parts[word] = part;
   }
@@ -6014,7 +6014,7 @@ function stepControls(state, thread) {
   next.textContent = `next: ${rows[held.pc]?.step ?? ""}`;
   const untilRow = document.createElement("span");
   const goUntil = () => stepsToRow(thread, Number(row.value));
-  untilRow.append(buttonOf("until[ row]", "until", `thread ${thread} until it stands at this row (the keys r ${thread})`, goUntil), row);
+  untilRow.append(buttonOf("until[ row]", "until", `thread ${thread} until it is at this row (the keys r ${thread})`, goUntil), row);
   const call = document.createElement("span");
   Object.assign(call, { className: "call", textContent: callText(held.call) });
   return [
@@ -7673,7 +7673,7 @@ function judgedPart(ask, lessons, line) {
   const not = (says) => ({ task: lesson?.name ?? null, isSolved: false, says });
   if (lesson === undefined) return not(`there is no lesson ${JSON.stringify(word.slice(0, 60))}`);
   if (words.length === 0 || !words[0].includes("#")) return not("the address of a schedule is missing, from # on");
-  if (words.length > 1) return not("something stands behind the address");
+  if (words.length > 1) return not("there is more behind the address");
   const { schedule, fault } = readSchedule(words[0]);
   if (fault !== undefined) return not(fault);
   const verdict = judged(ask, lesson, schedule);
@@ -7685,7 +7685,7 @@ function judgedOrder(ask, [run = "", level = "", word = "", ...more]) {
   const task = `judge ${run} ${level}`;
   const not = (says) => ({ task, isSolved: false, says });
   if (!Object.hasOwn(LEVELS, level)) return not(`a level is due, one of ${Object.keys(LEVELS).join(", ")}`);
-  if (more.length > 0) return not("something stands behind the order");
+  if (more.length > 0) return not("there is more behind the order");
   const { schedule, fault } = run.includes("#") ? readSchedule(run) : scheduleOfExample(ask, run);
   if (fault !== undefined) return not(fault);
   const report = ask("listset_replay", schedule);
@@ -7701,7 +7701,7 @@ function judgedBreak(ask, [name = "", link = "", ...more]) {
   const not = (says) => ({ task, isSolved: false, says });
   if (!Object.hasOwn(LACKING, name) || name === NO_TASK) return not("there is no such list to break");
   if (!link.includes("#")) return not("the address of a schedule is due, from # on");
-  if (more.length > 0) return not("something stands behind the address");
+  if (more.length > 0) return not("there is more behind the address");
   const { schedule, fault } = readSchedule(link);
   if (fault !== undefined) return not(fault);
   if (eventsAsked(schedule) > MOST_EVENTS) return not(`at most ${MOST_EVENTS} events are due`);

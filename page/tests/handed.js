@@ -163,7 +163,7 @@ This is no line of a solution.
     "line 5: two-at-once: Line 9 of the schedule is refused: Idle.",
     "line 6: lost-pred: the address is not that of a schedule",
     "line 7: changed-link: The list, the number of threads, the quota and the opening keys are to be those of the lesson.",
-    "line 8: marked-in-chain: something stands behind the address",
+    "line 8: marked-in-chain: there is more behind the address",
     'line 9: there is no lesson "no-lesson"',
     "line 10: judge snip points: Still missing: remove(5) of t0, add(7) of t1.",
     'line 11: judge nosuch points: there is no example "nosuch"',

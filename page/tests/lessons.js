@@ -146,7 +146,7 @@ const BROKEN = [
   ["list coarse", "list course", "list course", '"course" is no list: it is coarse, fine'],
   ["threads 3", "threads three", "threads three", '"three" is no threads'],
   ["quota 4\n", "quota 4 4\n", "quota 4 4", '"4 4" is no quota'],
-  ["threads 3\n", "threads 3\nquota 5\n", "quota 4", '"quota" stands in this lesson already, at line '],
+  ["threads 3\n", "threads 3\nquota 5\n", "quota 4", '"quota" is in this lesson already, at line '],
   ["quota 4\nstart", "start\nquota 4", "quota 4", 'expected "quota" above "start"'],
   ["\nquestion\n", "\nqestion\n", "qestion", '"qestion" is no word of a lesson'],
   ["\nstart\n", "\nstart begin 0 add 5\n", "start begin", 'expected what "start" says in the lines below it'],

@@ -42,7 +42,7 @@ const CLAIMS = [
   [/^t\d unlocks (the list|\w+)\./, ([name], { lockOf }) => lockOf(name) !== "free"],
   [/tries to lock (the list|\w+), but (t\d) holds it/, ([name, other], { lockOf, thread }) => lockOf(name) !== other || other === thread],
   [/It will try again/, (_, { event, next }) => next !== null && next.word !== event.word],
-  [/It goes on all the same, to row (\d+)/, (_, { event, next }) => next !== null && next.word === event.word],
+  [/It continues all the same, at row (\d+)/, (_, { event, next }) => next !== null && next.word === event.word],
   [/holds? the locks? of (\w+)(?: and (\w+))?\./, (names, { lockOf, thread }) => names.some((name) => name !== undefined && lockOf(name) !== thread)],
   [/holds no lock now/, (_, { locks, thread }) => locks[thread] !== undefined],
   [/sets (\w+)\.link to (\w+)\./, ([node, to], { linkOf }) => linkOf(node) !== to],

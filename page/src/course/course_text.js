@@ -12,7 +12,7 @@ const LESSON_WORDS = {
   list: { form: /^(coarse|fine|optimistic|lazy|lock-free)$/, says: "coarse, fine, optimistic, lazy or lock-free" },
   lacks: { form: /^[a-z][a-z-]{0,40}$/, says: "the name of a broken list", isOptional: true },
   threads: { form: /^([1-9]|[1-5]\d|6[0-4])$/, says: "a number from 1 to 64" },
-  quota: { form: /^(0|[1-9]\d{0,4})$/, says: "a number, the nodes that a thread may put in" },
+  quota: { form: /^(0|[1-9]\d{0,4})$/, says: "a number, the keys that a thread can add" },
   opening: { form: /^\d+( \d+)*$/, says: "keys, rising, with a space between", isOptional: true },
   start: { isBlock: true, isOptional: true },
   question: { isBlock: true },
@@ -76,7 +76,7 @@ class CourseReader {
     const parts = this.lessons[this.lessons.length - 1];
     if (parts === undefined) return this.fault(number, `expected "lesson NAME" above "${word}"`);
     const before = Object.keys(parts).pop();
-    if (word in parts) return this.fault(number, `"${word}" stands in this lesson already, at line ${parts[word].number}`);
+    if (word in parts) return this.fault(number, `"${word}" is in this lesson already, at line ${parts[word].number}`);
     if (WORDS.indexOf(word) < WORDS.indexOf(before)) this.fault(number, `expected "${word}" above "${before}"`);
     parts[word] = part;
   }

@@ -108,7 +108,7 @@ export function judgedPart(ask, lessons, line) {
   const not = (says) => ({ task: lesson?.name ?? null, isSolved: false, says });
   if (lesson === undefined) return not(`there is no lesson ${JSON.stringify(word.slice(0, 60))}`);
   if (words.length === 0 || !words[0].includes("#")) return not("the address of a schedule is missing, from # on");
-  if (words.length > 1) return not("something stands behind the address");
+  if (words.length > 1) return not("there is more behind the address");
   const { schedule, fault } = readSchedule(words[0]);
   if (fault !== undefined) return not(fault);
   const verdict = judged(ask, lesson, schedule);
@@ -121,7 +121,7 @@ function judgedOrder(ask, [run = "", level = "", word = "", ...more]) {
   const task = `judge ${run} ${level}`;
   const not = (says) => ({ task, isSolved: false, says });
   if (!Object.hasOwn(LEVELS, level)) return not(`a level is due, one of ${Object.keys(LEVELS).join(", ")}`);
-  if (more.length > 0) return not("something stands behind the order");
+  if (more.length > 0) return not("there is more behind the order");
   const { schedule, fault } = run.includes("#") ? readSchedule(run) : scheduleOfExample(ask, run);
   if (fault !== undefined) return not(fault);
   const report = ask("listset_replay", schedule);
@@ -138,7 +138,7 @@ function judgedBreak(ask, [name = "", link = "", ...more]) {
   const not = (says) => ({ task, isSolved: false, says });
   if (!Object.hasOwn(LACKING, name) || name === NO_TASK) return not("there is no such list to break");
   if (!link.includes("#")) return not("the address of a schedule is due, from # on");
-  if (more.length > 0) return not("something stands behind the address");
+  if (more.length > 0) return not("there is more behind the address");
   const { schedule, fault } = readSchedule(link);
   if (fault !== undefined) return not(fault);
   if (eventsAsked(schedule) > MOST_EVENTS) return not(`at most ${MOST_EVENTS} events are due`);

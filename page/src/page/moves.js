@@ -67,7 +67,7 @@ function stepControls(state, thread) {
   next.textContent = `next: ${rows[held.pc]?.step ?? ""}`;
   const untilRow = document.createElement("span");
   const goUntil = () => stepsToRow(thread, Number(row.value));
-  untilRow.append(buttonOf("until[ row]", "until", `thread ${thread} until it stands at this row (the keys r ${thread})`, goUntil), row);
+  untilRow.append(buttonOf("until[ row]", "until", `thread ${thread} until it is at this row (the keys r ${thread})`, goUntil), row);
   const call = document.createElement("span");
   Object.assign(call, { className: "call", textContent: callText(held.call) });
   return [

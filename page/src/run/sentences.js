@@ -34,7 +34,7 @@ function lockText(event, row) {
   const name = lockedBy(event.word);
   if (event.deed === "store") return `unlocks ${name}.`;
   if (!isFailed(event)) return `locks ${name}.`;
-  const then = event.changes.pc === row ? "It will try again" : `It goes on all the same, to row ${event.changes.pc}`;
+  const then = event.changes.pc === row ? "It will try again" : `It continues all the same, at row ${event.changes.pc}`;
   return `tries to lock ${name}, but ${event.saw} holds it. ${then}.`;
 }
 
