@@ -29,15 +29,21 @@ def built(name):
     return program
 
 
+def processor_seconds(process):
+    """The processor seconds of a process, once it has ended; its status is then in `returncode`."""
+    _, status, used = os.wait4(process.pid, 0)
+    process.returncode = os.waitstatus_to_exitcode(status)
+    return used.ru_utime + used.ru_stime
+
+
 def seconds_of(words, given, written, wanted):
     """Processor seconds of one run, which has to end with the status that is wanted."""
     with open(given) as source, open(written, "w") as sink:
         run = subprocess.Popen(words, stdin=source, stdout=sink, stderr=subprocess.DEVNULL)
-        _, status, used = os.wait4(run.pid, 0)
-    run.returncode = os.waitstatus_to_exitcode(status)
+        used = processor_seconds(run)
     if run.returncode != wanted:
         sys.exit(f"bench: {' '.join(words)}: status {run.returncode}")
-    return used.ru_utime + used.ru_stime
+    return used
 
 
 def memory_of(words, given):

@@ -11,13 +11,13 @@ import tempfile
 import time
 
 from build_benches import by_rustc
-from measuring import built, heading, kinds, row
+from measuring import built, heading, kinds, processor_seconds, row
 
 ROUNDS = 5
 CLIENTS = (1, 8)
 KEYS = "64"
 REQUESTS = {1: "20000", 100: "90000"}  # of each client, by how many it sends at once; so many that no seat runs out of slots
-SECONDS = 60
+REDIS_STARTS_WITHIN = LOAD_ENDS_WITHIN = 60  # seconds
 
 
 def processor_of(pid):
@@ -63,7 +63,7 @@ def redis(program, _kind, _clients):
     with tempfile.TemporaryDirectory() as room:
         words = [program, "--port", str(port), "--bind", "127.0.0.1", "--save", "", "--appendonly", "no", "--dir", room]
         with ended(subprocess.Popen(words, stdout=subprocess.DEVNULL)) as process:
-            end = time.monotonic() + SECONDS
+            end = time.monotonic() + REDIS_STARTS_WITHIN
             while not answers(port) and time.monotonic() < end:
                 time.sleep(0.05)
             yield str(port), process
@@ -76,11 +76,10 @@ def loaded(load, protocol, server, clients, at_once):
         before = processor_of(process.pid)
         words = [load, protocol, port, str(clients), str(at_once), requests, KEYS]
         # listset ends with its last client, so what it has had by then is read off as it ends
-        told = subprocess.run(words, stdout=subprocess.PIPE, text=True, check=True, timeout=SECONDS).stdout
+        told = subprocess.run(words, stdout=subprocess.PIPE, text=True, check=True, timeout=LOAD_ENDS_WITHIN).stdout
         if protocol == "listset":
             process.stdout.read()
-            _, _, used = os.wait4(process.pid, 0)
-            process.returncode, spent = 0, used.ru_utime + used.ru_stime
+            spent = processor_seconds(process)
         else:
             spent = processor_of(process.pid)
     return [*map(float, told.split()), 1e6 * (spent - before) / (clients * int(requests))]

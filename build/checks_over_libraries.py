@@ -48,7 +48,7 @@ class Checks:
                     shutil.copytree(f"{crate.folder}/{part}", f"{room}/{part}")
             for path, text in texts.items():
                 pathlib.Path(room, path).write_text(text, encoding="utf-8")
-            return processes.ran([toolchain.rtlib().RATTLE, "check", *crate.words(flags, keeps=False)], room)
+            return processes.status_and_words([toolchain.rtlib().RATTLE, "check", *crate.words(flags, keeps=False)], room)
 
     def _by_rt(self, name, texts, only):
         if self.room is None:
@@ -59,7 +59,7 @@ class Checks:
         try:
             for path, text in texts.items():
                 (folder_of / path).write_text(text, encoding="utf-8")
-            return processes.ran(["rt", "check", "--jobs", "1", *(flag for it in only for flag in ("--only", it))], folder_of)
+            return processes.status_and_words(["rt", "check", "--jobs", "1", *(flag for it in only for flag in ("--only", it))], folder_of)
         finally:
             for path, text in before.items():
                 (folder_of / path).write_text(text, encoding="utf-8")
@@ -71,8 +71,8 @@ class Checks:
         if crate and all(self.library(it.name).is_dir() for it in crate.below()):
             for it in crate.below():
                 it.rlib = str(self.library(it.name))
-            return processes.ran([toolchain.rtlib().RATTLE, "check", *crate.words(["--jobs", "1", "--only", ""])], crate.folder)
-        return processes.ran(["rt", "check", "--jobs", "1", "--only", ""], other / "crates" / name)
+            return processes.status_and_words([toolchain.rtlib().RATTLE, "check", *crate.words(["--jobs", "1", "--only", ""])], crate.folder)
+        return processes.status_and_words(["rt", "check", "--jobs", "1", "--only", ""], other / "crates" / name)
 
 
 def sum_of_what_is_proved(root, name):

@@ -65,7 +65,7 @@ def prove_below(name, tell):
     for it in names:
         tell(left.begun(it))
         began = time.time()
-        status, said = processes.ran(["rt", "lib"], toolchain.TOP / "crates" / it)
+        status, said = processes.status_and_words(["rt", "lib"], toolchain.TOP / "crates" / it)
         if status:
             raise toolchain.NotBuilt(f"{said.rstrip()}\n{it} is not proved: rt check in crates/{it} says more")
         spent = time.time() - began

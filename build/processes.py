@@ -66,7 +66,7 @@ def free_memory():
     return int(found[1]) * 1024
 
 
-def ran(words, cwd, **environment):
+def status_and_words(words, cwd, **environment):
     """Runs a command to its end; gives its status and what it said on both its outputs."""
     how = {"stdin": subprocess.DEVNULL, "stdout": subprocess.PIPE, "stderr": subprocess.STDOUT, "errors": "replace"}
     made = subprocess.run([*guarded(), *map(str, words)], cwd=cwd, env={**os.environ, **environment}, **how)
@@ -79,7 +79,7 @@ class Failed(Exception):
 
 def output_of(*words, cwd=None):
     """Runs a command to its end; gives what it said on both its outputs, and raises Failed if its status is not 0."""
-    status, said = ran(words, cwd)
+    status, said = status_and_words(words, cwd)
     if status:
         raise Failed(f"{words[0]} ended with status {status}\n{said[-3000:].rstrip()}")
     return said

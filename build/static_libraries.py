@@ -27,7 +27,7 @@ def static_library(name, room, over=None):
     kept = source / "out" / "static"
     if over and (kept / "done").exists():
         return kept / archive.name, kept / module.name
-    status, said = (0, "") if over else processes.ran(["rt", "lib"], source)
+    status, said = (0, "") if over else processes.status_and_words(["rt", "lib"], source)
     if status:
         raise NotBuilt(said)
     if not toolchain.checks_over_libraries():
@@ -36,7 +36,7 @@ def static_library(name, room, over=None):
         return source / "out" / archive.name, None
     crate = {it.name: it for it in toolchain.rtlib().crates_below(str(over or toolchain.TOP))}[name]
     made = [toolchain.folder() / "bin" / "rattle", "build", *crate.words(["--jobs", "1"]), *([] if over else ["--incremental", "out/incremental"])]
-    status, said = processes.ran([*made, "--toolchain", toolchain_that_keeps(room, module), "-o", archive], source)
+    status, said = processes.status_and_words([*made, "--toolchain", toolchain_that_keeps(room, module), "-o", archive], source)
     if status:
         raise NotBuilt(said)
     if over:
@@ -55,7 +55,7 @@ def object_of(name, root):
     if not made.exists() and toolchain.checks_over_libraries():
         crate = {it.name: it for it in toolchain.rtlib().crates_below(str(root))}[name]
         words = ["build", *crate.words(["--jobs", "1"], keeps=False), "--toolchain", toolchain.folder() / "toolchain", "-o", made]
-        status, said = processes.ran([toolchain.folder() / "bin" / "rattle", *words], source)
+        status, said = processes.status_and_words([toolchain.folder() / "bin" / "rattle", *words], source)
         if status:
             raise NotBuilt(said)
     if not made.exists():

@@ -4,7 +4,7 @@ clauses. docs/make/pages fails by it."""
 import re
 from pathlib import Path
 
-from believe_page import entries, said_of
+from believe_page import entries, comment_of
 from reached_definitions import analysis, public_contracts
 
 TOP = Path(__file__).resolve().parent.parent.parent
@@ -37,7 +37,7 @@ def file_faults():
             yield f"says that {file} is to be believed, and no public contract reaches it"
     for _, file, name, definitions, _ in entries():
         for it in definitions:
-            if (TOP / "crates" / file).exists() and not said_of(file, it, name):
+            if (TOP / "crates" / file).exists() and not comment_of(file, it, name):
                 yield f"shows a comment of {it} in {file}, and there is none"
 
 

@@ -72,17 +72,17 @@ def comment_at(lines, at, sign):
     return said[: said.rindex(". ")] if said.endswith(",") else said
 
 
-def said_of(file, name, label):
+def comment_of(file, name, label):
     """What the comment of a definition says, or None where there is no such definition or no comment."""
     lines = (TOP / "crates" / file).read_text().splitlines()
     sign = "--" if file.endswith(".antt") else "///"
     head = re.compile(r"(?:(?:pub|enum|struct|trait|" + "|".join(KINDS) + ") )*" + re.escape(name) + r"(?![\w'])")
     at = next((it for it, line in enumerate(lines) if head.match(line) and not line.startswith(("use ", sign))), None)
-    said = comment_at(lines, at, sign).strip() if at is not None else ""
-    said = re.sub(r"^\[[^]]*\](?:, rising)?: ", "", said).rstrip(".")
-    said = re.sub(r"\b[A-Z]{2,}\b", lambda it: it[0] if it[0] in ABBREVIATIONS else it[0].lower(), said)
-    said = said if re.match(r"\w*[a-z][A-Z]", said) else said[:1].lower() + said[1:]
-    return said.removeprefix(f"{label[0].lower()}{label[1:]}: ") or None
+    comment = comment_at(lines, at, sign).strip() if at is not None else ""
+    comment = re.sub(r"^\[[^]]*\](?:, rising)?: ", "", comment).rstrip(".")
+    comment = re.sub(r"\b[A-Z]{2,}\b", lambda it: it[0] if it[0] in ABBREVIATIONS else it[0].lower(), comment)
+    comment = comment if re.match(r"\w*[a-z][A-Z]", comment) else comment[:1].lower() + comment[1:]
+    return comment.removeprefix(f"{label[0].lower()}{label[1:]}: ") or None
 
 
 def definitions_of(part, _top=TOP):
@@ -92,7 +92,7 @@ def definitions_of(part, _top=TOP):
         if not definitions:
             others.setdefault(file, []).append(name)
             continue
-        said = "; ".join(f"{said_of(file, it, name)} (`{it}`)" for it in definitions)
+        said = "; ".join(f"{comment_of(file, it, name)} (`{it}`)" for it in definitions)
         where = [f"`{it}`" for it in [*([file] if file != last else []), *functions]]
         lines.append(f"- **{name}**{''.join(f', {it}' for it in where)}: {said}.")
         last = file

@@ -85,15 +85,15 @@ def gist(said):
 
 def others_in_words(names):
     """Names, those of one type together."""
-    by_owner = {}
+    functions_by_type = {}
     for name in names:
-        owner, _, last = name.rpartition("::")
-        by_owner.setdefault(owner, []).append(last)
-    for owner, lasts in by_owner.items():
-        if not owner:
-            yield from (f"`{last}`" for last in lasts)
+        type_name, _, function = name.rpartition("::")
+        functions_by_type.setdefault(type_name, []).append(function)
+    for type_name, functions in functions_by_type.items():
+        if not type_name:
+            yield from (f"`{function}`" for function in functions)
         else:
-            yield f"`{owner}::{lasts[0]}`" if len(lasts) == 1 else f"`{owner}::{{{', '.join(lasts)}}}`"
+            yield f"`{type_name}::{functions[0]}`" if len(functions) == 1 else f"`{type_name}::{{{', '.join(functions)}}}`"
 
 
 def functions(part, top):

@@ -2,7 +2,7 @@
 step, what the thread sets after it and where it stands then are said in words. What a row is in the book stands here (`BOOK`)."""
 import functools
 
-from antt_definitions import definitions_in
+from antt_expressions import definitions_in
 
 LISTS = ["coarse", "fine", "optimistic", "lazy", "lock_free"]
 REGISTERS = ["pred", "curr", "succ", "node", "pkey", "ckey"]

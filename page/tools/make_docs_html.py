@@ -13,7 +13,7 @@ PAGES = {"HOW-IT-WORKS.md": "how-it-works.html", "CLASSIC.md": "classic.html", "
 KINDS = {"CoarseList": "coarse", "FineList": "fine", "OptimisticList": "optimistic", "LazyList": "lazy", "LockFreeList": "lock-free"}
 SPAN = re.compile(r"(`[^`]+`)|\[([^\]]+)\]\(([^)\s]+)\)|\*\*(.+?)\*\*|(?<![\w*])\*([^*]+)\*(?![\w*])")
 PICTURE = re.compile(r"[a-z-]+ list, \d+ threads?, quota \d+: \d+ calls? in (\d+) events?$")
-EVENT = re.compile(r"event \d+ line \d+ thread (\d+) (begin )?.*? pc (\d+)(?: |$)")
+TRACE_LINE = re.compile(r"event \d+ line \d+ thread (\d+) (begin )?.*? pc (\d+)(?: |$)")
 FILE = re.compile(r"`examples/schedules/([a-z-]+)\.schedule`")
 LACKING = re.compile(r"`([a-z-]+)` \([a-z-]+\): ")  # how an item of CLASSIC.md begins that is of a broken list
 NUMBER = re.compile(r"\d+")
@@ -49,7 +49,7 @@ class Runs:
         """Notes of each row the first event that makes it: it stands in the line before of the event's thread."""
         stood = {}
         for number, line in enumerate(self.events[name], 1):
-            thread, begins, row = EVENT.match(line).groups()
+            thread, begins, row = TRACE_LINE.match(line).groups()
             if not begins:
                 self.rows[self.kinds[name]].setdefault(int(stood[thread]), (name, number))
             stood[thread] = row
