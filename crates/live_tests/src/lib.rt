@@ -27,6 +27,8 @@ mod full;
 #[cfg(test)]
 mod gathering;
 #[cfg(test)]
+mod largest;
+#[cfg(test)]
 mod lives;
 #[cfg(test)]
 mod many;
