@@ -41,6 +41,7 @@ SHOWN = {
         "lset_schedule": ["read_schedule", "write_schedule", "generate"],
         "lset_report": ["read_report", "write_report"],
         "lset_calls": ["read_calls", "report_of"],
+        "lset_long": ["LongReader::new", "LongReader::feed", "LongReader::finish"],
         "lset_points": ["judge_by_points"],
         "lset_replay": ["replay", "replay_with_points", "trace"],
         "tool_draft": ["read_draft", "schedule_of"],

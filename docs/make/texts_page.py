@@ -8,6 +8,7 @@ CAUSES = [
     ("lset_schedule/src/fault.rt", "Cause", "schedule"),
     ("lset_report/src/report_fault.rt", "ReportCause", "report"),
     ("lset_calls/src/fault.rt", "CallsCause", "calls"),
+    ("lset_long/src/fault.rt", "LongCause", "calls 3"),
     ("tool_base/src/trouble.rt", "KeyCause", "keys"),
     ("lset_steps/src/world.rt", "StepFault", "schedule"),
     ("tool_draft/src/fault.rt", "DraftCause", "draft"),
@@ -35,6 +36,8 @@ EXAMPLES = {
     ("Number", "report"): "`place 01 true`",
     ("History", "report"): "`call 1 0 add 7 8 9 true` below `call 0 0 add 5 1 8 true`: moment 8 is taken",
     ("Point", "calls"): "`call 0 add 5 1 8 8 true`",
+    ("Line", "calls 3"): "`call 0 add 5 1 8 full`; `call 0 ceiling 5 1 8 at-5`",
+    ("History", "calls 3"): "`call 1 add 7 8 9 true` below `call 0 add 5 1 8 true`: moment 8 is taken",
 }
 # Limits: the constant, its crate, and what is told past it.
 LIMITS = [

@@ -19,7 +19,7 @@ ghost use Rattle.tool_base.specs.Generating.{Generates};
 ghost use Rattle.tool_draft.specs.Drafting.{Drafts};
 ghost use Rattle.tool_trace.specs.Tracing.{Traces};
 ghost use Rattle.tool_examples.specs.Exampling.{Exampled};
-ghost use Rattle.tool_judge.specs.Judging.{Judges};
+ghost use Rattle.tool_judge.specs.Judging.{JudgesAny};
 ghost use Rattle.tool_report.specs.Reporting.{Reports};
 ghost use Rattle.tool_broken.specs.BrokenTools as broken;
 ghost use Rattle.ffi_page.specs.Page.{Hands, OfText, MakesBroken, OfWords, ShowsBy, ShowsBrokenBy};
@@ -73,7 +73,7 @@ pub extern "C" fn listset_judge(
     room: &mut [u8],
     status: &mut u8,
 ) -> usize
-    ensures { Hands (OfText Judges text.now) room.old room.new status.new result }
+    ensures { Hands (OfText JudgesAny text.now) room.old room.new status.new result }
 {
     hand(alloc, judge_bytes(alloc, text), room, status)
 }

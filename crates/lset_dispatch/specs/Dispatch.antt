@@ -16,7 +16,7 @@ use Rattle.tool_base.specs.Replaying.{Replays}
 use Rattle.tool_base.specs.Checking.{Checks}
 use Rattle.tool_base.specs.Generating.{Generates}
 use Rattle.tool_base.specs.Faults.{TellsFaults}
-use Rattle.tool_judge.specs.Judging.{Judges}
+use Rattle.tool_judge.specs.Judging.{JudgesAny}
 use Rattle.tool_report.specs.Reporting.{Reports}
 use Rattle.tool_parts.specs.Parting.{EndsFiles, JudgesFiles, JudgesKeys, keys_of_words}
 use Rattle.tool_drawing.specs.declared.picture.Window.{Window}
@@ -50,7 +50,7 @@ TracesBy options input made = TracesFor options.lacks input made
 
 -- what `judge` makes of its input: of all calls, or of those of the keys that an option asks for
 abbrev pub JudgesFor : Option Text → Option (List ℕ) → Made → Type 0
-JudgesFor None input made = IfSome input (λ bytes. Judges bytes made)
+JudgesFor None input made = IfSome input (λ bytes. JudgesAny bytes made)
 JudgesFor (Some keys) input made = JudgesKeys keys input made
 
 abbrev pub JudgesBy : OptionValues → Option (List ℕ) → Made → Type 0

@@ -102,6 +102,13 @@ pub record IsStreamOf (threads : ℕ) (opening : List ℕ) (calls : List CallRec
   pub pending : ArePending calls s.moment s.pending.items
   pub judged : IsJudgedTo opening calls s.moment s.states s.failed
 
+-- what a stream keeps, by words that other crates may say
+abbrev pub moment_of : Stream → ℕ
+moment_of s = s.moment
+
+abbrev pub pending_in : Stream → List Pending
+pending_in s = s.pending.items
+
 -- ---- WHAT A CALL HAS TO BE to come next
 
 pub record MayCome (pending : List Pending) (moment : ℕ) (x : CallRecord) : Type 0 where

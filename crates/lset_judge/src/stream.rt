@@ -11,7 +11,7 @@ ghost use Rattle.lset_words.specs.SequentialSet.{has_key};
 ghost use Rattle.lset_judge.specs.Rule.{entered, found, opened};
 ghost use Rattle.lset_judge.specs.Events.{kind_if, until_if, begin_event, end_event};
 ghost use Rattle.lset_judge.specs.Leaving.{may_be_left};
-ghost use Rattle.lset_judge.specs.Stream.{record_of, stream_history, behind_all, state_for, pending_of, no_pending, IsBefore, IsNearest, IsMet, IsStreamOf, MayCome, failed_verdict, verdict_of_key, IsStreamVerdict, IsStreamVerdictCutOff};
+ghost use Rattle.lset_judge.specs.Stream.{record_of, stream_history, behind_all, state_for, pending_of, no_pending, IsBefore, IsNearest, IsMet, IsStreamOf, MayCome, failed_verdict, verdict_of_key, moment_of, pending_in, IsStreamVerdict, IsStreamVerdictCutOff};
 ghost use Rattle.lset_judge.specs.Verdict.{is_plain};
 
 use crate::event::{Event, Kind, begin_event, end_event, ended_kind, open_kind};
@@ -271,7 +271,8 @@ impl Stream {
     /// No calls yet, of a set that opens with these keys; they rise.
     pub fn new(alloc: Global, opening: &[u32]) -> Result<Stream, AllocError>
         requires { IsStrictlyIncreasing opening.now }
-        ensures { IfOk result (λ s. (threads : ℕ) → IsStreamOf threads opening.now [] s) }
+        ensures opened { IfOk result (λ s. (threads : ℕ) → IsStreamOf threads opening.now [] s) }
+        ensures moment { IfOk result (λ s. moment_of s ≡ 0) }
     {
         Ok(Stream {
             alloc,
@@ -358,7 +359,8 @@ impl Stream {
     fn begin(&mut self, call: StreamCall) -> Result<(), AllocError>
         requires may { MayCome self.old.pending.items self.old.moment (record_of call) }
         requires met { All (λ p. call.begun ≤ p.end) self.old.pending.items }
-        ensures { OnOk result ((threads : ℕ) (opening : List ℕ) (calls : List RecordedCall) → call.thread < threads
+        ensures moment { OnOk result (self.new.moment ≡ call.begun) }
+        ensures begun { OnOk result ((threads : ℕ) (opening : List ℕ) (calls : List RecordedCall) → call.thread < threads
             → IsStreamOf threads opening calls self.old → IsStreamOf threads opening (calls ++ record_of call ∷ []) self.new) }
     {
         let pending = call.pending();
@@ -373,7 +375,8 @@ impl Stream {
 
     fn take(&mut self, call: StreamCall) -> Result<(), AllocError>
         requires { MayCome self.old.pending.items self.old.moment (record_of call) }
-        ensures { OnOk result ((threads : ℕ) (opening : List ℕ) (calls : List RecordedCall) → call.thread < threads
+        ensures moment { OnOk result (self.new.moment ≡ call.begun) }
+        ensures taken { OnOk result ((threads : ℕ) (opening : List ℕ) (calls : List RecordedCall) → call.thread < threads
             → IsStreamOf threads opening calls self.old → IsStreamOf threads opening (calls ++ record_of call ∷ []) self.new) }
     {
         self.meet_before(call.begun)?;
@@ -387,8 +390,10 @@ impl Stream {
     pub fn add(&mut self, call: StreamCall) -> Result<(), StreamFault>
         ensures added { OnOk result ((threads : ℕ) (opening : List ℕ) (calls : List RecordedCall) → call.thread < threads
             → IsStreamOf threads opening calls self.old → IsStreamOf threads opening (calls ++ record_of call ∷ []) self.new) }
-        ensures refused { IfErr result (λ fault. fault ≢ StreamFault.Memory → (MayCome self.old.pending.items self.old.moment (record_of call) → ⊥)
-            × (self.new ≡ self.old)) }
+        // It has come to the begin of the call.
+        ensures moment { OnOk result (moment_of self.new ≡ call.begun) }
+        ensures refused { IfErr result (λ fault. fault ≢ StreamFault.Memory
+            → (MayCome (pending_in self.old) (moment_of self.old) (record_of call) → ⊥) × (self.new ≡ self.old)) }
     {
         if let Some(fault) = self.find_fault(call) {
             return Err(fault);

@@ -5,3 +5,4 @@ pub mod Checking
 pub mod Generating
 pub mod Moments
 pub mod Faults
+pub mod Heads

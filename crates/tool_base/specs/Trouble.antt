@@ -12,6 +12,9 @@ use Rattle.lset_report.specs.declared.report_fault.ReportFault.{ReportFault}
 use Rattle.lset_calls.specs.declared.fault.CallsCause.{CallsCause}
 use Rattle.lset_calls.specs.declared.fault.CallsCause.TheVariants as calls
 use Rattle.lset_calls.specs.declared.fault.CallsFault.{CallsFault}
+use Rattle.lset_long.specs.declared.fault.LongCause.{LongCause}
+use Rattle.lset_long.specs.declared.fault.LongCause.TheVariants as long
+use Rattle.lset_long.specs.declared.fault.LongFault.{LongFault}
 use Rattle.lset_calls.specs.declared.fault.ClashFault.{ClashFault}
 use Rattle.lset_calls.specs.declared.fault.ClashFault.TheVariants as clash
 use Rattle.tool_base.specs.declared.streams.InputFault.{InputFault}
@@ -27,13 +30,14 @@ use Rattle.tool_base.specs.declared.trouble.WorkName.TheVariants as work
 use Rattle.tool_base.specs.declared.trouble.ServeName.{ServeName}
 use Rattle.tool_base.specs.declared.trouble.ServeName.TheVariants as serve
 use Rattle.tool_base.specs.declared.trouble.Trouble.{Trouble}
-use Rattle.tool_base.specs.declared.trouble.Trouble.TheVariants.{CannotRead, TooLong, LongReport, CutOff, CannotWrite, Memory, Line, Bad}
+use Rattle.tool_base.specs.declared.trouble.Trouble.TheVariants.{CannotRead, TooLong, LongReport, CutOff, LongRecording, CannotWrite, Memory, Line, Bad}
 use Rattle.tool_base.specs.declared.trouble.Trouble.TheVariants.{CannotListen, Work, Serve}
 
 -- of an input that was not read
 abbrev pub of_input : InputFault → Trouble
 of_input input.CannotRead = CannotRead
 of_input input.TooLong = TooLong
+of_input input.LongRecording = LongRecording
 of_input input.Memory = Memory
 
 abbrev pub of_schedule_line : ℕ → Cause → Trouble
@@ -94,6 +98,18 @@ of_calls_line number calls.Memory = Memory
 abbrev pub of_calls : CallsFault → Trouble
 of_calls fault = of_calls_line fault.line fault.cause
 
+abbrev pub of_long_line : ℕ → LongCause → Trouble
+of_long_line number long.Line = Line number (line.Long long.Line)
+of_long_line number long.Number = Line number (line.Long long.Number)
+of_long_line number long.Opening = Line number (line.Long long.Opening)
+of_long_line number long.History = Line number (line.Long long.History)
+of_long_line number long.NotEnded = Line number (line.Long long.NotEnded)
+of_long_line number long.Memory = Memory
+
+-- of a text that is no long recording
+abbrev pub of_long : LongFault → Trouble
+of_long fault = of_long_line fault.line fault.cause
+
 -- of calls that have no report
 abbrev pub of_clash : ClashFault → Trouble
 of_clash (clash.History number) = Line number (line.Calls calls.History)
@@ -106,6 +122,7 @@ status_of CannotRead = 1
 status_of TooLong = 1
 status_of LongReport = 1
 status_of CutOff = 1
+status_of LongRecording = 1
 status_of CannotWrite = 1
 status_of Memory = 3
 status_of (Line number cause) = 1
@@ -153,6 +170,12 @@ name_of (line.Calls calls.History) = codes "History"
 name_of (line.Calls calls.Point) = codes "Point"
 name_of (line.Calls calls.NotEnded) = codes "NotEnded"
 name_of (line.Calls calls.Memory) = codes "Memory"
+name_of (line.Long long.Line) = codes "Line"
+name_of (line.Long long.Number) = codes "Number"
+name_of (line.Long long.Opening) = codes "Opening"
+name_of (line.Long long.History) = codes "History"
+name_of (line.Long long.NotEnded) = codes "NotEnded"
+name_of (line.Long long.Memory) = codes "Memory"
 name_of (line.Keys keys.Line) = codes "Line"
 name_of (line.Keys keys.Number) = codes "Number"
 name_of (line.Keys keys.TooMany) = codes "TooMany"
@@ -194,6 +217,7 @@ trouble_text CannotRead = codes "listset: cannot read\n"
 trouble_text TooLong = codes "listset: too long\n"
 trouble_text LongReport = codes "listset: report too long: record fewer calls\n"
 trouble_text CutOff = codes "listset: recording cut off: only judge of one file, of all keys, reads it\n"
+trouble_text LongRecording = codes "listset: recorded calls of version 3: only judge of one file, of all keys, reads them\n"
 trouble_text CannotWrite = codes "listset: cannot write\n"
 trouble_text Memory = codes "listset: out of memory\n"
 trouble_text (Line number cause) = codes "listset: line " ++ decimal number ++ codes ": " ++ name_of cause ++ codes "\n"

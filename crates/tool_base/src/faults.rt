@@ -57,6 +57,15 @@ listset: line L: CAUSE, in recorded calls; exit status 1
             points if a call is a ceiling or answered full.
   NotEnded  The input ends before the line 'end' or 'cut', or the line does not end with a newline.
 
+listset: line L: CAUSE, in recorded calls of version 3; exit status 1
+  Line      This line cannot come here, or has more than 128 bytes. The order is: 'opening', 'call' and 'key' lines, then 'end'; or 'cut' for
+            'key' lines and 'end'. A reply is 'true' or 'false'.
+  Number    Moments are numbers from 1 to 9223372036854775807; all else as in a schedule.
+  Opening   Opening keys must increase, and so must keys; this one is not above the one before.
+  History   The call does not end after it begins, or does not begin after each call above; or a line above has one of its moments, or a
+            call of the same thread that is pending when it begins.
+  NotEnded  The input ends before the line 'end' or 'cut', or the line does not end with a newline.
+
 listset: line L: CAUSE, in the keys with which serve opens; exit status 1
   Line      Expected 'key K'.
   Number    Expected a number from 0 to 4294967295.
@@ -106,6 +115,8 @@ Other messages
                           The report of these calls would have more than 67108864 bytes, which check does not read; exit status 1.
   listset: recording cut off: only judge of one file, of all keys, reads it
                           The recording ends with the line 'cut', so the keys left are not known; exit status 1.
+  listset: recorded calls of version 3: only judge of one file, of all keys, reads them
+                          The first line is 'listset-calls 3'. Other commands read 'listset-calls 2'; exit status 1.
   listset: cannot write   A write failed; exit status 1.
   listset: cannot listen  The system refused the port; exit status 1.
   listset: bad NAME       The argument or option NAME is missing or out of range, or FROM is past the last moment; exit status 2.

@@ -1,9 +1,10 @@
 ghost use Rattle.std.specs.Prelude.{◌≡◌};
-ghost use Rattle.tool_base.specs.Trouble.{of_input, of_schedule, of_replay, of_report, of_calls, of_clash, status_of, name_of, serve_name, value_word, work_name};
+ghost use Rattle.tool_base.specs.Trouble.{of_input, of_schedule, of_replay, of_report, of_calls, of_clash, of_long, status_of, name_of, serve_name, value_word, work_name};
 ghost use Rattle.tool_base.specs.declared.trouble.Trouble.TheVariants.{Memory};
 
 use crate::streams::InputFault;
 use lset_calls::{CallsCause, CallsFault, ClashFault};
+use lset_long::{LongCause, LongFault};
 use lset_replay::ReplayFault;
 use lset_report::{ReportCause, ReportFault};
 use lset_schedule::{Cause, ScheduleFault};
@@ -47,6 +48,8 @@ pub enum LineCause {
     Report(ReportCause),
     /// The text is none of calls, or they have no report.
     Calls(CallsCause),
+    /// The input is no long recording.
+    Long(LongCause),
     /// The input is not a list of keys in strictly increasing order.
     Keys(KeyCause),
 }
@@ -110,6 +113,8 @@ pub enum Trouble {
     LongReport,
     /// The recording was cut off, and the keys left are asked for.
     CutOff,
+    /// The recorded calls are of version 3, a long recording.
+    LongRecording,
     /// A write failed, or took no byte.
     CannotWrite,
     /// Memory was refused.
@@ -138,6 +143,7 @@ impl Trouble {
             | Trouble::TooLong
             | Trouble::LongReport
             | Trouble::CutOff
+            | Trouble::LongRecording
             | Trouble::CannotWrite
             | Trouble::CannotListen
             | Trouble::Line(_, _)
@@ -154,6 +160,7 @@ impl From<InputFault> for Trouble {
         match fault {
             InputFault::CannotRead => Trouble::CannotRead,
             InputFault::TooLong => Trouble::TooLong,
+            InputFault::LongRecording => Trouble::LongRecording,
             InputFault::Memory => Trouble::Memory,
         }
     }
@@ -201,6 +208,17 @@ impl From<CallsFault> for Trouble {
         match fault.cause {
             CallsCause::Memory => Trouble::Memory,
             cause => Trouble::Line(fault.line, LineCause::Calls(cause)),
+        }
+    }
+}
+
+impl From<LongFault> for Trouble {
+    ghost from_gives = { λ e t. t ≡ of_long e };
+
+    fn from(fault: LongFault) -> Trouble {
+        match fault.cause {
+            LongCause::Memory => Trouble::Memory,
+            cause => Trouble::Line(fault.line, LineCause::Long(cause)),
         }
     }
 }
@@ -277,6 +295,14 @@ impl LineCause {
                 CallsCause::Point => "Point",
                 CallsCause::NotEnded => "NotEnded",
                 CallsCause::Memory => "Memory",
+            },
+            LineCause::Long(cause) => match cause {
+                LongCause::Line => "Line",
+                LongCause::Number => "Number",
+                LongCause::Opening => "Opening",
+                LongCause::History => "History",
+                LongCause::NotEnded => "NotEnded",
+                LongCause::Memory => "Memory",
             },
             LineCause::Keys(cause) => match cause {
                 KeyCause::Line => "Line",

@@ -21,15 +21,23 @@ use Rattle.lset_calls.specs.Reports.{IsReportOfCalls}
 use Rattle.lset_judge.specs.declared.verdict.Refusal.{Refusal}
 use Rattle.lset_judge.specs.declared.verdict.Verdict.{Verdict}
 use Rattle.lset_judge.specs.declared.verdict.Verdict.TheVariants.{Linearizable, NotLinearizable, Undecided}
+use Rattle.lset_judge.specs.declared.stream.StreamRefusal.{StreamRefusal}
+use Rattle.lset_judge.specs.declared.stream.StreamVerdict.{StreamVerdict}
+use Rattle.lset_judge.specs.declared.stream.StreamVerdict.TheVariants as long
 use Rattle.lset_judge.specs.declared.window.Window.{Window}
 use Rattle.lset_judge.specs.Verdict.{IsRefused, IsVerdictWithoutQuota, IsVerdictCutOff}
 use Rattle.lset_judge.specs.Window.{IsWindowOf}
 use Rattle.lset_judge.specs.Overlap.{overlapped}
+use Rattle.lset_long.specs.declared.fault.LongFault.{LongFault}
+use Rattle.lset_long.specs.Texts.{LongValue, IsLong}
+use Rattle.lset_long.specs.Reading.{Says, IsLongVerdict}
 use Rattle.tool_judge.specs.declared.judging.Decision.{Decision}
 use Rattle.tool_judge.specs.declared.judging.Decision.TheVariants.{Answered, ByPoints}
 use Rattle.tool_base.specs.declared.trouble.Trouble.{Trouble}
-use Rattle.tool_base.specs.Trouble.{of_calls, of_clash}
+use Rattle.tool_base.specs.declared.trouble.Trouble.TheVariants.{CannotRead, Memory}
+use Rattle.tool_base.specs.Trouble.{of_calls, of_clash, of_long}
 use Rattle.tool_base.specs.Tools.{AnswerValue, Made, IsTaken, IsInputTrouble}
+use Rattle.tool_base.specs.Heads.{begins_long, after_long_title}
 use Rattle.tool_base.specs.Checking.{refusal_text}
 use Rattle.tool_base.specs.Checking as checking
 
@@ -209,3 +217,42 @@ IsFirstFaultOfJudged (Ok c) t = IsFaultOfJudged c t
 abbrev pub Judges : List ℕ → Made → Type 0
 Judges bytes (Ok answer) = IsTaken bytes × (c : CallsValue) × AreCalls c × (bytes ≡ calls_text c) × IsAnswerOn c answer
 Judges bytes (Err t) = IsInputTrouble bytes t ⊎ (IsTaken bytes × IsFirstFaultOfJudged (reading bytes) t)
+
+-- ---- long recordings
+
+abbrev pub long_reason_text : StreamRefusal → List ℕ
+long_reason_text r = calls_of_key r.key.0 ++ extent r.moment
+
+abbrev pub cut_off_note : Bool → List ℕ
+cut_off_note true = cut_off_line
+cut_off_note false = []
+
+abbrev pub long_ok_text : ℕ → Bool → List ℕ
+long_ok_text calls cut_off = ok_line calls ++ cut_off_note cut_off
+
+-- what is written of a verdict
+abbrev pub long_answer : StreamVerdict → ℕ → Bool → AnswerValue
+long_answer long.Linearizable calls cut_off = record { text = long_ok_text calls cut_off; status = 0 }
+long_answer (long.NotLinearizable refusal) calls cut_off = record { text = long_reason_text refusal; status = 1 }
+
+-- THE ANSWER ON A LONG RECORDING
+pub record IsLongAnswer (c : LongValue) (answer : AnswerValue) : Type 0 where
+  pub long : IsLong c
+  pub verdict : StreamVerdict
+  pub verdict_is : IsLongVerdict c verdict
+  pub answer_is : answer ≡ long_answer verdict (length c.calls) c.cut_off
+
+-- what is made of the bytes after the title: the answer on the long recording that they say, or their first fault; or a read failed, or
+-- memory was refused
+abbrev pub JudgesLong : List ℕ → Made → Type 0
+JudgesLong bytes (Ok answer) = (c : LongValue) × Says bytes (Ok c) × IsLongAnswer c answer
+JudgesLong bytes (Err t) =
+    (t ≡ CannotRead) ⊎ ((t ≡ Memory) ⊎ ((fault : LongFault) × Says bytes (Err fault) × (t ≡ of_long fault)))
+
+-- WHAT IS MADE OF AN INPUT: by its first line, of a long recording, or of any other text
+abbrev pub JudgesIf : Bool → List ℕ → Made → Type 0
+JudgesIf true bytes made = JudgesLong (after_long_title bytes) made
+JudgesIf false bytes made = Judges bytes made
+
+abbrev pub JudgesAny : List ℕ → Made → Type 0
+JudgesAny bytes made = JudgesIf (begins_long bytes) bytes made

@@ -7,9 +7,10 @@ ghost use Rattle.lset_report.specs.Report as reports;
 ghost use Rattle.tool_base.specs.Tools.{Ends, IsTaken};
 ghost use Rattle.tool_base.specs.Tools as tools;
 ghost use Rattle.tool_base.specs.declared.trouble.Trouble.TheVariants.{CannotRead, Memory};
-ghost use Rattle.tool_judge.specs.Judging.{IsAnswerByPoints, IsAnswerCutOff, IsAnswerOnOrder, IsDecision, IsFaultOfJudged, IsFirstFaultOfJudged, IsRefusedAnswer, Judges};
+ghost use Rattle.tool_judge.specs.Judging.{IsAnswerByPoints, IsAnswerCutOff, IsAnswerOnOrder, IsDecision, IsFaultOfJudged, IsFirstFaultOfJudged, IsRefusedAnswer, Judges, JudgesAny};
 
 use crate::keys::keys_of;
+use crate::long::{judge_long, judge_long_bytes};
 use crate::texts::{UNDECIDED, cut_off_text, ok_text, reason_text, refused_text};
 use crate::windows::window_text;
 use lset_calls::{Calls, Recording, history_of, read_calls, recording_of, report_of};
@@ -18,7 +19,7 @@ use lset_judge::{Refusal, Verdict, judge_cut_off, judge_without_quota, window_of
 use lset_report::Report;
 use std::alloc::Global;
 use std::io::{Read, Write};
-use tool_base::{Answer, LONGEST, Trouble, deliver, input_of};
+use tool_base::{Answer, LONGEST, Trouble, after_long_title, deliver, head_of, rest_of};
 
 /// The answer by the order of a report and the keys that were left.
 fn answer_by_order(alloc: Global, report: &Report, left: &[u32]) -> Result<Answer, Trouble>
@@ -141,7 +142,21 @@ fn answer_on(alloc: Global, bytes: &[u8]) -> Result<Answer, Trouble>
 ///
 /// The error is `TooLong` for more than `LONGEST` bytes, `Line` with the first fault of the text, or with the first line whose call cannot
 /// stand beside those of the lines above, and `Memory` if memory was refused.
+///
+/// A text whose first line is `listset-calls 3` is a long recording, and may have more bytes; its answer has no more lines than `ok N calls`,
+/// or than the key and how far its calls have no order.
 pub fn judge_bytes(alloc: Global, bytes: &[u8]) -> Result<Answer, Trouble>
+    ensures judges { JudgesAny bytes.now (tools.view result) }
+    ensures read { IfErr result (λ t. t ≢ CannotRead) }
+{
+    match after_long_title(bytes) {
+        Some(rest) => judge_long_bytes(alloc, rest),
+        None => judge_short(alloc, bytes),
+    }
+}
+
+/// Judges a text of any other version.
+fn judge_short(alloc: Global, bytes: &[u8]) -> Result<Answer, Trouble>
     ensures judges { Judges bytes.now (tools.view result) }
     ensures read { IfErr result (λ t. t ≢ CannotRead) }
 {
@@ -152,10 +167,14 @@ pub fn judge_bytes(alloc: Global, bytes: &[u8]) -> Result<Answer, Trouble>
 }
 
 fn judge_input<R: Read>(alloc: Global, input: &mut R) -> Result<Answer, Trouble>
-    ensures { IfSome (R.remaining input.old) (λ bytes. Judges bytes (tools.view result)) }
+    ensures { IfSome (R.remaining input.old) (λ bytes. JudgesAny bytes (tools.view result)) }
 {
-    let bytes = input_of(alloc, input)?;
-    judge_bytes(alloc, &bytes)
+    let head = head_of(alloc, input)?;
+    if let Some(front) = after_long_title(&head) {
+        return judge_long(alloc, front, input);
+    }
+    let bytes = rest_of(head, input)?;
+    judge_short(alloc, &bytes)
 }
 
 /// Judges the recorded calls on the input: writes the answer on the output, or one line about what is wrong on `faults`, and gives the
@@ -166,7 +185,7 @@ pub fn tool_judge<R: Read, W: Write, F: Write>(
     output: &mut W,
     faults: &mut F,
 ) -> u8
-    ensures { Ends (λ made. IfSome (R.remaining input.old) (λ bytes. Judges bytes made))
+    ensures { Ends (λ made. IfSome (R.remaining input.old) (λ bytes. JudgesAny bytes made))
         (W.contents output.old) (W.contents output.new) (F.contents faults.old) (F.contents faults.new) result }
 {
     let made = judge_input(alloc, input);

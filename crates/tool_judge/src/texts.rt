@@ -2,10 +2,10 @@ ghost use Rattle.std.specs.Prelude.{◌≡◌, ◌≢◌, ◌<◌, ◌^◌, ◌+
 ghost use Rattle.lset_history.specs.declared.fault.OrderFault.TheVariants as order;
 ghost use Rattle.tool_base.specs.Checking.{refusal_text};
 ghost use Rattle.tool_base.specs.declared.trouble.Trouble.TheVariants.{Memory};
-ghost use Rattle.tool_judge.specs.Judging.{ok_line, overlap_line, is_few, ok_text, cut_off_text, calls_of_key, up_to, extent, reason_text, no_other_order};
+ghost use Rattle.tool_judge.specs.Judging.{ok_line, overlap_line, is_few, ok_text, cut_off_text, calls_of_key, up_to, extent, reason_text, long_reason_text, long_ok_text, no_other_order};
 
 use lset_history::{History, OrderFault};
-use lset_judge::{Refusal, overlapped};
+use lset_judge::{Refusal, StreamRefusal, overlapped};
 use std::alloc::{AllocError, Global};
 use tool_base::{Trouble, refusal_text};
 
@@ -76,7 +76,7 @@ fn calls_of_key(alloc: Global, key: u32) -> Result<Vec<u8>, AllocError>
     Ok(text.into_bytes())
 }
 
-fn up_to(alloc: Global, moment: u32) -> Result<Vec<u8>, AllocError>
+fn up_to(alloc: Global, moment: u64) -> Result<Vec<u8>, AllocError>
     ensures { IfOk result (λ text. text.items ≡ up_to moment) }
 {
     let text = format!(in alloc; " up to moment {moment}\n")?;
@@ -84,7 +84,7 @@ fn up_to(alloc: Global, moment: u32) -> Result<Vec<u8>, AllocError>
 }
 
 /// How far the calls of a key have no order.
-fn extent(alloc: Global, moment: Option<u32>) -> Result<Vec<u8>, AllocError>
+fn extent(alloc: Global, moment: Option<u64>) -> Result<Vec<u8>, AllocError>
     ensures { IfOk result (λ text. text.items ≡ extent moment) }
 {
     match moment {
@@ -97,8 +97,32 @@ fn extent(alloc: Global, moment: Option<u32>) -> Result<Vec<u8>, AllocError>
 pub fn reason_text(alloc: Global, refusal: Refusal) -> Result<Vec<u8>, AllocError>
     ensures { IfOk result (λ text. text.items ≡ reason_text refusal) }
 {
+    let moment = match refusal.moment {
+        Some(moment) => Some(u64::from(moment)),
+        None => None,
+    };
+    let mut text = calls_of_key(alloc, refusal.key.0)?;
+    text.extend_from_slice(&extent(alloc, moment)?)?;
+    Ok(text)
+}
+
+/// The lines about calls of a long recording that no order explains.
+pub(crate) fn long_reason_text(alloc: Global, refusal: StreamRefusal) -> Result<Vec<u8>, AllocError>
+    ensures { IfOk result (λ text. text.items ≡ long_reason_text refusal) }
+{
     let mut text = calls_of_key(alloc, refusal.key.0)?;
     text.extend_from_slice(&extent(alloc, refusal.moment)?)?;
+    Ok(text)
+}
+
+/// The lines about a long recording that some order explains.
+pub(crate) fn long_ok_text(alloc: Global, calls: u64, cut_off: bool) -> Result<Vec<u8>, AllocError>
+    ensures { IfOk result (λ text. text.items ≡ long_ok_text calls cut_off) }
+{
+    let mut text = ok_line(alloc, calls)?;
+    if cut_off {
+        text.extend_from_slice(CUT_OFF)?;
+    }
     Ok(text)
 }
 

@@ -13,7 +13,7 @@ use Rattle.lset_report.specs.declared.report_fault.ReportFault.{ReportFault}
 use Rattle.lset_report.specs.ReportReading as reports
 use Rattle.tool_base.specs.declared.answer.Answer.{Answer}
 use Rattle.tool_base.specs.declared.trouble.Trouble.{Trouble}
-use Rattle.tool_base.specs.declared.trouble.Trouble.TheVariants.{CannotRead, TooLong, LongReport, CutOff, CannotWrite, Memory, Line, Bad}
+use Rattle.tool_base.specs.declared.trouble.Trouble.TheVariants.{CannotRead, TooLong, LongReport, CutOff, LongRecording, CannotWrite, Memory, Line, Bad}
 use Rattle.tool_base.specs.declared.trouble.Trouble.TheVariants.{CannotListen, Work, Serve}
 use Rattle.tool_base.specs.Trouble.{of_schedule_line, of_report_line, of_calls_line, of_clash}
 use Rattle.tool_base.specs.Checking as checking
@@ -34,6 +34,7 @@ count_of CannotRead = 0
 count_of TooLong = 1
 count_of LongReport = 1
 count_of CutOff = 1
+count_of LongRecording = 1
 count_of CannotWrite = 1
 count_of Memory = 1
 count_of (Line number cause) = 1

@@ -134,13 +134,13 @@ fn each_way_fails<R: Threads + Wait + Sync + Abort>(
 
 #[test]
 fn each_read_fails_in_turn(rt: HostRuntime) -> Result<(), Fail> {
-    assert!(rt; each_way_fails(&rt, rt.alloc(), Device::Input, &READS)? == 5_206);
+    assert!(rt; each_way_fails(&rt, rt.alloc(), Device::Input, &READS)? == 5_398);
     Ok(())
 }
 
 #[test]
 fn each_write_on_the_output_fails_in_turn(rt: HostRuntime) -> Result<(), Fail> {
-    assert!(rt; each_way_fails(&rt, rt.alloc(), Device::Output, &WRITES)? == 9_261);
+    assert!(rt; each_way_fails(&rt, rt.alloc(), Device::Output, &WRITES)? == 9_278);
     Ok(())
 }
 

@@ -195,6 +195,15 @@ pub const FEW_SAID: &str = "ok 2 calls
 that is few, and a bug shows only if calls meet: take fewer keys, more threads, or pauses in the set
 ";
 
+/// A long recording.
+pub const LONG: &str = "listset-calls 3
+opening 7
+call 0 add 5 1 4 true
+call 1 remove 7 2 - -
+key 5
+end
+";
+
 /// Two adds of one key that changed the set.
 pub const BOTH: &str = "listset-calls 2
 list lazy

@@ -2,7 +2,7 @@
 use crate::devices::{Plan, Reader, Writer};
 use crate::row_texts::{
     BOTH, BOTH_PICTURE, BOTH_SAID, CEILING, CEILING_REPORT, DRAWN, FEW, FEW_SAID, IDLE,
-    IDLE_PICTURE, IDLE_TRACE, LEFT_OUT, NO_TITLE, OUTCOME, PICTURE, REFUSED_PICTURE, REPORT,
+    IDLE_PICTURE, IDLE_TRACE, LEFT_OUT, LONG, NO_TITLE, OUTCOME, PICTURE, REFUSED_PICTURE, REPORT,
     SCHEDULE, SHEET, TRACE,
 };
 use std::alloc::{AllocError, Global};
@@ -59,7 +59,7 @@ type Told = (Tool, &'static str, u8, &'static str, &'static str);
 
 const FIRST: Told = (Tool::Replay, SCHEDULE, 0, REPORT, "");
 
-static ROWS: [Told; 25] = [
+static ROWS: [Told; 26] = [
     FIRST,
     (Tool::Replay, CEILING, 0, CEILING_REPORT, ""),
     (Tool::Replay, REPORT, 1, "", NO_TITLE),
@@ -69,6 +69,7 @@ static ROWS: [Told; 25] = [
     (Tool::Check, SCHEDULE, 1, "", NO_TITLE),
     (Tool::Judge, FEW, 0, FEW_SAID, ""),
     (Tool::Judge, BOTH, 1, BOTH_SAID, ""),
+    (Tool::Judge, LONG, 0, "ok 2 calls\n", ""),
     (Tool::Judge, REPORT, 1, "", NO_TITLE),
     (Tool::Show, SCHEDULE, 0, PICTURE, ""),
     (Tool::Show, BOTH, 1, BOTH_PICTURE, ""),

@@ -5,8 +5,8 @@ use Rattle.lset_judge.specs.Stream.{record_of, behind_all, IsMetBy}
 use Rattle.lset_judge.proofs.Begun.{call_begun}
 use Rattle.lset_judge.proofs.stream.Stream.begin.Goals as goal
 
-pub returns : goal.returns
-returns c = λ threads opening calls low is.
+pub returns-clause-begun : goal.returns-clause-begun
+returns-clause-begun c = λ threads opening calls low is.
     let s = c.args.self.now in let t = c.meet.new.self in let x = c.args.call in let p = c.pending-pending.result in
     let met = c.in_ok-meet.ensures in let own = c.pending-pending.ensures in
     let event = c.begin_event.ensures ∙ ap (λ k. begin_event k p.end) c.kind.ensures

@@ -1,0 +1,6 @@
+pub mod Pieces
+pub mod LineKinds
+pub mod MomentLaws
+pub mod Followed
+pub mod Judged
+pub mod ReadLaws

@@ -1,0 +1,15 @@
+use Rattle.std.proofs.Common.{refl}
+use Rattle.lset_long.proofs.ReadLaws.{held_more, held_on, held_full}
+use Rattle.lset_long.proofs.reader.LongReader.byte_in.Goals as goal
+
+pub returns-in-Ok-clause-taken : goal.returns-in-Ok-clause-taken
+returns-in-Ok-clause-taken c = λ bytes is.
+    let r = c.args.self.now in
+    held_more bytes c.args.byte r _ c.if-byte-eq10.false is refl
+    (held_on r.is_long is.held r.line.items c.try_push.new.self.items c.args.byte is.line c.in-Ok.ensures.ok)
+
+pub returns-in-Err-clause-taken : goal.returns-in-Err-clause-taken
+returns-in-Err-clause-taken c = λ bytes is.
+    let r = c.args.self.now in
+    held_more bytes c.args.byte r _ c.if-byte-eq10.false is refl
+    (held_full r.is_long is.held r.line.items c.args.byte is.line c.in-Err.ensures.full)

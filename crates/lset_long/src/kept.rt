@@ -1,0 +1,22 @@
+ghost use Rattle.std.specs.List.Sorted.{IsStrictlyIncreasing};
+
+use crate::lines::Section;
+use lset_judge::Stream;
+use std::alloc::Global;
+
+/// What is kept of the lines so far.
+#[derive(Drop)]
+pub(crate) struct Judging {
+    pub(crate) alloc: Global,
+    pub(crate) section: Section,
+    pub(crate) opening: Vec<u32>,
+    // (None before the first call)
+    pub(crate) stream: Option<Stream>,
+    pub(crate) calls: u64,
+    pub(crate) keys: Vec<u32>,
+    pub(crate) cut_off: bool,
+    // of the next line
+    pub(crate) number: u64,
+    ghost opens: { IsStrictlyIncreasing opening.items },
+    ghost left: { IsStrictlyIncreasing keys.items },
+}
