@@ -4,3 +4,4 @@ pub mod MomentLaws
 pub mod Followed
 pub mod Judged
 pub mod ReadLaws
+pub mod TextFound

@@ -26,7 +26,7 @@ use Rattle.lset_long.specs.declared.lines.Line.TheVariants as told
 use Rattle.lset_long.specs.declared.lines.Section.{Section}
 use Rattle.lset_long.specs.declared.lines.Section.TheVariants as section
 use Rattle.lset_long.specs.declared.lines.TheConstants.{LONGEST_LINE}
-use Rattle.lset_long.specs.Texts.{LongValue, all_threads, dash}
+use Rattle.lset_long.specs.Texts.{LongValue, all_threads, dash, text_after_title}
 
 abbrev pub fault : ℕ → LongCause → LongFault
 fault line cause = record { line = line; cause = cause }
@@ -200,6 +200,10 @@ first_line = 2
 -- WHAT THE BYTES AFTER THE TITLE SAY: a long recording, or the first fault
 abbrev pub Says : List ℕ → Result LongValue LongFault → Type 0
 Says bytes read = Reads first_line nothing_told (cut_at 10 bytes) read
+
+-- if bytes say a long recording, they are its text
+abbrev pub LongTextsAreRead : Type 0
+LongTextsAreRead = (bytes : List ℕ) (c : LongValue) → Says bytes (Ok c) → bytes ≡ text_after_title c
 
 -- of the calls and the keys left, or of calls whose recording was cut off
 abbrev pub IsVerdictIf : Bool → LongValue → StreamVerdict → Type 0

@@ -12,4 +12,4 @@ mod reader;
 pub use fault::{LongCause, LongFault};
 pub use judging::LongAnswer;
 pub use lines::LONGEST_LINE;
-pub use reader::LongReader;
+pub use reader::{LongReader, long_texts_are_read};

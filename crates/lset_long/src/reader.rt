@@ -1,5 +1,5 @@
 ghost use Rattle.std.specs.Prelude.{◌≡◌, ◌≢◌, ◌++◌, ◌∷◌, [], Ok, Err, IfOk, IfErr, OnOk, List, ℕ};
-ghost use Rattle.lset_long.specs.Reading.{Says, fault};
+ghost use Rattle.lset_long.specs.Reading.{LongTextsAreRead, Says, fault};
 ghost use Rattle.lset_long.specs.Texts.{LongValue};
 ghost use Rattle.lset_long.specs.Kept.{IsAnswered, IsRead, IsRefusedAt};
 
@@ -109,3 +109,8 @@ impl LongReader {
         self.judging.finish()
     }
 }
+
+/// The bytes that say a long recording, after its first line, are the one text of it.
+pub fn long_texts_are_read()
+    ensures { LongTextsAreRead }
+{}

@@ -8,7 +8,8 @@ use Rattle.lset_long.specs.declared.fault.LongFault.{LongFault}
 use Rattle.lset_long.specs.declared.judging.LongAnswer.{LongAnswer}
 use Rattle.lset_long.specs.Reading.{Says, fault}
 use Rattle.lset_long.specs.Texts.{LongValue}
-use Rattle.lset_long.specs.Kept.{IsAnswered, IsRefusedAt}
+use Rattle.lset_long.specs.Kept.{IsAnswered}
+use Rattle.lset_long.proofs.TextFound.{text_found}
 use Rattle.tool_base.specs.declared.answer.Answer.{Answer}
 use Rattle.tool_base.specs.declared.trouble.Trouble.{Trouble}
 use Rattle.tool_base.specs.declared.trouble.Trouble.TheVariants.{CannotRead, Memory}
@@ -42,6 +43,7 @@ answered bytes c said a says is made =
     subst (JudgesLong bytes) (sym made) (
       c,
       says,
+      text_found bytes c says,
       record {
         long = is.long;
         verdict = said.verdict;

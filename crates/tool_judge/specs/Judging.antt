@@ -29,7 +29,7 @@ use Rattle.lset_judge.specs.Verdict.{IsRefused, IsVerdictWithoutQuota, IsVerdict
 use Rattle.lset_judge.specs.Window.{IsWindowOf}
 use Rattle.lset_judge.specs.Overlap.{overlapped}
 use Rattle.lset_long.specs.declared.fault.LongFault.{LongFault}
-use Rattle.lset_long.specs.Texts.{LongValue, IsLong}
+use Rattle.lset_long.specs.Texts.{LongValue, IsLong, text_after_title}
 use Rattle.lset_long.specs.Reading.{Says, IsLongVerdict}
 use Rattle.tool_judge.specs.declared.judging.Decision.{Decision}
 use Rattle.tool_judge.specs.declared.judging.Decision.TheVariants.{Answered, ByPoints}
@@ -242,10 +242,10 @@ pub record IsLongAnswer (c : LongValue) (answer : AnswerValue) : Type 0 where
   pub verdict_is : IsLongVerdict c verdict
   pub answer_is : answer ≡ long_answer verdict (length c.calls) c.cut_off
 
--- what is made of the bytes after the title: the answer on the long recording that they say, or their first fault; or a read failed, or
+-- what is made of the bytes after the title: the answer on the long recording that they say and whose text they are, or their first fault; or a read failed, or
 -- memory was refused
 abbrev pub JudgesLong : List ℕ → Made → Type 0
-JudgesLong bytes (Ok answer) = (c : LongValue) × Says bytes (Ok c) × IsLongAnswer c answer
+JudgesLong bytes (Ok answer) = (c : LongValue) × Says bytes (Ok c) × (bytes ≡ text_after_title c) × IsLongAnswer c answer
 JudgesLong bytes (Err t) =
     (t ≡ CannotRead) ⊎ ((t ≡ Memory) ⊎ ((fault : LongFault) × Says bytes (Err fault) × (t ≡ of_long fault)))
 
