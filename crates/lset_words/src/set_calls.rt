@@ -22,7 +22,8 @@ pub trait SetCalls {
     /// Makes `call` from the seat `seat`, which must be of this set, and returns the reply. The seat's record grows by the
     /// call with that reply; nothing else of the seat changes.
     ///
-    /// May block while another thread holds a lock that the call needs. Does not allocate.
+    /// May block while another thread holds a lock that the call needs. The sets of this library do not allocate in it, so that
+    /// `session` does not either.
     fn make_call<R: Wait>(&self, rt: &R, seat: &mut Self::Seat, call: Call) -> Reply
         requires { is_of self.now seat.old }
         ensures record { record_of seat.new ≡ called (record_of seat.old) (record { call = call; reply = result }) }
