@@ -38,7 +38,7 @@ pub fn fault_code(fault: OpenFault) -> u8
 }
 
 /// Makes a call from a seat and returns the number of its reply; 255 if the seat is empty or a closed set.
-pub fn made(alloc: Global, seat: &mut CSeat, call: Call) -> u8
+pub fn call_from_seat(alloc: Global, seat: &mut CSeat, call: Call) -> u8
     ensures { HasMade seat.old.full seat.old.held call result seat.new.full seat.new.held }
 {
     let Some(mut held) = take(alloc, seat) else {

@@ -15,7 +15,7 @@ use std::sync::Arc;
 /// A seat of a set with its set and the set's number, and the seats that can be split off it. The seat is lost if a call did
 /// not end.
 #[derive(Drop)]
-pub struct Of<M: Bounded> {
+pub struct SeatOfSet<M: Bounded> {
     pub set: Arc<LiveSet<M>, Global>,
     pub number: u64,
     pub seat: Option<Seat<M>>,
@@ -28,11 +28,11 @@ pub struct Of<M: Bounded> {
 /// while it is taken out.
 #[derive(Drop)]
 pub enum Held {
-    Coarse(Of<CoarseList>),
-    Fine(Of<FineList>),
-    Optimistic(Of<OptimisticList>),
-    Lazy(Of<LazyList>),
-    LockFree(Of<LockFreeList>),
+    Coarse(SeatOfSet<CoarseList>),
+    Fine(SeatOfSet<FineList>),
+    Optimistic(SeatOfSet<OptimisticList>),
+    Lazy(SeatOfSet<LazyList>),
+    LockFree(SeatOfSet<LockFreeList>),
     Closed(Vec<u32>),
     Nothing,
 }

@@ -11,7 +11,7 @@ ghost use Rattle.ffi_sets.specs.Sets.{AddUp, AreLeft, HasNoneToSplit, IsOneSeat,
 ghost use Rattle.ffi_sets.specs.Sets.{are_two, count_of, record_of};
 
 use crate::codes::{NO_MORE, OUT_OF_MEMORY, SEATS_OUT};
-use crate::held::Of;
+use crate::held::SeatOfSet;
 use crate::yielding::Yielding;
 use lset_live::{Bounded, Countless, LiveSet, OpenFault, Seat, open_with};
 use lset_words::{Call, Reply};
@@ -26,7 +26,7 @@ pub fn open_of<M: Bounded>(
     quota: u32,
     number: u64,
     keys: &[u32],
-) -> Result<Of<M>, OpenFault>
+) -> Result<SeatOfSet<M>, OpenFault>
     ensures set { IfOk result (λ o. OpensWith (record { threads = seats; quota = quota; keys = keys.now }) (Some (arc_value o.set)) o.seat o.spare.items) }
     ensures number { IfOk result (λ o. o.number ≡ number) }
     ensures seat { IfOk result (λ o. IsSome o.seat) }
@@ -38,7 +38,7 @@ pub fn open_of<M: Bounded>(
         return Err(OpenFault::Memory);
     };
     let seat = spare.pop();
-    Ok(Of {
+    Ok(SeatOfSet {
         set,
         number,
         seat,
@@ -84,7 +84,7 @@ fn keys_left<M: Bounded>(
     keys
 }
 
-impl<M: Bounded> Of<M> {
+impl<M: Bounded> SeatOfSet<M> {
     /// Makes a call. `None` if there is no seat, or the call did not end.
     pub fn call(&mut self, call: Call) -> Option<Reply>
         ensures set { arc_value self.new.set ≡ arc_value self.old.set }
@@ -102,7 +102,7 @@ impl<M: Bounded> Of<M> {
 
     /// Splits a seat off. The error is the number that says why not: none remains, or an allocation failed (the set has as
     /// many owners as can be counted).
-    pub fn split(&mut self, alloc: Global) -> Result<Of<M>, u8>
+    pub fn split(&mut self, alloc: Global) -> Result<SeatOfSet<M>, u8>
         ensures set { arc_value self.new.set ≡ arc_value self.old.set }
         ensures number { self.new.number ≡ self.old.number }
         ensures seat { self.new.seat ≡ self.old.seat }
@@ -117,7 +117,7 @@ impl<M: Bounded> Of<M> {
             return Err(NO_MORE);
         };
         let spare = Vec::new(alloc);
-        Ok(Of {
+        Ok(SeatOfSet {
             set,
             number: self.number,
             seat: Some(seat),
@@ -127,7 +127,7 @@ impl<M: Bounded> Of<M> {
 
     /// Merges a seat of the same set into this one, with all seats that can be split off it; returns it if they have two
     /// numbers, or one has no seat.
-    pub fn gather(&mut self, alloc: Global, from: Of<M>) -> Option<Of<M>>
+    pub fn gather(&mut self, alloc: Global, from: SeatOfSet<M>) -> Option<SeatOfSet<M>>
         requires { self.old.number ≡ from.number → arc_value self.old.set ≡ arc_value from.set }
         ensures { MatchOption result ((are_two self.old.number from.number self.old.seat from.seat ≡ true) × IsSome self.new.seat
             × (arc_value self.new.set ≡ arc_value self.old.set) × (self.new.number ≡ self.old.number)
@@ -138,7 +138,7 @@ impl<M: Bounded> Of<M> {
         if self.number != from.number || self.seat.is_none() || from.seat.is_none() {
             return Some(from);
         }
-        let Of {
+        let SeatOfSet {
             set: _other,
             number: _,
             seat: taken,
@@ -170,7 +170,7 @@ impl<M: Bounded> Of<M> {
     /// Closes the set if all its seats are gathered, and returns its keys. Else returns everything with `SEATS_OUT`; or with
     /// `OUT_OF_MEMORY` if there is no memory for as many keys as there can be, or the set's own memory has another owner,
     /// which it has in no run.
-    pub fn close(self, alloc: Global) -> Result<Vec<u32>, (Of<M>, u8)>
+    pub fn close(self, alloc: Global) -> Result<Vec<u32>, (SeatOfSet<M>, u8)>
         ensures closed { IfOk result (λ keys. AreLeft (arc_value self.set) (count_of self.seat self.spare.items)
             (record_of self.seat self.spare.items) keys.items) }
         ensures refused { IfErr result (λ r. RefusesToClose (Some (arc_value self.set)) self.seat self.spare.items r.1
@@ -183,7 +183,7 @@ impl<M: Bounded> Of<M> {
         let Ok(room) = Vec::with_capacity(alloc, self.set.most_keys()) else {
             return Err((self, OUT_OF_MEMORY));
         };
-        let Of {
+        let SeatOfSet {
             set,
             number,
             seat,
@@ -194,7 +194,7 @@ impl<M: Bounded> Of<M> {
             Ok(set) => Ok(keys_left(set, seat, spare, room)),
             Err(set) => {
                 let seat = Some(seat);
-                let kept = Of {
+                let kept = SeatOfSet {
                     set,
                     number,
                     seat,

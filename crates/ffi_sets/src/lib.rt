@@ -19,7 +19,7 @@ ghost use Rattle.ffi_sets.specs.Calls.{EndsSet, GivesKeys, HasCeiling, HasGather
 ghost use Rattle.ffi_sets.specs.Sets.{GathersAt};
 ghost use Rattle.std.specs.Prelude.{◌≡◌, false};
 
-use answers::{fault_code, made, put_new, reply_code};
+use answers::{call_from_seat, fault_code, put_new, reply_code};
 use codes::{BAD_KIND, DONE, IS_SEAT, NO_GATHER, NO_SEAT, OUT_OF_MEMORY};
 use each::{call_held, close_held, gather_held, keys_held, open_held, split_held};
 use held::Held;
@@ -93,7 +93,7 @@ pub fn split_seat(alloc: Global, seat: &mut CSeat, out: &mut CSeat) -> u8
 pub fn add_key(alloc: Global, seat: &mut CSeat, key: u32) -> u8
     ensures { HasMade seat.old.full seat.old.held (Add (record { 0 = key })) result seat.new.full seat.new.held }
 {
-    made(alloc, seat, Call::Add(Key(key)))
+    call_from_seat(alloc, seat, Call::Add(Key(key)))
 }
 
 /// Removes `key` from the set. Returns 1 if it was in the set, 0 if it was not; 255 if `seat` is empty or a closed set.
@@ -101,7 +101,7 @@ pub fn add_key(alloc: Global, seat: &mut CSeat, key: u32) -> u8
 pub fn remove_key(alloc: Global, seat: &mut CSeat, key: u32) -> u8
     ensures { HasMade seat.old.full seat.old.held (Remove (record { 0 = key })) result seat.new.full seat.new.held }
 {
-    made(alloc, seat, Call::Remove(Key(key)))
+    call_from_seat(alloc, seat, Call::Remove(Key(key)))
 }
 
 /// Returns 1 if `key` is in the set, 0 if it is not; 255 if `seat` is empty or a closed set. On a coarse, fine or optimistic
@@ -109,7 +109,7 @@ pub fn remove_key(alloc: Global, seat: &mut CSeat, key: u32) -> u8
 pub fn contains_key(alloc: Global, seat: &mut CSeat, key: u32) -> u8
     ensures { HasMade seat.old.full seat.old.held (Contains (record { 0 = key })) result seat.new.full seat.new.held }
 {
-    made(alloc, seat, Call::Contains(Key(key)))
+    call_from_seat(alloc, seat, Call::Contains(Key(key)))
 }
 
 /// Finds the smallest key of the set at or above `key`. Returns 3 and writes it to `at`, or 4 if there is none; 255 if

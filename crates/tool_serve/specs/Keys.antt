@@ -19,7 +19,7 @@ use Rattle.tool_base.specs.declared.trouble.Trouble.{Trouble}
 use Rattle.tool_base.specs.declared.trouble.Trouble.TheVariants as trouble
 use Rattle.tool_serve.specs.declared.keys.KeysFault.{KeysFault}
 use Rattle.tool_serve.specs.declared.keys.KeysFault.TheVariants.{Line, Memory}
-use Rattle.tool_serve.specs.declared.keys.Left.{Left}
+use Rattle.tool_serve.specs.declared.keys.Remaining.{Remaining}
 
 -- ---- the head: what a server prints before its keys
 
@@ -33,7 +33,7 @@ pub record Lines : Type 0 where
   pub line : ℕ
   pub parts : List (List ℕ)
 
-abbrev pub lines_of : Left → Lines
+abbrev pub lines_of : Remaining → Lines
 lines_of left = record { line = left.line; parts = cut_at 10 left.text.now }
 
 -- the lines without the first, if that is the word and one further field

@@ -32,7 +32,7 @@ impl From<KeysFault> for Trouble {
 
 /// What is left of a text, and the number of its first line.
 #[derive(Clone, Copy)]
-struct Left<'a> {
+struct Remaining<'a> {
     line: u64,
     text: &'a [u8],
 }
@@ -52,15 +52,15 @@ fn piece_after<'a>(line: &'a [u8], word: &[u8]) -> Option<&'a [u8]>
     }
 }
 
-impl<'a> Left<'a> {
+impl<'a> Remaining<'a> {
     /// The text without its first line, if that is the word and one further field; else the text.
-    fn without(self, word: &[u8]) -> Left<'a>
+    fn without(self, word: &[u8]) -> Remaining<'a>
         requires { self.line < 2 ^ 32 }
         ensures lines { lines_of result ≡ without word.now (lines_of self.entry) }
         ensures next { result.line ≤ self.entry.line + 1 }
     {
         match cut(self.text, b'\n') {
-            Some((first, rest)) if piece_after(first, word).is_some() => Left {
+            Some((first, rest)) if piece_after(first, word).is_some() => Remaining {
                 line: self.line + 1,
                 text: rest,
             },
@@ -70,11 +70,11 @@ impl<'a> Left<'a> {
 }
 
 /// What comes after the lines that a server prints before its keys, as far as they are there.
-fn after_head(text: &[u8]) -> Left<'_>
+fn after_head(text: &[u8]) -> Remaining<'_>
     ensures lines { lines_of result ≡ after_head text.now }
     ensures first { result.line ≤ 4 }
 {
-    let whole = Left { line: 1, text };
+    let whole = Remaining { line: 1, text };
     whole
         .without(b"listening")
         .without(b"sessions")
@@ -105,7 +105,7 @@ fn next_key(line: &[u8], keys: &[u32]) -> Result<u32, KeyCause>
 }
 
 /// The keys of the lines that are left, all of them lines of keys.
-fn keys_of_lines(alloc: Global, left: Left<'_>) -> Result<Vec<u32>, KeysFault>
+fn keys_of_lines(alloc: Global, left: Remaining<'_>) -> Result<Vec<u32>, KeysFault>
     requires { left.line < 2 ^ 32 }
     ensures { Gives (λ v. v.items) result (lines_from key_grammar left.entry.line [] (cut_at 10 left.entry.text.now)) }
 {

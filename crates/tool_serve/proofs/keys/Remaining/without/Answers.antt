@@ -1,7 +1,7 @@
 use Rattle.std.proofs.Common.{◌∙◌, sym}
 use Rattle.lset_text.proofs.PartLaws.{some_part}
 use Rattle.tool_serve.proofs.HeadLaws.{without_goes}
-use Rattle.tool_serve.proofs.keys.Left.without.Goals as goal
+use Rattle.tool_serve.proofs.keys.Remaining.without.Goals as goal
 
 pub returns-in-Some-clause-lines : goal.returns-in-Some-clause-lines
 returns-in-Some-clause-lines c =

@@ -2,7 +2,7 @@ use Rattle.std.proofs.Common.{rules, Some, refl, sym, subst}
 use Rattle.std.specs.Arc.{arc_value}
 use Rattle.ffi_sets.specs.Sets.{AddUp}
 use Rattle.ffi_sets.proofs.Adding.{last_held, split_adds}
-use Rattle.ffi_sets.proofs.held.Of.split.Goals as goal
+use Rattle.ffi_sets.proofs.held.SeatOfSet.split.Goals as goal
 
 pub returns-clause-split : goal.returns-clause-split
 returns-clause-split g c =
