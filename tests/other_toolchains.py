@@ -92,11 +92,11 @@ class OtherKit:
     def __init__(self, room, is_bare):
         self.room, self.kit, self.tree, self.path = room, room / "kit", room / "tree", room / "path"
         of_kit = pathlib.Path(shutil.which("rt")).resolve().parent.parent
-        for folder, inside in ((of_kit, self.kit), (of_kit / "bin", self.kit / "bin")):
-            inside.mkdir()
+        for folder, stand_in in ((of_kit, self.kit), (of_kit / "bin", self.kit / "bin")):
+            stand_in.mkdir()
             for it in folder.iterdir():
                 if it.name not in ("bin", "rt", "rtlib.py", "KIT-ID", "__pycache__"):
-                    (inside / it.name).symlink_to(it)
+                    (stand_in / it.name).symlink_to(it)
         logic = (of_kit / "KIT-ID").read_text().partition(" ")[2]
         (self.kit / "KIT-ID").write_text(f"rattle-kit-13b {logic}")
         names = [] if is_bare else re.sub(r"^#.*\n", "", LEAST.read_text()).split()

@@ -98,7 +98,7 @@ class Sharing(Client):
         reader.join(SECONDS)
         if reader.is_alive():
             raise TimeoutError("answers do not end")
-        self.compare(lines, ends)
+        self.compare_answers(lines, ends)
 
     def send(self, connection, text):
         if self.manner == "all at once":
@@ -113,7 +113,7 @@ class Sharing(Client):
     def read(self, connection):
         self.bytes = read_all(connection)
 
-    def compare(self, lines, ends):
+    def compare_answers(self, lines, ends):
         answers = self.bytes.decode().split("\n")
         if answers.pop() != "" or len(answers) != len(lines) + len(ends) or answers[len(lines):] != ends:
             raise Wrong(f"{len(answers)} answers to {len(lines)} lines, the last {answers[-2:]}")

@@ -34,11 +34,11 @@ def limited(limit, words):
 
 
 def outcome_is_whole(text):
-    numbers = re.fullmatch(r"calls (\d+)\ntrue (\d+)\nfalse (\d+)\nfull (\d+)\nkeys (\d+)\n((?:key \d+\n)*)", text)
-    if not numbers:
+    outcome = re.fullmatch(r"calls (\d+)\ntrue (\d+)\nfalse (\d+)\nfull (\d+)\nkeys (\d+)\n((?:key \d+\n)*)", text)
+    if not outcome:
         return False
-    calls, true, false, full, keys = map(int, numbers.groups()[:5])
-    return calls == THREADS * CALLS == true + false + full and keys == numbers[6].count("\n")
+    calls, true, false, full, keys = map(int, outcome.groups()[:5])
+    return calls == THREADS * CALLS == true + false + full and keys == outcome[6].count("\n")
 
 
 def ended_run(program, kind, limit):

@@ -53,8 +53,8 @@ def serving(program, kind, seats, quota, sessions, port=0):
 
 def answer_of(reply):
     """The line by which the server answers what a report has as this reply."""
-    word = {"nothing": "none"}.get(reply, reply.replace("at-", "at "))
-    return f"{word.upper()}\n".encode()
+    answer = {"nothing": "none"}.get(reply, reply.replace("at-", "at "))
+    return f"{answer.upper()}\n".encode()
 
 
 def read_all(connection):

@@ -98,8 +98,8 @@ def judge(make, *, threads=8, calls=1000, keys=4, pauses=20, runs=20, seed=1, se
     return verdict
 
 
-def check(**ranges):
-    for name, (given, least, most) in ranges.items():
+def check(**judge_options):
+    for name, (given, least, most) in judge_options.items():
         if not (isinstance(given, int) and least <= given <= most):
             raise NoVerdict(f"{name} is {given}, and has to be {least} to {most}")
 
