@@ -41,6 +41,8 @@ mod pauses;
 #[cfg(test)]
 mod programs;
 #[cfg(test)]
+mod receipts;
+#[cfg(test)]
 mod renewal;
 #[cfg(test)]
 mod stopping;

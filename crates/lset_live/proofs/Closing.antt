@@ -27,7 +27,7 @@ use Rattle.lset_rule.proofs.Stepped.{end_laws}
 use Rattle.lset_rule.proofs.Counts.{has_all, closes}
 use Rattle.lset_words.specs.Records.{Keeps}
 use Rattle.lset_live.specs.Dated.{record_of}
-use Rattle.lset_live.specs.Explained.{IsOneLegalOrder}
+use Rattle.lset_live.specs.Explained.{IsOneLegalOrder, IsOneOrderInTime}
 use Rattle.lset_live.specs.Closes.{LastWords, HasKeys, HasLaws, IsLast}
 use Rattle.lset_live.proofs.Dated.{in_named, said_by}
 use Rattle.lset_live.proofs.Orders.{calls_by_is}
@@ -97,6 +97,18 @@ module _ (T : Table) (law : Lawful T) (v : View) (st : Stands T v) (idle : v.und
             ex.content (same_content (sizes k) (end_of T k v.seen).words (λ t. 0) (used_in (end_of T k v.seen)) keys now);
       }
 
+  pub closed_in_time : (ws : List ℕ) → ws ≡ (end_of T k v.seen).words → (keys : List ℕ) →
+      HasKeys (record { sizes = sizes k; words = ws }) keys
+      → IsOneOrderInTime T k v.seen (record_of v.past ∷ []) keys
+  unfolding closed_explains
+  closed_in_time ws is keys has = record {
+    run = st.ran;
+    placed = order T law v st idle linear;
+    linearizes = (explains T law v st idle linear).linearizes;
+    one = closed_explains ws is keys has;
+    is = refl;
+  }
+
 -- what is so of the words with which a table is closed
 module _ (T : Table) (law : Lawful T) (v : View) (st : Stands T v) (sp : v.spent ≡ false) (idle : v.under ≡ None) (k : Opening)
     (shape : v.shape ≡ k)
@@ -104,11 +116,11 @@ module _ (T : Table) (law : Lawful T) (v : View) (st : Stands T v) (sp : v.spent
   last : ws ≡ (end_of T v.shape v.seen).words
   last = closes T law k id v ws xs shape sp full final ∙ ap (λ (z : Opening). (end_of T z v.seen).words) (sym shape)
 
-  pub last_explains : RunsAreLinearizable T → (keys : List ℕ) → HasKeys (record { sizes = sizes k; words = ws }) keys →
-      IsOneLegalOrder k (record_of v.past ∷ []) keys
-  last_explains linear = subst (λ (z : Opening). (keys : List ℕ) → HasKeys (record { sizes = sizes z; words = ws }) keys →
-      IsOneLegalOrder z (record_of v.past ∷ []) keys) shape
-      (closed_explains T law v st idle linear (full ∙ sym (ap (λ (z : Opening). z.threads) shape)) ws last)
+  pub last_in_time : RunsAreLinearizable T → (keys : List ℕ) → HasKeys (record { sizes = sizes k; words = ws }) keys →
+      IsOneOrderInTime T k v.seen (record_of v.past ∷ []) keys
+  last_in_time linear = subst (λ (z : Opening). (keys : List ℕ) → HasKeys (record { sizes = sizes z; words = ws }) keys →
+      IsOneOrderInTime T z v.seen (record_of v.past ∷ []) keys) shape
+      (closed_in_time T law v st idle linear (full ∙ sym (ap (λ (z : Opening). z.threads) shape)) ws last)
 
 -- THE LAST WORDS
 pub laws_of : (c : LastWords) → IsLast c → HasLaws c

@@ -6,5 +6,6 @@ mod PastCalls
 mod Orders
 mod Explained
 mod Closing
+pub mod Receipts
 mod Walking
 pub mod NewSeats

@@ -4,7 +4,9 @@ use Rattle.std.proofs.lemmas.List.Elements.{All-head, All-cons, All-nil}
 use Rattle.lset_words.specs.SequentialSet.{Answered}
 use Rattle.lset_words.specs.Records.{Record, gathered, Names, Keeps}
 use Rattle.lset_live.specs.Seats.{gather_onto}
-use Rattle.lset_live.specs.Explained.{NamedIn, IsOneLegalOrder}
+use Rattle.lset_steps.specs.declared.Event.{Event}
+use Rattle.lset_steps.specs.Steps.{Table}
+use Rattle.lset_live.specs.Explained.{NamedIn, IsOneLegalOrder, IsOneOrderInTime}
 use Rattle.lset_words.specs.Words.{Opening}
 
 -- one record more
@@ -40,4 +42,16 @@ gathered_explains k r rs keys e x = record {
   no_other = λ u lt out. x.no_other u lt (λ n.
       ⊎_elim (subst (λ o. IfSome o (λ q. ¬ (Names u q))) (sym e) (unnamed u None rs tt out)) (λ y. y) n);
   leaves = x.leaves;
+}
+
+-- and so does one in time
+pub gathered_in_time : (T : Table) (k : Opening) (events : List Event) (r : Record) (rs : List Record) (keys : List ℕ) →
+    Some r ≡ gather_onto None rs → IsOneOrderInTime T k events (r ∷ []) keys → IsOneOrderInTime T k events rs keys
+unfolding gathered_explains
+gathered_in_time T k events r rs keys e x = record {
+  run = x.run;
+  placed = x.placed;
+  linearizes = x.linearizes;
+  one = gathered_explains k r rs keys e x.one;
+  is = x.is;
 }

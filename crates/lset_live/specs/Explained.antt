@@ -10,7 +10,7 @@ use Rattle.lset_words.specs.SequentialSet.{Answered, IsLegal, opening_set, set_l
 use Rattle.lset_steps.specs.declared.Event.{Event}
 use Rattle.lset_steps.specs.declared.Event.TheVariants.{Begin, Go}
 use Rattle.lset_steps.specs.Steps.{Table}
-use Rattle.lset_rule.specs.Runs.{IsRunOf, history_of}
+use Rattle.lset_rule.specs.Runs.{StartsWith, IsRunOf, history_of}
 use Rattle.lset_words.specs.Records.{Record, Names, Keeps, called, calls_by, thread_of}
 use Rattle.lset_live.specs.Seats.{SeatValue, SetValue}
 use Rattle.lset_words.specs.Words.{Opening}
@@ -53,7 +53,7 @@ NamedIn u [] = ⊥
 NamedIn u (r ∷ rs) = Names u r ⊎ NamedIn u rs
 
 -- ONE LEGAL ORDER of exactly the calls of the records: it keeps each record, so the order of each seat's calls and of gathering, and
--- leaves the keys. No real-time order between seats is asked: this is sequential consistency.
+-- leaves the keys. It asks for no real-time order between seats: this is sequential consistency.
 pub record IsOneLegalOrder (k : Opening) (records : List Record) (keys : List ℕ) : Type 0 where
   pub order : List Answered
   pub legal : IsLegal k.quota (opening_set k) order
@@ -61,3 +61,30 @@ pub record IsOneLegalOrder (k : Opening) (records : List Record) (keys : List �
   pub threads : All (λ (a : Answered). a.thread < k.threads) order
   pub no_other : (u : ℕ) → u < k.threads → ¬ (NamedIn u records) → calls_by u order ≡ []
   pub leaves : (set_left (opening_set k) order).keys ≡ keys
+
+-- THE SAME ORDER IN TIME, of what a seat with all seats has seen: it linearizes the history of these events too, so that a call that
+-- had ended before another one began stands before it. The events begin with all that any seat had seen, and so with what a receipt
+-- stands for.
+pub record IsOneOrderInTime (T : Table) (k : Opening) (events : List Event) (records : List Record) (keys : List ℕ) : Type 0 where
+  pub run : IsRunOf T k events
+  pub placed : List Placed
+  pub linearizes : Linearizes k.quota (opening_set k) (history_of T k events) placed
+  pub one : IsOneLegalOrder k records keys
+  pub is : one.order ≡ map (answered (history_of T k events)) placed
+
+-- the call a stands in the order, and b behind it
+pub record StandsBefore (order : List Answered) (a b : Answered) : Type 0 where
+  pub first : List Answered
+  pub between : List Answered
+  pub last : List Answered
+  pub is : order ≡ first ++ a ∷ (between ++ b ∷ last)
+
+-- THE LAW OF RECEIPTS. The call c of thread t had been answered when a receipt was given; a seat that had taken it, and so had seen
+-- what the receipt stands for, made the call d. Then c stands before d in each order that linearizes events which begin with those
+-- that are seen after d.
+abbrev pub ReceiptsKeepOrder : Type 0
+ReceiptsKeepOrder = (T : Table) (k : Opening) (t u : ℕ) (c d : Call) (r a : Reply) (old given taken after events : List Event)
+    → IsAnswered T k t c r old given → StartsWith taken given → IsAnswered T k u d a taken after → StartsWith events after
+    → (order : List Placed) → Linearizes k.quota (opening_set k) (history_of T k events) order
+    → StandsBefore (map (answered (history_of T k events)) order) (record { thread = t; call = c; reply = r })
+    (record { thread = u; call = d; reply = a })

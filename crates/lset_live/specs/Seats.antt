@@ -27,6 +27,11 @@ pub record SeatValue : Type 0 where
   pub held : ℕ
   pub events : List Event
 
+-- a receipt: its set, and the events that a seat of it had seen when it gave it
+pub record ReceiptValue : Type 0 where
+  pub set : SetValue
+  pub events : List Event
+
 -- the seat of a thread as the set is opened
 abbrev pub new_seat : SetValue → ℕ → SeatValue
 new_seat set t = record { set = set; past = fresh t; held = 1; events = [] }

@@ -2,6 +2,7 @@
 ghost use Rattle.std.specs.Prelude.{◌≡◌, ◌+◌, ◌<◌, ◌≤◌, ◌↔◌, IfSome, IsTrue, Some, [], ◌∷◌, length, sum_by};
 ghost use Rattle.std.specs.Option.{option_map};
 ghost use Rattle.lset_words.specs.declared.TheConstants.{MOST_THREADS};
+ghost use Rattle.lset_rule.specs.Runs.{StartsWith};
 ghost use Rattle.lset_live.specs.Seats.{gather_onto, held_in};
 
 use crate::seat::Seat;
@@ -32,6 +33,7 @@ impl<M: Machine> LiveSet<M> {
         ensures record { Some result.past ≡ gather_onto (option_map (λ s. s.past) into) (from.past ∷ []) }
         ensures held { result.held ≡ held_in into + from.held }
         ensures seat { result.set ≡ self.now }
+        ensures events { StartsWith result.events from.events × IfSome into (λ s. StartsWith result.events s.events) }
     {
         let Some(mut into) = into else {
             return from;

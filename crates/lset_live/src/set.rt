@@ -9,7 +9,7 @@ ghost use Rattle.lset_rule.specs.Seats.{IsOf};
 ghost use Rattle.lset_rule.specs.Runs.{StartsWith};
 ghost use Rattle.lset_rule.specs.Rule.{left_view, right_view};
 ghost use Rattle.lset_live.specs.Closes.{HasKeys, most_keys};
-ghost use Rattle.lset_live.specs.Explained.{IsOneLegalOrder, HasAnswered};
+ghost use Rattle.lset_live.specs.Explained.{IsOneLegalOrder, IsOneOrderInTime, HasAnswered};
 ghost use Rattle.lset_words.specs.Records.{gathered};
 ghost use Rattle.lset_live.specs.Seats.{is_true, reply_of};
 
@@ -226,6 +226,7 @@ impl<M: Machine> LiveSet<M> {
         ensures all { IfOk result (λ c. seat.held ≡ self.shape.threads) }
         ensures sizes { IfOk result (λ c. c.sizes ≡ sizes self.shape) }
         ensures closed { IfOk result (λ c. (keys : List ℕ) → HasKeys c keys → IsOneLegalOrder self.shape (seat.past ∷ []) keys) }
+        ensures in_time { IfOk result (λ c. (keys : List ℕ) → HasKeys c keys → IsOneOrderInTime M.table self.shape seat.events (seat.past ∷ []) keys) }
         ensures out { IfErr result (λ b. (seat.held ≢ self.shape.threads) × (b.set ≡ self) × (b.seat ≡ seat)) }
     {
         runs_are_linearizable::<M>();
@@ -260,7 +261,8 @@ impl<M: Machine> LiveSet<M> {
     pub fn keys_left(self, seat: Seat<M>) -> Result<Vec<u32>, AllocError>
         requires seat { seat.set ≡ self }
         requires all { seat.held ≡ self.shape.threads }
-        ensures { IfOk result (λ v. IsOneLegalOrder self.shape (seat.past ∷ []) v.items) }
+        ensures order { IfOk result (λ v. IsOneLegalOrder self.shape (seat.past ∷ []) v.items) }
+        ensures in_time { IfOk result (λ v. IsOneOrderInTime M.table self.shape seat.events (seat.past ∷ []) v.items) }
     {
         let Ok(closed) = self.close(seat) else {
             unreachable!()

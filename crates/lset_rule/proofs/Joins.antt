@@ -20,10 +20,12 @@ use Rattle.lset_rule.specs.Pasts.{gathered, calls_of}
 use Rattle.lset_steps.specs.Worlds.{thread_of}
 use Rattle.lset_rule.specs.Runs.{Here, here, at_end, IsRunOf}
 use Rattle.lset_rule.specs.Rule.{Holds, MatchesLog, IsQuiet, left_view, right_view, longer, aside, joined, nobody, learned}
+use Rattle.lset_rule.specs.Rule.{without_thread, informed}
 use Rattle.lset_rule.specs.Views.{Stands, HasThread, HasAside, AreIdle, InTime}
 use Rattle.lset_rule.specs.Runs.{StartsWith}
-use Rattle.lset_rule.proofs.Runs.{still_quiet, before_more, none_of_another}
-use Rattle.lset_rule.proofs.Keeps.{M, set_there, stands_still}
+use Rattle.lset_rule.proofs.Runs.{still_quiet, before_more, none_of_another, asides_stay}
+use Rattle.lset_rule.proofs.Stepped.{run_of_first}
+use Rattle.lset_rule.proofs.Keeps.{M, set_there, stands_still, knows}
 use Rattle.lset_words.specs.Words.{Opening}
 
 module _ {A : Type 0} where
@@ -33,6 +35,11 @@ module _ {A : Type 0} where
   at_tail [] a b (suc j) e = absurd (some-ne-none b (sym e))
   at_tail (x ∷ xs) a b zero e = inl e
   at_tail (x ∷ xs) a b (suc j) e = ⊎_elim (λ t. inl t) (λ t. inr (ap suc t.0, t.1)) (at_tail xs a b j e)
+
+set_same : (l : List View) (i : ℕ) (a : View) → get_elem? l i ≡ some a → set l i a ≡ l
+set_same [] i a e = refl
+set_same (x ∷ xs) zero a e = λ i. sym (some-injective x a e) i ∷ xs
+set_same (x ∷ xs) (suc n) a e = ap (λ l. x ∷ l) (set_same xs n a e)
 
 -- fewer threads
 quiet_less : (v w : View) → ((t : ℕ) → HasThread w t → HasThread v t) → (es : List Event) → IsQuiet v es → IsQuiet w es
@@ -157,6 +164,12 @@ module _ (m : Table) where
                 st.2,
                 st.3,
               ));
+          known = λ j x is. ⊎_elim (λ (old : get_elem? (set s.views id (left_view V)) j ≡ some x). ⊎_elim
+              (λ (t : (j ≡ id) × (left_view V ≡ x)). knows h.log (left_view V) x t.1 (f.rest, f.is))
+              (λ (t : (j ≢ id) × (get_elem? s.views j ≡ some x)). h.known j x t.1)
+              (at_set s.views id j (left_view V) x old))
+              (λ (t : (j ≡ n) × (right_view V ≡ x)). knows h.log (right_view V) x t.1 (f.rest, f.is))
+              (at_tail (set s.views id (left_view V)) (right_view V) x j is);
         }
 
   pub splits : (k : Opening) (id : ℕ) (v : View) (o : Aside) (os : List Aside) → v.spent ≡ false → v.under ≡ None →
@@ -385,6 +398,121 @@ module _ (m : Table) where
               st'.2,
               st'.3,
             ));
+        known = λ j x is. ⊎_elim
+            (λ (t : (j ≡ other) × (nobody ≡ x)). knows h.log nobody x t.1 (h.log, refl))
+            (λ (t : (j ≢ other) × (get_elem? (set s.views id (joined v w)) j ≡ some x)). ⊎_elim
+            (λ (u : (j ≡ id) × (joined v w ≡ x)). knows h.log (joined v w) x u.1 (mine.rest, mine.is))
+            (λ (u : (j ≢ id) × (get_elem? s.views j ≡ some x)). h.known j x u.1)
+            (at_set s.views id j (joined v w) x t.1))
+            (at_set (set s.views id (joined v w)) other j nobody x is);
+      }
+
+  -- GIVING A RECEIPT, or copying one
+  pub notes : (k : Opening) (id : ℕ) (v : View) → Splits (Holds m k) id v v (without_thread v)
+  notes k id v s h at =
+      let w : View = without_thread v in
+      subst (λ (l : List View). Holds m k record { words = s.words; homes = s.homes; views = l ++ w ∷ [] })
+      (sym (set_same s.views id v at)) record {
+        log = h.log;
+        ran = h.ran;
+        words = h.words;
+        seat_of = h.seat_of;
+        each = λ j x is alive. ⊎_elim (λ (old : get_elem? s.views j ≡ some x). h.each j x old alive)
+            (λ (t : (j ≡ length s.views) × (w ≡ x)). absurd (false≢true (sym alive ∙ ap (λ (z : View). z.spent) (sym t.1))))
+            (at_tail s.views w x j is);
+        placed = λ t lt. let st = h.placed t lt in (
+          st.0,
+          at_longer s.views (w ∷ []) (h.seat_of t) st.0 st.1,
+          st.2,
+          st.3,
+        );
+        known = λ j x is. ⊎_elim (λ (old : get_elem? s.views j ≡ some x). h.known j x old)
+            (λ (t : (j ≡ length s.views) × (w ≡ x)). knows h.log w x t.1 (h.known id v at))
+            (at_tail s.views w x j is);
+      }
+
+  -- TAKING A RECEIPT
+  module _ (k : Opening) (log : List Event) (so : ℕ → ℕ) (i : ℕ) (v w : View) (f : MatchesLog m k log so i v) (ran : IsRunOf m k log) (known : StartsWith log w.seen) where
+    abbrev I : View
+    I = informed v w
+
+    both : Longer (IsRunOf m k) log v.seen w.seen f.rest known.0
+    both = longer_by (IsRunOf m k) log v.seen w.seen f.rest known.0 f.is known.1
+        (subst (λ z. IsRunOf m z v.seen) f.shape f.stands.ran) (run_of_first m k w.seen known.0 (subst (IsRunOf m k) known.1 ran))
+        (nat_le (length v.seen) (length w.seen)) refl
+
+    after_both : (t : ℕ) → HasThread v t → at_end m k (longer v.seen w.seen) t ≡ at_end m v.shape v.seen t
+    after_both t h = ap (λ l. at_end m k l t) both.from_x
+        ∙ (still_quiet m k v v.seen both.dx t h (quiet_tail v both.dx both.rest (subst (IsQuiet v) both.x_rest f.quiet)).0
+        ∙ ap (λ z. at_end m z v.seen t) (sym f.shape))
+
+    pub informed_stands : Stands m I
+    informed_stands = subst (λ (z : Opening). Stands m (record I { shape = z })) (sym f.shape) record {
+      ran = both.kept;
+      own = after_both v.thread (inl refl) ∙ f.stands.own;
+      others = asides_stay (at_end m v.shape v.seen) (at_end m k (longer v.seen w.seen)) v.thread v.past v.past v.others
+          (λ u has _. after_both u (inr has)) (λ u _. refl) f.stands.others;
+      in_range = λ t h. subst (λ (z : Opening). t < z.threads) f.shape (f.stands.in_range t h);
+      of_thread = f.stands.of_thread;
+      apart = f.stands.apart;
+      named = f.stands.named;
+      ordered = f.stands.ordered;
+      ended = let a = ap length both.from_x in let b = length-append v.seen both.dx in
+          before_more (length v.seen + 1) (length (longer v.seen w.seen) + 1) v.past (omega arith) f.stands.ended;
+      before = f.stands.before;
+    }
+
+    pub informed_fits : MatchesLog m k log so i I
+    informed_fits = record {
+      shape = f.shape;
+      rest = both.rest;
+      is = f.is ∙ (ap (λ l. v.seen ++ l) both.x_rest
+          ∙ (sym (append_assoc v.seen both.dx both.rest) ∙ ap (λ l. l ++ both.rest) (sym both.from_x)));
+      quiet = quiet_less v I (λ t h. h) both.rest (quiet_tail v both.dx both.rest (subst (IsQuiet v) both.x_rest f.quiet)).1;
+      stands = informed_stands;
+      seat = f.seat;
+      ours = (f.rest, f.is);
+      theirs = known;
+    }
+
+  pub informs : (k : Opening) (id other : ℕ) (v w : View) → v.spent ≡ false → w.spent ≡ true →
+      Joins (Holds m k) id v other w (informed v w) nobody
+  informs k id other v w v_sp w_sp s h at apart there =
+      let j : View = informed v w in
+      let there' : get_elem? s.views other ≡ some w = ⊎_elim (λ (t : (other ≡ id) × (j ≡ w)). absurd (apart t.0))
+      (λ (t : (other ≢ id) × (get_elem? s.views other ≡ some w)). t.1) (at_set s.views id other j w there) in
+      let f = h.each id v at v_sp in
+      let mine : MatchesLog m k h.log h.seat_of id j = informed_fits k h.log h.seat_of id v w f h.ran (h.known other w there') in
+      record {
+        log = h.log;
+        ran = h.ran;
+        words = h.words;
+        seat_of = h.seat_of;
+        each = λ n x is alive. ⊎_elim
+            (λ (t : (n ≡ other) × (nobody ≡ x)). absurd (false≢true (sym alive ∙ ap (λ (z : View). z.spent) (sym t.1))))
+            (λ (t : (n ≢ other) × (get_elem? (set s.views id j) n ≡ some x)). ⊎_elim
+            (λ (u : (n ≡ id) × (j ≡ x)). subst (λ (z : ℕ × View). MatchesLog m k h.log h.seat_of z.0 z.1) (λ i. (sym u.0 i, u.1 i))
+            mine)
+            (λ (u : (n ≢ id) × (get_elem? s.views n ≡ some x)). h.each n x u.1 alive)
+            (at_set s.views id n j x t.1))
+            (at_set (set s.views id j) other n nobody x is);
+        placed = λ t lt.
+            let st = h.placed t lt in
+            let st' = stands_still s.views id (h.seat_of t) t v j at v_sp (λ x. x) st in
+            let ne : h.seat_of t ≢ other = λ e. false≢true (sym st.2 ∙ (ap (λ (z : View). z.spent)
+            (some-injective st.0 w (sym st.1 ∙ (ap (get_elem? s.views) e ∙ there'))) ∙ w_sp)) in (
+              st'.0,
+              set_else (set s.views id j) other (h.seat_of t) nobody ne ∙ st'.1,
+              st'.2,
+              st'.3,
+            );
+        known = λ n x is. ⊎_elim
+            (λ (t : (n ≡ other) × (nobody ≡ x)). knows h.log nobody x t.1 (h.log, refl))
+            (λ (t : (n ≢ other) × (get_elem? (set s.views id j) n ≡ some x)). ⊎_elim
+            (λ (u : (n ≡ id) × (j ≡ x)). knows h.log j x u.1 (mine.rest, mine.is))
+            (λ (u : (n ≢ id) × (get_elem? s.views n ≡ some x)). h.known n x u.1)
+            (at_set s.views id n j x t.1))
+            (at_set (set s.views id j) other n nobody x is);
       }
 
   kept_stands : (v : View) (o t : List Event) → Stands m v → Stands m (record v { ours = o; theirs = t })
@@ -425,6 +553,8 @@ module _ (m : Table) where
               (λ i. (sym t.0 i, t.1 i)) mine)
               (λ (t : (j ≢ id) × (get_elem? s.views j ≡ some x)). h.each j x t.1 alive) (at_set s.views id j w x is);
           placed = λ t lt. stands_still s.views id (h.seat_of t) t v w at sp (λ x. x) (h.placed t lt);
+          known = λ j x is. ⊎_elim (λ (t : (j ≡ id) × (w ≡ x)). knows h.log w x t.1 (f.rest, f.is))
+              (λ (t : (j ≢ id) × (get_elem? s.views j ≡ some x)). h.known j x t.1) (at_set s.views id j w x is);
         },
         (
           refl,

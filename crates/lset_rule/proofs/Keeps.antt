@@ -23,7 +23,7 @@ use Rattle.lset_steps.proofs.WorldRuns.{named_in}
 use Rattle.lset_words.specs.Words.{word_count, target, tail_word, Opening, sizes}
 use Rattle.lset_rule.specs.Pasts.{root, calls_of, Before, InOrder, Apart, IsIn}
 use Rattle.lset_steps.specs.Worlds.{thread_of, WorldState, IsRun}
-use Rattle.lset_rule.specs.Runs.{Here, here, under_after, log_by, end_of, at_end, IsRunOf}
+use Rattle.lset_rule.specs.Runs.{Here, here, under_after, log_by, end_of, at_end, IsRunOf, StartsWith}
 use Rattle.lset_rule.proofs.Stepped.{left, found, gone, begins}
 use Rattle.lset_rule.specs.Rule.{Holds, MatchesLog, StandsIn}
 use Rattle.lset_rule.specs.Views.{Stands, HasThread, InTime, IsOpen, IsIdle}
@@ -49,6 +49,10 @@ pub set_there : (l : List View) (i : ℕ) (a b : View) → get_elem? l i ≡ som
 set_there [] i a b e = absurd (some-ne-none a (sym e))
 set_there (x ∷ xs) zero a b e = refl
 set_there (x ∷ xs) (suc i) a b e = set_there xs i a b e
+
+-- the same view has seen the same
+pub knows : (log : List Event) (v x : View) → v ≡ x → StartsWith log v.seen → StartsWith log x.seen
+knows log v x is = subst (λ (z : View). StartsWith log z.seen) is
 
 -- a thread still stands in its view when one view becomes another that has it too
 pub stands_still : (views : List View) (id j t : ℕ) (v w : View) → get_elem? views id ≡ some v → w.spent ≡ false →
@@ -170,6 +174,9 @@ module _ (m : Table) where
                   (λ has. t.0 (sym (f.seat (thread_of e) has) ∙ (ap h.seat_of mine ∙ fit.seat v.thread (inl refl)))) f)
                   (at_set s.views id j w x is);
               placed = λ t lt. stands_still s.views id (h.seat_of t) t v w at sp (λ has. has) (h.placed t lt);
+              known = λ j x is. ⊎_elim (λ (t : (j ≡ id) × (w ≡ x)). knows (h.log ++ e ∷ []) w x t.1 (mine_fits.rest, mine_fits.is))
+                  (λ (t : (j ≢ id) × (get_elem? s.views j ≡ some x)). starts_more h.log x.seen e (h.known j x t.1))
+                  (at_set s.views id j w x is);
             },
             refl,
           ),

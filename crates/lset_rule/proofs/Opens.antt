@@ -17,7 +17,7 @@ use Rattle.lset_steps.specs.Steps.{Table, opening, opening_word, idle}
 use Rattle.atomic_table.specs.declared.shared.Seat.{Seat}
 use Rattle.atomic_table.specs.Seated.{TableId}
 use Rattle.lset_steps.proofs.MoreEvents.{runs_to_opening}
-use Rattle.lset_rule.specs.Runs.{here, at_end, IsRunOf}
+use Rattle.lset_rule.specs.Runs.{here, at_end, IsRunOf, StartsWith}
 use Rattle.lset_rule.specs.Rule.{Holds, MatchesLog, opener, asides_from, left_view, right_view}
 use Rattle.lset_rule.specs.Views.{Stands, HasThread, HasAside, AreIdle, IsIdle}
 
@@ -102,6 +102,7 @@ opens m k lim = record {
         theirs = ([], refl);
       };
   placed = λ t lt. (opener k, refl, refl, all_there k t lt);
+  known = λ j x at. subst (λ (z : View). StartsWith [] z.seen) (one_view (opener k) x j at).1 ([], refl);
 }
 
 next_aside : (k : Opening) (t : ℕ) → t + 1 < k.threads → asides_from k t (k.threads - 1 - t) ≡ record {

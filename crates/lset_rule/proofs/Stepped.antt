@@ -1,7 +1,7 @@
 -- One event more of a run, and what it leaves of each thread.
 use Rattle.std.proofs.Common.{◌≡◌, ◌≢◌, ⊎_elim, ℕ, zero, suc, ◌+◌, ◌<◌, ◌≤◌, ◌==◌, Bool, true, false, List, [], ◌∷◌, ◌++◌, length}
 use Rattle.std.proofs.Common.{Option, Some, None, refl, sym, ap, ◌∙◌, subst, arith, slice_index, slice_set, get_or-set_other}
-use Rattle.std.proofs.Common.{get_or-set_same, if◌then◌else◌}
+use Rattle.std.proofs.Common.{get_or-set_same, if◌then◌else◌, length-append}
 use Rattle.std.proofs.lemmas.List.FromFn.{get_or-map-range_with_len}
 use lib.Seq.{set-get_or}
 use prog.Atomic.{either}
@@ -259,6 +259,22 @@ end_go T k es t lt =
     (subst (λ (s : State). t < length s.locals) (sym (states_before T k es e (length es) (omega arith))) lt)
     ∙ (λ i. gone (here_before T k es e t i) (T.feed (local_of (states_before T k es e (length es) (omega arith) i) t)
     (seen_next T (states_before T k es e (length es) (omega arith) i) t)) (one i)))
+
+-- the first events of a run are one
+pub event_of_first : (es rest : List Event) (j : ℕ) → j < length es → event_at (es ++ rest) j ≡ event_at es j
+event_of_first [] rest j h = absurd (omega arith)
+event_of_first (x ∷ es) rest zero h = refl
+event_of_first (x ∷ es) rest (suc j) h = event_of_first es rest j (omega arith)
+
+pub run_of_first : (T : Table) (k : Opening) (es rest : List Event) → IsRunOf T k (es ++ rest) → IsRunOf T k es
+run_of_first T k es rest r = record {
+  opens = r.opens;
+  enabled = λ j l. let long = length-append es rest in
+      subst (λ (z : State × Event). Enabled z.0 z.1) (λ i. (
+        state_agree T k (event_at es) (event_at (es ++ rest)) j (λ a m. event_of_first es rest a (omega arith)) i,
+        event_of_first es rest j l i,
+      )) (r.enabled j (omega arith));
+}
 
 -- what the law says of the end of a run
 module _ (T : Table) (law : Lawful T) (k : Opening) (es : List Event) (r : IsRunOf T k es) where

@@ -1,6 +1,6 @@
 -- THE RULE of a list on shared words, which holds between any two moves: there is a list L of events whose run ends with the
 -- words of the table, and each view fits it. And the views that the moves without an event make: opening, splitting, joining,
--- and the load that ends a joining.
+-- and the load that ends a joining; giving a receipt, and taking one.
 use Rattle.std.specs.Prelude.{◌≡◌, ℕ, zero, suc, ◌+◌, ◌-◌, ◌<◌, ◌≤◌, true, false, List, [], ◌∷◌, ◌++◌, length, None, cond, nat_le}
 use mathlib.Core.Option.{some}
 use lib.ListN.{get_elem?}
@@ -40,7 +40,8 @@ StandsIn views j t = (v : View) × (get_elem? views j ≡ some v) × (v.spent �
 
 -- THE RULE: there is a run that ends with the words of the table, and each view that is not spent fits it. Each thread stands
 -- in one view: in that of its seat, and (by `seat` of MatchesLog) in no other. Seats are not counted: the view of a seat that was
--- dropped stays.
+-- dropped stays. What any view has seen, also one that is spent, is the first events: so a view without a thread still says what a
+-- seat had seen.
 --
 -- What follows from it, at the end of the whole list L (proofs/EndOfAll): the registers of each thread, its call under way and
 -- its ended calls are those of the view that has it; and the ended calls of the thread of a record, of the view's own or of a
@@ -52,6 +53,7 @@ pub record Holds (m : Table) (k : Opening) (s : table.State (Unit {0}) View) : T
   pub seat_of : ℕ → ℕ
   pub each : (j : ℕ) (v : View) → get_elem? s.views j ≡ some v → v.spent ≡ false → MatchesLog m k log seat_of j v
   pub placed : (t : ℕ) → t < k.threads → StandsIn s.views (seat_of t) t
+  pub known : (j : ℕ) (v : View) → get_elem? s.views j ≡ some v → StartsWith log v.seen
 
 -- MAKING THE FIRST SEAT: it has all threads, idle, the last one as its own
 abbrev pub asides_from : Opening → ℕ → ℕ → List Aside
@@ -115,6 +117,18 @@ joined v w = record v {
 
 abbrev pub nobody : View
 nobody = record (opener (record { threads = 0; quota = 0; keys = [] })) { spent = true }
+
+-- GIVING A RECEIPT: the seat stays as it is, and a view without a thread has seen as much. A copy of that view is made in the same way
+abbrev pub without_thread : View → View
+without_thread v = record v { spent = true }
+
+-- TAKING A RECEIPT: the seat has seen the longer of the two lists, and keeps both; the receipt is spent
+abbrev pub informed : View → View → View
+informed v w = record v {
+  seen = longer v.seen w.seen;
+  ours = v.seen;
+  theirs = w.seen;
+}
 
 -- THE LOAD THAT ENDS A JOINING tells that both kept lists begin the events seen, and drops them
 abbrev pub learned : Table → Step (Unit {0}) → Me (Unit {0}) View → ℕ → Me (Unit {0}) View → Type 0

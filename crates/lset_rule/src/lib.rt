@@ -18,7 +18,7 @@ mod word_steps;
 pub use interpreter::{interpret_read, interpret_within};
 pub use pause::{Pause, Spin};
 pub use rounds::{Countless, Rounds, or_wait_forever};
-pub use rule::{Asking, Cutting, Follows, Learning, Onward, Starting, Taking};
+pub use rule::{Asking, Cutting, Follows, Heeding, Learning, Noting, Onward, Starting, Taking};
 pub use slots::OwnSlots;
 pub use view::{Aside, Opened, OwnCall, Past, Under, View};
 pub use word_steps::{

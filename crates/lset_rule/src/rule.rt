@@ -1,7 +1,7 @@
 //! The rule of the table, and what each kind of move tells the one that makes it.
 ghost use Rattle.lset_words.specs.declared.Call.{Call};
 ghost use Rattle.lset_words.specs.declared.Call.TheVariants.{Contains};
-ghost use Rattle.lset_rule.specs.Rule.{Holds, opener, left_view, right_view, joined, nobody, learned};
+ghost use Rattle.lset_rule.specs.Rule.{Holds, opener, left_view, right_view, joined, nobody, learned, without_thread, informed};
 ghost use Rattle.lset_rule.specs.Calls.{onward, starting};
 
 use crate::view::{Opened, View};
@@ -67,7 +67,25 @@ impl Join<View> for Taking {
     ghost spent = { nobody };
 }
 
-/// What the load that ends a gathering tells: that the seat has seen what each of the two had seen.
+/// How a receipt is given: the seat keeps its view, and a view without a thread has seen as much. So is a receipt copied.
+pub struct Noting;
+
+impl Split<View> for Noting {
+    ghost left = { λ v. v };
+
+    ghost right = { without_thread };
+}
+
+/// How a seat takes a receipt in: it has then seen what each of the two had seen.
+pub struct Heeding;
+
+impl Join<View> for Heeding {
+    ghost both = { informed };
+
+    ghost spent = { nobody };
+}
+
+/// What the load that ends a gathering, or the taking of a receipt, tells: that the seat has seen what each of the two had seen.
 pub struct Learning<M> {
     machine: PhantomData<M>,
 }

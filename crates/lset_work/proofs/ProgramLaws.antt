@@ -1,9 +1,10 @@
 -- Programs that go on call by call, and threads that come back one by one.
-use Rattle.std.proofs.Common.{◌≡◌, ℕ, ◌+◌, ◌<◌, Bool, true, List, [], ◌∷◌, ◌++◌, length, map, take, get_or, Option, Some, None}
+use Rattle.std.proofs.Common.{◌≡◌, ℕ, ◌+◌, ◌<◌, Bool, true, List, [], ◌∷◌, ◌++◌, length, map, take, get_or, Option, Some, None, IfSome, All}
 use Rattle.std.proofs.Common.{refl, sym, ap, ◌∙◌, subst, append_assoc, arith, length-append, length-take-le, add-one}
 use Rattle.std.specs.Option.{option_map}
 use Rattle.std.proofs.Math.Seq.{take-suc}
 use Rattle.std.proofs.lemmas.List.{length-map, map-append, get_or_default}
+use Rattle.std.proofs.lemmas.List.Elements.{All-nil, All-push, All-weaker}
 use Rattle.std.proofs.lemmas.List.Sums.{sum_by-append, sum_by-cons}
 use Rattle.lset_words.specs.declared.Call.{Call}
 use Rattle.lset_words.specs.declared.Reply.{Reply}
@@ -11,8 +12,10 @@ use Rattle.lset_words.specs.Records.{CallMade, Record, called, with_calls}
 use Rattle.lset_live.specs.Seats.{SeatValue, SetValue, gather_onto, held_in}
 use Rattle.lset_work.specs.declared.fault.WorkCause.{WorkCause}
 use Rattle.lset_work.specs.declared.fault.WorkCause.TheVariants.{Programs, Spawn, Gate, Memory}
-use Rattle.lset_work.specs.Programs.{made, worked, HaveRun, IsMadeOn, IsOfThreads}
+use Rattle.lset_rule.specs.Runs.{StartsWith}
+use Rattle.lset_work.specs.Programs.{made, worked, HasSeenAll, HaveRun, IsMadeOn, IsOfThreads}
 use Rattle.lset_words.proofs.Records.{with_calls-append}
+use Rattle.lset_live.proofs.Receipts.{starts_on}
 use Rattle.lset_live.proofs.Records.{gather_more}
 
 -- ---- one call more
@@ -59,7 +62,20 @@ worked-append (q ∷ rs) (x ∷ ps) (z ∷ ys) r p y e f =
     ap (λ l. with_calls q (made x z) ∷ l) (worked-append rs ps ys r p y (omega (arith, e)) (omega (arith, f)))
 
 none_run : (set : SetValue) → HaveRun set [] [] None []
-none_run set = record { fit = refl; counted = refl; gathers = refl; held = refl; same = tt }
+none_run set = record {
+  fit = refl;
+  counted = refl;
+  gathers = refl;
+  held = refl;
+  same = tt;
+  begins = All-nil (HasSeenAll None);
+}
+
+all_seen : (now : SeatValue) (last : Option SeatValue) (seats : List SeatValue) → IfSome last (λ s. StartsWith now.events s.events) →
+    All (HasSeenAll last) seats → All (HasSeenAll (Some now)) seats
+all_seen now None seats grows seen = All-weaker (HasSeenAll None) (HasSeenAll (Some now)) (λ s x. absurd x) seats seen
+all_seen now (Some l) seats grows seen = All-weaker (HasSeenAll (Some l)) (HasSeenAll (Some now))
+    (λ s x. starts_on now.events l.events s.events grows x) seats seen
 
 run_more : (set : SetValue) (seats : List SeatValue) (programs : List (List Call)) (last : Option SeatValue)
     (replies : List (List Reply))
@@ -67,8 +83,9 @@ run_more : (set : SetValue) (seats : List SeatValue) (programs : List (List Call
     IsMadeOn seat.past program told done.past
     → done.held ≡ seat.held → Some now.past ≡ gather_onto (option_map (λ s. s.past) last) (done.past ∷ []) →
     now.held ≡ held_in last + done.held → now.set ≡ set
+    → StartsWith done.events seat.events → StartsWith now.events done.events → IfSome last (λ s. StartsWith now.events s.events)
     → HaveRun set (seats ++ seat ∷ []) (programs ++ program ∷ []) (Some now) (replies ++ told ∷ [])
-run_more set seats programs last replies seat done now program told h made same gathers held of =
+run_more set seats programs last replies seat done now program told h made same gathers held of later from grows =
     let past : SeatValue → Record = λ s. s.past in
     let holds : SeatValue → ℕ = λ s. s.held in
     let records = map past seats in
@@ -88,6 +105,8 @@ run_more set seats programs last replies seat done now program told h made same 
           ∙ ap (gather_onto None) (sym grown);
       held = omega (arith, held, h.held, same, sum_by-append holds seats (seat ∷ []), sum_by-cons holds seat []);
       same = of;
+      begins = All-push (HasSeenAll (Some now)) seats seat (all_seen now last seats grows h.begins)
+          (starts_on now.events done.events seat.events from later);
     }
 
 -- the threads that have come back, and those that are left
@@ -113,12 +132,13 @@ pub one_more : {H V : Type 0} (set : SetValue) (seat : H → SeatValue) (program
     SoFar set seat program items hs rest last vs
     → IsMadeOn (seat h).past (program h) (items v) done.past → done.held ≡ (seat h).held
     → Some now.past ≡ gather_onto (option_map (λ s. s.past) last) (done.past ∷ []) → now.held ≡ held_in last + done.held →
-    now.set ≡ set
+    now.set ≡ set → StartsWith done.events (seat h).events → StartsWith now.events done.events
+    → IfSome last (λ s. StartsWith now.events s.events)
     → SoFar set seat program items hs rest' (Some now) vs'
-one_more set seat program items hs rest rest' h last vs vs' v done now step more s made same gathers held of =
+one_more set seat program items hs rest rest' h last vs vs' v done now step more s made same gathers held of later from grows =
     let j = s.joined in
     let next = run_more set (map seat j) (map program j) last (map items vs) (seat h) done now (program h) (items v) s.run made
-    same gathers held of in
+    same gathers held of later from grows in
     let told : map items vs' ≡ map items vs ++ items v ∷ [] = ap (map items) more ∙ map-append items vs (v ∷ []) in
     record {
       joined = j ++ h ∷ [];

@@ -1,9 +1,14 @@
 -- Programs of calls, and what threads make of them.
-use Rattle.std.specs.Prelude.{◌≡◌, ℕ, Bool, true, List, [], ◌∷◌, length, map, sum_by, Option, Some, None, IfSome}
+use Rattle.std.specs.Prelude.{◌≡◌, ℕ, Bool, true, List, [], ◌∷◌, length, map, sum_by, Option, Some, None, IfSome, All}
 use Rattle.std.specs.Option.{option_map}
 use Rattle.lset_words.specs.declared.Call.{Call}
 use Rattle.lset_words.specs.declared.Reply.{Reply}
 use Rattle.lset_words.specs.Records.{CallMade, Record, with_calls}
+use Rattle.lset_words.specs.Words.{Opening}
+use Rattle.lset_steps.specs.declared.Event.{Event}
+use Rattle.lset_steps.specs.Steps.{Table}
+use Rattle.lset_rule.specs.Runs.{StartsWith}
+use Rattle.lset_live.specs.Explained.{IsOneOrderInTime}
 use Rattle.lset_live.specs.Seats.{SeatValue, SetValue, gather_onto, held_in}
 use Rattle.lset_work.specs.declared.fault.WorkCause.{WorkCause}
 use Rattle.lset_work.specs.declared.fault.WorkCause.TheVariants.{Programs, Spawn, Gate, Memory}
@@ -39,6 +44,11 @@ GivesBack given Memory back = IfSome back (λ b. b ≡ given)
 abbrev pub IsMadeOn : Record → List Call → List Reply → Record → Type 0
 IsMadeOn before program replies after = (length replies ≡ length program) × (after ≡ with_calls before (made program replies))
 
+-- the last seat has seen what this one had seen
+abbrev pub HasSeenAll : Option SeatValue → SeatValue → Type 0
+HasSeenAll None s = ⊥
+HasSeenAll (Some last) s = StartsWith last.events s.events
+
 -- The programs were made on the seats, and the seats were gathered into the last one, if there are any.
 pub record HaveRun (set : SetValue) (seats : List SeatValue) (programs : List (List Call)) (last : Option SeatValue)
     (replies : List (List Reply)) : Type 0 where
@@ -49,6 +59,14 @@ pub record HaveRun (set : SetValue) (seats : List SeatValue) (programs : List (L
       ≡ gather_onto None (worked (map (λ (s : SeatValue). s.past) seats) programs replies)
   pub held : held_in last ≡ sum_by (λ (s : SeatValue). s.held) seats
   pub same : IfSome last (λ (s : SeatValue). s.set ≡ set)
+  -- what it has seen begins with what each had seen
+  pub begins : All (HasSeenAll last) seats
+
+-- ONE LEGAL ORDER IN TIME of these records, of a run whose events begin with what each of the seats had seen
+pub record IsWorkInTime (T : Table) (k : Opening) (seats : List SeatValue) (records : List Record) (keys : List ℕ) : Type 0 where
+  pub events : List Event
+  pub begins : All (λ (s : SeatValue). StartsWith events s.events) seats
+  pub order : IsOneOrderInTime T k events records keys
 
 -- a cause that comes up once threads are started, at a gate that may answer false or not
 abbrev pub IsOfThreads : Bool → WorkCause → Type 0

@@ -1,5 +1,6 @@
 //! The threads: what each makes of its program, their starts and their ends.
 ghost use Rattle.std.specs.Prelude.{◌≡◌, ◌<◌, ◌≤◌, ◌^◌, [], IfSome, MatchBool, MatchOption, All, map, length, true, vec_capacity};
+ghost use Rattle.lset_rule.specs.Runs.{StartsWith};
 ghost use Rattle.lset_work.specs.Programs.{HaveRun, IsMadeOn};
 
 use crate::gate::Gate;
@@ -30,7 +31,8 @@ pub struct Owed<M: Running, G: Gate> {
 impl<M: Running, G: Gate> Promise<Done<M>> for Owed<M, G> {
     ghost kept_by = { λ owed done. (done.seat.set ≡ owed.set.value) × (done.seat.held ≡ owed.seat.value.held)
         × MatchOption done.replies (G.may_shut owed.gate.value ≡ true)
-        (λ v. IsMadeOn owed.seat.value.past owed.program.value.items v.items done.seat.past) };
+        (λ v. IsMadeOn owed.seat.value.past owed.program.value.items v.items done.seat.past)
+        × StartsWith done.seat.events owed.seat.value.events };
 }
 
 /// A thread that was started.
@@ -49,6 +51,7 @@ fn make_calls<R: Wait, M: Running, G: Gate>(
     requires room { (replies.old.items ≡ []) × (length calls.now ≤ vec_capacity replies.old) }
     requires short { length calls.now < 2 ^ 32 }
     ensures seat { (seat.new.set ≡ set.now) × (seat.new.held ≡ seat.old.held) }
+    ensures later { StartsWith seat.new.events seat.old.events }
     ensures made { MatchBool result (IsMadeOn seat.old.past calls.now replies.new.items seat.new.past) (G.may_shut gate.now ≡ true) }
 {
     let thread = seat.thread();
@@ -73,6 +76,7 @@ fn run_program<R: Wait, M: Running, G: Gate>(
 ) -> Done<M>
     requires { seat.set ≡ set.now }
     ensures seat { (result.seat.set ≡ set.now) × (result.seat.held ≡ seat.held) }
+    ensures later { StartsWith result.seat.events seat.events }
     ensures made { MatchOption result.replies (G.may_shut gate.now ≡ true)
         (λ v. IsMadeOn seat.past program.calls.items v.items result.seat.past) }
 {

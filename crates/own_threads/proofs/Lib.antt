@@ -1,1 +1,2 @@
 mod ClaimLaws
+mod Finding

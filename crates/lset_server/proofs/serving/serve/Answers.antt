@@ -14,5 +14,5 @@ returns-clause-served g c =
       added = e.added;
       each = e.each;
       count = e.count;
-      explained = gathered_explains c.args.set.shape last _ c.in-Ok-keys_left.keys.items is c.in-Ok-keys_left.ensures;
+      explained = gathered_explains c.args.set.shape last _ c.in-Ok-keys_left.keys.items is c.in-Ok-keys_left.ensures.order;
     }

@@ -1,5 +1,6 @@
 use Rattle.std.proofs.Common.{◌∙◌, ap, arith, length, [], ◌∷◌, length-append}
 use Rattle.std.proofs.lemmas.Grind.{common_steps}
+use Rattle.lset_live.proofs.Receipts.{answered_on, starts_on}
 use Rattle.lset_work.proofs.ProgramLaws.{call_at}
 use Rattle.lset_work.proofs.workers.make_calls.Goals as goal
 
@@ -11,6 +12,8 @@ loop-number-preserved g c =
     record {
       set = told.of_set;
       held = told.held ∙ inv.held;
+      later = starts_on c.call-reply.new.seat.events c.loop-number.seat.events c.args.seat.now.events
+          (answered_on _ _ _ _ _ _ _ told.answered) inv.later;
       each = omega (
         arith,
         inv.each,

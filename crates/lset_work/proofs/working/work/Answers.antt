@@ -1,8 +1,8 @@
-use Rattle.std.proofs.Common.{refl, sym, ap, ◌∙◌, rules, length, map, None}
+use Rattle.std.proofs.Common.{refl, sym, ap, ◌∙◌, subst, rules, length, map, All, None}
 use Rattle.std.specs.Option.{option_map}
 use Rattle.lset_live.specs.Seats.{gather_onto}
-use Rattle.lset_work.specs.Programs.{Fit, worked}
-use Rattle.lset_live.proofs.Records.{gathered_explains}
+use Rattle.lset_work.specs.Programs.{Fit, HasSeenAll, worked}
+use Rattle.lset_live.proofs.Records.{gathered_explains, gathered_in_time}
 use Rattle.lset_live.proofs.Handing.{starts_map}
 use Rattle.lset_work.proofs.ProgramLaws.{memory_refuses, shut_gate, threads_refuse}
 use Rattle.lset_work.proofs.working.work.Goals as goal
@@ -29,7 +29,23 @@ returns-in-Ok-keys_left-clause-outcome g c =
     let told = sym (ap (option_map (λ s. s.past)) c.in-Some-seat.is) ∙ c.in-Ok.ensures.gathers
     ∙ ap (λ ps. gather_onto None (worked starts ps replies)) programs in
     gathered_explains c.args.set.shape c.in-Some-seat.seat.past (worked starts (map (λ p. p.items) c.args.programs.items) replies)
-    c.in-Ok-keys_left.keys.items told c.in-Ok-keys_left.ensures
+    c.in-Ok-keys_left.keys.items told c.in-Ok-keys_left.ensures.order
+
+pub returns-in-Ok-keys_left-clause-in_time : goal.returns-in-Ok-keys_left-clause-in_time
+returns-in-Ok-keys_left-clause-in_time g c =
+    let starts = map (λ s. s.past) c.args.seats.items in
+    let replies = map (λ v. v.items) c.in-Ok.gathered.replies.items in
+    let programs = starts_map (λ p. p.calls) (λ v. v.items) c.in-Some.room.programs.items c.args.programs.items c.in-Some.ensures
+    in
+    let told = sym (ap (option_map (λ s. s.past)) c.in-Some-seat.is) ∙ c.in-Ok.ensures.gathers
+    ∙ ap (λ ps. gather_onto None (worked starts ps replies)) programs in
+    record {
+      events = c.in-Some-seat.seat.events;
+      begins = subst (λ o. All (HasSeenAll o) c.args.seats.items) c.in-Some-seat.is c.in-Ok.ensures.begins;
+      order = gathered_in_time _ c.args.set.shape c.in-Some-seat.seat.events c.in-Some-seat.seat.past
+          (worked starts (map (λ p. p.items) c.args.programs.items) replies) c.in-Ok-keys_left.keys.items told
+          c.in-Ok-keys_left.ensures.in_time;
+    }
 
 pub returns-in-Ok-keys_left-clause-replies : goal.returns-in-Ok-keys_left-clause-replies
 returns-in-Ok-keys_left-clause-replies g c =
