@@ -1,6 +1,6 @@
 -- A number that was claimed, and that no call takes out, is found.
 use Rattle.std.proofs.Common.{◌≡◌, ◌≢◌, ⊎_elim, inl, inr, ℕ, zero, suc, ◌+◌, ◌<◌, ◌==◌, Bool, true, false, cond, List, [], ◌∷◌, ◌++◌}
-use Rattle.std.proofs.Common.{map, All, Option, Some, None, refl, sym, ap, ◌∙◌, subst, arith, if◌then◌else◌}
+use Rattle.std.proofs.Common.{map, All, IfSome, Option, Some, None, refl, sym, ap, ◌∙◌, subst, arith, if◌then◌else◌}
 use Rattle.std.specs.Prelude.{nat_lt}
 use Rattle.std.proofs.lemmas.Bool.{cases_Bool}
 use Rattle.std.proofs.lemmas.List.Elements.{recursion_from_All, All-head, All-tail}
@@ -182,3 +182,11 @@ found_there T set events c0 c1 f0 f1 keys two o f at found more =
     found_behind f.number set.shape.quota (opening_set set.shape) b.first b.between b.last found.claim.thread found.thread
     found.claim.reply f.reply found.claim.kept (subst NoRemoves is none)
     (subst (IsLegal set.shape.quota (opening_set set.shape)) is o.one.legal)
+
+pub all_found : (T : Table) (set : SetValue) (events : List Event) (c0 c1 : List Claim) (f0 f1 : Option Claim) (keys : List ℕ) →
+    set.shape.threads ≡ 2 → IsOneOrderInTime T set.shape events (worked 0 c0 f0 ∷ worked 1 c1 f1 ∷ []) keys
+    → (o : Option Claim) (at : List Event) → IfSome o (λ f. IsFoundBy T set f at) → StartsWith events at
+    → IfSome o (λ f. f.reply ≡ True)
+all_found T set events c0 c1 f0 f1 keys two order None at found more = tt
+all_found T set events c0 c1 f0 f1 keys two order (Some f) at found more =
+    found_there T set events c0 c1 f0 f1 keys two order f at found more

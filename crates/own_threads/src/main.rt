@@ -5,13 +5,13 @@
 
 mod note;
 
-ghost use Rattle.std.specs.Prelude.{◌≡◌, [], ◌∷◌, IfOk, IfSome};
+ghost use Rattle.std.specs.Prelude.{◌≡◌, ◌≢◌, [], ◌∷◌, IfOk, IfSome};
 ghost use Rattle.lset_words.specs.Records.{fresh};
 ghost use Rattle.lset_words.specs.Words.{empty};
-ghost use Rattle.lset_words.specs.declared.Reply.TheVariants.{True};
+ghost use Rattle.lset_words.specs.declared.Reply.TheVariants.{Full, True};
 ghost use Rattle.lset_live.specs.Explained.{IsOneLegalOrder};
 ghost use Rattle.lset_live.specs.Seats.{new_seat};
-ghost use Rattle.own_threads.specs.Claims.{HasClaimed, HasWorked, IsFoundBy, looked_up, numbers_of, worked};
+ghost use Rattle.own_threads.specs.Claims.{HasClaimed, HasWorked, IsClaimedBy, IsFoundBy, looked_up, numbers_of, worked};
 
 use crate::note::{Note, Office};
 use crossbeam_channel::{Receiver, Sender, unbounded};
@@ -66,6 +66,26 @@ enum Refusal {
     Memory(#[from] AllocError),
 }
 
+/// Tells of the claim that the seat has just made, unless it was refused.
+fn tell<M: Running, O: Office, R: Wait>(
+    rt: &R,
+    set: &LiveSet<M>,
+    seat: &mut Seat<M>,
+    claim: Claim,
+    to: &Sender<Note<M, O>>,
+)
+    requires set { (seat.old.set ≡ set.now) × (set.now ≡ O.set) }
+    requires claimed { claim.reply ≢ Full → IsClaimedBy M.table set.now claim.number seat.old.events }
+    ensures { seat.new ≡ seat.old }
+{
+    if claim.reply == Reply::Full {
+        return;
+    }
+    let note = Note::new(set, seat, claim.number);
+    // nobody reads it if the other thread has ended
+    let _unread = to.send(rt, note);
+}
+
 /// Claims the numbers from the seat, one after another, and tells of each that is then in the set.
 fn claim_all<M: Running, O: Office, R: Wait>(
     rt: &R,
@@ -83,11 +103,7 @@ fn claim_all<M: Running, O: Office, R: Wait>(
     for &number in numbers {
         let reply = set.add(rt, &mut seat, Key(number));
         claims.push(Claim { number, reply })?;
-        if reply != Reply::Full {
-            let note = Note::new(set, &mut seat, number);
-            // nobody reads it if the other thread has ended
-            let _unread = to.send(rt, note);
-        }
+        tell(rt, set, &mut seat, Claim { number, reply }, &to);
     }
     Ok((seat, claims))
 }
