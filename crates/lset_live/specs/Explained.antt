@@ -62,9 +62,9 @@ pub record IsOneLegalOrder (k : Opening) (records : List Record) (keys : List �
   pub no_other : (u : ℕ) → u < k.threads → ¬ (NamedIn u records) → calls_by u order ≡ []
   pub leaves : (set_left (opening_set k) order).keys ≡ keys
 
--- THE SAME ORDER IN TIME, of what a seat with all seats has seen: it linearizes the history of these events too, so that a call that
--- had ended before another one began stands before it. The events begin with all that any seat had seen, and so with what a receipt
--- stands for.
+-- ONE LEGAL ORDER IN TIME of exactly the calls of the records, by a seat that has seen these events: it linearizes their history too,
+-- so that a call that had ended before another one began stands before it. What the seats had seen begins the events, so the order
+-- keeps receipts as it keeps gathering.
 pub record IsOneOrderInTime (T : Table) (k : Opening) (events : List Event) (records : List Record) (keys : List ℕ) : Type 0 where
   pub run : IsRunOf T k events
   pub placed : List Placed
@@ -72,16 +72,15 @@ pub record IsOneOrderInTime (T : Table) (k : Opening) (events : List Event) (rec
   pub one : IsOneLegalOrder k records keys
   pub is : one.order ≡ map (answered (history_of T k events)) placed
 
--- the call a stands in the order, and b behind it
+-- the call a stands in the order, and the call b behind it
 pub record StandsBefore (order : List Answered) (a b : Answered) : Type 0 where
   pub first : List Answered
   pub between : List Answered
   pub last : List Answered
   pub is : order ≡ first ++ a ∷ (between ++ b ∷ last)
 
--- THE LAW OF RECEIPTS. The call c of thread t had been answered when a receipt was given; a seat that had taken it, and so had seen
--- what the receipt stands for, made the call d. Then c stands before d in each order that linearizes events which begin with those
--- that are seen after d.
+-- THE ORDER THAT RECEIPTS KEEP: if the call c had been answered when a receipt was given, and a seat that had taken the receipt made
+-- the call d, then c stands before d in each order that linearizes what is seen after d or later.
 abbrev pub ReceiptsKeepOrder : Type 0
 ReceiptsKeepOrder = (T : Table) (k : Opening) (t u : ℕ) (c d : Call) (r a : Reply) (old given taken after events : List Event)
     → IsAnswered T k t c r old given → StartsWith taken given → IsAnswered T k u d a taken after → StartsWith events after

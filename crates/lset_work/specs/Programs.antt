@@ -62,7 +62,7 @@ pub record HaveRun (set : SetValue) (seats : List SeatValue) (programs : List (L
   -- what it has seen begins with what each had seen
   pub begins : All (HasSeenAll last) seats
 
--- ONE LEGAL ORDER IN TIME of these records, of a run whose events begin with what each of the seats had seen
+-- ONE LEGAL ORDER IN TIME of these records, of a run whose events begin with what each of the seats had seen.
 pub record IsWorkInTime (T : Table) (k : Opening) (seats : List SeatValue) (records : List Record) (keys : List ℕ) : Type 0 where
   pub events : List Event
   pub begins : All (λ (s : SeatValue). StartsWith events s.events) seats
