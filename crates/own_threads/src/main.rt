@@ -261,6 +261,13 @@ fn main(rt: HostRuntime) -> io::Result<()> {
                 "{} claims were granted, of the numbers {:?}",
                 given.count(),
                 outcome.keys
+            )?;
+            let (Some(first), Some(second)) = outcome.found else {
+                return Ok(());
+            };
+            println!(rt;
+                "told of {}, the first clerk looks for it: {:?}; told of {}, the second: {:?}",
+                first.number, first.reply, second.number, second.reply
             )
         }
         Err(refusal) => println!(rt; "no claims: {refusal}"),
