@@ -21,6 +21,12 @@ def script(main):
         sys.exit(128 + signal.SIGINT)
 
 
+def remove_when_ended(folder):
+    """Has a signal that ends this process remove a folder before. (Threads would wait for what they run; that ends with the process.)"""
+    for ending in (signal.SIGINT, signal.SIGTERM, signal.SIGHUP):
+        signal.signal(ending, lambda number, _: (shutil.rmtree(folder, ignore_errors=True), os._exit(128 + number)))
+
+
 def become(program, words):
     """Has this process become a program, on these words."""
     # (Python ignores these, and the program would too)

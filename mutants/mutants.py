@@ -51,18 +51,18 @@ class Misfit(Exception):
 # ---- the files
 
 
-def read(file):
+def read(mutants_file):
     """The mutants of a file, by their names."""
     found, name = {}, None
-    for number, line in enumerate(file.read_text(encoding="utf-8").split("\n"), 1):
+    for number, line in enumerate(mutants_file.read_text(encoding="utf-8").split("\n"), 1):
         try:
-            name = take_line(file.name, found, name, line)
+            name = take_line(mutants_file.name, found, name, line)
         except Misfit as why:
-            raise Misfit(f"{file.relative_to(TOP)}, line {number}: {why}") from None
+            raise Misfit(f"{mutants_file.relative_to(TOP)}, line {number}: {why}") from None
     for it in found.values():
         if not it["pairs"] or it["old"] is not None:
-            raise Misfit(f"{file.relative_to(TOP)}: {it['name']} has no pair of an 'old:' and a 'new:' line, or half of one")
-    return {name: Mutant(file.name, name, it["guards"], tuple(it["pairs"])) for name, it in found.items()}
+            raise Misfit(f"{mutants_file.relative_to(TOP)}: {it['name']} has no pair of an 'old:' and a 'new:' line, or half of one")
+    return {name: Mutant(mutants_file.name, name, it["guards"], tuple(it["pairs"])) for name, it in found.items()}
 
 
 def take_line(crate, found, name, line):

@@ -111,14 +111,14 @@ def without_refused(head, lines):
     """The lines that are left where each is left out that the list refuses: a `ceiling` takes another number of steps."""
     kept = 0
     while True:
-        text = "\n".join([*head, *lines]) + "\n"
-        made = ran(program(), "replay", text=text)
-        if made.returncode == 0:
-            return text
-        _, line, cause = made.stderr.split(": ")
+        drawn_schedule = "\n".join([*head, *lines]) + "\n"
+        replayed = ran(program(), "replay", text=drawn_schedule)
+        if replayed.returncode == 0:
+            return drawn_schedule
+        _, line, cause = replayed.stderr.split(": ")
         at = int(line.removeprefix("line ")) - 1 - len(head)
         if cause not in ("Idle\n", "Busy\n") or not kept <= at < len(lines):
-            raise Wrong(f"{made.stderr!r} of {text!r}")
+            raise Wrong(f"{replayed.stderr!r} of {drawn_schedule!r}")
         kept, thread, rest = at, lines[at].split()[1], lines[at:]
         if cause == "Busy\n":
             rest = rest[1:]

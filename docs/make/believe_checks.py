@@ -1,5 +1,5 @@
 """What docs/BELIEVE.md leaves out, or names that is not there: files that public contracts reach, names of definitions, functions with their
-clauses. docs/make/pages fails by it."""
+clauses, names in brackets in comments of definitions, proofs and code. docs/make/pages fails by it."""
 
 import re
 from pathlib import Path
@@ -52,9 +52,9 @@ def name_faults():
 
 def names_in_brackets():
     """Each name in brackets in a comment of definitions, proofs or code, and the file that it stands in."""
-    for sign, files in [("--", "specs/**/*.antt"), ("--", "proofs/**/*.antt"), ("//", "src/**/*.rt")]:
+    for comment_sign, files in [("--", "specs/**/*.antt"), ("--", "proofs/**/*.antt"), ("//", "src/**/*.rt")]:
         for path in sorted(TOP.glob("crates/*/" + files)):
-            for comment in re.findall(sign + r"(.*)", path.read_text()):
+            for comment in re.findall(comment_sign + r"(.*)", path.read_text()):
                 yield from ((name, path.relative_to(TOP)) for name in bracketed(comment))
 
 

@@ -3,7 +3,7 @@ makes no part of a page, but docs/make/pages fails if a row has no line, a line 
 and page/build shows each thread at its line.
 
 A line of a step is one that calls a step of `Caller` with the place of the seat. What a row does is read from the lists'
-tables (`specs/`). The rows of a ceiling of the lists that mark are left to the interpreter.
+tables (`specs/`), that of a row of a read from RowLaws.antt. The rows of a ceiling of the lists that mark are left to the interpreter.
 """
 import re
 from pathlib import Path
@@ -55,8 +55,8 @@ def rows_of(name):
     last = re.search(r"^    else (?!if )(.*)", table, re.MULTILINE)[1]
     if last != "read_action l":
         return rows | {max(rows) + 1: last}
-    reads = re.findall(r"pub row_(\d+) : Does T \d+ \(λ l\. (.*?)\) ", text_of("lset_steps/specs/RowLaws.antt"))
-    return rows | {int(row): action for row, action in reads}
+    rows_of_reads = re.findall(r"pub row_(\d+) : Does T \d+ \(λ l\. (.*?)\) ", text_of("lset_steps/specs/RowLaws.antt"))
+    return rows | {int(row): action for row, action in rows_of_reads}
 
 
 def lines_of(file):

@@ -34,37 +34,37 @@ class Program:
     def __init__(self, path):
         self.path = path
 
-    def says(self, *words, text=b""):
+    def program_answers(self, *words, text=b""):
         """What it prints, on its output or as the line about a trouble, and its status."""
         done = subprocess.run([self.path, *words], input=text, stdout=subprocess.PIPE, stderr=subprocess.PIPE, timeout=SECONDS)
         return done.stdout + done.stderr, done.returncode
 
     def case(self, function, text, words, is_read=True, options=b"", before=()):
         """A text for a function of the module, and what the program prints for the words, with the text on its input."""
-        output, status = self.says(*words, text=text if is_read else b"")
+        output, status = self.program_answers(*words, text=text if is_read else b"")
         texts = [base64.b64encode(given).decode() for given in (*before, text, options)]
         return {"function": function, "words": words, "texts": texts, "status": status,
                 "length": len(output), "sum": hashlib.sha256(output).hexdigest()}
 
     def names_of_examples(self):
-        output, _ = self.says("example")
-        return [line.split()[0] for line in output.decode().splitlines()]
+        names, _ = self.program_answers("example")
+        return [line.split()[0] for line in names.decode().splitlines()]
 
 
 def generated(program, dice):
     """So many schedules of each list, of few threads and of many, with room and without, and a long one."""
     for kind in LISTS:
-        yield program.says("gen", kind, "4", "300", "1100", "4", "1")[0]
+        yield program.program_answers("gen", kind, "4", "300", "1100", "4", "1")[0]
         for number in range(GENERATED):
             threads = dice.choice([1, 2, 2, 3, 4, 8, 64])
             words = [kind, threads, dice.choice([0, 1, 2, 8, 200]), dice.randrange(0, 40), dice.choice([1, 3, 12, 200]), number]
-            yield program.says("gen", *[str(word) for word in words])[0]
+            yield program.program_answers("gen", *[str(word) for word in words])[0]
 
 
 def up_to_refusals(program, text):
     """The schedule with each line that is refused cut to the events of it that are not, or left out."""
     while True:
-        trace = program.says("trace", text=text)[0].decode().splitlines()
+        trace = program.program_answers("trace", text=text)[0].decode().splitlines()
         if not trace[-1].startswith("refused "):
             return text
         number = int(trace[-1].split()[2])
@@ -79,7 +79,7 @@ def with_ceilings(program, dice):
     for kind in LISTS:
         for number in range(CEILINGS):
             words = [kind, dice.choice([2, 3, 4]), 8, dice.randrange(4, 30), dice.choice([3, 12]), 1000 + number]
-            text = program.says("gen", *[str(word) for word in words])[0].replace(b"listset-schedule 1", b"listset-schedule 2")
+            text = program.program_answers("gen", *[str(word) for word in words])[0].replace(b"listset-schedule 1", b"listset-schedule 2")
             yield up_to_refusals(program, text.replace(b" contains ", b" ceiling "))
 
 
@@ -112,7 +112,7 @@ def cases_of_text(program, text):
     """A text given to each function that takes one; its report, where it has one, is checked too."""
     made = [program.case("listset_replay", text, ["replay"]), program.case("listset_trace", text, ["trace"]),
             program.case("listset_trace_with_chains", text, ["trace", "--chain"]), program.case("listset_check", text, ["check"])]
-    report, status = program.says("replay", text=text)
+    report, status = program.program_answers("replay", text=text)
     return made + ([program.case("listset_check", report, ["check"])] if status == 0 else [])
 
 
@@ -138,7 +138,7 @@ def cases_of_lacking(program, dice):
     """Each broken list, on the schedule that breaks it and on generated ones; a name that none has, and a wrong option."""
     for file in sorted(LACKS.glob("*.schedule")):
         kind = file.read_text().splitlines()[1].split()[1]
-        drawn = [program.says("gen", kind, "3", "8", "20", "3", str(number))[0] for number in range(LACKING)]
+        drawn = [program.program_answers("gen", kind, "3", "8", "20", "3", str(number))[0] for number in range(LACKING)]
         wrong = [text for text, _ in zip(broken(dice, drawn), range(2))]
         for name, text in [*((file.stem, text) for text in (file.read_bytes(), *drawn, *wrong)), ("luck", drawn[0])]:
             of_name = {"before": (name.encode(),)}
@@ -170,17 +170,17 @@ def all_cases(path):
     """The cases, each with the function of the module and what the program of this path answers."""
     program, dice = Program(path), random.Random(26)
     names = program.names_of_examples()
-    examples = [program.says("example", name)[0] for name in names]
+    examples = [program.program_answers("example", name)[0] for name in names]
     ceilings = [*with_ceilings(program, dice)]
     texts = [*examples, *generated(program, dice), *ceilings, *of_versions(examples), *broken(dice, examples + ceilings), b""]
-    reports = [program.says("replay", text=text)[0] for text in examples + ceilings[::8]]
+    reports = [program.program_answers("replay", text=text)[0] for text in examples + ceilings[::8]]
     made = [program.case("listset_examples", b"", ["example"], is_read=False), program.case("listset_faults", b"", ["faults"], is_read=False)]
     made += [*cases_of_values(program), *cases_of_drafts(program, dice), *cases_of_calls(program, dice), *cases_of_lacking(program, dice)]
     made += (one for text in examples[::3] for one in cases_of_options(program, text))
     for name in [*names, "no-such-name", "Snip", "snip "]:
         made += cases_of_name(program, name)
     made += [program.case("listset_check", text, ["check"]) for text in broken(dice, reports)]
-    of_broken = [text for text in (program.says("example", "--broken", name)[0] for name in names) if text.startswith(b"listset-re")]
+    of_broken = [text for text in (program.program_answers("example", "--broken", name)[0] for name in names) if text.startswith(b"listset-re")]
     refused = [text + line for text in examples for line in (b"go 0 1\n", b"go 9 1\n", b"go 0 0\n")]
     drawn = examples + reports + of_broken + refused
     pool, of_text, of_picture = ThreadPoolExecutor(2), functools.partial(cases_of_text, program), functools.partial(cases_of_picture, program)
