@@ -8,6 +8,7 @@ import sys
 import threading
 import time
 
+import processes
 import toolchain
 from measuring import TOP, heading, row
 
@@ -17,21 +18,8 @@ HEAD = "# Seconds by the wall of the gate's steps, and of one processor of each 
 # what ./gate tells of a step that has ended
 ENDED = re.compile(r"gate: (.+): \d+ passed, \d+ failed \((\d+) s, (\d+) s of one processor\)")
 IN_CRATES = {"proofs", "mutants of the gate", "stale mutants"}
-TICKS = os.sysconf("SC_CLK_TCK")
 BETWEEN = 0.5
 DEAREST = 10
-
-
-def processes():
-    """Of each process its number, with when it began, its parent, its processor seconds so far, its words and its folder."""
-    for pid in filter(str.isdigit, os.listdir("/proc")):
-        try:
-            with open(f"/proc/{pid}/stat") as stat, open(f"/proc/{pid}/cmdline", errors="replace") as words:
-                fields = stat.read().rpartition(") ")[2].split()
-                seconds = (int(fields[11]) + int(fields[12])) / TICKS
-                yield (int(pid), int(fields[19])), int(fields[1]), seconds, words.read().split("\0"), os.readlink(f"/proc/{pid}/cwd")
-        except OSError:
-            pass
 
 
 def is_watched(words):
@@ -49,7 +37,7 @@ class Watch(threading.Thread):
         self.seconds, self.seen = {}, {}
 
     def look(self):
-        found = {it[0][0]: it for it in processes()}
+        found = {it[0][0]: it for it in processes.running()}
         tops = {pid for pid, (_, parent, _, words, _) in found.items() if parent == self.gate and is_watched(words)}
         for pid, (key, parent, seconds, words, folder) in found.items():
             # (a process that is ending has no words any more: what it worked for is known from the look before)

@@ -10,6 +10,8 @@ import sys
 import tempfile
 import threading
 
+TICKS = os.sysconf("SC_CLK_TCK")
+
 
 def script(main):
     """Runs a script's main and ends with its status. A signal that ends the script leaves what it is in, so that its folders go."""
@@ -64,6 +66,18 @@ def sweep(*kinds, folder=None):
         found = re.match(r"([.a-z-]+)-(\d+)-", it.name)
         if found and found[1] in kinds and not os.path.exists(f"/proc/{found[2]}"):
             shutil.rmtree(it, ignore_errors=True)
+
+
+def running():
+    """Of each process of the machine its number, with when it began, its parent, its processor seconds so far, its words and its folder."""
+    for pid in filter(str.isdigit, os.listdir("/proc")):
+        try:
+            with open(f"/proc/{pid}/stat") as stat, open(f"/proc/{pid}/cmdline", errors="replace") as words:
+                fields = stat.read().rpartition(") ")[2].split()
+                seconds = (int(fields[11]) + int(fields[12])) / TICKS
+                yield (int(pid), int(fields[19])), int(fields[1]), seconds, words.read().split("\0"), os.readlink(f"/proc/{pid}/cwd")
+        except OSError:
+            pass
 
 
 def free_memory():

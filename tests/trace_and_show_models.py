@@ -42,18 +42,18 @@ def drawn_schedule(kind, seed):
 def enabled(text):
     """The schedule without the steps that come after a call's end, so that few of its events are refused."""
     plan = read_schedule(text)
-    made, kept, number = List(plan.kind, plan.threads, plan.quota, plan.opening), text.splitlines()[: 4 + len(plan.opening)], 0
+    model, kept, number = List(plan.kind, plan.threads, plan.quota, plan.opening), text.splitlines()[: 4 + len(plan.opening)], 0
     for _, pieces in plan.lines:
         t = int(pieces[1])
         if pieces[0] == "begin":
-            if made.threads[t].pc == 0:
-                made.begin(t, Call(number, t, pieces[2], int(pieces[3]), 0))
+            if model.threads[t].pc == 0:
+                model.begin(t, Call(number, t, pieces[2], int(pieces[3]), 0))
                 number += 1
                 kept.append(" ".join(pieces))
             continue
-        count = 0
-        while count < int(pieces[2]) and made.threads[t].pc:
-            made.go(t)
+        count, most_steps = 0, int(pieces[2])
+        while count < most_steps and model.threads[t].pc:
+            model.go(t)
             count += 1
         kept += [f"go {t} {count}"] if count else []
     return "\n".join(kept) + "\n"
@@ -66,7 +66,7 @@ class Compared:
         self.program, self.name, self.text = program, name, text
         self.plan = read_schedule(text)
         self.run = run_of(self.plan)
-        self.passed, self.faults = 0, []
+        self.as_model_says, self.unlike_model = 0, []
 
     def said(self, *words):
         done = ran(self.program, *words, text=self.text.encode())
@@ -74,11 +74,11 @@ class Compared:
 
     def compare(self, words, due, found):
         if found == due:
-            self.passed += 1
+            self.as_model_says += 1
             return
         at = next((n for n, it in enumerate(zip(due, found)) if it[0] != it[1]), min(len(due), len(found)))
         lines = [it[at] if at < len(it) else "(no line)" for it in (due, found)]
-        self.faults.append(f"{self.name}: {' '.join(words)}: line {at + 1} is {lines[1]!r}, that of the model {lines[0]!r}")
+        self.unlike_model.append(f"{self.name}: {' '.join(words)}: line {at + 1} is {lines[1]!r}, that of the model {lines[0]!r}")
 
     def traces(self):
         status = 1 if self.run.refused else 0
@@ -128,5 +128,5 @@ def drawn():
 def trace_and_pictures_are_those_of_the_model(case, text, widths):
     if ran(case.program, "trace", text=text.encode()).stdout.startswith(b"listset-trace"):  # (else it is no schedule)
         looked = Compared(case.program, case.name, text).all(widths)
-        if looked.faults or not looked.passed:
-            raise Wrong("; ".join(looked.faults[:5]))
+        if looked.unlike_model or not looked.as_model_says:
+            raise Wrong("; ".join(looked.unlike_model[:5]))

@@ -139,13 +139,13 @@ def first_line_that_differs(wanted, found):
     return None
 
 
-def difference_of_shown(wanted, found):
+def difference_of_shown(wanted, printed):
     """What a page shows that is not printed so, where a line .. stands for any lines."""
     if LEFT_OUT not in wanted:
-        return first_line_that_differs(wanted, found)
+        return first_line_that_differs(wanted, printed)
     pieces = [re.escape(line) + "\n" if line != LEFT_OUT else "(?:.*\n)*?" for line in wanted]
-    is_so = re.fullmatch("".join(pieces), "".join(f"{line}\n" for line in found))
-    return None if is_so else "the program prints other lines: " + "\n".join(["", *found])
+    fits_page = re.fullmatch("".join(pieces), "".join(f"{line}\n" for line in printed))
+    return None if fits_page else "the program prints other lines: " + "\n".join(["", *printed])
 
 
 def transcripts_by_name():
