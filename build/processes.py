@@ -29,6 +29,12 @@ def remove_when_ended(folder):
         signal.signal(ending, lambda number, _: (shutil.rmtree(folder, ignore_errors=True), os._exit(128 + number)))
 
 
+def end_at_once_on_signals():
+    """Has a signal end this process at once, and with it what it started under `guarded`."""
+    for ending in (signal.SIGINT, signal.SIGTERM, signal.SIGHUP):
+        signal.signal(ending, lambda number, _: os._exit(128 + number))
+
+
 def become(program, words):
     """Has this process become a program, on these words."""
     # (Python ignores these, and the program would too)

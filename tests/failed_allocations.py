@@ -74,7 +74,7 @@ ASKED = """
 """
 
 PASSED_OVER = "no call"
-TO_COME = "still to be refused"
+REFUSAL_TO_COME = "still to be refused"
 # The calls in which std asks for less room where the room that it guessed is refused.
 GUESSING = {"Oracle::keys"}
 # The calls that ask for no growth, and (`BLOCKS`) all in whose name the program takes a block.
@@ -113,7 +113,7 @@ def answers(program, refuse):
     for growth in range(1, REFUSED):
         told.append(answer_where(program, growth, refuse))
         line, status = told[-1]
-        if line == TO_COME or status != 0:
+        if line == REFUSAL_TO_COME or status != 0:
             return told
     raise Wrong(f"growth {REFUSED - 1} is that of a call, so there are more: raise REFUSED")
 

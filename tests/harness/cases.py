@@ -18,7 +18,7 @@ PROVED, UNPROVED = TOP / "crates/listset/out/listset", TOP / "crates/listset/out
 SECONDS = 60  # for each wait
 KINDS = ["coarse", "fine", "optimistic", "lazy", "lock-free"]
 
-NEEDS = dict(it.split(": ", 1) for it in (TOP / "build/needs.txt").read_text().splitlines() if not it.startswith("#"))
+NEEDED_BY_CASES = dict(it.split(": ", 1) for it in (TOP / "build/needs.txt").read_text().splitlines() if not it.startswith("#"))
 
 # What the run is asked: its `program`, other forms of it (`beside`), whether a tenth will do (`few`), whether tests are named; and its
 # `room` for files.
@@ -111,7 +111,7 @@ def needs(*tools):
 
         def tried(case, *asked):
             if missing := [it for it in tools if not shutil.which(it)]:
-                raise unittest.SkipTest(f"{missing[0]} is not installed: {NEEDS[missing[0]]}")
+                raise unittest.SkipTest(f"{missing[0]} is not installed: {NEEDED_BY_CASES[missing[0]]}")
             first(case, *asked)
 
         tried.__name__, tried.__module__, tried.cases = call.__name__, call.__module__, lambda: found
