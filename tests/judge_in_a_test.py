@@ -13,7 +13,7 @@ import shutil
 import sys
 import unittest
 
-from harness.cases import NEEDS, TOP, Wrong, each, needs
+from harness.cases import NEEDED_BY_CASES, TOP, Wrong, each, needs
 from harness.programs import ran, well
 
 FORMS = TOP / "examples" / "in-a-test"
@@ -113,7 +113,7 @@ TEST_LIBRARIES = {
 def look_for(language):
     """Skips the case of a language that is not installed."""
     if missing := [it for it in TOOLS_OF_LANGUAGES.get(language, []) if not shutil.which(it)]:
-        raise unittest.SkipTest(f"{missing[0]} is not installed: {NEEDS[missing[0]]}")
+        raise unittest.SkipTest(f"{missing[0]} is not installed: {NEEDED_BY_CASES[missing[0]]}")
     package, is_there = TEST_LIBRARIES.get(language, ("", lambda: True))
     if not is_there():
         raise unittest.SkipTest(f"{language} is not installed: {package}")

@@ -10,7 +10,7 @@ import shutil
 import unittest
 
 from classic import sections
-from harness.cases import NEEDS, TOP, Wrong, cases, given, once, usable
+from harness.cases import NEEDED_BY_CASES, TOP, Wrong, cases, given, once, usable
 from harness.cases import KINDS as LISTS
 from harness.programs import ran, well
 
@@ -59,7 +59,7 @@ def forms(_room):
     """The program, and the other forms of it."""
     beside = given.beside or [ENGINE]
     if any(str(it).endswith(".js") for it in beside) and not shutil.which("node"):
-        raise unittest.SkipTest(f"node is not installed: {NEEDS['node']}")
+        raise unittest.SkipTest(f"node is not installed: {NEEDED_BY_CASES['node']}")
     return [Program(usable(given.program)), *(Program(str(it)) for it in beside)]
 
 
