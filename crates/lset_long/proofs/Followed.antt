@@ -1,7 +1,7 @@
 -- A call that may follow those so far may come next in their stream, and one that came may follow them.
-use Rattle.std.proofs.Common.{◌≡◌, ◌≢◌, ℕ, ◌+◌, ◌<◌, ◌≤◌, ◌⊎◌, inl, inr, true, Result, Ok, Err, List, [], ◌∷◌, ◌++◌, length, get_or, Option, Some, None, refl, sym, ap, subst, ◌∙◌}
+use Rattle.std.proofs.Common.{◌≡◌, ◌≢◌, ℕ, ◌+◌, ◌<◌, ◌≤◌, inl, inr, true, Result, Ok, Err, List, [], ◌∷◌, ◌++◌, length, get_or, Option, Some, None, refl, sym, ap, subst}
 use Rattle.std.proofs.Common.{arith, length-append}
-use Rattle.std.specs.Prelude.{All, AllPairs, Contains, IfSome, IfOk, IsSomeAnd}
+use Rattle.std.specs.Prelude.{All, IfSome, IfOk, IsSomeAnd}
 use Rattle.std.proofs.lemmas.List.{get_or_append_left, get_or_push}
 use Rattle.std.proofs.lemmas.List.Elements.{Contains-push}
 use Rattle.lset_words.specs.declared.Reply.{Reply}
@@ -12,7 +12,7 @@ use Rattle.lset_judge.specs.declared.stream.Pending.{Pending}
 use Rattle.lset_judge.specs.declared.stream.Stream.{Stream}
 use Rattle.lset_judge.specs.Events.{until_if}
 use Rattle.lset_judge.specs.Verdict.{is_plain}
-use Rattle.lset_judge.specs.Stream.{behind_all, pending_of, no_pending, IsBefore, ArePending, MayCome, IsStreamOf, moment_of, pending_in}
+use Rattle.lset_judge.specs.Stream.{behind_all, pending_of, IsBefore, ArePending, MayCome, IsStreamOf, moment_of}
 use Rattle.lset_long.specs.Texts.{all_threads}
 use Rattle.lset_long.specs.Kept.{IsLatest, IsStreamKept}
 

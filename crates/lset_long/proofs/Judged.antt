@@ -1,5 +1,5 @@
 -- What is kept goes on from line to line.
-use Rattle.std.proofs.Common.{◌≡◌, ℕ, zero, suc, ◌+◌, ◌-◌, ◌<◌, ◌≤◌, ◌^◌, Bool, true, false, List, [], ◌∷◌, ◌++◌, length, get_or, min, Option, Some, None, refl, sym, ap, subst, ◌∙◌}
+use Rattle.std.proofs.Common.{◌≡◌, ℕ, ◌+◌, ◌-◌, ◌<◌, ◌^◌, true, false, List, [], ◌∷◌, ◌++◌, length, min, Option, Some, None, refl, sym, ap, subst, ◌∙◌}
 use Rattle.std.proofs.Common.{arith, length-append}
 use Rattle.std.specs.Prelude.{nat_lt, slice_get}
 use Rattle.std.proofs.lemmas.Bool.{ltb-true}
@@ -9,14 +9,14 @@ use Rattle.lset_words.specs.declared.history.CallRecord.{CallRecord}
 use Rattle.lset_text.specs.Openings.{above_last, is_above}
 use Rattle.lset_text.proofs.OpeningLaws.{rises_more}
 use Rattle.lset_judge.specs.declared.stream.Stream.{Stream}
-use Rattle.lset_judge.specs.Stream.{moment_of, behind_all, record_of}
+use Rattle.lset_judge.specs.Stream.{behind_all, record_of}
 use Rattle.lset_long.specs.declared.kept.Judging.{Judging}
 use Rattle.lset_long.specs.declared.lines.Line.{Line}
 use Rattle.lset_long.specs.declared.lines.Line.TheVariants as told
 use Rattle.lset_long.specs.declared.lines.Section.{Section}
 use Rattle.lset_long.specs.declared.lines.Section.TheVariants as part
 use Rattle.lset_long.specs.Texts.{LongValue}
-use Rattle.lset_long.specs.Reading.{SoFar, Comes, GoesOn, is_done, section_after, with_line, with_told}
+use Rattle.lset_long.specs.Reading.{SoFar, Comes, is_done, section_after, with_line, with_told}
 use Rattle.lset_long.specs.Kept.{AreKeys, IsFirst, IsJudging, IsKept, IsStreamKept, count_if, lines_of}
 
 -- ---- one key more

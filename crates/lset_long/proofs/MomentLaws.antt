@@ -3,7 +3,7 @@ use Rattle.std.proofs.Common.{◌≡◌, ℕ, ◌<◌, ◌⊎◌, inl, inr, ◌&
 use Rattle.std.specs.Prelude.{nat_lt}
 use Rattle.std.specs.Str.Parse.{digits_value}
 use Rattle.std.specs.Str.{all_ascii_digits}
-use Rattle.std.proofs.lemmas.Bool.{and_left, and_right, lt-leb, le-ltb, eq-eqb, ne_eqb}
+use Rattle.std.proofs.lemmas.Bool.{and_left, and_right, lt-leb, eq-eqb, ne_eqb}
 use Rattle.lset_text.specs.Numbers.{is_number, is_between, number_in}
 
 no_number : (low high : ℕ) (p : List ℕ) → (is_number p && is_between low high (digits_value 10 p)) ≡ false

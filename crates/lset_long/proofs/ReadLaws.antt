@@ -1,7 +1,7 @@
 -- How a text goes on from byte to byte and from line to line.
-use Rattle.std.proofs.Common.{◌≡◌, ◌≢◌, ℕ, zero, suc, ◌+◌, ◌<◌, ◌≤◌, ◌⊎◌, inl, inr, Bool, true, false, eqb, List, [], ◌∷◌, ◌++◌, length, refl, sym, ap, subst, ◌∙◌}
+use Rattle.std.proofs.Common.{◌≡◌, ◌≢◌, ℕ, zero, suc, ◌+◌, ◌<◌, inl, inr, Bool, true, false, eqb, List, [], ◌∷◌, ◌++◌, length, refl, sym, ap, subst, ◌∙◌}
 use Rattle.std.proofs.Common.{append_assoc, append-nil, arith, length-append, Result, Ok, Err, take, drop, get_or, take-append-drop, add-one, cond}
-use Rattle.std.specs.Prelude.{nat_lt, IfOk, IfErr}
+use Rattle.std.specs.Prelude.{IfOk, IfErr}
 use Rattle.std.proofs.Math.Seq.{take-suc}
 use Rattle.std.proofs.lemmas.Bool.{ne_eqb, lt-ltb}
 use Rattle.std.proofs.lemmas.List.Elements.{All-cons, All-nil}
@@ -17,7 +17,7 @@ use Rattle.lset_long.specs.declared.lines.TheConstants.{LONGEST_LINE}
 use Rattle.lset_long.specs.declared.reader.LongReader.{LongReader}
 use Rattle.lset_long.specs.declared.judging.LongAnswer.{LongAnswer}
 use Rattle.lset_long.specs.Texts.{LongValue}
-use Rattle.lset_long.specs.Reading.{SoFar, IsTaken, IsRefused, Reads, Says, ending, fault, line_told, kinds, causes}
+use Rattle.lset_long.specs.Reading.{SoFar, IsTaken, IsRefused, Reads, Says, ending, fault, kinds, causes}
 use Rattle.lset_long.specs.Kept.{IsAnswered, IsJudging, IsHeld, IsRead, IsRefusedAt}
 
 -- ---- one whole line

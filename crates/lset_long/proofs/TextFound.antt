@@ -1,5 +1,5 @@
 -- What is read is the text of what it says.
-use Rattle.std.proofs.Common.{◌≡◌, ℕ, ◌+◌, ◌<◌, inl, inr, Bool, true, false, cond, List, [], ◌∷◌, ◌++◌, map, length, Result, Ok, Err, refl, sym, ap, subst, ◌∙◌}
+use Rattle.std.proofs.Common.{◌≡◌, ℕ, ◌+◌, inl, inr, Bool, true, false, cond, List, [], ◌∷◌, ◌++◌, map, Ok, Err, refl, sym, ap, subst, ◌∙◌}
 use Rattle.std.proofs.Common.{append_assoc, append-nil}
 use Rattle.std.proofs.lemmas.List.{map_push}
 use Rattle.lset_text.specs.Parts.{cut_at, line_of}
@@ -11,7 +11,6 @@ use Rattle.lset_long.specs.declared.lines.Line.{Line}
 use Rattle.lset_long.specs.declared.lines.Line.TheVariants as told
 use Rattle.lset_long.specs.declared.lines.Section.{Section}
 use Rattle.lset_long.specs.declared.lines.Section.TheVariants as part
-use Rattle.lset_long.specs.declared.fault.LongFault.{LongFault}
 use Rattle.lset_long.specs.Texts.{LongValue, call_line, key_line, end_line, lines, text_after_title}
 use Rattle.lset_long.specs.Reading.{SoFar, Comes, IsTaken, Reads, Says, ending, fault, first_line, is_done, nothing_told, section_after, with_line, with_told}
 use Rattle.lset_long.proofs.LineKinds.{line_pieces, line_found_in}

@@ -3,6 +3,9 @@ ghost use Rattle.lset_text.specs.Numbers.{number_in};
 
 use lset_judge::LAST_MOMENT;
 
+/// The last value that a further digit can follow: ten times it is at most `LAST_MOMENT`.
+const LAST_WITH_A_DIGIT: u64 = 922_337_203_685_477_580;
+
 /// The moment, 1 to `LAST_MOMENT`, that the piece spells: digits of which the first is not `0`. `None` for any other piece. It looks no
 /// further than the digit that passes `LAST_MOMENT`.
 pub fn moment(piece: &[u8]) -> Option<u64>
@@ -16,11 +19,14 @@ pub fn moment(piece: &[u8]) -> Option<u64>
         if !b.is_ascii_digit() {
             return None;
         }
-        let more = u128::from(value) * 10 + u128::from(*b - b'0');
-        if more > u128::from(LAST_MOMENT) {
+        if value > LAST_WITH_A_DIGIT {
             return None;
         }
-        value = more as u64;
+        let more = value * 10 + u64::from(*b - b'0');
+        if more > LAST_MOMENT {
+            return None;
+        }
+        value = more;
     }
     if value < 1 {
         return None;

@@ -22,21 +22,28 @@ returns-then-not-is_ascii_digit c =
     let other = sym c.is_ascii_digit.ensures.value ∙ c.if-not-is_ascii_digit.true in
     not_a_digit 1 LAST_MOMENT c.args.piece.now c.loop-b.b-index c.loop-b-test.true other
 
-pub returns-then-more-from : goal.returns-then-more-from
-returns-then-more-from c =
+pub returns-then-value-gt-LAST_WITH_A_DIGIT : goal.returns-then-value-gt-LAST_WITH_A_DIGIT
+returns-then-value-gt-LAST_WITH_A_DIGIT c =
     let digit = sym c.is_ascii_digit.ensures.value ∙ c.if-not-is_ascii_digit.false in
     let more = value_more c.args.piece.now c.loop-b.b-index c.loop-b.value c.loop-b-test.true digit c.loop-b.invariant.value in
     too_high 1 LAST_MOMENT c.args.piece.now (c.loop-b.b-index + 1)
-    (omega (arith, more, c.if-more-from.true, c.from.ensures, c.from-in-loop-b.ensures, c.from-in-loop-b-2.ensures))
+    (omega (arith, more, c.if-value-gt-LAST_WITH_A_DIGIT.true))
+
+pub returns-then-more-gt-LAST_MOMENT : goal.returns-then-more-gt-LAST_MOMENT
+returns-then-more-gt-LAST_MOMENT c =
+    let digit = sym c.is_ascii_digit.ensures.value ∙ c.if-not-is_ascii_digit.false in
+    let more = value_more c.args.piece.now c.loop-b.b-index c.loop-b.value c.loop-b-test.true digit c.loop-b.invariant.value in
+    too_high 1 LAST_MOMENT c.args.piece.now (c.loop-b.b-index + 1)
+    (omega (arith, more, c.if-more-gt-LAST_MOMENT.true, c.from.ensures))
 
 pub loop-b-preserved : goal.loop-b-preserved
 loop-b-preserved c =
     let digit = sym c.is_ascii_digit.ensures.value ∙ c.if-not-is_ascii_digit.false in
     let more = value_more c.args.piece.now c.loop-b.b-index c.loop-b.value c.loop-b-test.true digit c.loop-b.invariant.value in
     record {
-      value = omega (arith, more, c.from.ensures, c.from-in-loop-b.ensures);
+      value = omega (arith, more, c.from.ensures);
       digits = digit_more c.args.piece.now c.loop-b.b-index c.loop-b-test.true digit c.loop-b.invariant.digits;
-      small = omega (arith, c.if-more-from.false, c.from-in-loop-b-2.ensures);
+      small = omega (arith, c.if-more-gt-LAST_MOMENT.false);
     }
 
 pub returns-then-value-lt1 : goal.returns-then-value-lt1

@@ -1,7 +1,6 @@
 use Rattle.std.proofs.Common.{◌≡◌, Ok, refl, sym, ap, ◌∙◌, inr}
 use Rattle.std.proofs.lemmas.Result.{on_ok_weaker, IfErr-weaker}
-use Rattle.lset_long.specs.Reading.{SoFar, line_told, with_told}
-use Rattle.lset_long.specs.Kept.{IsJudging}
+use Rattle.lset_long.specs.Reading.{line_told, with_told}
 use Rattle.lset_long.proofs.LineKinds.{line_found_in, is_formed}
 use Rattle.lset_long.proofs.kept.Judging.read_line.Goals as goal
 

@@ -1,10 +1,10 @@
-use Rattle.std.proofs.Common.{◌≡◌, ◌<◌, ℕ, List, [], length, Err, sym, ap, subst, ◌∙◌, arith}
+use Rattle.std.proofs.Common.{◌≡◌, ◌<◌, [], length, Err, sym, ap, subst, ◌∙◌, arith}
 use Rattle.std.proofs.lemmas.Bool.{eqb-true, eqb-false}
 use Rattle.std.proofs.lemmas.List.{nil_from_length}
 use Rattle.lset_long.specs.declared.fault.LongFault.{LongFault}
 use Rattle.lset_long.specs.declared.fault.LongCause.TheVariants as wrong
 use Rattle.lset_long.specs.Reading.{Says, fault}
-use Rattle.lset_long.specs.Kept.{IsHeld, IsRead}
+use Rattle.lset_long.specs.Kept.{IsHeld}
 use Rattle.lset_long.proofs.ReadLaws.{at_end, some_left, above_zero, finished, not_finished}
 use Rattle.lset_long.proofs.reader.LongReader.finish.Goals as goal
 use Rattle.lset_long.proofs.reader.LongReader.finish.Goals.{then-self-via-then-self, then-self-via-else-self+then-not-is_empty}
