@@ -14,7 +14,7 @@ HELD = "ffi_sets/src/held.rt", "Held", ["Coarse", "Fine", "Optimistic", "Lazy", 
 WHY = "lset_session/src/sessions.rt", "Why", ["Quit", "End", "Long", "Limit", "ReadFault", "WriteFault"]
 REQUEST = "lset_session/src/requests.rt", "Request", ["Call", "Quit", "Bad"]
 TROUBLE = "tool_base/src/trouble.rt", "Trouble", [
-    "CannotRead", "TooLong", "LongReport", "CutOff", "CannotWrite", "Memory", "Line", "Bad", "CannotListen", "Work", "Serve"]
+    "CannotRead", "TooLong", "LongReport", "CutOff", "LongRecording", "CannotWrite", "Memory", "Line", "Bad", "CannotListen", "Work", "Serve"]
 WORK = "tool_base/src/trouble.rt", "WorkName", ["Programs", "Spawn", "Gate", "Opening"]
 
 # the file of a definition, its last row, and the types whose cases fall under that
