@@ -254,3 +254,18 @@ def a_text_of_version_2_in_pieces(case):
             raise Wrong(f"in pieces of {size}, of {text!r}")
     for front in ("", "l", "listset-calls", "listset-calls 3", "listset-calls 2", "listset-calls 4\n"):
         wants(ran(case.program, "judge", text=front), 1, "", ["listset: line 1: "])
+
+
+@test
+def a_fault_is_told_before_the_input_ends(case):
+    """A recorder may go on for hours: a line with a fault ends the program while the pipe is open."""
+    with subprocess.Popen([case.program, "judge"], stdin=subprocess.PIPE, stdout=subprocess.PIPE, stderr=subprocess.PIPE, bufsize=0) as judge:
+        judge.stdin.write(f"{TITLE}\ncall 0 add 5 1 2 true\ncall 0 add 5 2 3 true\n".encode())
+        try:
+            status = judge.wait(timeout=SECONDS)
+        except subprocess.TimeoutExpired:
+            judge.kill()
+            raise Wrong("the program waits for the end of an input with a fault")
+        said = judge.stdout.read().decode(), judge.stderr.read().decode()
+    if (status, *said) != (1, "", "listset: line 3: History\n"):
+        raise Wrong(f"status {status}, {said}")
