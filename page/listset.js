@@ -17,6 +17,8 @@ const fs = require("fs");
 const { NO_ENGINE, NOT_RUN, inPage, startedEngine } = require("./in_node.js");
 
 const LONGEST = 67108864; // bytes of an input; what is longer is not read to its end
+const LONG_RECORDING = "listset-calls 3\n";
+const TOO_LONG = "in node a recording of version 3 has at most 64 MiB; the program reads any length: ./listset --unproved judge FILE";
 const WRONG = 2; // the status of wrong words, and of a wrong value
 const USAGE =
   "replay [--lacks NAME] [FILE], report [FILE], judge [FILE], check [FILE], trace [--chain] [--lacks NAME] [FILE], " +
@@ -47,6 +49,8 @@ class WrongWords extends Error {}
 
 // What the program has, and the engine has not.
 class OfTheProgram extends Error {}
+
+class TooLong extends Error {}
 
 // What the words ask for: the command, whether its flag is on, the texts of its options by their names without hyphens, and its
 // values, which a word -- may stand before.
@@ -87,8 +91,15 @@ function textBehind(name, words) {
 // The file, or standard input where that is meant.
 const opened = (file = "-") => (file === "-" ? 0 : fs.openSync(file, "r"));
 
-// The bytes of an input, up to one more than it may have.
+// The bytes of an input, up to one more than it may have. (A long recording may have any length; what is cut off is another text.)
 function bytesOf(input) {
+  const bytes = firstBytesOf(input);
+  const isCutOff = bytes.length > LONGEST && bytes.subarray(0, LONG_RECORDING.length).toString("latin1") === LONG_RECORDING;
+  if (isCutOff) throw new TooLong(TOO_LONG);
+  return bytes;
+}
+
+function firstBytesOf(input) {
   const pieces = [];
   let length = 0;
   while (length <= LONGEST) {
@@ -129,6 +140,7 @@ function answerOrTrouble(engine, words) {
   try {
     return answerTo(engine, words);
   } catch (fault) {
+    if (fault instanceof TooLong) return { status: 1, bytes: Buffer.from(`listset: ${fault.message}\n`) };
     if (fault.syscall === undefined) throw fault;
     return { status: 1, bytes: Buffer.from("listset: cannot read\n") };
   }

@@ -25,6 +25,7 @@ WRONG = """
 # (the words after -- are values, so those of one value are not wrong)
 OF_THE_PROGRAM = "judge a b | judge - a | judge -- a b | judge --keys 0/4 | judge --keys=0/4 a | judge a --keys 0/4 b"
 NO_ENGINE = 70
+LONG_CALLS = 1_800_000  # of a long recording: more than 64 MiB
 TAKEN = """
     replay -- | replay no-such-file | check no-such-file | trace no-such-file | trace --chain no-such-file | replay . | check .
     replay - | check -- - | trace --chain - | replay ./- | replay -- -x | trace -- --chain | trace no-such-file --chain
@@ -72,6 +73,14 @@ def passed_by(script, words):
     output, fault, status = said([*script, *words], b"")
     is_line = fault.count(b"\n") == 1 and fault.startswith(b"listset: ")
     return None if (output, status) == (b"", NO_ENGINE) and is_line else f"listset.js {' '.join(words)}: {output, fault, status}"
+
+
+def cut_off(script):
+    """A line that tells whether a long recording of more bytes than node reads is judged, in place of a word about that."""
+    text = b"listset-calls 3\n" + b"".join(b"call 0 contains 5 %d %d false\n" % (2 * n + 1, 2 * n + 2) for n in range(LONG_CALLS)) + b"end\n"
+    output, fault, status = said([*script, "judge"], text)
+    is_told = (output, status, fault.count(b"\n")) == (b"", 1, 1) and b"at most 64 MiB" in fault
+    return None if is_told else f"listset.js judge of a long recording: {output, fault, status}"
 
 
 def compared_full(program, script, words):
@@ -149,5 +158,6 @@ def in_node(program, script, names, folder):
         found += pool.map(lambda words: passed_by(script, words), rows(OF_THE_PROGRAM))
     written = (["example"], ["example", "snip"], ["faults"])
     found += [test(program, script, words) for words in written for test in (compared_full, compared_closed)]
+    found.append(cut_off(script))
     failed = [line for line in found if line]
     return {"passed": len(found) - len(failed), "failed": failed}
