@@ -1,18 +1,13 @@
 -- A call of which each step, made alone, ends it or comes nearer to its end, ends alone.
-use Rattle.std.specs.Prelude.{◌≡◌, ℕ, ◌<◌, ◌≤◌, ◌⊎◌, Option, Some, List, if◌then◌else◌, ◌==◌, length, refl}
+use Rattle.std.specs.Prelude.{◌≡◌, ℕ, ◌<◌, ◌≤◌, ◌⊎◌, if◌then◌else◌, ◌==◌, length, refl}
 use Rattle.std.proofs.Common.{arith, inl, inr, sym, ◌∙◌, ap, subst, zero, suc}
 use Rattle.lset_words.proofs.Numbers.{if_same, if_other}
-use Rattle.lset_words.specs.declared.Reply.{Reply}
 use Rattle.lset_words.specs.Words.{Sizes, Opening, sizes}
-use Rattle.lset_steps.specs.declared.Action.{Action}
 use Rattle.lset_steps.specs.declared.Event.{Event}
 use Rattle.lset_steps.specs.declared.Event.TheVariants.{Go}
-use Rattle.lset_steps.specs.declared.Fed.{Fed}
-use Rattle.lset_steps.specs.declared.Local.{Local}
-use Rattle.lset_steps.specs.Steps.{Table, State, Run, Enabled, state_at, after, local_of, seen_by, seen_next, left_by}
+use Rattle.lset_steps.specs.Steps.{Table, State, Run, Enabled, state_at, after}
 use Rattle.lset_steps.specs.Laws.{Lawful}
 use Rattle.lset_steps.proofs.MoreEvents.{state_agree}
-use Rattle.lset_steps.proofs.Discipline.{put_same}
 use Rattle.lset_progress.specs.Progress.{IsPending, Answers, EndsAlone}
 
 -- the run that goes on by a step of t after k events
@@ -80,33 +75,3 @@ module _ (T : Table) (law : Lawful T) (Stage : Stages) (near : Nears T Stage) (o
               (ends_alone n (suc k) (then_go es k t) r' (subst (λ x. Stage (sizes op) x t n) (sym on) g')))
         ],
       )
-
--- ONE STEP of a thread that holds l, over the words ws: the call ends, or P holds of what it leaves
-pub data Step (T : Table) (ws : List ℕ) (l : Local) (P : List ℕ → Local → Type 0) : Type 0 where
-  goes : (a : Action) (l' : Local) (answer : Option Reply) → T.next l ≡ a
-      → T.feed l (seen_by ws a) ≡ record { local = l'; answer = answer } → P (left_by ws a) l' → Step T ws l P
-  stops : (a : Action) (l' : Local) (reply : Reply) → T.next l ≡ a
-      → T.feed l (seen_by ws a) ≡ record { local = l'; answer = Some reply } → Step T ws l P
-
-pub then_so : {T : Table} {ws : List ℕ} {l : Local} {P Q : List ℕ → Local → Type 0}
-    → ((ws' : List ℕ) (l' : Local) → P ws' l' → Q ws' l') → Step T ws l P → Step T ws l Q
-then_so f (goes a l' answer acts feeds p) = goes a l' answer acts feeds (f _ l' p)
-then_so f (stops a l' reply acts feeds) = stops a l' reply acts feeds
-
-module _ (T : Table) (s : State) (t : ℕ) (h : t < length s.locals) (P : List ℕ → Local → Type 0) where
-  fed_is : (a : Action) (f : Fed) → T.next (local_of s t) ≡ a → T.feed (local_of s t) (seen_by s.words a) ≡ f
-      → T.feed (local_of s t) (seen_next T s t) ≡ f
-  fed_is a f acts feeds = ap (λ x. T.feed (local_of s t) (seen_by s.words x)) acts ∙ feeds
-
-  pub stepped : Step T s.words (local_of s t) P
-      → Answers T s t ⊎ P (after T s (Go t)).words (local_of (after T s (Go t)) t)
-  stepped (goes a l' answer acts feeds p) = inr
-      (let local_is : local_of (after T s (Go t)) t ≡ l' =
-      put_same s t (T.feed (local_of s t) (seen_next T s t)).local h
-      ∙ ap (λ f. f.local) (fed_is a (record { local = l'; answer = answer }) acts feeds) in
-      subst (λ x. P (after T s (Go t)).words x) (sym local_is)
-      (subst (λ x. P (left_by s.words x) l') (sym acts) p))
-  stepped (stops a l' reply acts feeds) = inl (
-    reply,
-    ap (λ f. f.answer) (fed_is a (record { local = l'; answer = Some reply }) acts feeds),
-  )

@@ -3,21 +3,16 @@
 use Rattle.std.specs.Prelude.{◌≡◌, ◌≢◌, ℕ, ◌<◌, None, List, [], ◌∷◌, length, refl}
 use Rattle.std.proofs.Common.{arith, inl, inr, sym, ◌∙◌, subst, zero, suc}
 use Rattle.lset_words.specs.declared.Call.TheVariants.{Add, Remove, Ceiling}
-use Rattle.lset_words.specs.Words.{Opening, empty}
-use Rattle.lset_words.proofs.Bounds.{opens_empty}
 use Rattle.lset_steps.specs.declared.Event.{Event}
 use Rattle.lset_steps.specs.declared.Event.TheVariants.{Begin, Go}
 use Rattle.lset_steps.specs.Steps.{State, opening, event_at, after, told, local_of}
-use Rattle.lset_steps.proofs.MoreEvents.{RunsTo, runs_to_opening}
+use Rattle.lset_steps.proofs.MoreEvents.{RunsTo}
 use Rattle.lset_lock_free.specs.LockFree.{lock_free}
-use Rattle.lset_progress.proofs.WrittenRuns.{AllEnabled, state_after, runs_on, no_reply}
+use Rattle.lset_progress.proofs.WrittenRuns.{AllEnabled, op, state_after, runs, no_reply}
 use Rattle.lset_progress.specs.Progress.{IsPending, IsCeiling, EndsAlone, SomeCeilingNeverEnds}
 
 -- Thread 0 puts in 5, and is about to put 3 before it; thread 1 marks the node of 5, and does not get it out, since 3 has come before
 -- it; then thread 0 asks for the least key from 4 on, and makes its first five steps.
-abbrev op : Opening
-op = empty 2 2
-
 abbrev events : List Event
 events = Begin 0 (Add (record { 0 = 5 })) ∷ Go 0 ∷ Go 0 ∷ Go 0 ∷ Go 0 ∷ Go 0 ∷ Go 0
     ∷ Begin 0 (Add (record { 0 = 3 })) ∷ Go 0 ∷ Go 0 ∷ Go 0 ∷ Go 0 ∷ Go 0
@@ -69,13 +64,7 @@ enabled : AllEnabled lock_free (opening op) events
 enabled = ((omega arith, refl, omega arith), ((omega arith, λ z. omega arith), ((omega arith, λ z. omega arith), ((omega arith, λ z. omega arith), ((omega arith, λ z. omega arith), ((omega arith, λ z. omega arith), ((omega arith, λ z. omega arith), ((omega arith, refl, omega arith), ((omega arith, λ z. omega arith), ((omega arith, λ z. omega arith), ((omega arith, λ z. omega arith), ((omega arith, λ z. omega arith), ((omega arith, λ z. omega arith), ((omega arith, refl, omega arith), ((omega arith, λ z. omega arith), ((omega arith, λ z. omega arith), ((omega arith, λ z. omega arith), ((omega arith, λ z. omega arith), ((omega arith, λ z. omega arith), ((omega arith, λ z. omega arith), ((omega arith, λ z. omega arith), ((omega arith, refl, omega arith), ((omega arith, λ z. omega arith), ((omega arith, λ z. omega arith), ((omega arith, λ z. omega arith), ((omega arith, λ z. omega arith), ((omega arith, λ z. omega arith), tt)))))))))))))))))))))))))))
 
 run : RunsTo lock_free op events S0
-run = runs_on lock_free op [] events (opening op)
-    (runs_to_opening lock_free op (opens_empty 2 2 (record {
-      some = omega arith;
-      few = omega arith;
-      small = omega arith;
-      opens = omega arith;
-    }))) enabled
+run = runs lock_free events enabled
 
 idle_others : (u : ℕ) → u < 2 → u ≢ 0 → (local_of S0 u).pc ≡ 0
 idle_others zero h d = absurd (d refl)

@@ -1,6 +1,7 @@
--- To which rows a decision leads.
-use Rattle.std.specs.Prelude.{◌≡◌, ℕ, ◌⊎◌, Bool, true, false, Option, Some, None, ◌==◌, nat_lt, refl}
-use Rattle.std.proofs.Common.{inl, inr}
+-- What holds after a test or a decision: whatever holds of each of its outcomes.
+use Rattle.std.specs.Prelude.{◌≡◌, ◌≢◌, ℕ, ◌<◌, ◌≤◌, ◌⊎◌, Bool, true, false, Option, Some, None, if◌then◌else◌, ◌==◌, nat_lt, refl}
+use Rattle.std.proofs.Common.{inl, inr, sym, subst}
+use Rattle.lset_words.proofs.Numbers.{same_or_not, below_or_not, if_same, if_other, if_below, if_not_below}
 use Rattle.lset_words.specs.declared.Call.{Call}
 use Rattle.lset_words.specs.declared.Call.TheVariants.{Add, Remove, Contains, Ceiling}
 use Rattle.lset_words.specs.declared.Reply.{Reply}
@@ -10,22 +11,35 @@ use Rattle.lset_steps.specs.declared.Local.{Local}
 use Rattle.lset_steps.specs.declared.rows.Targets.{Targets}
 use Rattle.lset_steps.specs.Rows.{ceiling_at, decided, decided_on, goes_to}
 
--- the row that adds, that which removes, or with a reply that which leaves
-abbrev pub Leads : ℕ → ℕ → ℕ → Local → Local → Type 0
-Leads a d u l l' = (l' ≡ goes_to a None l) ⊎ (l' ≡ goes_to d None l) ⊎ ((r : Reply) × (l' ≡ goes_to u (Some r) l))
+pub by_same : {A : Type 0} (P : A → Type 0) (a b : ℕ) {x y : A} → (a ≡ b → P x) → (a ≢ b → P y) → P (if a == b then x else y)
+by_same P a b {x} {y} this other = elim (same_or_not a b) [
+  | inl e ↦ subst P (sym (if_same a b e x y)) (this e)
+  | inr d ↦ subst P (sym (if_other a b d x y)) (other d)
+]
 
-leads : (a d u : ℕ) (call : Call) (found room : Bool) (c : ℕ) (l : Local) → Leads a d u l (decided a d u call found room c l)
-leads a d u (Add k) true room c l = inr (inr (False, refl))
-leads a d u (Add k) false true c l = inl refl
-leads a d u (Add k) false false c l = inr (inr (Full, refl))
-leads a d u (Remove k) true room c l = inr (inl refl)
-leads a d u (Remove k) false room c l = inr (inr (False, refl))
-leads a d u (Contains k) true room c l = inr (inr (True, refl))
-leads a d u (Contains k) false room c l = inr (inr (False, refl))
-leads a d u (Ceiling k) found room c l = inr (inr (ceiling_at c, refl))
+pub by_below : {A : Type 0} (P : A → Type 0) (a b : ℕ) {x y : A} → (a < b → P x) → (b ≤ a → P y) → P (if nat_lt a b then x else y)
+by_below P a b {x} {y} this other = elim (below_or_not a b) [
+  | inl l ↦ subst P (sym (if_below a b l x y)) (this l)
+  | inr g ↦ subst P (sym (if_not_below a b g x y)) (other g)
+]
 
-pub leads_on : (rows : Targets) (c : ℕ) (l : Local) → Leads rows.adds rows.removes rows.leaves l (decided_on rows c l)
-leads_on rows c l = leads rows.adds rows.removes rows.leaves l.call (c == target l.call) (nat_lt l.used l.quota) c l
+-- a decision leads to the row that adds, to that which removes, or with a reply to that which leaves
+module _ (P : Local → Type 0) (a d u c : ℕ) (l : Local) (adds : P (goes_to a None l)) (removes : P (goes_to d None l))
+    (leaves : (r : Reply) → P (goes_to u (Some r) l)) where
+  by_call : (call : Call) (found room : Bool) → P (decided a d u call found room c l)
+  by_call (Add k) true room = leaves False
+  by_call (Add k) false true = adds
+  by_call (Add k) false false = leaves Full
+  by_call (Remove k) true room = removes
+  by_call (Remove k) false room = leaves False
+  by_call (Contains k) true room = leaves True
+  by_call (Contains k) false room = leaves False
+  by_call (Ceiling k) found room = leaves (ceiling_at c)
+
+pub by_decision : (P : Local → Type 0) (rows : Targets) (c : ℕ) (l : Local) → P (goes_to rows.adds None l)
+    → P (goes_to rows.removes None l) → ((r : Reply) → P (goes_to rows.leaves (Some r) l)) → P (decided_on rows c l)
+by_decision P rows c l adds removes leaves = by_call P rows.adds rows.removes rows.leaves c l adds removes leaves l.call
+    (c == target l.call) (nat_lt l.used l.quota)
 
 pub some_or_none : (r : Option Reply) → (r ≡ None) ⊎ ((x : Reply) × (r ≡ Some x))
 some_or_none None = inl refl

@@ -1,15 +1,14 @@
 -- Who holds a lock word has a call at a row at which it may: so no thread waits for itself, and whoever holds a lock goes on.
-use Rattle.std.specs.Prelude.{◌≡◌, ◌≢◌, ℕ, ◌+◌, ◌<◌, ◌≤◌, ◌⊎◌, Option, List, if◌then◌else◌, ◌==◌, slice_index, length, refl}
+use Rattle.std.specs.Prelude.{◌≡◌, ◌≢◌, ℕ, ◌+◌, ◌<◌, ◌≤◌, ◌⊎◌, if◌then◌else◌, ◌==◌, slice_index, length, refl}
 use Rattle.std.proofs.Common.{arith, inl, inr, sym, ◌∙◌, ap, subst, zero, suc}
 use Rattle.lset_words.proofs.Numbers.{same_or_not, if_same, if_other}
-use Rattle.lset_words.specs.declared.Reply.{Reply}
 use Rattle.lset_words.specs.Words.{word_count, Opening, sizes}
 use Rattle.lset_steps.specs.declared.Action.{Action}
 use Rattle.lset_steps.specs.declared.Action.TheVariants.{Load, Store, Exchange}
 use Rattle.lset_steps.specs.declared.Event.{Event}
 use Rattle.lset_steps.specs.declared.Event.TheVariants.{Begin, Go}
 use Rattle.lset_steps.specs.declared.Local.{Local}
-use Rattle.lset_steps.specs.Steps.{Table, State, Run, Enabled, state_at, after, local_of, seen_by, seen_next}
+use Rattle.lset_steps.specs.Steps.{Table, State, Run, Enabled, state_at, after, local_of, seen_next}
 use Rattle.lset_steps.specs.Laws.{Lawful, IsLockWord}
 use Rattle.lset_steps.specs.Promises.{held, held_after, holder}
 use Rattle.lset_steps.proofs.LockWords.{lock_word}
@@ -42,16 +41,6 @@ others_keep x t u old (Exchange w o v) d e = elim (after_try x t u old w o v e) 
   | inl z ↦ z
   | inr z ↦ absurd (d z.2)
 ]
-
--- a row by what it does and leaves
-module _ (T : Table) (ws : List ℕ) (l : Local) (x t : ℕ) (May : Local → ℕ → Type 0)
-    (now_is : held x t (slice_index ws x) (T.next l) ≡ t + 1) where
-  pub kept : (a : Action) (l' : Local) (answer : Option Reply) → T.next l ≡ a
-      → T.feed l (seen_by ws a) ≡ record { local = l'; answer = answer }
-      → (held x t (slice_index ws x) a ≡ t + 1 → May l' x) → May (T.feed l (seen_by ws (T.next l))).local x
-  kept a l' answer acts feeds m =
-      subst (λ f. May f.local x) (sym (ap (λ z. T.feed l (seen_by ws z)) acts ∙ feeds))
-      (m (ap (λ z. held x t (slice_index ws x) z) (sym acts) ∙ now_is))
 
 -- WHAT A LIST SHOWS: which lock words a thread may hold, by what it holds itself
 pub record MayHold (T : Table) (May : Local → ℕ → Type 0) : Type 0 where

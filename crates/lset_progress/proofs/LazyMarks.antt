@@ -15,7 +15,7 @@ use Rattle.lset_steps.specs.Steps.{State, Run, Enabled, state_at, after, local_o
 use Rattle.lset_steps.specs.Chain.{View, InChain, view, node_key, node_link}
 use Rattle.lset_steps.specs.Laws.{view_of, views, used_in}
 use Rattle.lset_steps.proofs.AfterWrite.{key_after_link, link_after_link}
-use Rattle.lset_steps.proofs.Discipline.{StepOf, put_same, put_other}
+use Rattle.lset_steps.proofs.Discipline.{Discipline, StepOf, Inv, inv_at, put_same, put_other}
 use Rattle.lset_steps.proofs.Held.{Between}
 use Rattle.lset_steps.proofs.Memory.{Memory, inside, link_same}
 use Rattle.lset_steps.proofs.Moves.{Move, KeepsNodes}
@@ -31,10 +31,20 @@ use Rattle.lset_lazy.specs.Lawful.Outline.At.{at0, at1, at2, at3, at4, at5, at6,
 use Rattle.lset_lazy.specs.Lawful.Outline.At.{at_read}
 use Rattle.lset_progress.specs.Progress.{NoOtherHolds}
 use Rattle.lset_progress.proofs.HeadPlain.{the_step, words_are, the_move, the_memory, the_keeping}
-use Rattle.lset_progress.proofs.LazyLocks.{Known, known}
 use Rattle.lset_progress.proofs.Paths.{Path, in_chain_of, path_of}
 use Rattle.lset_progress.proofs.ReadAlone.{Plain}
 use Rattle.lset_progress.proofs.ReadStays.{read_row_of, read_low}
+
+pub follows : Discipline lazy true At
+follows = discipline_of lazy (node_locks true) At lazy_follows
+
+-- what is known at a moment of a run
+abbrev Known : Opening → ℕ → (ℕ → Event) → Type 1
+Known op k es = Inv true At (sizes op) (views lazy op es) k (state_at lazy op es k) (λ u. begun_at (log_of lazy op es) u k)
+    (λ u. has_changed (log_of lazy op es) u k)
+
+known : (op : Opening) (last k : ℕ) (es : ℕ → Event) → Run lazy op es last → k ≤ last → Known op k es
+known op last k es r l = inv_at lazy true At follows op es last r k l
 
 -- thread u is about to take out node b
 pub record TakesOut (threads : ℕ) (locals : ℕ → Local) (b : ℕ) : Type 0 where
@@ -104,19 +114,19 @@ module _ (op : Opening) (es : ℕ → Event) (last : ℕ) (r : Run lazy op es la
 
   abbrev step : StepOf lazy true At (sizes op) t (views lazy op es) (λ u. begun_at (log_of lazy op es) u k) k S.words (used_in S)
       (λ u. has_changed (log_of lazy op es) u k) (local_of S)
-  step = the_step lazy At (discipline_of lazy (node_locks true) At lazy_follows) op es last r k upto t en
+  step = the_step lazy At follows op es last r k upto t en
 
   abbrev W : View
   W = view (sizes op) step.words' step.used'
 
   words : (after lazy S (Go t)).words ≡ step.words'
-  words = words_are lazy At (discipline_of lazy (node_locks true) At lazy_follows) op es last r k upto t en
+  words = words_are lazy At follows op es last r k upto t en
 
   memory : Memory true (sizes op) step.words' step.used'
-  memory = the_memory lazy At (discipline_of lazy (node_locks true) At lazy_follows) op es last r k upto t en
+  memory = the_memory lazy At follows op es last r k upto t en
 
   keeping : KeepsNodes V W
-  keeping = the_keeping lazy At (discipline_of lazy (node_locks true) At lazy_follows) op es last r k upto t en
+  keeping = the_keeping lazy At follows op es last r k upto t en
 
   abbrev L : Local
   L = local_of S t
@@ -231,7 +241,7 @@ module _ (op : Opening) (es : ℕ → Event) (last : ℕ) (r : Run lazy op es la
   marked_step : Marked op.threads (after lazy S (Go t)).words (local_of (after lazy S (Go t)))
   marked_step = subst (λ ws. Marked op.threads ws (local_of (after lazy S (Go t)))) (sym words)
       (λ b p odd. marked_by step.effect step.tells
-      (the_move lazy At (discipline_of lazy (node_locks true) At lazy_follows) op es last r k upto t en) b p odd
+      (the_move lazy At follows op es last r k upto t en) b p odd
       (in_chain_published W memory.ordered b (in_chain_of W b p)))
 
 module _ (op : Opening) (es : ℕ → Event) (last : ℕ) (r : Run lazy op es last) where

@@ -2,20 +2,16 @@
 -- the same state.
 use Rattle.std.specs.Prelude.{◌≡◌, ℕ, ◌+◌, ◌-◌, ◌<◌, ◌≤◌, Bool, None, List, [], ◌∷◌, if◌then◌else◌, nat_lt, refl}
 use Rattle.std.proofs.Common.{arith, inl, inr, sym, ◌∙◌, ap, subst, zero, suc}
-use Rattle.lset_words.proofs.Bounds.{opens_empty}
 use Rattle.lset_words.proofs.Numbers.{below_or_not, if_below, if_not_below}
 use Rattle.lset_words.specs.declared.Call.TheVariants.{Add}
-use Rattle.lset_words.specs.Words.{Opening, empty, sizes}
+use Rattle.lset_words.specs.Words.{sizes}
 use Rattle.lset_steps.specs.declared.Event.{Event}
 use Rattle.lset_steps.specs.declared.Event.TheVariants.{Begin, Go}
 use Rattle.lset_steps.specs.Steps.{State, Run, Enabled, opening, event_at, state_at, after, told}
-use Rattle.lset_steps.proofs.MoreEvents.{RunsTo, runs_to_opening, state_agree}
-use Rattle.lset_progress.specs.Progress.{SomeEnds, steps_of, steps_among}
+use Rattle.lset_steps.proofs.MoreEvents.{RunsTo, state_agree}
+use Rattle.lset_progress.specs.Progress.{steps_of}
 use Rattle.lset_progress.specs.Wrong.{claiming, NotLockFree}
-use Rattle.lset_progress.proofs.WrittenRuns.{AllEnabled, state_after, runs_on, no_reply}
-
-abbrev op : Opening
-op = empty 2 2
+use Rattle.lset_progress.proofs.WrittenRuns.{AllEnabled, op, state_after, runs, none_ends}
 
 -- Both threads have walked to head and tail, and have written their numbers, thread 1 last.
 abbrev events : List Event
@@ -28,13 +24,7 @@ abbrev S0 : State
 S0 = state_after claiming (opening op) events
 
 run : RunsTo claiming op events S0
-run = runs_on claiming op [] events (opening op)
-    (runs_to_opening claiming op (opens_empty 2 2 (record {
-      some = omega arith;
-      few = omega arith;
-      small = omega arith;
-      opens = omega arith;
-    }))) enabled
+run = runs claiming events enabled
 
 -- THE ROUND: each finds the number of the other, and writes its own again
 abbrev turn : ℕ → Event
@@ -113,8 +103,8 @@ in_run P each j l =
     subst (λ x. P (state_at claiming op es j) x) (sym (then_turns (j - 10) j e))
     (subst (λ s. P s (turn (j - 10))) (sym (goes_round (j - 10) j e)) (each (j - 10)))
 
-runs : (n : ℕ) → Run claiming op es n
-runs n = record {
+runs_for : (n : ℕ) → Run claiming op es n
+runs_for n = record {
   opens = run.run.opens;
   enabled = λ j l. elim (below_or_not j 10) [
     | inl b ↦ subst (λ e. Enabled (state_at claiming op es j) e) (sym (first_ten j b))
@@ -123,17 +113,6 @@ runs n = record {
   ];
 }
 
-all_count : (reads : Bool) (n k : ℕ) → 10 ≤ k → steps_among reads claiming op es k n ≡ n
-all_count reads zero k l = refl
-all_count reads (suc n) k l =
-    let here : steps_of reads (state_at claiming op es k) (es k) ≡ 1 = in_run (λ s e. steps_of reads s e ≡ 1) (counts reads) k l in
-    let rest : steps_among reads claiming op es (suc k) n ≡ n = all_count reads n (suc k) (omega arith) in
-    omega arith
-
 pub claiming_is_not_lock_free : NotLockFree claiming
-claiming_is_not_lock_free reads most law =
-    let e : SomeEnds reads claiming op es 10 (most (sizes op)) = law op 10 (most (sizes op)) es (runs (10 + most (sizes op)))
-    (let all : steps_among reads claiming op es 10 (most (sizes op)) ≡ most (sizes op) =
-    all_count reads (most (sizes op)) 10 (omega arith) in omega arith) in
-    no_reply e.ends.0 (sym (in_run (λ s x. (told claiming s x).answer ≡ None) silent e.at e.from)
-    ∙ ap (λ z. (told claiming (state_at claiming op es e.at) z).answer) e.own ∙ e.ends.1)
+claiming_is_not_lock_free reads most law = none_ends reads claiming es 10 (in_run (λ s e. steps_of reads s e ≡ 1) (counts reads))
+    (in_run (λ s x. (told claiming s x).answer ≡ None) silent) most (runs_for (10 + most (sizes op))) law

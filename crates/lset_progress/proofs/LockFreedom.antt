@@ -11,7 +11,7 @@ use Rattle.lset_steps.specs.declared.Event.{Event}
 use Rattle.lset_steps.specs.declared.Event.TheVariants.{Begin, Go}
 use Rattle.lset_steps.specs.declared.Local.{Local}
 use Rattle.lset_steps.specs.Steps.{State, Run, Enabled, state_at, after, local_of, seen_next, log_of}
-use Rattle.lset_steps.specs.Chain.{View, InChain, view}
+use Rattle.lset_steps.specs.Chain.{View, InChain, view, node_link}
 use Rattle.lset_steps.specs.Laws.{views, view_of, used_in}
 use Rattle.lset_steps.proofs.Discipline.{put_same, put_other}
 use Rattle.lset_steps.proofs.MarkMove.{mark_back}
@@ -24,10 +24,12 @@ use Rattle.lset_lock_free.specs.Lawful.{lock_free_lawful}
 use Rattle.lset_progress.specs.Progress.{IsCeiling, Answers, IsLockFree, SomeEnds, counted, steps_of, steps_among}
 use Rattle.lset_progress.specs.Progress.{lock_free_steps, lock_free_window}
 use Rattle.lset_progress.proofs.Holders.{one_or_more}
-use Rattle.lset_progress.proofs.LockFreeAlone.{Timed, Valid, round, left, some_time, full_time, own_step}
-use Rattle.lset_progress.proofs.LockFreeSteps.{IsUpdate, Known, Place, Stepped, known, place_of, walk_at, ceiling_at_marks, step_is, same_call, keys_on}
+use Rattle.lset_progress.proofs.LockFreeAlone.{Timed, Valid, shape, round, left, full_time, own_step}
+use Rattle.lset_progress.proofs.LockFreeSteps.{IsUpdate, Known, Place, Stepped, known, place_of, walk_at, ceiling_at_marks, step_is}
+use Rattle.lset_progress.proofs.LockFreeSteps.{same_call, keys_on}
 use Rattle.lset_progress.proofs.LockFreeSteps.Stepped.{still, marks, unlinks}
 use Rattle.lset_progress.proofs.Rest.{SameKeys}
+use Rattle.lset_progress.proofs.Rows.{no_time}
 use Rattle.lset_progress.proofs.Totals.{total, total_less, total_all, total_at, total_step}
 
 -- WHAT A THREAD HAS LEFT: a call that counts its walk, and one more where others have disturbed it; and whoever is to begin such a
@@ -95,7 +97,7 @@ timed_more size key ws l n m le (inr h) = inr (omega arith)
 -- WHAT THE STEPS OF THE OTHERS LEAVE of a thread's time
 module _ (reads : Bool) (sz : Sizes) (s s' : State) (done : Bool) (l : Local) (x : Quiet (view_of sz s) (view_of sz s'))
     (place : Place (view_of sz s) done l) where
-  valid_on : (IsCeiling l.call → ⊥) → Valid s.words l → Valid s'.words l
+  valid_on : (IsCeiling l.call → ⊥) → Valid (node_link s.words) l → Valid (node_link s'.words) l
   valid_on other v = record {
     follows = λ a b. x.links l.pred (walk_at place a (omega arith)).0 ∙ v.follows a b;
     unmarked = λ e. x.links l.curr (walk_at place (omega arith) (omega arith)).1 ∙ v.unmarked e;
@@ -213,7 +215,8 @@ module _ (reads : Bool) (op : Opening) (last k : ℕ) (es : ℕ → Event) (r : 
   counts_down : counted reads (local_of S t).call ≡ 1
       → Timed size f.key S.words (f.time t) (local_of S t) → EndsNow ⊎ Own
   counts_down one time = elim (one_or_more (f.time t)) [
-    | inl z ↦ absurd (some_time size f.key S.words (local_of S t) (subst (λ n. Timed size f.key S.words n (local_of S t)) z time))
+    | inl z ↦ absurd (no_time shape size f.key (node_link S.words) (local_of S t)
+        (subst (λ n. Timed size f.key S.words n (local_of S t)) z time))
     | inr z ↦
         (let is : f.time t ≡ suc z.0 = z.1 ∙ (omega arith) in
         elim (own_step op last k es r (omega arith) f.key f.agrees t tn z.0 (record {
@@ -280,33 +283,52 @@ module _ (reads : Bool) (op : Opening) (last k : ℕ) (es : ℕ → Event) (r : 
     disturbed : (u : ℕ) → u < op.threads → u ≢ t → Fits reads (sizes op) f.key S'.words (f.time u + round size) (local_of S u)
     disturbed u un d = fits_later reads (sizes op) f.key S.words S'.words (f.time u) (local_of S u) (f.times u un)
 
-    quietly : Quiet V W → Later
-    quietly q = (
-      price (sizes op) * (total f.may_leave size + total f.may_mark op.threads) + total (time_then 0) op.threads,
-      (let a : total (time_then 0) op.threads + counted reads (local_of S t).call ≤ total f.time op.threads + op.threads * 0 = total_then 0 in
-          let b = f.within in omega arith),
+    -- with so many marks and nodes left
+    later : (more : ℕ) (mark leave : ℕ → ℕ)
+        → price (sizes op) * (total leave size + total mark op.threads) + total (time_then more) op.threads
+        + counted reads (local_of S t).call ≤ p
+        → ((u : ℕ) → u < op.threads → u ≢ t → Fits reads (sizes op) f.key S'.words (f.time u + more) (local_of S u))
+        → ((u : ℕ) → u < op.threads → (local_of S' u).pc ≢ 10 → mark u ≡ 1)
+        → ((a : ℕ) → a < size → InChain W a → leave a ≡ 1) → Later
+    later more mark leave within others markers nodes = (
+      price (sizes op) * (total leave size + total mark op.threads) + total (time_then more) op.threads,
+      within,
       record {
         key = f.key;
-        time = time_then 0;
-        may_mark = f.may_mark;
-        may_leave = f.may_leave;
+        time = time_then more;
+        may_mark = mark;
+        may_leave = leave;
         agrees = agrees_then;
-        times = times_then 0 (λ u un d. subst (λ n. Fits reads (sizes op) f.key S'.words n (local_of S u)) (omega arith)
-            (fits_on reads (sizes op) S S' (has_changed (log_of lock_free op es) u k) (local_of S u) q (place_of (i.threads u un).at) f.key
-            (f.time u) (f.times u un)));
-        markers = markers_then;
-        nodes = λ a an ia. f.nodes a an
-            (quiet_keeps W V (quiet-ordered V W i.memory.ordered q) (quiet_back V W q) a ia);
+        times = times_then more others;
+        markers = markers;
+        nodes = nodes;
         within = omega arith;
       },
     )
 
-    paid : (x y x' y' a b : ℕ) → x' + y' + 1 ≤ x + y → b + counted reads (local_of S t).call ≤ a + price (sizes op)
-        → price (sizes op) * (x + y) + a ≤ p → price (sizes op) * (x' + y') + b + counted reads (local_of S t).call ≤ p
-    paid x y x' y' a b less more h =
-        let m : price (sizes op) * (x' + y') + price (sizes op) ≤ price (sizes op) * (x + y) =
-        one_price (price (sizes op)) (x' + y') (x + y) less in
-        omega arith
+    quietly : Quiet V W → Later
+    quietly q = later 0 f.may_mark f.may_leave
+        (let a : total (time_then 0) op.threads + counted reads (local_of S t).call ≤ total f.time op.threads + op.threads * 0 =
+            total_then 0 in
+        let b = f.within in omega arith)
+        (λ u un d. subst (λ n. Fits reads (sizes op) f.key S'.words n (local_of S u)) (omega arith)
+        (fits_on reads (sizes op) S S' (has_changed (log_of lock_free op es) u k) (local_of S u) q (place_of (i.threads u un).at) f.key
+        (f.time u) (f.times u un)))
+        markers_then
+        (λ a an ia. f.nodes a an (quiet_keeps W V (quiet-ordered V W i.memory.ordered q) (quiet_back V W q) a ia))
+
+    -- an exchange that succeeds is paid for by one mark or node less
+    disturbs : (mark leave : ℕ → ℕ) → total leave size + total mark op.threads + 1 ≤ total f.may_leave size + total f.may_mark op.threads
+        → ((u : ℕ) → u < op.threads → (local_of S' u).pc ≢ 10 → mark u ≡ 1)
+        → ((a : ℕ) → a < size → InChain W a → leave a ≡ 1) → Later
+    disturbs mark leave less markers nodes = later (round size) mark leave
+        (let m : price (sizes op) * (total leave size + total mark op.threads) + price (sizes op)
+        ≤ price (sizes op) * (total f.may_leave size + total f.may_mark op.threads) =
+        one_price (price (sizes op)) (total leave size + total mark op.threads) (total f.may_leave size + total f.may_mark op.threads)
+            less in
+        let a : total (time_then (round size)) op.threads + counted reads (local_of S t).call
+        ≤ total f.time op.threads + price (sizes op) = total_then (round size) in
+        let b = f.within in omega arith) disturbed markers nodes
 
     marking : (b j : ℕ) → Marks V W b j → (local_of S' t).pc ≡ 10 → Later
     marking b j q ten =
@@ -314,27 +336,13 @@ module _ (reads : Bool) (op : Opening) (last k : ℕ) (es : ℕ → Event) (r : 
         total_less f.may_mark (put f.may_mark t 0) op.threads t tn
         (let e : put f.may_mark t 0 t ≡ 0 = put_this f.may_mark t 0 in
         let g : f.may_mark t ≡ 1 = f.markers t tn marked in omega arith)
-        (λ v d. put_that f.may_mark t 0 v d) in (
-          price (sizes op) * (total f.may_leave size + total (put f.may_mark t 0) op.threads)
-              + total (time_then (round size)) op.threads,
-          paid (total f.may_leave size) (total f.may_mark op.threads) (total f.may_leave size)
-              (total (put f.may_mark t 0) op.threads) (total f.time op.threads) (total (time_then (round size)) op.threads)
-              (omega arith) (total_then (round size)) f.within,
-          record {
-            key = f.key;
-            time = time_then (round size);
-            may_mark = put f.may_mark t 0;
-            may_leave = f.may_leave;
-            agrees = agrees_then;
-            times = times_then (round size) disturbed;
-            markers = λ u un h. elim (same_or_not u t) [
-              | inl y ↦ absurd (h (ap (λ z. (local_of S' z).pc) y ∙ ten))
-              | inr y ↦ put_that f.may_mark t 0 u y ∙ markers_then u un h
-            ];
-            nodes = λ a an ia. f.nodes a an (mark_back V W i.memory.ordered b j q a ia);
-            within = omega arith;
-          },
-        )
+        (λ v d. put_that f.may_mark t 0 v d) in
+        disturbs (put f.may_mark t 0) f.may_leave (omega arith)
+        (λ u un h. elim (same_or_not u t) [
+          | inl y ↦ absurd (h (ap (λ z. (local_of S' z).pc) y ∙ ten))
+          | inr y ↦ put_that f.may_mark t 0 u y ∙ markers_then u un h
+        ])
+        (λ a an ia. f.nodes a an (mark_back V W i.memory.ordered b j q a ia))
 
     unlinking : (pred curr : ℕ) → Unlinks V W pred curr → Later
     unlinking pred curr q =
@@ -345,26 +353,10 @@ module _ (reads : Bool) (op : Opening) (last k : ℕ) (es : ℕ → Event) (r : 
         total_less f.may_leave (put f.may_leave curr 0) size curr inn
         (let e : put f.may_leave curr 0 curr ≡ 0 = put_this f.may_leave curr 0 in
         let g : f.may_leave curr ≡ 1 = f.nodes curr inn was in omega arith)
-        (λ v d. put_that f.may_leave curr 0 v d) in (
-          price (sizes op) * (total (put f.may_leave curr 0) size + total f.may_mark op.threads)
-              + total (time_then (round size)) op.threads,
-          paid (total f.may_leave size) (total f.may_mark op.threads) (total (put f.may_leave curr 0) size)
-              (total f.may_mark op.threads) (total f.time op.threads) (total (time_then (round size)) op.threads)
-              (omega arith) (total_then (round size)) f.within,
-          record {
-            key = f.key;
-            time = time_then (round size);
-            may_mark = f.may_mark;
-            may_leave = put f.may_leave curr 0;
-            agrees = agrees_then;
-            times = times_then (round size) disturbed;
-            markers = markers_then;
-            nodes = λ a an ia.
-                (let b : InChain V a × (a ≢ curr) = unlink_back V W i.memory.ordered pred curr q a ia in
-                put_that f.may_leave curr 0 a b.1 ∙ f.nodes a an b.0);
-            within = omega arith;
-          },
-        )
+        (λ v d. put_that f.may_leave curr 0 v d) in
+        disturbs f.may_mark (put f.may_leave curr 0) (omega arith) markers_then (λ a an ia.
+        let b : InChain V a × (a ≢ curr) = unlink_back V W i.memory.ordered pred curr q a ia in
+        put_that f.may_leave curr 0 a b.1 ∙ f.nodes a an b.0)
 
     onward : Stepped V W (local_of S' t) → Later
     onward (still q) = quietly q
@@ -406,7 +398,7 @@ module _ (reads : Bool) (op : Opening) (last : ℕ) (es : ℕ → Event) (r : Ru
       elim (subst (λ n. Fits reads (sizes op) f.key (state_at lock_free op es k).words n (local_of (state_at lock_free op es k) 0)) z
       (f.times 0 some)) [
         | inl g ↦ omega arith
-        | inr g ↦ some_time (node_count (sizes op)) f.key (state_at lock_free op es k).words
+        | inr g ↦ no_time shape (node_count (sizes op)) f.key (node_link (state_at lock_free op es k).words)
             (local_of (state_at lock_free op es k) 0) g.2
       ]
 

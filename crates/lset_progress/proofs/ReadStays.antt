@@ -1,13 +1,9 @@
--- The rows of a contains and a ceiling load one word.
-use Rattle.std.specs.Prelude.{◌≡◌, ℕ, ◌≤◌, Bool, Option, List, refl, slice_index}
-use Rattle.std.proofs.Common.{arith, inl, inr, ◌∙◌}
-use Rattle.lset_words.specs.declared.Reply.{Reply}
-use Rattle.lset_words.specs.Words.{key_index, link_index}
-use Rattle.lset_steps.specs.declared.Action.TheVariants.{Load}
+-- The rows of a contains and a ceiling.
+use Rattle.std.specs.Prelude.{ℕ, ◌≤◌, Bool}
+use Rattle.std.proofs.Common.{arith, inl, inr}
 use Rattle.lset_steps.specs.declared.Local.{Local}
-use Rattle.lset_steps.specs.Steps.{Table}
 use Rattle.lset_steps.specs.Chain.{View}
-use Rattle.lset_steps.proofs.ReadTables.{HasReadRows, IsReadRow}
+use Rattle.lset_steps.proofs.ReadTables.{IsReadRow}
 use Rattle.lset_steps.proofs.ReadOutline.{Reading}
 use Rattle.lset_steps.proofs.ReadOutline.Reading.{reads20, reads21, reads22, reads23, reads24, reads25}
 
@@ -26,30 +22,3 @@ read_low p (inr (inr (inl e))) = (omega arith, omega arith)
 read_low p (inr (inr (inr (inl e)))) = (omega arith, omega arith)
 read_low p (inr (inr (inr (inr (inl e))))) = (omega arith, omega arith)
 read_low p (inr (inr (inr (inr (inr e))))) = (omega arith, omega arith)
-
-pub record ReadsOn (T : Table) (ws : List ℕ) (l : Local) : Type 0 where
-  pub word : ℕ
-  pub local : Local
-  pub answer : Option Reply
-  pub acts : T.next l ≡ Load word
-  pub feeds : T.feed l (slice_index ws word) ≡ record { local = local; answer = answer }
-
-module _ (T : Table) (rows : HasReadRows T) (ws : List ℕ) (l : Local) where
-  loads : (w : ℕ) → T.next l ≡ Load w → ReadsOn T ws l
-  loads w acts = record {
-    word = w;
-    local = (T.feed l (slice_index ws w)).local;
-    answer = (T.feed l (slice_index ws w)).answer;
-    acts = acts;
-    feeds = refl;
-  }
-
-  pub reads_on_at : IsReadRow l.pc → ReadsOn T ws l
-  reads_on_at (inl e) = loads (link_index l.curr) (rows.acts l (inl e) ∙ rw e refl)
-  reads_on_at (inr (inl e)) = loads (key_index l.curr) (rows.acts l (inr (inl e)) ∙ rw e refl)
-  reads_on_at (inr (inr (inl e))) = loads (link_index l.curr) (rows.acts l (inr (inr (inl e))) ∙ rw e refl)
-  reads_on_at (inr (inr (inr (inl e)))) = loads (link_index l.curr) (rows.acts l (inr (inr (inr (inl e)))) ∙ rw e refl)
-  reads_on_at (inr (inr (inr (inr (inl e))))) =
-      loads (key_index l.curr) (rows.acts l (inr (inr (inr (inr (inl e))))) ∙ rw e refl)
-  reads_on_at (inr (inr (inr (inr (inr e))))) =
-      loads (link_index l.curr) (rows.acts l (inr (inr (inr (inr (inr e))))) ∙ rw e refl)

@@ -2,26 +2,17 @@
 use Rattle.std.specs.Prelude.{◌≡◌, ℕ, ◌+◌, ◌<◌, ◌≤◌, ◌⊎◌, Bool, None, List, [], ◌∷◌, length, slice_index, refl}
 use Rattle.std.proofs.Common.{arith, inl, inr, sym, ◌∙◌, ap, subst, zero, suc}
 use Rattle.std.proofs.lemmas.List.{get_or_past}
+use Rattle.lset_words.proofs.Numbers.{below_or_not}
 use Rattle.lset_words.specs.declared.Call.TheVariants.{Add, Remove}
-use Rattle.lset_words.specs.Words.{lock_index, Opening, empty, sizes}
-use Rattle.lset_words.proofs.Bounds.{opens_empty}
+use Rattle.lset_words.specs.Words.{lock_index, sizes}
 use Rattle.lset_steps.specs.declared.Event.{Event}
 use Rattle.lset_steps.specs.declared.Event.TheVariants.{Begin, Go}
 use Rattle.lset_steps.specs.Steps.{Table, State, Run, Enabled, opening, event_at, state_at, after, told, local_of}
 use Rattle.lset_steps.specs.Laws.{IsLockWord, views}
-use Rattle.lset_steps.proofs.MoreEvents.{RunsTo, runs_to_opening}
-use Rattle.lset_progress.specs.Progress.{IsPending, IsCeiling, NoMarkInChain, NoOtherHolds, EndsAlone, GetsOn, SomeThreadGetsOn, SomeEnds}
-use Rattle.lset_progress.specs.Progress.{steps_of, steps_among}
+use Rattle.lset_steps.proofs.MoreEvents.{RunsTo}
+use Rattle.lset_progress.specs.Progress.{IsPending, IsCeiling, NoMarkInChain, NoOtherHolds, EndsAlone, GetsOn, SomeThreadGetsOn, steps_of}
 use Rattle.lset_progress.specs.Wrong.{spinning, keeping, crossed, NoCallsEndAlone, NoCallsEndUnhindered, NotLockFree}
-use Rattle.lset_progress.proofs.WrittenRuns.{AllEnabled, state_after, runs_on, no_reply}
-
--- two threads with two slots each
-abbrev op : Opening
-op = empty 2 2
-
-opened : (T : Table) → RunsTo T op [] (opening op)
-opened T = runs_to_opening T op
-    (opens_empty 2 2 (record { some = omega arith; few = omega arith; small = omega arith; opens = omega arith }))
+use Rattle.lset_progress.proofs.WrittenRuns.{AllEnabled, op, state_after, runs, none_ends, no_reply}
 
 two_values : (n a b : ℕ) → (a ≡ b → ⊥) → n ≡ a → n ≡ b → ⊥
 two_values n a b d e f = d (sym e ∙ f)
@@ -45,7 +36,7 @@ spinning_enabled : AllEnabled spinning (opening op) spinning_events
 spinning_enabled = ((omega arith, refl, omega arith), ((omega arith, λ z. omega arith), ((omega arith, λ z. omega arith), ((omega arith, λ z. omega arith), ((omega arith, λ z. omega arith), ((omega arith, λ z. omega arith), ((omega arith, λ z. omega arith), ((omega arith, refl, omega arith), ((omega arith, λ z. omega arith), ((omega arith, λ z. omega arith), ((omega arith, λ z. omega arith), ((omega arith, λ z. omega arith), ((omega arith, λ z. omega arith), ((omega arith, refl, omega arith), ((omega arith, λ z. omega arith), ((omega arith, λ z. omega arith), ((omega arith, λ z. omega arith), tt)))))))))))))))))
 
 spinning_run : RunsTo spinning op spinning_events spinning_state
-spinning_run = runs_on spinning op [] spinning_events (opening op) (opened spinning) spinning_enabled
+spinning_run = runs spinning spinning_events spinning_enabled
 
 pub spinning_is_refused : NoCallsEndUnhindered spinning
 spinning_is_refused most law =
@@ -74,28 +65,19 @@ spins_on_at (suc j) l = elim (this_or_later j l) [
   | inr e ↦ subst (λ i. spinning_state ≡ state_at spinning op spins i) (sym e) spinning_run.is
 ]
 
-before_or_after : (j : ℕ) → (j < 17) ⊎ (17 ≤ j)
-before_or_after j = grind arith
-
 spins_run : (n : ℕ) → Run spinning op spins n
 spins_run n = record {
   opens = spinning_run.run.opens;
-  enabled = λ j l. elim (before_or_after j) [
+  enabled = λ j l. elim (below_or_not j 17) [
     | inl b ↦ spinning_run.run.enabled j b
     | inr k ↦ subst (λ e. Enabled (state_at spinning op spins j) e) (sym (only_0 j k))
         (subst (λ s. Enabled s (Go 0)) (spins_on_at j k) (omega arith, λ z. omega arith))
   ];
 }
 
-all_count : (reads : Bool) (n k : ℕ) → 17 ≤ k → steps_among reads spinning op spins k n ≡ n
-all_count reads zero k l = refl
-all_count reads (suc n) k l =
-    let one : steps_of reads spinning_state (Go 0) ≡ 1 = refl in
-    let here : steps_of reads (state_at spinning op spins k) (spins k) ≡ 1 =
-    subst (λ e. steps_of reads (state_at spinning op spins k) e ≡ 1) (sym (only_0 k l))
-    (subst (λ s. steps_of reads s (Go 0) ≡ 1) (spins_on_at k l) one) in
-    let rest : steps_among reads spinning op spins (suc k) n ≡ n = all_count reads n (suc k) (omega arith) in
-    omega arith
+counts_at : (reads : Bool) (j : ℕ) → 17 ≤ j → steps_of reads (state_at spinning op spins j) (spins j) ≡ 1
+counts_at reads j l = subst (λ e. steps_of reads (state_at spinning op spins j) e ≡ 1) (sym (only_0 j l))
+    (subst (λ s. steps_of reads s (Go 0) ≡ 1) (spins_on_at j l) refl)
 
 silent_at : (j : ℕ) → 17 ≤ j → (told spinning (state_at spinning op spins j) (spins j)).answer ≡ None
 silent_at j l = subst (λ e. (told spinning (state_at spinning op spins j) e).answer ≡ None) (sym (only_0 j l))
@@ -103,11 +85,7 @@ silent_at j l = subst (λ e. (told spinning (state_at spinning op spins j) e).an
 
 pub spinning_is_not_lock_free : NotLockFree spinning
 spinning_is_not_lock_free reads most law =
-    let e : SomeEnds reads spinning op spins 17 (most (sizes op)) = law op 17 (most (sizes op)) spins (spins_run (17 + most (sizes op)))
-    (let all : steps_among reads spinning op spins 17 (most (sizes op)) ≡ most (sizes op) =
-    all_count reads (most (sizes op)) 17 (omega arith) in omega arith) in
-    no_reply e.ends.0 (sym (silent_at e.at e.from)
-    ∙ ap (λ z. (told spinning (state_at spinning op spins e.at) z).answer) e.own ∙ e.ends.1)
+    none_ends reads spinning spins 17 (counts_at reads) silent_at most (spins_run (17 + most (sizes op))) law
 
 -- Thread 0 has walked to head and tail; thread 1 puts 7 between; thread 0 fails, keeps the lock of the head, and comes to it again.
 abbrev keeping_events : List Event
@@ -120,7 +98,7 @@ keeping_enabled : AllEnabled keeping (opening op) keeping_events
 keeping_enabled = ((omega arith, refl, omega arith), ((omega arith, λ z. omega arith), ((omega arith, λ z. omega arith), ((omega arith, refl, omega arith), ((omega arith, λ z. omega arith), ((omega arith, λ z. omega arith), ((omega arith, λ z. omega arith), ((omega arith, λ z. omega arith), ((omega arith, λ z. omega arith), ((omega arith, λ z. omega arith), ((omega arith, λ z. omega arith), ((omega arith, λ z. omega arith), ((omega arith, λ z. omega arith), ((omega arith, λ z. omega arith), ((omega arith, λ z. omega arith), ((omega arith, λ z. omega arith), ((omega arith, λ z. omega arith), ((omega arith, λ z. omega arith), ((omega arith, λ z. omega arith), ((omega arith, λ z. omega arith), tt))))))))))))))))))))
 
 keeping_run : RunsTo keeping op keeping_events keeping_state
-keeping_run = runs_on keeping op [] keeping_events (opening op) (opened keeping) keeping_enabled
+keeping_run = runs keeping keeping_events keeping_enabled
 
 -- thread 1 holds none
 none_of_1 : (x : ℕ) → IsLockWord x → x < 21 → slice_index keeping_state.words x ≡ 2 → ⊥
@@ -160,7 +138,7 @@ crossed_enabled : AllEnabled crossed (opening op) crossed_events
 crossed_enabled = ((omega arith, refl, omega arith), ((omega arith, λ z. omega arith), ((omega arith, λ z. omega arith), ((omega arith, λ z. omega arith), ((omega arith, λ z. omega arith), ((omega arith, λ z. omega arith), ((omega arith, λ z. omega arith), ((omega arith, λ z. omega arith), ((omega arith, λ z. omega arith), ((omega arith, λ z. omega arith), ((omega arith, λ z. omega arith), ((omega arith, λ z. omega arith), ((omega arith, refl, omega arith), ((omega arith, λ z. omega arith), ((omega arith, λ z. omega arith), ((omega arith, λ z. omega arith), ((omega arith, refl, omega arith), ((omega arith, λ z. omega arith), ((omega arith, λ z. omega arith), ((omega arith, λ z. omega arith), tt))))))))))))))))))))
 
 crossed_run : RunsTo crossed op crossed_events crossed_state
-crossed_run = runs_on crossed op [] crossed_events (opening op) (opened crossed) crossed_enabled
+crossed_run = runs crossed crossed_events crossed_enabled
 
 none_gets_on : (u : ℕ) → u < 2 → GetsOn crossed crossed_state u → ⊥
 none_gets_on zero h g = two_values (slice_index crossed_state.words (lock_index 2)) 2 0 (λ z. omega arith) refl

@@ -1,0 +1,175 @@
+-- WHAT A LIST WITH LOCKS SHOWS OF EACH ROW, once: which locks a thread holds behind it, and how much is left of its call. From
+-- these rows follow all laws of progress of the list (LocksAlone).
+use Rattle.std.specs.Prelude.{◌≡◌, ◌≢◌, ℕ, ◌+◌, ◌-◌, ◌/◌, ◌<◌, ◌⊎◌, ◌&&◌, nat_le, not, Bool, true, false, MatchBool, Some, None, List}
+use Rattle.std.specs.Prelude.{slice_index, slice_set}
+use Rattle.std.proofs.Common.{arith, inl, inr, subst, sym, suc, refl}
+use Rattle.lset_words.specs.declared.Reply.{Reply}
+use Rattle.lset_words.specs.Words.{lock_index, word_count, Sizes}
+use Rattle.lset_steps.specs.declared.Action.{Action}
+use Rattle.lset_steps.specs.declared.Action.TheVariants.{Load, Store, Exchange}
+use Rattle.lset_steps.specs.declared.Fed.{Fed}
+use Rattle.lset_steps.specs.declared.Local.{Local}
+use Rattle.lset_steps.specs.Steps.{Table}
+use Rattle.lset_steps.specs.Chain.{node_key, node_link}
+use Rattle.lset_steps.specs.Laws.{IsLockWord}
+use Rattle.lset_progress.proofs.Rest.{rest}
+
+-- what holds of a Local at row n holds of l, which is there
+pub at_row : (P : Local → Type 0) (l : Local) (n : ℕ) → l.pc ≡ n → P (record l { pc = n }) → P l
+at_row P l n e x = subst (λ p. P (record l { pc = p })) (sym e) x
+
+-- tests of a row
+abbrev pub within : ℕ → ℕ → ℕ → Bool
+within a b n = nat_le a n && nat_le n b
+
+abbrev pub When : Bool → Type 0 → Type 0
+When b A = MatchBool b A (Unit {0})
+
+abbrev pub Only : Bool → Type 0
+Only b = MatchBool b (Unit {0}) ⊥
+
+pub when : {A : Type 0} (b : Bool) → (b ≡ true → A) → When b A
+when true f = f refl
+when false f = tt
+
+pub only_when : (A : Type 0) (b : Bool) → Only b → When (not b) A
+only_when A true h = tt
+only_when A false h = absurd h
+
+-- the lock of pred at the rows P, that of curr at the rows C
+abbrev pub NodeLocks : (ℕ → Bool) → (ℕ → Bool) → Local → ℕ → Type 0
+NodeLocks P C l x = ((x ≡ lock_index l.pred) × Only (P l.pc)) ⊎ ((x ≡ lock_index l.curr) × Only (C l.pc))
+
+-- no lock is held; that of pred alone; and where one of both is given back, the other
+pub no_lock : {A B C : Type 0} → (A × ⊥) ⊎ (B × ⊥) → C
+no_lock (inl p) = absurd p.1
+no_lock (inr c) = absurd c.1
+
+pub pred_only : {A B C : Type 0} → A ⊎ (B × ⊥) → A ⊎ C
+pred_only (inl p) = inl p
+pred_only (inr c) = absurd c.1
+
+pub gave_pred : {A B C : Type 0} {x w : ℕ} → x ≢ w → ((x ≡ w) × A) ⊎ B → C ⊎ B
+gave_pred d (inl p) = absurd (d p.0)
+gave_pred d (inr c) = inr c
+
+pub gave_curr : {A B C : Type 0} {x w : ℕ} → x ≢ w → A ⊎ ((x ≡ w) × B) → A ⊎ C
+gave_curr d (inl p) = inl p
+gave_curr d (inr c) = absurd (d c.0)
+
+-- how much is ahead of the node of a lock word
+abbrev pub rank : ℕ → List ℕ → ℕ → ℕ
+rank size ws w = rest size ws (w / 3 - 1)
+
+pub ranked : (size : ℕ) (ws : List ℕ) (a b x : ℕ) → x ≡ lock_index b → rest size ws a < rest size ws b
+    → rank size ws (lock_index a) < rank size ws x
+ranked size ws a b x e less =
+    let here : lock_index a / 3 - 1 ≡ a = omega arith in
+    let there : x / 3 - 1 ≡ b = omega arith in
+    subst (λ i. rest size ws i < rank size ws x) (sym here) (subst (λ i. rest size ws a < rest size ws i) (sym there) less)
+
+-- WHAT A LIST COUNTS: the lock words that a thread may hold; that its call is behind its decision, from where it tries no lock; what
+-- its next step asks of the words; that its walk is valid, by the links; how many steps are left behind the next one of a valid walk,
+-- by the number of nodes and their keys; and how many those of another walk are
+pub record Shape : Type 1 where
+  pub may : Local → ℕ → Type 0
+  pub late : Local → Type 0
+  pub calm : List ℕ → Local → Type 0
+  pub valid : (ℕ → ℕ) → Local → Type 0
+  pub left : ℕ → (ℕ → ℕ) → Local → ℕ
+  pub round : ℕ → ℕ
+
+abbrev pub Any : ℕ → Type 0
+Any x = Unit {0}
+
+module _ (S : Shape) (size : ℕ) where
+  -- fewer than n steps are left of a walk that is valid, or of any walk and another one
+  abbrev pub TimedBy : (ℕ → ℕ) → (ℕ → ℕ) → ℕ → Local → Type 0
+  TimedBy key link n l = (S.valid link l × (S.left size key l < n)) ⊎ (S.left size key l + S.round size < n)
+
+  abbrev pub Timed : List ℕ → ℕ → Local → Type 0
+  Timed ws n l = TimedBy (node_key ws) (node_link ws) n l
+
+  pub timed_same : (ws ws' : List ℕ) (n : ℕ) (l : Local) → node_key ws' ≡ node_key ws → node_link ws' ≡ node_link ws
+      → Timed ws n l → Timed ws' n l
+  timed_same ws ws' n l keys links h = subst (λ k. TimedBy k (node_link ws') n l) (sym keys)
+      (subst (λ f. TimedBy (node_key ws) f n l) (sym links) h)
+
+  pub no_time : (key link : ℕ → ℕ) (l : Local) → TimedBy key link 0 l → ⊥
+  no_time key link l (inl v) = let h : S.left size key l < 0 = v.1 in omega arith
+  no_time key link l (inr h) = omega arith
+
+  -- A STEP of l over ws that leaves l' over ws' and ends no call: a walk that is valid stays so, or one that was not is given up
+  pub record Goes (key : ℕ → ℕ) (ws : List ℕ) (l : Local) (key' : ℕ → ℕ) (ws' : List ℕ) (l' : Local) : Type 0 where
+    pub busy : l'.pc ≢ 0
+    pub late : S.late l → S.late l'
+    pub near : S.calm ws l → (n : ℕ) → TimedBy key (node_link ws) (suc n) l → TimedBy key' (node_link ws') n l'
+
+  -- and one that is fed f, where only the words O may still be held
+  pub record Then (key : ℕ → ℕ) (ws : List ℕ) (l : Local) (O : ℕ → Type 0) (key' : ℕ → ℕ) (ws' : List ℕ) (f : Fed) : Type 0 where
+    pub keeps : (x : ℕ) → O x → S.may l x → S.may f.local x
+    pub then : ((r : Reply) × (f.answer ≡ Some r)) ⊎ Goes key ws l key' ws' f.local
+
+  abbrev pub Loads : List ℕ → Local → Fed → Type 0
+  Loads ws l f = Then (node_key ws) ws l Any (node_key ws) ws f
+
+  abbrev pub Stores : List ℕ → Local → ℕ → List ℕ → Fed → Type 0
+  Stores ws l w ws' f = Then (node_key ws) ws l (λ x. x ≢ w) (node_key ws') ws' f
+
+  module _ (T : Table) (sz : Sizes) (ws : List ℕ) (t : ℕ) (l : Local) where
+    -- a try of a lock: it comes after all that the thread may hold, and if it fails the thread tries again
+    pub record Tries (w from to : ℕ) : Type 0 where
+      pub is_lock : IsLockWord w
+      pub inside : w < word_count sz
+      pub free : from ≡ 0
+      pub own : to ≡ t + 1
+      pub early : S.late l → ⊥
+      pub last : (x : ℕ) → S.may l x → rank size ws w < rank size ws x
+      pub taken : Loads ws l (T.feed l 0)
+      pub mine : S.may (T.feed l 0).local w
+      pub missed : (seen : ℕ) → seen ≢ 0 → (T.feed l seen).local ≡ l
+
+    -- a store of another word comes behind the decision
+    abbrev pub RowBy : Action → Type 0
+    RowBy (Load w) = Loads ws l (T.feed l (slice_index ws w))
+    RowBy (Store w v) = (Stores ws l w (slice_set ws w v) (T.feed l v) × S.late l × Timed ws 6 l)
+        ⊎ (IsLockWord w × Stores ws l w ws (T.feed l v))
+    RowBy (Exchange w from to) = Tries w from to
+
+module _ {S : Shape} {size : ℕ} {key : ℕ → ℕ} {ws : List ℕ} {l : Local} {O : ℕ → Type 0} {key' : ℕ → ℕ} {ws' : List ℕ} {l' : Local}
+    (keeps : (x : ℕ) → O x → S.may l x → S.may l' x) where
+  pub goes : l'.pc ≢ 0 → (S.late l → S.late l')
+      → (S.calm ws l → S.valid (node_link ws) l → S.valid (node_link ws') l')
+      → S.left size key' l' < S.left size key l
+      → Then S size key ws l O key' ws' (record { local = l'; answer = None })
+  goes busy late valid less = record {
+    keeps = keeps;
+    then = inr (record {
+      busy = busy;
+      late = late;
+      near = λ calm n time. elim time [
+        | inl v ↦ inl (let h : S.left size key l < suc n = v.1 in (valid calm v.0, omega arith))
+        | inr h ↦ inr (omega arith)
+      ];
+    });
+  }
+
+  -- no walk that is valid gives up
+  pub fails : l'.pc ≢ 0 → (S.late l → S.late l')
+      → (S.calm ws l → S.valid (node_link ws) l → ⊥) → S.valid (node_link ws') l'
+      → S.left size key' l' < S.left size key l + S.round size
+      → Then S size key ws l O key' ws' (record { local = l'; answer = None })
+  fails busy late never valid less = record {
+    keeps = keeps;
+    then = inr (record {
+      busy = busy;
+      late = late;
+      near = λ calm n time. elim time [
+        | inl v ↦ absurd (never calm v.0)
+        | inr h ↦ inl (valid, omega arith)
+      ];
+    });
+  }
+
+  pub stops : {r : Reply} → Then S size key ws l O key' ws' (record { local = l'; answer = Some r })
+  stops {r} = record { keeps = keeps; then = inl (r, refl) }
