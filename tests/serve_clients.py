@@ -3,9 +3,9 @@
 For each list: 64 clients on keys that they share, whose answers have to add up, and 64 clients at once, each on keys of its
 own, so that each of its answers is known, and of a ceiling the few that are right; after them, alone, one more client asks
 for the ceiling of each key, which is then known. For one list: 200 clients on 8 seats; one seat and one client after another,
-1,100 of them too; clients that send all their lines before they read an answer; answers that fill their room; a client that
-reads none; and clients that send bytes past the end of their session. On the loopback alone; every wait is bounded, and the
-server is ended by its own number if it does not end.
+10,000 of them too, and 200 where few files may be open at once; clients that send all their lines before they read an answer;
+answers that fill their room, and answers that leave together; a client that reads none; and clients that send bytes past the end
+of their session. On the loopback alone; every wait is bounded, and the server is ended by its own number if it does not end.
 """
 
 import collections
@@ -13,6 +13,7 @@ import contextlib
 import itertools
 import random
 import socket
+import struct
 import threading
 import time
 
@@ -235,13 +236,34 @@ def queue(case):
 
 @test
 def one_after_another(case):
-    """More than a thousand connections, one after another."""
-    sessions = 1100
+    """As many connections as may be asked for, one after another, on few keys."""
+    sessions, keys = 10_000, 1000
     with serving(case.program, ONE_LIST, 1, ROOM, sessions) as server:
-        for key in range(sessions):
+        for number in range(sessions):
+            key, told = number % keys, b"TRUE" if number < keys else b"FALSE"
             with server.connect() as connection:
-                asks(connection, b"ADD %d\nCEILING %d\nQUIT\n" % (key, key), b"TRUE\nAT %d\nBYE\n" % key)
-        server.ends(sessions, 2 * sessions, 2 * sessions, range(sessions))
+                asks(connection, b"ADD %d\nCEILING %d\nQUIT\n" % (key, key), b"%b\nAT %d\nBYE\n" % (told, key))
+        server.ends(sessions, 2 * sessions, 2 * sessions, range(keys))
+
+
+@test
+def few_open_files(case):
+    """A server with room for few open files has let go of a connection when the next one comes, however a session ends."""
+    sessions, files = 200, 32
+    limited = ["sh", "-c", f'ulimit -n {files} && exec "$@"', "sh"]
+    with serving(case.program, ONE_LIST, 1, ROOM, sessions, before=limited) as server:
+        for number in range(sessions):
+            with server.connect() as connection:
+                connection.settimeout(SOON)
+                asks(connection, b"CONTAINS 7\n", b"FALSE\n")
+                if number % 3 == 0:
+                    asks(connection, b"QUIT\n", b"BYE\n")
+                elif number % 3 == 1:
+                    connection.shutdown(socket.SHUT_WR)
+                    same(connection.recv(1), b"", "what comes after the end of the lines")
+                else:
+                    resets(connection)
+        server.ends(sessions, sessions, sessions, [])
 
 
 def drips(connection, end):
@@ -343,6 +365,24 @@ def answers_that_fill_their_room(case):
         server.ends(len(counts), 0, 0, [])
 
 
+def segments_with_data(connection):
+    """How many segments with data the system has got on a connection: `tcpi_data_segs_in` of linux/tcp.h."""
+    return struct.unpack_from("I", connection.getsockopt(socket.IPPROTO_TCP, socket.TCP_INFO, 160), 152)[0]
+
+
+@test
+def answers_leave_together(case):
+    """The answers to lines that come together leave in a few pieces, and not one by one or byte by byte."""
+    lines = 6000
+    with serving(case.program, ONE_LIST, 1, ROOM, 1) as server:
+        with server.connect() as connection:
+            asks(connection, b"CONTAINS 7\n" * lines, b"FALSE\n" * lines)
+            if (pieces := segments_with_data(connection)) > lines // 60:
+                raise Wrong(f"{lines} answers come in {pieces} pieces")
+            asks(connection, b"QUIT\n", b"BYE\n")
+        server.ends(1, lines, lines, [])
+
+
 def sends_until_stuck(connection):
     """Sends lines and reads no answer, until the system has taken no more of them for a second. Gives how many it took."""
     line, sent = b"CEILING 0\n", 0
@@ -395,7 +435,7 @@ def bytes_past_the_end(case):
     """Every answer arrives, whatever the client has sent behind its last line. One client reads so late that the server has let
     its connection go: an answer that the system has not handed over by then would be lost with bytes left unread."""
     few, many = 100, 100_000
-    with serving(case.program, ONE_LIST, 5, ROOM, 5) as server:
+    with serving(case.program, ONE_LIST, 5, ROOM, 10) as server:
         short = b"REMOVE 1\n" * few + b"QUIT\n", b"FALSE\n" * few + b"BYE\n"
         clients = [
             Beyond(server, "QUIT after a few lines", *short),
@@ -405,5 +445,10 @@ def bytes_past_the_end(case):
             Beyond(server, "a million lines", b"\n" * 1_000_000, b"BAD\n" * 1_000_000 + b"LIMIT\n"),
         ]
         have_ended(clients)
-        calls = 2 * few + 2 * many
-        server.ends(5, calls, calls, [])
+        with contextlib.ExitStack() as held:  # each seat serves on, whatever the end of its session was
+            for _ in clients:
+                connection = held.enter_context(server.connect())
+                connection.settimeout(SOON)
+                asks(connection, b"CONTAINS 1\n", b"FALSE\n")
+        calls = 2 * few + 2 * many + len(clients)
+        server.ends(10, calls, calls, [])

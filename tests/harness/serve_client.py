@@ -38,8 +38,9 @@ class Server:
 
 
 @contextlib.contextmanager
-def serving(program, kind, seats, quota, sessions, port=0):
-    words = [program, "serve", kind, str(seats), str(quota), str(port), str(sessions)]
+def serving(program, kind, seats, quota, sessions, port=0, before=()):
+    """The program as a server, with these words before its own, such as those of a limit."""
+    words = [*before, program, "serve", kind, str(seats), str(quota), str(port), str(sessions)]
     process = subprocess.Popen(words, stdout=subprocess.PIPE, text=True)
     watch = threading.Timer(2 * SECONDS, process.kill)
     watch.start()
