@@ -203,7 +203,7 @@ IsTruth Full = ⊥
 IsTruth (reply.At k) = ⊥
 IsTruth reply.Nothing = ⊥
 
-legal_at : (q : ℕ) (s : SetState) (xs : List Answered) (a : Answered) (ys : List Answered) → IsLegal q s (xs ++ a ∷ ys) →
+pub legal_at : (q : ℕ) (s : SetState) (xs : List Answered) (a : Answered) (ys : List Answered) → IsLegal q s (xs ++ a ∷ ys) →
     (z : SetState) × (reply_to q z a.thread a.call ≡ a.reply)
 legal_at q s [] a ys l = (s, l.0)
 legal_at q s (x ∷ xs) a ys l = legal_at q (after_call s x.thread x.call x.reply) xs a ys l.1

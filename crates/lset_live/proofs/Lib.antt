@@ -7,5 +7,6 @@ mod Orders
 mod Explained
 mod Closing
 pub mod Receipts
+mod TypedReplies
 mod Walking
 pub mod NewSeats

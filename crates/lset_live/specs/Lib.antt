@@ -3,3 +3,4 @@ pub mod Seats
 pub mod Closes
 pub mod Dated
 pub mod Codes
+pub mod Typed

@@ -11,6 +11,7 @@ mod running;
 mod seat;
 mod set;
 mod set_calls;
+mod typed;
 
 pub use bounded::Bounded;
 pub use closed::Closed;
@@ -22,3 +23,4 @@ pub use receipt::{Receipt, receipts_keep_order};
 pub use running::{Running, RunningReads};
 pub use seat::Seat;
 pub use set::{LiveSet, SeatsOut};
+pub use typed::Added;
