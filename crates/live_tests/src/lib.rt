@@ -45,6 +45,10 @@ mod receipts;
 #[cfg(test)]
 mod renewal;
 #[cfg(test)]
+mod sentences;
+#[cfg(test)]
 mod stopping;
+#[cfg(test)]
+mod typed;
 #[cfg(test)]
 mod waiting;

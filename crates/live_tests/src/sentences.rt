@@ -1,0 +1,71 @@
+//! What the errors of running sets and of programs on them say.
+use crate::opened::two_seats;
+use lset_lazy::LazyList;
+use lset_live::OpenFault;
+use lset_work::{Always, WorkCause, work};
+use std::error::Error;
+use std::test::Fail;
+
+/// The sentence of an error.
+fn sentence<E: Error>(rt: &impl AllocGlobal, error: E) -> Result<String, Fail> {
+    Ok(error.to_string(rt.alloc())?)
+}
+
+const OPENING: [(OpenFault, &str); 4] = [
+    (OpenFault::Seats, "the seats are outside 1 to 64"),
+    (OpenFault::Quota, "the quota is above 16384"),
+    (
+        OpenFault::Opening,
+        "the opening keys do not rise or are more than 1048576",
+    ),
+    (OpenFault::Memory, "out of memory"),
+];
+
+#[test]
+fn an_open_fault_has_a_sentence(rt: HostRuntime) -> Result<(), Fail> {
+    for &(fault, said) in &OPENING {
+        assert!(rt; sentence(&rt, fault)?.as_str() == said);
+    }
+    Ok(())
+}
+
+const WORKING: [(WorkCause, &str); 4] = [
+    (
+        WorkCause::Programs,
+        "the programs are not as many as the seats, or seats are missing",
+    ),
+    (WorkCause::Spawn, "a thread was refused"),
+    (WorkCause::Gate, "a gate answered false"),
+    (WorkCause::Memory, "out of memory"),
+];
+
+#[test]
+fn a_cause_of_work_has_a_sentence(rt: HostRuntime) -> Result<(), Fail> {
+    for &(cause, said) in &WORKING {
+        assert!(rt; sentence(&rt, cause)?.as_str() == said);
+    }
+    Ok(())
+}
+
+#[test]
+fn a_set_that_is_not_closed_says_why(rt: HostRuntime) -> Result<(), Fail> {
+    let (set, zero, _one) = two_seats::<LazyList, HostRuntime>(&rt, rt.alloc());
+    let Err(out) = set.close(zero) else {
+        panic!(rt; "a set is closed by one seat of two")
+    };
+    let said = sentence(&rt, out)?;
+    assert!(rt; said.as_str() == "the seat does not hold all seats of the set");
+    Ok(())
+}
+
+#[test]
+fn work_without_programs_says_why(rt: HostRuntime) -> Result<(), Fail> {
+    let (set, zero, one) = two_seats::<LazyList, HostRuntime>(&rt, rt.alloc());
+    let seats = vec![in rt.alloc(); zero, one]?;
+    let Err(fault) = work(&rt, rt.alloc(), set, seats, Vec::new(rt.alloc()), &Always) else {
+        panic!(rt; "two seats run no program")
+    };
+    let said = sentence(&rt, fault)?;
+    assert!(rt; said.as_str() == WORKING[0].1);
+    Ok(())
+}
