@@ -50,8 +50,8 @@ SHOWN = {
         "tool_examples": [],
     },
     "functions-running": {
-        "lset_live": ["open_with", "LiveSet::call", "LiveSet::add", "LiveSet::contains_now", "LiveSet::call_within",
-                      "LiveSet::gather", "LiveSet::close", "Closed::keys"],
+        "lset_live": ["open_with", "Seat::add", "Seat::remove", "Seat::contains", "Seat::ceiling", "LiveSet::gather", "LiveSet::close",
+                      "Closed::keys", "LiveSet::contains_now", "LiveSet::add", "LiveSet::call", "LiveSet::call_within"],
         "lset_work": ["work"],
     },
     "functions-sessions": {"lset_session": ["session", "buffered_session"], "lset_server": ["serve"]},
@@ -126,4 +126,11 @@ def first_program(top):
     return f"```rust\n{code}\n```\n\nIt prints\n\n{said}"
 
 
-MADE = {part: functools.partial(functions, part) for part in SHOWN} | {"errors": errors, "first-program": first_program}
+def typed_calls(top):
+    """Two functions of a test, which two threads run at once."""
+    functions = {it.name: it for it in rattle_sources.Source((top / "crates/live_tests/src/typed.rt").read_text(encoding="utf-8")).functions}
+    comment_too = ("\n".join(it.source.lines[it.top - 1 : it.last]) for it in map(functions.get, ["claim", "claim_at_once"]))
+    return "```rust\n" + "\n\n".join(comment_too) + "\n```\n"
+
+
+MADE = {part: functools.partial(functions, part) for part in SHOWN} | {"errors": errors, "first-program": first_program, "typed-calls": typed_calls}

@@ -1,5 +1,5 @@
-//! A first program on the library. Two threads share a set, which is then closed; another list opens with the remaining keys.
-//! And a recorded schedule is replayed.
+//! A first program on the library. One thread calls a set of its own. Two threads share a set, which is then closed; another list
+//! opens with the remaining keys. And a recorded schedule is replayed.
 #![tactic(auto)]
 
 ghost use Rattle.std.specs.Prelude.{◌≡◌, [], ◌∷◌, IfOk, map};
@@ -10,9 +10,9 @@ ghost use Rattle.lset_live.specs.Explained.{IsOneLegalOrder};
 ghost use Rattle.lset_words.specs.Records.{fresh};
 ghost use Rattle.lset_work.specs.Programs.{worked};
 
-use anyhow::Result;
+use anyhow::{Context, Result};
 use lset_lazy::LazyList;
-use lset_live::{Running, open_with};
+use lset_live::{Running, open, open_with};
 use lset_lock_free::LockFreeList;
 use lset_replay::replay;
 use lset_report::Report;
@@ -20,13 +20,27 @@ use lset_schedule::read_schedule;
 use lset_words::{Call, Key};
 use lset_work::{Always, Outcome, work};
 use std::alloc::Global;
-use std::io;
 use std::sync::Wait;
 use std::thread::Threads;
 
 /// One thread alone, on a CoarseList: an `add` in its seven steps.
 const SCHEDULE: &str =
     "listset-schedule 1\nlist coarse\nthreads 1\nquota 1\nbegin 0 add 5\ngo 0 7\n";
+
+/// One thread alone, on a LazyList with two slots: what its calls return.
+fn one_thread<R: Wait + Print>(rt: &R, alloc: Global) -> Result<()> {
+    let (set, mut seats) = open::<LazyList>(alloc, 1, 2)?;
+    let mut seat = seats.pop().context("the set has no seat")?;
+    let first = seat.add(rt, &set, Key(5));
+    let second = seat.add(rt, &set, Key(5));
+    println!(rt; "5 is {first:?}, then {second:?}")?;
+    if !seat.remove(rt, &set, Key(7)) {
+        println!(rt; "7 was not there")?;
+    }
+    let smallest = seat.ceiling(rt, &set, Key(0));
+    println!(rt; "the smallest key is {smallest:?}")?;
+    Ok(())
+}
 
 /// What two threads make of a list that opens with these keys, with two slots for each: the replies to each one's calls, and the
 /// keys that are left.
@@ -68,17 +82,20 @@ fn replayed(alloc: Global, text: &str) -> Result<Report>
     Ok(replay(alloc, &schedule)?)
 }
 
-fn main(rt: HostRuntime) -> io::Result<()> {
+fn main(rt: HostRuntime) -> Result<()> {
+    let alloc = rt.alloc();
+    one_thread(&rt, alloc)?;
     // the runtime starts threads only if `main` itself passes it on
-    match two_lives(&rt, rt.alloc()) {
-        Ok((left, again)) => println!(rt;
-            "the replies {:?} leave the keys {:?}\nopened with these, the replies {:?} leave {:?}",
-            left.replies, left.keys, again.replies, again.keys
-        )?,
-        Err(error) => println!(rt; "no outcome: {error}")?,
-    }
-    match replayed(rt.alloc(), SCHEDULE) {
-        Ok(report) => println!(rt; "the schedule's run leaves the keys {:?}", report.keys),
-        Err(error) => println!(rt; "no report: {error}"),
-    }
+    let (left, again) = two_lives(&rt, alloc)?;
+    println!(rt;
+        "the replies {:?} leave the keys {:?}",
+        left.replies, left.keys
+    )?;
+    println!(rt;
+        "opened with these, the replies {:?} leave {:?}",
+        again.replies, again.keys
+    )?;
+    let report = replayed(alloc, SCHEDULE)?;
+    println!(rt; "the schedule's run leaves the keys {:?}", report.keys)?;
+    Ok(())
 }
