@@ -1,7 +1,7 @@
 -- A deed that writes no key and no link of a node leaves what a walk meets.
-use Rattle.std.proofs.Common.{◌≡◌, ◌≢◌, ℕ, zero, suc, ◌/◌, ◌%◌, ◌≤◌, ◌⊎◌, inl, inr, Bool, true, false, List, [], ◌∷◌, sym, refl, subst, ap, ◌∙◌}
-use Rattle.std.proofs.Common.{arith, rules, length, get_or-set_other}
-use Rattle.std.specs.Prelude.{nat_lt, ◌==◌, ◌&&◌, slice_index, slice_set, if◌then◌else◌, Option, Vec}
+use Rattle.std.proofs.Common.{◌≡◌, ℕ, zero, suc, ◌/◌, ◌%◌, ◌≤◌, ◌⊎◌, inl, inr, Bool, true, false, List, sym, refl, subst, ◌∙◌, arith, rules}
+use Rattle.std.proofs.Common.{length, get_or-set_other}
+use Rattle.std.specs.Prelude.{nat_lt, ◌==◌, slice_index, slice_set, if◌then◌else◌, Option, Vec}
 use Rattle.std.specs.declared.alloc.Global.{Global}
 use Rattle.std.proofs.lemmas.Bool.{cases_Bool}
 use Rattle.std.proofs.lemmas.List.{length-set}
@@ -17,7 +17,7 @@ use Rattle.lset_steps.specs.Worlds.{WorldState}
 use Rattle.lset_replay.specs.declared.traced.Deed.TheVariants as deed
 use Rattle.lset_replay.specs.Tracer.{deed_ahead, is_node_word, writes_node}
 use Rattle.lset_replay.specs.Tracing.{TellsDifference}
-use Rattle.broken_lists.specs.Meeting.{is_met, met_at, met_from, met, KeepsMet, NotesMet, TellsMet}
+use Rattle.broken_lists.specs.Meeting.{met_from, met, KeepsMet, NotesMet, TellsMet}
 
 lock_or_small : (w : ℕ) → is_node_word w ≡ false → (w ≤ 2) ⊎ (w % 3 ≡ 2)
 lock_or_small w h = elim (cases_Bool (nat_lt 2 w)) [

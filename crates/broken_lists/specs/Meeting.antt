@@ -1,12 +1,12 @@
 -- The keys that a walk from the head meets, whatever the words of the table are.
 use Rattle.std.specs.Prelude.{◌≡◌, ℕ, zero, suc, ◌-◌, ◌/◌, ◌%◌, ◌&&◌, ◌==◌, nat_lt, Bool, true, false, length, List, [], ◌∷◌, Option, Some, None, if◌then◌else◌}
+use Rattle.std.specs.Prelude.{Vec}
 use Rattle.lset_words.specs.Words.{link_index}
 use Rattle.std.specs.BTreeSet.{insert_key}
 use Rattle.std.specs.Ordering.{nat_cmp}
 use Rattle.lset_steps.specs.declared.world.ChainKey.{ChainKey}
 use Rattle.lset_steps.specs.Chain.{node_key, node_link}
 use Rattle.lset_replay.specs.Tracing.{TellsDifference}
-use Rattle.std.specs.Prelude.{Vec}
 use Rattle.std.specs.declared.alloc.Global.{Global}
 use Rattle.broken_lists.specs.declared.meeting.Met.{Met}
 

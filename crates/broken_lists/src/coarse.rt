@@ -1,6 +1,5 @@
 //! CoarseList without its lock.
 
-ghost use Rattle.std.specs.Prelude.{◌≡◌};
 ghost use Rattle.broken_tables.specs.BrokenCoarse.{goes_without_lock};
 
 use crate::machine::BrokenMachine;

@@ -1,6 +1,5 @@
 //! LazyList without its looks at marks.
 
-ghost use Rattle.std.specs.Prelude.{◌≡◌};
 ghost use Rattle.broken_tables.specs.BrokenLazy.{validates_without_marks, contains_by_key, ceiling_by_key};
 
 use crate::machine::{BrokenMachine, without_mark};

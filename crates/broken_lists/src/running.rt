@@ -1,4 +1,4 @@
-ghost use Rattle.std.specs.Prelude.{◌≡◌, ℕ, ◌<◌, ◌^◌, ◌↔◌, All, IfOk, IsTrue, Some, [], false, length};
+ghost use Rattle.std.specs.Prelude.{◌≡◌, ℕ, ◌<◌, ◌^◌, All, IfOk, Some, [], false, length};
 ghost use Rattle.lset_words.specs.Words.{Opens, sizes};
 ghost use Rattle.lset_history.specs.Changes.{moments_of};
 ghost use Rattle.lset_steps.specs.Steps.{local_of, opening};

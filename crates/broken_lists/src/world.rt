@@ -1,4 +1,4 @@
-ghost use Rattle.std.specs.Prelude.{◌≡◌, ◌≢◌, ◌<◌, ◌≤◌, ◌↔◌, IfOk, IsTrue, MatchOption, length, map};
+ghost use Rattle.std.specs.Prelude.{◌≡◌, ◌<◌, ◌≤◌, ◌↔◌, IfOk, IsTrue, MatchOption, length, map};
 ghost use Rattle.std.specs.List.{range_with_len};
 ghost use Rattle.lset_steps.specs.Steps.{Enabled, idle, opening, opening_of, after, told, local_of, seen_by, seen_next, left_by};
 ghost use Rattle.lset_steps.specs.Laws.{word_named};

@@ -1,6 +1,5 @@
 -- What stands behind the mark of an option that is given.
-use Rattle.std.proofs.Common.{◌≡◌, ◌≢◌, ℕ, ◌<◌, Bool, true, false, List, [], ◌∷◌, Option, Some, None, refl, sym, ap, subst, lit<}
-use Rattle.std.proofs.Common.{eqb, Bor}
+use Rattle.std.proofs.Common.{◌≡◌, ◌≢◌, ℕ, Bool, true, false, List, [], ◌∷◌, Option, Some, None, refl, sym, ap, subst, eqb, Bor}
 use Rattle.std.specs.Prelude.{option_map, MatchOption, if◌then◌else◌}
 use Rattle.std.proofs.lemmas.Bool.{eqb-true}
 use Rattle.ffi_page.specs.Page.{given_in}

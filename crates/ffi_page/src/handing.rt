@@ -1,6 +1,5 @@
 ghost use Rattle.std.specs.Prelude.{◌≡◌, ◌⊎◌, length, Err};
 ghost use Rattle.tool_base.specs.Tools.{Made, view};
-ghost use Rattle.tool_base.specs.Trouble.{trouble_text};
 ghost use Rattle.tool_base.specs.declared.trouble.Trouble.TheVariants.{Memory};
 ghost use Rattle.ffi_page.specs.Page.{Handed, IsHanded};
 

@@ -1,5 +1,5 @@
 //! The same of whatever a seat of C holds, list by list.
-ghost use Rattle.std.specs.Prelude.{◌≡◌, ◌<◌, [], true, false, IsSome, IfOk, IfErr, MatchOption, MatchResult, length};
+ghost use Rattle.std.specs.Prelude.{◌≡◌, ◌<◌, true, false, IsSome, IfOk, IfErr, MatchOption, MatchResult, length};
 ghost use Rattle.ffi_sets.specs.Sets.{AreAtFront, AreGiven, Gathers, HasClosed, IsBoth, IsKept, IsOneSeat, IsOpenedAs, HasNoneToSplit, RefusesToClose};
 ghost use Rattle.ffi_sets.specs.Sets.{gathers, keys_in, seat_in, set_in, spare_in};
 ghost use Rattle.lset_live.specs.Seats.{RefusesOpening};

@@ -1,6 +1,5 @@
 //! A history as large as a report may have it, of a set that opens with as many keys as a list may.
-ghost use Rattle.std.specs.Prelude.{◌≡◌, ◌<◌, length, IfOk};
-ghost use Rattle.std.specs.List.Sorted.{IsStrictlyIncreasing};
+ghost use Rattle.std.specs.Prelude.{◌<◌};
 
 use lset_claims::{Claim, claim_of};
 use lset_history::{History, check_order};

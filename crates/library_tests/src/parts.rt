@@ -1,5 +1,5 @@
 //! A recording in parts: what is kept of the parts, and why one is refused.
-ghost use Rattle.std.specs.Prelude.{ℕ, ◌<◌, length};
+ghost use Rattle.std.specs.Prelude.{◌<◌, length};
 ghost use Rattle.std.specs.List.Sorted.{IsStrictlyIncreasing};
 
 use lset_history::{History, Placed, check_order};

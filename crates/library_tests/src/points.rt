@@ -1,5 +1,4 @@
 //! Calls with a `ceiling`, judged by the points that were given for their changes.
-ghost use Rattle.lset_calls.specs.Calls.{AreCalls, view};
 
 use lset_calls::{Calls, ClashFault, read_calls};
 use lset_history::OrderFault;

@@ -1,5 +1,5 @@
 //! Streams: which fault is named if a call has several, and streams of many pending calls, and of many keys.
-ghost use Rattle.std.specs.Prelude.{◌≡◌, ◌<◌, ◌≤◌, ◌^◌, length, IfOk};
+ghost use Rattle.std.specs.Prelude.{◌<◌, IfOk};
 ghost use Rattle.std.specs.List.Sorted.{IsStrictlyIncreasing};
 
 use lset_judge::{LAST_MOMENT, Stream, StreamCall, StreamFault, StreamVerdict};

@@ -1,6 +1,5 @@
 //! A history that the judge does not decide, as it has a `ceiling` or a `full`, but of which it says that no order explains it: the calls
 //! of a key have none.
-ghost use Rattle.std.specs.List.Sorted.{IsStrictlyIncreasing};
 
 use lset_history::History;
 use lset_judge::{Refusal, Verdict, is_plain, judge, judge_cut_off, judge_without_quota};

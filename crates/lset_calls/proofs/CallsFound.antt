@@ -32,8 +32,7 @@ use Rattle.lset_calls.specs.declared.fault.CallsFault.{CallsFault}
 use Rattle.lset_calls.specs.Calls.{CallsValue, view, AreCalls, IsCall, is_of_history, has_point}
 use Rattle.lset_calls.specs.Texts.{title, header_in, call_line, end_line, calls_text}
 use Rattle.lset_calls.specs.Reading.{causes, kinds, counted, rising, timed, judged, line_after, section_after, with_opening, with_line}
-use Rattle.lset_calls.specs.Reading.{SoFar, with_told, step, is_done, ends, no_lines, nothing_told}
-use Rattle.lset_calls.specs.Reading.{text, calls_told, reading, Gives}
+use Rattle.lset_calls.specs.Reading.{SoFar, with_told, step, is_done, ends, no_lines, nothing_told, text, calls_told, reading, Gives}
 use Rattle.lset_calls.proofs.LineKinds.{line_pieces, line_text, IsNumbered, IsLine, Comes, kinds_known}
 
 -- ---- a line that was judged good

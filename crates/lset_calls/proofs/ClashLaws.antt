@@ -1,6 +1,5 @@
 -- Pairs of moments that stand against each other are calls that clash, and the other way round.
-use Rattle.std.proofs.Common.{◌≡◌, ℕ, ◌+◌, ◌<◌, ◌≤◌, inl, inr, List, length, get_or, refl, sym, subst, ◌∙◌}
-use Rattle.std.proofs.Common.{ap, arith}
+use Rattle.std.proofs.Common.{◌≡◌, ℕ, ◌+◌, ◌<◌, ◌≤◌, inl, inr, List, length, get_or, refl, sym, subst, ◌∙◌, ap, arith}
 use Rattle.std.specs.Prelude.{Option, Some, None, All, Contains, IfSome, IsSomeAnd}
 use Rattle.std.specs.List.{AllByRecursion}
 use Rattle.std.proofs.lemmas.Bool.{cases_order, cases_lt}
@@ -9,8 +8,7 @@ use Rattle.std.proofs.lemmas.List.Elements.{All-get_or, All-from_recursion}
 use Rattle.lset_words.specs.declared.Reply.{Reply}
 use Rattle.lset_calls.specs.declared.clashes.Moment.{Moment}
 use Rattle.lset_calls.specs.declared.value.TimedCall.{TimedCall}
-use Rattle.lset_calls.specs.Clashes.{moments_of, call_at, no_call, ShareMoment, EndedBefore, Overlap}
-use Rattle.lset_calls.specs.Clashes.{Clash, ClashesAt}
+use Rattle.lset_calls.specs.Clashes.{moments_of, call_at, no_call, ShareMoment, EndedBefore, Overlap, Clash, ClashesAt}
 use Rattle.lset_calls.specs.Moments.{AreMomentsOf, moment_at, no_moment, SomePairBelow, NoPairBelow, IsSameMoment, IsBeginning}
 use Rattle.lset_calls.specs.Moments.{Overlaps, Somewhere, Nowhere, IsFirstPair, IsFirstLine}
 use Rattle.lset_calls.proofs.Entries.{IsTimed, IsOfCall, moment_counted, each_of_call, others, has_moment}
@@ -139,10 +137,6 @@ module _ (calls : List TimedCall) (ms : List Moment) (are : AreMomentsOf calls m
 
     begins : (i p : ℕ) → moment_at ms p ≡ entry i (call_at calls i).begun → IsBeginning calls (moment_at ms p)
     begins i p e = subst (λ z. IsBeginning calls z) (sym e) refl
-
-    thread_at : (i p : ℕ) → moment_at ms p ≡ entry i (call_at calls i).begun
-        → (call_at calls (moment_at ms p).line).thread ≡ (call_at calls i).thread
-    thread_at i p e = ap (λ (z : Moment). (call_at calls z.line).thread) e
 
     as_overlap : (i j p q : ℕ) → moment_at ms p ≡ entry i (call_at calls i).begun
         → moment_at ms q ≡ entry j (call_at calls j).begun

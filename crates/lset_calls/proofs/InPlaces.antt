@@ -1,6 +1,5 @@
 -- The places of calls, one turn after another.
-use Rattle.std.proofs.Common.{◌≡◌, ℕ, ◌+◌, ◌<◌, ◌≤◌, ◌⊎◌, inl, inr, List, length, get_or, map, refl, sym, subst, ◌∙◌}
-use Rattle.std.proofs.Common.{ap, arith}
+use Rattle.std.proofs.Common.{◌≡◌, ℕ, ◌+◌, ◌<◌, ◌≤◌, ◌⊎◌, inl, inr, List, length, get_or, map, refl, sym, subst, ◌∙◌, ap, arith}
 use Rattle.std.specs.Prelude.{Option, Some, None, All, AllPairs, Contains, IfSome, slice_set}
 use Rattle.std.specs.List.Sorted.{IsNonDecreasingBy}
 use Rattle.std.proofs.lemmas.List.{length-map, get_or-map, get_or_default, get_or-set_same, get_or-set_other}
@@ -17,8 +16,7 @@ use Rattle.lset_calls.specs.Noting.{ChangeApart}
 use Rattle.lset_calls.specs.Placing.{present_at, same_count, HasBar, adds_before, StandsAmong}
 use Rattle.lset_calls.specs.Reports.{is_there, contents, StandsGiven}
 use Rattle.lset_calls.specs.Turns.{turn_at, no_turn, turn_moment, turn_moment_or_none, TurnsApart, AreTurns}
-use Rattle.lset_calls.proofs.Noted.{HasNoted, none_noted, differ_turned, changes_apart_by_turns, pairs_mapped, same_there}
-use Rattle.lset_calls.proofs.Noted.{present_upto_end}
+use Rattle.lset_calls.proofs.Noted.{HasNoted, none_noted, differ_turned, changes_apart_by_turns, pairs_mapped, same_there, present_upto_end}
 use Rattle.lset_calls.proofs.Permuted.{pairs_permuted}
 use Rattle.lset_calls.proofs.Standings.{AreKeysOf, same_keys}
 use Rattle.lset_calls.proofs.TurnLaws.{made_of, same_calls, each_turn, turn_of_each}

@@ -19,8 +19,7 @@ use Rattle.lset_words.specs.declared.Call.{Call}
 use Rattle.lset_calls.specs.Calls.{CallsValue, AreCalls, IsCall, traced, ends_after, changed_by, may_change, is_true}
 use Rattle.lset_calls.specs.Noting.{DifferFrom, ChangeApart}
 use Rattle.lset_calls.specs.Turns.{turn_by, turn_moment, TurnsApart}
-use Rattle.lset_calls.specs.Clashes.{moments_of, point_moments, end_moments, call_at, no_call, EndedBefore}
-use Rattle.lset_calls.specs.Clashes.{Clash}
+use Rattle.lset_calls.specs.Clashes.{moments_of, point_moments, end_moments, call_at, no_call, EndedBefore, Clash}
 use Rattle.lset_calls.specs.Sorted.{AreInTurn}
 use Rattle.lset_calls.proofs.Entries.{IsTimed, timed}
 use Rattle.lset_calls.proofs.Permuted.{pairs_permuted}

@@ -29,9 +29,9 @@ use Rattle.lset_calls.specs.declared.reading.lines.Line.TheVariants as told
 use Rattle.lset_calls.specs.Calls.{CallsValue, is_of_history, has_point}
 use Rattle.lset_calls.specs.Texts.{title}
 use Rattle.lset_calls.specs.Reading.{fault, causes, kinds, judged, line_after, SoFar, with_told, step, grammar, nothing_told}
+use Rattle.lset_calls.specs.Reading.{is_done, cause_of, in_calls, text, line_number, IsGoodAfterHeader, Gives, state, Takes}
 use Rattle.lset_calls.specs.declared.reading.lines.Section.{Section}
 use Rattle.lset_calls.specs.declared.reading.lines.Section.TheVariants as section
-use Rattle.lset_calls.specs.Reading.{is_done, cause_of, in_calls, text, line_number, IsGoodAfterHeader, Gives, state, Takes}
 
 -- ---- no check fails by want of memory
 

@@ -6,8 +6,7 @@ use Rattle.std.specs.List.{AllByRecursion}
 use Rattle.std.specs.List.Sorted.{IsPermutation, IsNonDecreasingBy}
 use Rattle.std.proofs.lemmas.Bool.{cases_Bool, cases_lt, cond-true, cond-false, le-ltb}
 use Rattle.std.proofs.lemmas.List.{length-map, get_or-map}
-use Rattle.std.proofs.lemmas.List.Elements.{All-from_get_or, recursion_from_All, All-from_recursion, All-weaker}
-use Rattle.std.proofs.lemmas.List.Elements.{All-cons, All-nil}
+use Rattle.std.proofs.lemmas.List.Elements.{All-from_get_or, recursion_from_All, All-from_recursion, All-weaker, All-cons, All-nil}
 use Rattle.std.proofs.lemmas.List.Sorted.{All-permutation, Contains-permutation}
 use Rattle.lset_words.proofs.Numbers.{same_or_not, equal_test, unequal_test, same_number}
 use Rattle.lset_words.specs.declared.Key.{Key}
@@ -22,8 +21,7 @@ use Rattle.lset_calls.specs.declared.value.TimedCall.{TimedCall}
 use Rattle.lset_calls.specs.Calls.{traced}
 use Rattle.lset_calls.specs.Clashes.{no_call}
 use Rattle.lset_calls.specs.Reports.{is_at, changer_at, change_of, there_after, there_by, is_there}
-use Rattle.lset_calls.specs.Noting.{moment_or_none, DifferFrom, ChangeApart, IsLate, AreNotedUpTo, IsNoted, IsNotedBy}
-use Rattle.lset_calls.specs.Noting.{IsChangeNoted}
+use Rattle.lset_calls.specs.Noting.{moment_or_none, DifferFrom, ChangeApart, IsLate, AreNotedUpTo, IsNoted, IsNotedBy, IsChangeNoted}
 use Rattle.lset_calls.specs.Turns.{turn_by, turn_moment, turn_moment_or_none, TurnsApart}
 
 -- ---- one call
@@ -215,10 +213,6 @@ module _ (keys : List ℕ) (ys : List TimedCall) where
   pub record HasNoted (k : ℕ) (changes : ℕ → List ℕ) : Type 0 where
     pub late : (i : ℕ) → k ≤ i → i < length ys → IfSome (changed_in i) (λ at. IsLate changes at)
     pub present : (m j : ℕ) → IsAhead m k → is_present changes j m ≡ is_there keys (map traced ys) m j
-
-  pub all_noted : (k : ℕ) (changes : ℕ → List ℕ) → length ys ≤ k → HasNoted k changes
-      → (m j : ℕ) → is_present changes j m ≡ is_there keys (map traced ys) m j
-  all_noted k changes l h m j = h.present m j (λ i a b. absurd (omega arith))
 
   module _ (rising : IsNonDecreasingBy turn_moment_or_none ys)
       (apart : AllPairs (λ (x y : TimedCall). ChangeApart (traced x) (traced y)) ys)

@@ -10,8 +10,7 @@ use Rattle.lset_text.proofs.KindLaws.{first_many}
 use Rattle.lset_calls.specs.declared.reading.lines.Section.{Section}
 use Rattle.lset_calls.specs.declared.reading.lines.Section.TheVariants as section
 use Rattle.lset_calls.specs.declared.fault.CallsCause.TheVariants as wrong
-use Rattle.lset_calls.specs.Reading.{causes, call_kinds, kinds, takes_calls}
-use Rattle.lset_calls.specs.Reading.{open_kind, open_pointed_kind, ended_kind, ended_pointed_kind}
+use Rattle.lset_calls.specs.Reading.{causes, call_kinds, kinds, takes_calls, open_kind, open_pointed_kind, ended_kind, ended_pointed_kind}
 
 many_pieces : (s : Section) (a b c : List ℕ) (more : List (List ℕ)) → first_of Two causes (kinds s) (a ∷ b ∷ c ∷ more)
     ≡ cond (takes_calls s) (first_of Two causes call_kinds (a ∷ b ∷ c ∷ more)) (Err wrong.Line)

@@ -1,6 +1,5 @@
 -- The moments of calls in the order of time, and what a pass over them finds.
-use Rattle.std.specs.Prelude.{◌≡◌, ℕ, suc, ◌+◌, ◌<◌, ◌≤◌, List, [], ◌∷◌, ◌++◌, map, length, Option, Some, None}
-use Rattle.std.specs.Prelude.{slice_index_or, AllPairs}
+use Rattle.std.specs.Prelude.{◌≡◌, ℕ, suc, ◌+◌, ◌<◌, ◌≤◌, List, [], ◌∷◌, ◌++◌, map, length, Option, Some, None, slice_index_or, AllPairs}
 use Rattle.std.specs.List.Sorted.{IsNonDecreasingBy, IsPermutation}
 use Rattle.lset_calls.specs.declared.clashes.Moment.{Moment}
 use Rattle.lset_calls.specs.declared.value.TimedCall.{TimedCall}

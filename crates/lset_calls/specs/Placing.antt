@@ -1,6 +1,5 @@
 -- Where calls stand by the keys that are there, and by how many keys their threads have put in.
-use Rattle.std.specs.Prelude.{◌≡◌, ℕ, ◌<◌, Bool, true, false, List, length, take, Option, Some, None, count_by, IfSome, map}
-use Rattle.std.specs.Prelude.{if◌then◌else◌}
+use Rattle.std.specs.Prelude.{◌≡◌, ℕ, ◌<◌, Bool, true, false, List, length, take, Option, Some, None, count_by, IfSome, map, if◌then◌else◌}
 use Rattle.lset_words.specs.declared.TheConstants.{MOST_THREADS}
 use Rattle.lset_words.specs.declared.Call.{Call}
 use Rattle.lset_words.specs.declared.Call.TheVariants.{Add, Remove, Contains, Ceiling}

@@ -1,7 +1,6 @@
 ghost use Rattle.std.specs.Prelude.{◌≡◌, position};
-ghost use Rattle.lset_calls.specs.Clashes.{PointsAreGiven};
+ghost use Rattle.lset_calls.specs.Clashes.{PointsAreGiven, puts_in};
 ghost use Rattle.lset_calls.specs.Calls.{view, AreCalls, may_change, has_changed, lacks_point, changed_by};
-ghost use Rattle.lset_calls.specs.Clashes.{puts_in};
 
 use crate::clashes::FIRST_LINE;
 use crate::{CallsCause, CallsFault};

@@ -1,6 +1,5 @@
 ghost use Rattle.std.specs.Prelude.{◌≡◌, ◌++◌, ◌↔◌, [], IfOk, IsTrue, OnOk, codes, false, map, option_map, string_bytes};
-ghost use Rattle.clap.specs.Words.{FailsBy, app_of, fault_of, found_of, kind_of, new_app, new_rule};
-ghost use Rattle.clap.specs.Words.{rows_of, rule_of, subcommand_of};
+ghost use Rattle.clap.specs.Words.{FailsBy, app_of, fault_of, found_of, kind_of, new_app, new_rule, rows_of, rule_of, subcommand_of};
 ghost use Rattle.clap.specs.Walk.{first_of, texts};
 ghost use Rattle.clap.specs.declared.Command.TheViews.{out-Command};
 ghost use Rattle.clap.specs.declared.error.kind.ErrorKind.TheVariants.{OutOfMemory};

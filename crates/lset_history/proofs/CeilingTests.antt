@@ -1,6 +1,5 @@
 -- A test of whether a key, or none, is the least one at or above another at a moment, where all keys are below 2^32.
-use Rattle.std.proofs.Common.{◌≡◌, ℕ, ◌+◌, ◌-◌, ◌<◌, ◌≤◌, ◌⊎◌, inl, inr, true, false, List, sym, refl, subst, ap, ◌∙◌}
-use Rattle.std.proofs.Common.{arith}
+use Rattle.std.proofs.Common.{◌≡◌, ℕ, ◌+◌, ◌-◌, ◌<◌, ◌≤◌, ◌⊎◌, inl, inr, true, false, List, sym, refl, subst, ap, ◌∙◌, arith}
 use Rattle.std.specs.Prelude.{Option, Some, None}
 use Rattle.lset_words.proofs.Numbers.{below_or_not, same_number, equal_test}
 use Rattle.lset_words.specs.Account.{Content, IsCeiling}

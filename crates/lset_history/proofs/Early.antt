@@ -1,6 +1,5 @@
 -- The walk from the last place of an order to the first: the least end so far, and the calls that stand too early.
-use Rattle.std.proofs.Common.{◌≡◌, ℕ, ◌<◌, ◌≤◌, List, length, Option, Some, None, refl, sym, subst, ⊎_elim, inl, inr, ◌⊎◌, suc}
-use Rattle.std.proofs.Common.{arith}
+use Rattle.std.proofs.Common.{◌≡◌, ℕ, ◌<◌, ◌≤◌, List, length, Option, Some, None, refl, sym, subst, ⊎_elim, inl, inr, ◌⊎◌, suc, arith}
 use Rattle.std.proofs.lemmas.Bool.{cases_order, cases_lt}
 use Rattle.std.specs.Option.{IsSomeAnd, MatchOption}
 use Rattle.lset_words.specs.declared.Reply.{Reply}

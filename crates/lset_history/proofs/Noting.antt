@@ -17,8 +17,7 @@ use mathlib.Core.Bool.{cond}
 use Rattle.lset_words.proofs.Numbers.{same_number, same_or_not, unequal_test, if_other}
 use Rattle.lset_words.specs.SequentialSet.{has_key}
 use Rattle.lset_history.specs.Changes.{ChangesValue, changes_in, moments_in, noted_of, opened_moments, moments_of, state_after}
-use Rattle.lset_history.specs.Changes.{is_present_now, with_change}
-use Rattle.lset_history.specs.Changes.{IsLaterThanAll, Rise, IsBounded, IsListed, AreKept}
+use Rattle.lset_history.specs.Changes.{is_present_now, with_change, IsLaterThanAll, Rise, IsBounded, IsListed, AreKept}
 use Rattle.lset_history.proofs.KeySets.{same_test}
 use Rattle.lset_history.proofs.Keys.{has_false}
 use Rattle.lset_history.proofs.ChangeLaws.{noted_now}

@@ -1,6 +1,5 @@
 -- Every call of a run has its place, and only one: the order of placement is there, and is one order.
-use Rattle.std.proofs.Common.{◌≡◌, ℕ, zero, suc, ◌+◌, ◌<◌, ◌≤◌, ◌⊎◌, inl, inr, List, [], ◌∷◌, length, map, sym, refl, subst, ap}
-use Rattle.std.proofs.Common.{◌∙◌, arith}
+use Rattle.std.proofs.Common.{◌≡◌, ℕ, zero, suc, ◌+◌, ◌<◌, ◌≤◌, ◌⊎◌, inl, inr, List, [], ◌∷◌, length, map, sym, refl, subst, ap, ◌∙◌, arith}
 use Rattle.std.specs.Prelude.{Option, Some, None}
 use Rattle.std.specs.List.{AllByRecursion}
 use Rattle.std.proofs.lemmas.List.{ext_get_or}
@@ -8,8 +7,7 @@ use Rattle.lset_words.specs.declared.Reply.{Reply}
 use Rattle.lset_words.specs.declared.history.Placed.{Placed}
 use Rattle.lset_words.specs.Log.{Log, TracedCall, calls_at}
 use Rattle.lset_words.specs.Account.{Contents, Counts, Fits, Account}
-use Rattle.lset_words.specs.Placement.{IsLeastFit, StandsBy, StandsAt, IsPlacement, placed_of, by_moments, standing, traced_at}
-use Rattle.lset_words.specs.Placement.{place_at}
+use Rattle.lset_words.specs.Placement.{IsLeastFit, StandsBy, StandsAt, IsPlacement, placed_of, by_moments, standing, traced_at, place_at}
 use Rattle.lset_history.proofs.Lists.{all_imply}
 use Rattle.lset_history.proofs.Calls.{Run, EndedBy, Traced, Calls}
 use Rattle.lset_history.proofs.CallSteps.{run_of, calls_of}

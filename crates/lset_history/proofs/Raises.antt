@@ -1,6 +1,5 @@
 -- A search for the first moment at which a key, or none, is the least one at or above another: from note to note, and at the end.
-use Rattle.std.proofs.Common.{◌≡◌, ◌≢◌, ℕ, ◌+◌, ◌<◌, ◌≤◌, inl, inr, Bool, true, false, not, List, [], ◌∷◌, sym, refl, subst, ap}
-use Rattle.std.proofs.Common.{◌∙◌, arith}
+use Rattle.std.proofs.Common.{◌≡◌, ◌≢◌, ℕ, ◌+◌, ◌<◌, ◌≤◌, inl, inr, Bool, true, false, not, List, [], ◌∷◌, sym, refl, subst, ap, ◌∙◌, arith}
 use Rattle.std.specs.Prelude.{Option, Some, None, All, IsTrue, IsSome, ◌==◌, nat_lt, if◌then◌else◌}
 use Rattle.std.specs.declared.cmp.Ordering.TheVariants.{Less, Equal, Greater}
 use Rattle.std.specs.declared.ops.Bound.TheVariants.{Excluded, Unbounded}
@@ -13,8 +12,7 @@ use Rattle.std.proofs.lemmas.List.Elements.{All-head, All-tail, All-nil, All-con
 use Rattle.lset_words.proofs.Numbers.{below_or_not, same_or_not, equal_test, unequal_test, if_below, if_not_below}
 use Rattle.lset_words.specs.Account.{IsCeiling}
 use Rattle.lset_history.specs.Changes.{IsFirst, is_present, is_present_now, state_at, IsListed}
-use Rattle.lset_history.specs.Raising.{IsNextNote, is_against, IsCandidateUpTo, IsCandidate, IsBelow, IsSomeThere, CameAfter}
-use Rattle.lset_history.specs.Raising.{IsNextPresent}
+use Rattle.lset_history.specs.Raising.{IsNextNote, is_against, IsCandidateUpTo, IsCandidate, IsBelow, IsSomeThere, CameAfter, IsNextPresent}
 use Rattle.lset_history.proofs.ChangeLaws.{present_past}
 
 abbrev pub CeilingAt : (ℕ → List ℕ) → ℕ → Option ℕ → ℕ → Type 0

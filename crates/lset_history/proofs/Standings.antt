@@ -1,12 +1,10 @@
 -- The calls of a run that stand in the order of placement: each has its number, its trace and its moment.
-use Rattle.std.proofs.Common.{◌≡◌, ℕ, zero, suc, ◌+◌, ◌<◌, ◌≤◌, true, false, inl, inr, List, [], ◌∷◌, length, sym, refl, subst}
-use Rattle.std.proofs.Common.{◌∙◌, arith}
+use Rattle.std.proofs.Common.{◌≡◌, ℕ, zero, suc, ◌+◌, ◌<◌, ◌≤◌, true, false, inl, inr, List, [], ◌∷◌, length, sym, refl, subst, ◌∙◌, arith}
 use Rattle.std.specs.Prelude.{Option, Some, None, IfSome}
 use Rattle.std.specs.List.{AllByRecursion}
 use Rattle.lset_words.specs.declared.Reply.{Reply}
 use Rattle.lset_words.specs.Log.{TracedCall}
-use Rattle.lset_words.specs.Placement.{StandsBy, StandsAt, IsLeastFit, Standing, makes_change, reply_by, standing, traced_at}
-use Rattle.lset_words.specs.Placement.{place_at}
+use Rattle.lset_words.specs.Placement.{StandsBy, StandsAt, IsLeastFit, Standing, makes_change, reply_by, standing, traced_at, place_at}
 use Rattle.lset_history.proofs.Lists.{Pairs, SomeOf, all_imply, all_at}
 use Rattle.lset_history.proofs.Calls.{Run, ChangeAt, ChangedBy, EndedBy, Traced, Later, Calls}
 

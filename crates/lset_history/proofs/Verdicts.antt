@@ -15,8 +15,7 @@ use Rattle.lset_words.specs.History.{call_numbered, Precedes, Linearizes, IsHist
 use Rattle.lset_history.specs.History.{HistoryValue}
 use Rattle.lset_history.specs.Oracle.{OracleValue, set_opened}
 use Rattle.lset_history.specs.declared.fault.OrderFault.{OrderFault}
-use Rattle.lset_history.specs.declared.fault.OrderFault.TheVariants.{Unknown, Twice, Missing, WrongReply, TooEarly, WrongSet}
-use Rattle.lset_history.specs.declared.fault.OrderFault.TheVariants.{Memory}
+use Rattle.lset_history.specs.declared.fault.OrderFault.TheVariants.{Unknown, Twice, Missing, WrongReply, TooEarly, WrongSet, Memory}
 use Rattle.lset_history.specs.Faults.{Explains, IsFault, Passes, RefusesFirst, MissesNone, MissesFirst, IsMissing, IsUnknown}
 use Rattle.lset_history.specs.Faults.{IsTwice, HasWrongReply, IsTooEarly, place_at, set_left_by}
 use Rattle.lset_history.specs.Checks.{HasKnownCalls, stands, MarksCalls, IsLeftOut, HasReplies, after_order}

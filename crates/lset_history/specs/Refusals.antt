@@ -8,8 +8,7 @@ use Rattle.lset_words.specs.History.{call_numbered, Precedes}
 use Rattle.lset_history.specs.declared.fault.OrderFault.{OrderFault}
 use Rattle.lset_history.specs.declared.fault.OrderFault.TheVariants as fault
 use Rattle.lset_history.specs.declared.refusal.Refusal.{Refusal}
-use Rattle.lset_history.specs.declared.refusal.Refusal.TheVariants.{Unknown, Twice, Missing, HistoryReply, SetReply, TooEarly}
-use Rattle.lset_history.specs.declared.refusal.Refusal.TheVariants.{WrongSet}
+use Rattle.lset_history.specs.declared.refusal.Refusal.TheVariants.{Unknown, Twice, Missing, HistoryReply, SetReply, TooEarly, WrongSet}
 use Rattle.lset_history.specs.History.{HistoryValue}
 use Rattle.lset_history.specs.Faults.{Explains, IsFault, place_at, placed_call, set_left_by}
 

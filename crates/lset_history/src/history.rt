@@ -1,6 +1,6 @@
 ghost use Rattle.std.specs.Prelude.{◌≡◌, ◌<◌, ◌^◌, length, IfOk, OnOk, IfErr, OnErr, [], None, All};
 ghost use Rattle.std.specs.List.Sorted.{IsStrictlyIncreasing};
-ghost use Rattle.lset_words.specs.Words.{IsWithin, Opens, Opening, empty};
+ghost use Rattle.lset_words.specs.Words.{IsWithin, Opens, empty};
 ghost use Rattle.lset_words.specs.History.{IsHistory};
 ghost use Rattle.lset_history.specs.History.{MayBegin, CannotBegin, with_begun, MayEnd, CannotEnd, with_ended, last_moment};
 

@@ -2,8 +2,7 @@ ghost use Rattle.std.specs.Prelude.{◌≡◌, ℕ, ◌<◌, IfOk, OnErr, if◌t
 ghost use Rattle.std.specs.List.Sorted.{IsStrictlyIncreasing};
 ghost use Rattle.lset_words.specs.declared.Call.{Call};
 ghost use Rattle.lset_words.specs.declared.Reply.{Reply};
-ghost use Rattle.lset_words.specs.Words.{Opening, empty};
-ghost use Rattle.lset_words.specs.SequentialSet.{opening_set};
+ghost use Rattle.lset_words.specs.Words.{empty};
 ghost use Rattle.lset_history.specs.Oracle.{Answers, PutsIn, set_opened};
 
 use crate::History;

@@ -1,5 +1,4 @@
-ghost use Rattle.lset_history.specs.Laws.{PlacementLinearizes, EveryCallHasAPlace, LogsTellHistories};
-ghost use Rattle.lset_history.specs.Laws.{FitsAreReplies, PlacementIsOneOrder};
+ghost use Rattle.lset_history.specs.Laws.{PlacementLinearizes, EveryCallHasAPlace, LogsTellHistories, FitsAreReplies, PlacementIsOneOrder};
 
 /// Theorem of placement: whatever run keeps the account of a set, its calls in the order of their linearization points
 /// linearize its history from the empty set (Herlihy and Wing), and leave its last content.

@@ -1,8 +1,6 @@
-ghost use Rattle.std.specs.Prelude.{◌≡◌, ◌<◌, ◌^◌, ℕ, length, IfOk, MatchOption, IsSome, IsSomeAnd};
+ghost use Rattle.std.specs.Prelude.{◌≡◌, ◌<◌, ℕ, length, IfOk, MatchOption, IsSome, IsSomeAnd};
 ghost use Rattle.lset_words.specs.declared.Reply.{Reply};
 ghost use Rattle.lset_words.specs.SequentialSet.{opening_set};
-ghost use Rattle.lset_words.specs.History.{call_numbered};
-ghost use Rattle.lset_history.specs.Oracle.{OracleValue};
 ghost use Rattle.lset_history.specs.Faults.{Explains, Passes, RefusesFirst, IsUnknown, IsTwice, HasWrongReply, IsTooEarly, IsMissing, place_at, placed_call, set_left_by};
 ghost use Rattle.lset_history.specs.Checks.{HasKnownCalls};
 ghost use Rattle.lset_history.specs.Refusals.{IsRefusalOf, Tells, IsFirstFrom, IsOtherEnd};

@@ -1,7 +1,7 @@
 -- A call of a stream begins, and what the stream keeps goes on to it.
-use Rattle.std.proofs.Common.{◌≡◌, ◌≢◌, ℕ, zero, suc, ◌+◌, ◌-◌, ◌<◌, ◌≤◌, ◌⊎◌, true, false, List, [], ◌∷◌, ◌++◌, refl, sym, ap, ◌∙◌, arith, subst}
-use Rattle.std.proofs.Common.{inl, inr, length, get_or, length-append}
-use Rattle.std.specs.Prelude.{◌==◌, Option, Some, None, IfSome, IsSomeAnd, MatchOption, All, AllPairs, Contains}
+use Rattle.std.proofs.Common.{◌≡◌, ◌≢◌, ℕ, suc, ◌+◌, ◌-◌, ◌<◌, ◌≤◌, true, List, [], ◌∷◌, ◌++◌, refl, sym, ap, ◌∙◌, arith, subst, inl, inr}
+use Rattle.std.proofs.Common.{length, get_or, length-append}
+use Rattle.std.specs.Prelude.{Option, Some, None, IfSome, IsSomeAnd, All, Contains}
 use Rattle.std.specs.List.{remove}
 use Rattle.std.proofs.lemmas.List.{get_or_default, get_or_append_left, get_or_push}
 use Rattle.std.proofs.lemmas.List.Elements.{recursion_from_All, All-push}
@@ -10,16 +10,15 @@ use Rattle.lset_words.specs.declared.Reply.{Reply}
 use Rattle.lset_words.specs.declared.history.CallRecord.{CallRecord}
 use Rattle.lset_words.specs.SequentialSet.{has_key}
 use Rattle.lset_words.specs.Words.{key_of}
-use Rattle.lset_words.specs.History.{IsHistory, call_numbered, no_call}
+use Rattle.lset_words.specs.History.{call_numbered, no_call}
 use Rattle.lset_words.proofs.Numbers.{below_or_not}
 use Rattle.lset_history.proofs.Histories.{Follows, history_begun}
 use Rattle.lset_judge.specs.declared.stream.Failed.{Failed}
 use Rattle.lset_judge.specs.declared.stream.Pending.{Pending}
 use Rattle.lset_judge.specs.declared.stream.Stream.{Stream}
-use Rattle.lset_judge.specs.Rule.{Event}
 use Rattle.lset_judge.specs.Events.{kind_if, until_if, begin_event, event_at}
-use Rattle.lset_judge.specs.Stream.{state_after, behind_all, state_for, pending_of, no_pending, IsOver, IsBefore, ArePending}
-use Rattle.lset_judge.specs.Stream.{IsJudgedTo, IsMetBy, IsNearest, IsStreamOf, MayCome}
+use Rattle.lset_judge.specs.Stream.{behind_all, pending_of, no_pending, IsOver, IsBefore, ArePending, IsJudgedTo, IsMetBy, IsNearest}
+use Rattle.lset_judge.specs.Stream.{IsStreamOf, MayCome}
 use Rattle.lset_judge.specs.Verdict.{is_plain}
 use Rattle.lset_judge.proofs.After.{same_after}
 use Rattle.lset_judge.proofs.Streamed.{same_some, until_end, if_some, for_some, none_or_some, event_before, event_begun, goes_to}

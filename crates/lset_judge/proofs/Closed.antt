@@ -1,6 +1,6 @@
 -- The verdict on a stream, when all has happened that its calls tell.
-use Rattle.std.proofs.Common.{◌≡◌, ◌≢◌, ℕ, zero, suc, ◌+◌, ◌<◌, ◌≤◌, ◌⊎◌, Bool, true, false, List, [], ◌∷◌, refl, sym, ap, ◌∙◌, arith, subst, inl, inr}
-use Rattle.std.proofs.Common.{length, get_or}
+use Rattle.std.proofs.Common.{◌≡◌, ◌≢◌, ℕ, zero, suc, ◌<◌, ◌≤◌, ◌⊎◌, Bool, true, false, List, [], ◌∷◌, refl, sym, ap, ◌∙◌, arith, subst}
+use Rattle.std.proofs.Common.{inl, inr, length, get_or}
 use Rattle.std.specs.Prelude.{◌==◌, ◌&&◌, ◌||◌, not, Option, Some, None, is_some, IfSome, MatchOption, All}
 use Rattle.std.specs.List.Sorted.{IsStrictlyIncreasing}
 use Rattle.std.proofs.lemmas.Bool.{cases_Bool, true≢false}
@@ -10,17 +10,17 @@ use Rattle.std.proofs.lemmas.List.Sums.{count_by-le-length}
 use Rattle.lset_words.specs.declared.Reply.{Reply}
 use Rattle.lset_words.specs.declared.history.CallRecord.{CallRecord}
 use Rattle.lset_words.specs.SequentialSet.{has_key}
-use Rattle.lset_words.specs.History.{IsHistory, call_numbered, no_call}
-use Rattle.lset_words.proofs.Numbers.{equal_test}
+use Rattle.lset_words.specs.History.{call_numbered, no_call}
 use Rattle.lset_history.specs.History.{HistoryValue, latest_moment, moment_of}
 use Rattle.lset_judge.specs.declared.stream.Failed.{Failed}
 use Rattle.lset_judge.specs.declared.stream.Pending.{Pending}
 use Rattle.lset_judge.specs.declared.stream.Stream.{Stream}
-use Rattle.lset_judge.specs.Rule.{Event, State, leaves, same, options, opened, nearest, turned_by, turned_if, settled, open_changes, found, entered, ruled, fits}
-use Rattle.lset_judge.specs.Events.{event_at, events_on, rule_explains, RulePasses}
+use Rattle.lset_judge.specs.Rule.{State, leaves, same, options, nearest, turned_by, turned_if, settled, open_changes, found, entered, ruled}
+use Rattle.lset_judge.specs.Events.{event_at, rule_explains, RulePasses}
 use Rattle.lset_judge.specs.Marks.{keys_left, FailsBy}
 use Rattle.lset_judge.specs.Leaving.{has_any, may_be_left}
-use Rattle.lset_judge.specs.Stream.{stream_history, state_after, behind_all, state_for, pending_of, verdict_of_key, IsOver, IsStreamOf, IsStreamVerdict}
+use Rattle.lset_judge.specs.Stream.{stream_history, state_after, behind_all, state_for, pending_of, verdict_of_key, IsStreamOf}
+use Rattle.lset_judge.specs.Stream.{IsStreamVerdict}
 use Rattle.lset_judge.specs.Verdict.{IsExplained, IsUnexplained, IsRefusedBy, with_quota, may_add}
 use Rattle.lset_judge.proofs.After.{judged_after, failed_by}
 use Rattle.lset_judge.proofs.Deciding.{explained, unexplained}
@@ -29,7 +29,7 @@ use Rattle.lset_judge.proofs.Leaving.{passes_with, unknown_rise, has_itself}
 use Rattle.lset_judge.proofs.Placed.{same_flips}
 use Rattle.lset_judge.proofs.Refused.{refused_by, refused_left}
 use Rattle.lset_judge.proofs.Ruled.{settled_none}
-use Rattle.lset_judge.proofs.Streamed.{same_some, until_end, if_some, for_some, none_or_some}
+use Rattle.lset_judge.proofs.Streamed.{same_some, until_end, if_some, for_some}
 
 -- ---- how a key may be left
 

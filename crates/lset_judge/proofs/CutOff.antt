@@ -1,6 +1,6 @@
 -- The verdict on a recording that was cut off, by the keys that the rule may leave.
-use Rattle.std.proofs.Common.{◌≡◌, ℕ, List, length}
-use Rattle.std.specs.Prelude.{Option, None, ◌==◌, ◌&&◌}
+use Rattle.std.proofs.Common.{ℕ, List, length}
+use Rattle.std.specs.Prelude.{None, ◌==◌, ◌&&◌}
 use Rattle.std.specs.List.Sorted.{IsStrictlyIncreasing}
 use Rattle.std.proofs.lemmas.List.Sums.{count_by-le-length}
 use Rattle.lset_words.specs.declared.history.CallRecord.{CallRecord}

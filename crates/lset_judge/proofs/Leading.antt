@@ -6,9 +6,8 @@ use Rattle.std.proofs.lemmas.Bool.{cases_Bool, true≢false}
 use Rattle.lset_words.specs.SequentialSet.{has_key}
 use Rattle.lset_words.proofs.Numbers.{same_number, other_number, lower_number, not_lower_number}
 use Rattle.lset_judge.specs.Rule.{Event, begins, ends, looks, leaves, idle, State, same, changes_to, options, not_before, fits, enters}
-use Rattle.lset_judge.specs.Rule.{take_out, turned_by, nearest, turned_if, settled}
+use Rattle.lset_judge.specs.Rule.{take_out, turned_by, nearest, turned_if, settled, open_changes, entered, ruled, opened, rule_succeeds}
 use Rattle.lset_judge.proofs.Timelines.{Follows, Item, meets, turns, events_of, IsRight}
-use Rattle.lset_judge.specs.Rule.{open_changes, entered, ruled, opened, rule_succeeds}
 use Rattle.lset_judge.proofs.Counts.{all_from_zero, at_most_all, taken, taken_length, nearest_stands, still_no_fewer}
 
 abbrev pub once : Bool → ℕ

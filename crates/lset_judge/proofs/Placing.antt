@@ -8,11 +8,10 @@ use Rattle.lset_words.specs.SequentialSet.{has_key}
 use Rattle.lset_words.proofs.Numbers.{same_number, equal_test, below_or_not}
 use Rattle.lset_judge.specs.Rule.{Event, begins, ends, looks, leaves, idle, State, same, options, not_before, fits, enters}
 use Rattle.lset_judge.specs.Rule.{take_out, turned_by}
-use Rattle.lset_judge.proofs.Timelines.{meets, turns}
+use Rattle.lset_judge.proofs.Timelines.{meets, turns, Follows}
 use Rattle.lset_judge.specs.Events.{Kind, changes, sees, nothing, events_on}
 use Rattle.lset_judge.proofs.Counts.{counts_one}
 use Rattle.lset_judge.proofs.Leading.{at}
-use Rattle.lset_judge.proofs.Timelines.{Follows}
 
 -- ---- lists
 

@@ -1,5 +1,6 @@
 -- The keys judged one after another, and the refusals that are found.
-use Rattle.std.proofs.Common.{◌≡◌, ◌≢◌, ℕ, ◌+◌, ◌<◌, ◌≤◌, List, true, false, inl, inr, refl, sym, ap, ◌∙◌, arith, subst, length, get_or, map, [], ◌∷◌, ◌++◌}
+use Rattle.std.proofs.Common.{◌≡◌, ◌≢◌, ℕ, ◌+◌, ◌<◌, ◌≤◌, List, true, false, inl, inr, refl, sym, ap, ◌∙◌, arith, subst, length, get_or}
+use Rattle.std.proofs.Common.{map, ◌++◌}
 use Rattle.std.specs.Prelude.{Option, Some, None, is_none, IfSome, MatchOption, ◌==◌, Bool, is_some, slice_range}
 use Rattle.std.specs.List.Sorted.{IsNonDecreasingBy}
 use Rattle.std.proofs.lemmas.Bool.{cases_Bool, true≢false}

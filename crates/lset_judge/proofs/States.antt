@@ -1,5 +1,6 @@
 -- The states of the keys, when one of them goes on.
-use Rattle.std.proofs.Common.{◌≡◌, ◌≢◌, ℕ, ◌+◌, ◌<◌, ◌≤◌, ◌⊎◌, Bool, true, false, List, [], ◌∷◌, refl, sym, ap, ◌∙◌, arith, subst, inl, inr, length, get_or, take}
+use Rattle.std.proofs.Common.{◌≡◌, ◌≢◌, ℕ, ◌+◌, ◌<◌, Bool, true, false, List, [], ◌∷◌, refl, sym, ap, ◌∙◌, subst, inl, inr, length, get_or}
+use Rattle.std.proofs.Common.{take}
 use Rattle.std.specs.Prelude.{◌==◌, ◌||◌, Option, Some, None, IsSome, is_some}
 use Rattle.std.specs.List.{AllByRecursion}
 use Rattle.std.specs.Map.{lookup}
@@ -11,11 +12,9 @@ use Rattle.lset_words.proofs.Numbers.{equal_test, unequal_test, same_number, oth
 use Rattle.lset_history.proofs.KeySets.{same_test}
 use mathlib.Core.Bool.{cond}
 use Rattle.lset_judge.specs.declared.rule.KeyState.{KeyState}
-use Rattle.lset_judge.specs.declared.stream.Failed.{Failed}
-use Rattle.lset_judge.specs.declared.stream.Stream.{Stream}
 use Rattle.lset_judge.specs.Code.{state_of}
-use Rattle.lset_judge.specs.Rule.{Event, State, opened, found, entered}
-use Rattle.lset_judge.specs.Stream.{state_or, state_for, IsMetBy}
+use Rattle.lset_judge.specs.Rule.{State, opened, found}
+use Rattle.lset_judge.specs.Stream.{state_or, state_for}
 use Rattle.lset_judge.proofs.Scanned.{has_more}
 
 module _ (m n : BTreeMap ℕ KeyState) (key : ℕ) (w : KeyState) (up : UpdatesBy nat_cmp (nat_cmp key) m n (Some w)) where
@@ -29,9 +28,6 @@ module _ (m n : BTreeMap ℕ KeyState) (key : ℕ) (w : KeyState) (up : UpdatesB
 
 pub state_found : (m : BTreeMap ℕ KeyState) (k : ℕ) (s : KeyState) → get nat_cmp m k ≡ Some s → state_for m k ≡ state_of s
 state_found m k s e = ap state_or e
-
-pub state_missing : (m : BTreeMap ℕ KeyState) (k : ℕ) → get nat_cmp m k ≡ None → state_for m k ≡ opened false
-state_missing m k e = ap state_or e
 
 -- one more opening key
 pub opened_more : (m n : BTreeMap ℕ KeyState) (keys : List ℕ) (i : ℕ) (w : KeyState) → i < length keys → state_of w ≡ opened true

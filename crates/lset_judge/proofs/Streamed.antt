@@ -1,31 +1,29 @@
 -- The calls of a stream: what happens up to the next pending end, at it, and at the next begin.
-use Rattle.std.proofs.Common.{◌≡◌, ◌≢◌, ℕ, zero, suc, ◌+◌, ◌-◌, ◌<◌, ◌≤◌, ◌⊎◌, Bool, true, false, List, [], ◌∷◌, ◌++◌, refl, sym, ap, ◌∙◌, arith, subst}
-use Rattle.std.proofs.Common.{inl, inr, length, get_or, length-append}
-use Rattle.std.specs.Prelude.{◌==◌, if◌then◌else◌, Option, Some, None, IfSome, IsSomeAnd, MatchOption, All, AllPairs, Contains}
+use Rattle.std.proofs.Common.{◌≡◌, ◌≢◌, ℕ, suc, ◌+◌, ◌-◌, ◌<◌, ◌≤◌, ◌⊎◌, Bool, false, List, [], ◌∷◌, ◌++◌, refl, sym, ap, ◌∙◌, arith, subst}
+use Rattle.std.proofs.Common.{inl, inr, length, get_or}
+use Rattle.std.specs.Prelude.{◌==◌, if◌then◌else◌, Option, Some, None, IfSome, All, Contains}
 use Rattle.std.specs.List.{AllByRecursion, remove}
 use Rattle.std.specs.BTreeMap.{BTreeMap}
-use Rattle.std.proofs.lemmas.Bool.{cases_Bool, true≢false}
-use Rattle.std.proofs.lemmas.List.{get_or_default, get_or_append_left, get_or_push}
+use Rattle.std.proofs.lemmas.Bool.{cases_Bool}
+use Rattle.std.proofs.lemmas.List.{get_or_default}
 use Rattle.std.proofs.lemmas.List.Edits.{length-remove, get_or-remove_below, get_or-remove_above}
-use Rattle.std.proofs.lemmas.List.Elements.{recursion_from_All, All-push}
-use Rattle.std.proofs.lemmas.List.Quantifiers.{all_pairs_push, all_pairs_remove}
+use Rattle.std.proofs.lemmas.List.Quantifiers.{all_pairs_remove}
 use Rattle.lset_words.specs.declared.Reply.{Reply}
 use Rattle.lset_words.specs.declared.history.CallRecord.{CallRecord}
 use Rattle.lset_words.specs.SequentialSet.{has_key}
 use Rattle.lset_words.specs.Words.{key_of}
 use Rattle.lset_words.specs.History.{IsHistory, call_numbered, no_call}
 use Rattle.lset_words.proofs.Numbers.{below_or_not, same_or_not, equal_test, unequal_test, same_number, other_number}
-use Rattle.lset_history.proofs.Histories.{Follows, calls_of, pairs_of, history_begun}
+use Rattle.lset_history.proofs.Histories.{calls_of, pairs_of}
 use Rattle.lset_judge.specs.declared.rule.KeyState.{KeyState}
 use Rattle.lset_judge.specs.declared.stream.Failed.{Failed}
 use Rattle.lset_judge.specs.declared.stream.Pending.{Pending}
-use Rattle.lset_judge.specs.declared.stream.Stream.{Stream}
 use Rattle.lset_judge.specs.Rule.{Event, State, idle, found, entered}
-use Rattle.lset_judge.specs.Events.{kind_if, until_if, ends_at, begin_event, end_event, event_at}
-use Rattle.lset_judge.specs.Stream.{stepped, state_after, behind_all, state_for, pending_of, no_pending, IsOver, IsBefore, ArePending}
-use Rattle.lset_judge.specs.Stream.{IsJudgedTo, IsMetBy, IsMet, IsNearest, IsStreamOf, MayCome}
-use Rattle.lset_judge.proofs.After.{idle_step, quiet_until, same_after}
-use Rattle.lset_judge.proofs.EventLemmas.{Begins, Ends, Told, of_nothing, of_begin, of_end, told, ends_there}
+use Rattle.lset_judge.specs.Events.{kind_if, until_if, ends_at, begin_event, event_at}
+use Rattle.lset_judge.specs.Stream.{stepped, state_after, behind_all, state_for, pending_of, no_pending, IsBefore, ArePending, IsJudgedTo}
+use Rattle.lset_judge.specs.Stream.{IsMetBy, IsMet, MayCome}
+use Rattle.lset_judge.proofs.After.{idle_step, quiet_until}
+use Rattle.lset_judge.proofs.EventLemmas.{Told, of_nothing, of_begin, of_end, told, ends_there}
 
 -- ---- ends
 

@@ -1,6 +1,6 @@
 -- A STREAM OF CALLS, judged as they come: what is kept of the calls so far, and what the verdict says of them.
-use Rattle.std.specs.Prelude.{◌≡◌, ◌≢◌, ℕ, zero, suc, ◌+◌, ◌<◌, ◌≤◌, ◌^◌, ◌⊎◌, Bool, true, false, List, length, Option, Some, None}
-use Rattle.std.specs.Prelude.{All, AllPairs, Contains, IfSome, ◌-◌, slice_index_or, [], ◌∷◌}
+use Rattle.std.specs.Prelude.{◌≡◌, ◌≢◌, ℕ, zero, suc, ◌<◌, ◌≤◌, ◌^◌, ◌⊎◌, Bool, true, false, List, length, Option, Some, None, All}
+use Rattle.std.specs.Prelude.{AllPairs, Contains, IfSome, ◌-◌, slice_index_or}
 use Rattle.std.specs.List.Sorted.{IsStrictlyIncreasing}
 use Rattle.std.specs.Ordering.{nat_cmp}
 use Rattle.std.specs.BTreeMap.{BTreeMap, get}

@@ -1,7 +1,7 @@
 //! Which histories the judge decides.
 
 ghost use Rattle.std.specs.Prelude.{slice_index, length, ◌≡◌, ◌≤◌, ◌<◌, ◌^◌, ℕ, IsTrue, ◌↔◌, All, IfSome, true};
-ghost use Rattle.lset_judge.specs.Verdict.{is_truth, is_plain, is_true_or_open, may_add, adds_of, IsPlain, IsJudged};
+ghost use Rattle.lset_judge.specs.Verdict.{is_plain, may_add, adds_of, IsPlain, IsJudged};
 
 use lset_history::History;
 use lset_words::{Call, CallRecord, MOST_THREADS, Reply};

@@ -1,10 +1,9 @@
 //! The marks of calls: the moments at which something may happen of a key, sorted by keys.
 
-ghost use Rattle.std.specs.Prelude.{◌≡◌, ◌≢◌, ◌++◌, ◌<◌, ◌≤◌, ◌^◌, ℕ, length, IfOk, OnOk, slice_index_or};
+ghost use Rattle.std.specs.Prelude.{◌≡◌, ◌++◌, ◌<◌, ◌^◌, ℕ, length, IfOk, OnOk};
 ghost use Rattle.lset_words.specs.History.{IsHistory};
 ghost use Rattle.lset_history.specs.History.{latest_moment, last_moment};
-ghost use Rattle.lset_judge.specs.Marks.{marks_of, AreMarks, has_mark};
-ghost use Rattle.lset_judge.specs.Marks.{IsRunEnd};
+ghost use Rattle.lset_judge.specs.Marks.{marks_of, AreMarks, has_mark, IsRunEnd};
 ghost use Rattle.std.specs.List.Sorted.{IsNonDecreasingBy};
 
 use crate::event::{Kind, kind_of};

@@ -1,6 +1,6 @@
 //! How many calls overlap a change of their key: where these are few, that some order explains the calls says little.
 
-ghost use Rattle.std.specs.Prelude.{◌≡◌, ◌<◌, ◌+◌, IfOk, OnOk, length, drop, filter, take, ◌++◌, [], ◌∷◌};
+ghost use Rattle.std.specs.Prelude.{◌≡◌, ◌<◌, ◌+◌, IfOk, length, drop, filter, take};
 ghost use Rattle.std.specs.List.{list_any};
 ghost use Rattle.lset_words.specs.History.{call_numbered};
 ghost use Rattle.lset_judge.specs.Overlap.{is_change, is_open_at, meets, overlapped, IsRising};

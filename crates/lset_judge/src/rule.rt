@@ -1,6 +1,7 @@
 //! The rule: which pending change of a key takes effect, and when it has to.
 
-ghost use Rattle.std.specs.Prelude.{◌≡◌, ◌↔◌, [], IsTrue, ℕ, suc, ◌+◌, ◌<◌, ◌≤◌, ◌==◌, length, true, false, IfOk, Some, None, slice_index, if◌then◌else◌};
+ghost use Rattle.std.specs.Prelude.{◌≡◌, ◌↔◌, [], IsTrue, ℕ, suc, ◌<◌, ◌≤◌, ◌==◌, length, true, false, IfOk, Some, None, slice_index};
+ghost use Rattle.std.specs.Prelude.{if◌then◌else◌};
 ghost use Rattle.lset_judge.specs.Rule.{not_before, options, turned_if, fits, found, entered, opened};
 ghost use Rattle.lset_judge.specs.Leaving.{may_be_left};
 ghost use Rattle.lset_judge.specs.Code.{state_of};

@@ -2,7 +2,7 @@
 //! Harris and Michael).
 #![tactic(auto)]
 
-ghost use Rattle.std.specs.Prelude.{◌≡◌, ◌+◌, ◌≤◌};
+ghost use Rattle.std.specs.Prelude.{◌≡◌, ◌+◌};
 ghost use Rattle.lset_words.specs.declared.Kind.TheVariants.{LockFree};
 ghost use Rattle.lset_words.specs.declared.Reply.TheVariants.{True};
 ghost use Rattle.lset_steps.specs.Rows.{IsSmall};

@@ -4,7 +4,7 @@ use Rattle.atomic_table.specs.Seated.{TableId}
 use Rattle.lset_words.specs.declared.Call.{Call}
 use Rattle.lset_words.specs.declared.Reply.{Reply}
 use Rattle.lset_words.specs.declared.TheConstants.{MOST_NODES, MOST_WORDS}
-use Rattle.lset_words.specs.Words.{word_count, node_count, sizes}
+use Rattle.lset_words.specs.Words.{word_count, node_count, sizes, Opening}
 use Rattle.lset_words.proofs.Bounds.{nodes_within}
 use Rattle.lset_steps.specs.declared.Local.{Local}
 use Rattle.lset_steps.specs.declared.Action.{Action}
@@ -13,7 +13,6 @@ use Rattle.lset_steps.specs.declared.Fed.{Fed}
 use Rattle.lset_steps.specs.Steps.{Table}
 use Rattle.lset_steps.specs.Laws.{Lawful, word_named}
 use Rattle.lset_steps.specs.ReadRows.{continued}
-use Rattle.lset_words.specs.Words.{Opening}
 use Rattle.lset_rule.specs.Seats.{TableSeat, IsOf, IsSeat, MayCall, HasCalled}
 use Rattle.lset_rule.specs.declared.slots.OwnSlots.{OwnSlots}
 use Rattle.lset_rule.specs.OwnSlots.{slots_of, resting}

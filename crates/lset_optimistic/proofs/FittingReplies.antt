@@ -23,8 +23,7 @@ use Rattle.lset_steps.proofs.Turns.{discipline_of, node_locks}
 use Rattle.lset_optimistic.specs.Optimistic.{optimistic, targets, at_node, at_link, at_end, local_after}
 use Rattle.lset_optimistic.specs.Lawful.{optimistic_lawful}
 use Rattle.lset_optimistic.specs.Lawful.Outline.{At, Window, optimistic_follows, decision}
-use Rattle.lset_optimistic.specs.Lawful.Outline.At.{at0, at1, at2, at3, at4, at5, at6, at7, at8, at9, at10, at11, at12, at13}
-use Rattle.lset_optimistic.specs.Lawful.Outline.At.{at14, at15}
+use Rattle.lset_optimistic.specs.Lawful.Outline.At.{at0, at1, at2, at3, at4, at5, at6, at7, at8, at9, at10, at11, at12, at13, at14, at15}
 use Rattle.lset_optimistic.specs.Promises.{held_at, world_at, FitsAtALoad, OptimisticRepliesFit}
 use Rattle.lset_optimistic.proofs.SecondWalks.{known}
 

@@ -1,7 +1,7 @@
 ghost use Rattle.std.specs.Prelude.{◌≡◌, ℕ, ◌+◌, ◌≤◌, ◌<◌, ◌^◌, List, [], ◌∷◌, ◌++◌, map, All, Any, IfOk, OnOk, OnErr, IfErr, IsTrue, IfSome, IfNone, IsSome, MatchBool, MatchOption, ◌↔◌};
 ghost use Rattle.std.specs.List.Sorted.{IsStrictlyIncreasing};
 ghost use Rattle.lset_words.specs.History.{IsHistory};
-ghost use Rattle.lset_parts.specs.Parts.{Part, IsExplained, HasNoFull, call_since};
+ghost use Rattle.lset_parts.specs.Parts.{Part, IsExplained, call_since};
 ghost use Rattle.lset_parts.specs.Judged.{IsPartVerdict};
 ghost use Rattle.lset_parts.specs.Kept.{IsKeptOf, Follows, WholeIsExplained, NextIsNeeded, IsPartFault, EndsEarly, EndsFull, IsUpTo};
 

@@ -17,8 +17,7 @@ use Rattle.lset_history.proofs.Calls.{open_is, call_is, begun_is, changed_is, ne
 use Rattle.lset_history.proofs.OpenCalls.{last_number, number_after, length_began}
 use Rattle.lset_replay.specs.declared.places.OpenCall.{OpenCall}
 use Rattle.lset_replay.specs.declared.places.Linearized.{Linearized}
-use Rattle.lset_replay.specs.Trace.{Trace, open_call_at, place_at, number_of, fit, changed_at, settled, begun_on, changed_on}
-use Rattle.lset_replay.specs.Trace.{ended_on}
+use Rattle.lset_replay.specs.Trace.{Trace, open_call_at, place_at, number_of, fit, changed_at, settled, begun_on, changed_on, ended_on}
 use Rattle.lset_history.specs.Changes.{is_present, IsBounded}
 use Rattle.lset_history.proofs.ChangeLaws.{all_upto_later}
 use Rattle.lset_replay.proofs.KeyChanges.{Tells, changes_by, quiet_keys}

@@ -10,8 +10,7 @@ use Rattle.lset_words.specs.declared.Reply.{Reply}
 use Rattle.lset_words.specs.declared.Reply.TheVariants as reply
 use Rattle.lset_words.specs.declared.history.CallRecord.{CallRecord}
 use Rattle.lset_words.specs.declared.history.Placed.{Placed}
-use Rattle.lset_words.specs.Log.{Log, Entry, Change, TracedCall, calls_at, calls_after, history_at, record_of, is_under_way}
-use Rattle.lset_words.specs.Log.{traced_on}
+use Rattle.lset_words.specs.Log.{Log, Entry, Change, TracedCall, calls_at, calls_after, history_at, record_of, is_under_way, traced_on}
 use Rattle.lset_words.specs.Log.Entry.{began, stepped}
 use Rattle.lset_words.specs.History.{Linearizes, no_call, call_numbered, answered}
 use Rattle.lset_words.specs.SequentialSet.{SetState, IsLegal, after_call, count_of, opening_set, has_key, reply_to}

@@ -1,6 +1,5 @@
 -- How far a trace has come, and what each part of the tracer answers.
-use Rattle.std.specs.Prelude.{◌≡◌, ℕ, ◌%◌, Bool, true, false, not, nat_lt, ◌==◌, ◌&&◌, List, length, Option, Some, None}
-use Rattle.std.specs.Prelude.{Vec}
+use Rattle.std.specs.Prelude.{◌≡◌, ℕ, ◌%◌, Bool, true, false, not, nat_lt, ◌==◌, ◌&&◌, List, length, Option, Some, None, Vec}
 use Rattle.std.specs.declared.alloc.Global.{Global}
 use Rattle.lset_words.specs.declared.Reply.{Reply}
 use Rattle.lset_words.specs.Log.{Entry}

@@ -1,6 +1,5 @@
 -- [Trace]: what is returned of the events of a run, one after another.
-use Rattle.std.specs.Prelude.{◌≡◌, ◌≢◌, ℕ, suc, ◌<◌, Bool, true, false, List, length, Option, Some, None, IsSomeAnd}
-use Rattle.std.specs.Prelude.{slice_index_or, Vec}
+use Rattle.std.specs.Prelude.{◌≡◌, ◌≢◌, ℕ, suc, ◌<◌, Bool, true, false, List, length, Option, Some, None, IsSomeAnd, slice_index_or, Vec}
 use Rattle.std.specs.declared.alloc.Global.{Global}
 use Rattle.lset_words.specs.declared.Reply.{Reply}
 use Rattle.lset_words.specs.Log.{TracedCall, calls_at}

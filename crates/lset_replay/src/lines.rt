@@ -1,5 +1,5 @@
 //! A loop over the events of a schedule's lines.
-ghost use Rattle.std.specs.Prelude.{◌≡◌, ℕ, ◌≤◌, ◌^◌, List, [], IfOk, MatchResult};
+ghost use Rattle.std.specs.Prelude.{ℕ, ◌≤◌, ◌^◌, List, [], IfOk, MatchResult};
 ghost use Rattle.std.specs.List.{sum_by};
 ghost use Rattle.lset_schedule.specs.declared.TheConstants.{MOST_EVENTS};
 ghost use Rattle.lset_schedule.specs.Plan.{event_count};

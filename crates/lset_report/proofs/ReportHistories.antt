@@ -1,7 +1,6 @@
 -- The test of a call line is the law of histories, and what the reader keeps decides it.
-use Rattle.std.proofs.Common.{◌≡◌, ◌≢◌, ℕ, ◌<◌, ◌&&◌, ◌||◌, not, ltb, eqb, Bool, true, false}
-use Rattle.std.proofs.Common.{List, [], ◌∷◌, ◌++◌, length, get_or, Option, Some, None, refl, sym, ap, ◌∙◌, subst, arith}
-use Rattle.std.proofs.Common.{⊎_elim, append_assoc, zero, suc, replicate}
+use Rattle.std.proofs.Common.{◌≡◌, ◌≢◌, ℕ, ◌<◌, ◌&&◌, ◌||◌, not, ltb, eqb, Bool, true, false, List, [], ◌∷◌, ◌++◌, length, get_or, Option}
+use Rattle.std.proofs.Common.{Some, None, refl, sym, ap, ◌∙◌, subst, arith, ⊎_elim, append_assoc, zero, suc, replicate}
 use Rattle.std.proofs.Math.ListN.{set}
 use Rattle.std.proofs.Math.Bool.{or-false}
 use Rattle.std.specs.List.{All, list_any, list_all}
@@ -11,15 +10,13 @@ use Rattle.std.proofs.lemmas.List.{get_or-set_other, get_or-set_same, get_or-rep
 use Rattle.std.proofs.lemmas.List.Elements.{All-cons, All-nil}
 use Rattle.std.proofs.lemmas.List.Folds.{list_any-append, list_all-append, list_any_none}
 use Rattle.std.proofs.lemmas.List.Sums.{AllPass-from_list_all, list_all-from_AllPass}
-use Rattle.std.proofs.lemmas.Bool.{cases_eq, cases_Bool, and_parts, and_from, and_right, or_parts, or_from}
-use Rattle.std.proofs.lemmas.Bool.{or_cases, or_left, or_right, not-true, not_from_false, ltb-true, lt-ltb}
-use Rattle.std.proofs.lemmas.Bool.{eqb-false, eq-eqb, ne_eqb, true≢false}
+use Rattle.std.proofs.lemmas.Bool.{cases_eq, cases_Bool, and_parts, and_from, and_right, or_parts, or_from, or_cases, or_left, or_right}
+use Rattle.std.proofs.lemmas.Bool.{not-true, not_from_false, ltb-true, lt-ltb, eqb-false, eq-eqb, ne_eqb, true≢false}
 use Rattle.lset_words.specs.declared.Reply.{Reply}
 use Rattle.lset_words.specs.declared.history.CallRecord.{CallRecord}
 use Rattle.lset_words.specs.History.{MayFollow, ContinuesHistory, IsHistory}
 use Rattle.lset_report.specs.declared.reading.calls.CallsSoFar.{CallsSoFar}
-use Rattle.lset_report.specs.ReportReading.{ends_at, is_entry, is_taken, begins_later, ended_before, is_idle, ends_later}
-use Rattle.lset_report.specs.ReportReading.{may_follow}
+use Rattle.lset_report.specs.ReportReading.{ends_at, is_entry, is_taken, begins_later, ended_before, is_idle, ends_later, may_follow}
 use Rattle.lset_report.specs.ReportCalls.{threads_of, end_moment, is_open, is_last_end, Tracks}
 
 -- ---- tests of every call

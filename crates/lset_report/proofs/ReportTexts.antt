@@ -47,9 +47,8 @@ use Rattle.lset_report.specs.ReportReading.{IsEnd, IsCall, IsPlace, IsReport, mo
 use Rattle.lset_report.specs.ReportReading.{section_after, with_key_opened, with_line, SoFar, with_told, step, ends, is_done, grammar}
 use Rattle.lset_report.specs.ReportReading.{no_lines, nothing_told, text, version_told, report_of, reading, Gives}
 use Rattle.lset_report.proofs.ReportHistories.{history_more, may_again}
-use Rattle.lset_report.proofs.ReportLines.{pieces_of, line_text, IsLine, Reaches, IsNext, kinds_known, IsTold, later, reached}
-use Rattle.lset_report.proofs.ReportLines.{opening_told, call_told_so, place_told, key_told, end_told_so, call_comes, place_comes}
-use Rattle.lset_report.proofs.ReportLines.{key_comes}
+use Rattle.lset_report.proofs.ReportLines.{pieces_of, line_text, IsLine, Reaches, IsNext, kinds_known, IsTold, later, reached, opening_told}
+use Rattle.lset_report.proofs.ReportLines.{call_told_so, place_told, key_told, end_told_so, call_comes, place_comes, key_comes}
 use Rattle.lset_report.proofs.ReportLoops.{kept_if, IsGood, judged_good, line_read, report_told}
 
 calls_pushed : (n : ℕ) (xs : List CallRecord) (x : CallRecord)

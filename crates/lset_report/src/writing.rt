@@ -1,4 +1,4 @@
-ghost use Rattle.std.specs.Prelude.{◌≡◌, ◌++◌, ◌∷◌, [], map, IfOk, OnOk, Some, string_bytes};
+ghost use Rattle.std.specs.Prelude.{◌≡◌, ◌++◌, map, IfOk, OnOk, Some, string_bytes};
 ghost use Rattle.lset_text.specs.Parts.{ended, text_of};
 ghost use Rattle.lset_report.specs.Report.{view};
 ghost use Rattle.lset_report.specs.Texts.{call_line, call_lines, place_line, key_line, last_line, report_text, HasWordsOfVersion};

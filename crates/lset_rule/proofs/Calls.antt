@@ -15,13 +15,11 @@ use Rattle.lset_steps.specs.Steps.{Table, event_at}
 use Rattle.lset_steps.specs.Laws.{Lawful, Occurs}
 use Rattle.lset_words.specs.Words.{target, tail_word}
 use Rattle.lset_rule.specs.Pasts.{called}
-use Rattle.lset_rule.specs.Runs.{own, under_after}
+use Rattle.lset_rule.specs.Runs.{own, under_after, StartsWith}
 use Rattle.lset_rule.specs.Views.{Stands, IsIdle, IsOpen}
-use Rattle.lset_rule.specs.Calls.{Same, IsMid, Makes, Goes, Starts, gone_view, begun_view, record_after}
-use Rattle.lset_rule.specs.Runs.{StartsWith}
-use Rattle.lset_rule.proofs.Keeps.{IsAt}
+use Rattle.lset_rule.specs.Calls.{IsMid, Makes, Goes, Starts, gone_view, begun_view, record_after}
+use Rattle.lset_rule.proofs.Keeps.{IsAt, begun_at, stands_at}
 use Rattle.lset_rule.proofs.Runs.{starts_more}
-use Rattle.lset_rule.proofs.Keeps.{begun_at, stands_at}
 
 -- what a call knows after each of its steps
 abbrev pub Comes : Table → Call → View → Fed → View → Type 0

@@ -15,11 +15,10 @@ use Rattle.lset_steps.specs.Promises.{IsContains}
 use Rattle.lset_rule.specs.declared.view.Under.{Under}
 use Rattle.lset_rule.specs.declared.view.View.{View}
 use Rattle.lset_rule.specs.Runs.{Here, under_after, under_next, under_at, end_of, log_by}
-use Rattle.lset_rule.proofs.Calls.{Comes}
+use Rattle.lset_rule.proofs.Calls.{Comes, is_mid, mid_open}
 use Rattle.lset_rule.specs.Calls.{Goes}
 use Rattle.lset_rule.proofs.Stepped.{Tied}
 use Rattle.lset_rule.proofs.Keeps.{stands_at, own_tied}
-use Rattle.lset_rule.proofs.Calls.{is_mid, mid_open}
 use Rattle.lset_words.specs.Words.{Opening, sizes}
 
 -- how many steps the call under way has made

@@ -18,11 +18,10 @@ use Rattle.std.proofs.lemmas.Bool.{false≢true}
 use Rattle.lset_steps.specs.Steps.{Table}
 use Rattle.lset_rule.specs.Pasts.{gathered, calls_of}
 use Rattle.lset_steps.specs.Worlds.{thread_of}
-use Rattle.lset_rule.specs.Runs.{Here, here, at_end, IsRunOf}
+use Rattle.lset_rule.specs.Runs.{Here, here, at_end, IsRunOf, StartsWith}
 use Rattle.lset_rule.specs.Rule.{Holds, MatchesLog, IsQuiet, left_view, right_view, longer, aside, joined, nobody, learned}
 use Rattle.lset_rule.specs.Rule.{without_thread, informed}
 use Rattle.lset_rule.specs.Views.{Stands, HasThread, HasAside, AreIdle, InTime}
-use Rattle.lset_rule.specs.Runs.{StartsWith}
 use Rattle.lset_rule.proofs.Runs.{still_quiet, before_more, none_of_another, asides_stay}
 use Rattle.lset_rule.proofs.Stepped.{run_of_first}
 use Rattle.lset_rule.proofs.Keeps.{M, set_there, stands_still, knows}

@@ -1,13 +1,12 @@
 -- Each move keeps the rule.
-use Rattle.std.proofs.Common.{◌≡◌, ◌≢◌, inl, inr, ⊎_elim, ℕ, zero, suc, ◌+◌, ◌<◌, ◌≤◌, false, List, [], ◌∷◌, ◌++◌, length, set}
-use Rattle.std.proofs.Common.{slice_index, slice_set, Option, Some, None, refl, sym, ap, ◌∙◌, subst, arith, append-nil}
-use Rattle.std.proofs.Common.{append_assoc, length-append}
+use Rattle.std.proofs.Common.{◌≡◌, ◌≢◌, inl, inr, ⊎_elim, ℕ, zero, suc, ◌+◌, ◌<◌, ◌≤◌, false, List, [], ◌∷◌, ◌++◌, length, set, slice_index}
+use Rattle.std.proofs.Common.{slice_set, Option, Some, None, refl, sym, ap, ◌∙◌, subst, arith, append-nil, append_assoc, length-append}
 use mathlib.Core.Option.{some, some-injective, some-ne-none}
 use mathlib.Core.Logic.{dite}
 use native.Mathlib.Decide.{ℕ_discrete}
 use lib.ListN.{get_elem?}
 use Rattle.atomic_table.specs.Table as table
-use Rattle.atomic_table.specs.Table.{Me, step, keeps, stepped, Allows}
+use Rattle.atomic_table.specs.Table.{Me, step, keeps, Allows}
 use Rattle.atomic_table.proofs.Lists.{at_set, set_else}
 use Rattle.lset_words.specs.declared.Call.{Call}
 use Rattle.lset_steps.specs.declared.Local.{Local}
@@ -24,15 +23,13 @@ use Rattle.lset_words.specs.Words.{word_count, target, tail_word, Opening, sizes
 use Rattle.lset_rule.specs.Pasts.{root, calls_of, Before, InOrder, Apart, IsIn}
 use Rattle.lset_steps.specs.Worlds.{thread_of, WorldState, IsRun}
 use Rattle.lset_rule.specs.Runs.{Here, here, under_after, log_by, end_of, at_end, IsRunOf, StartsWith}
-use Rattle.lset_rule.proofs.Stepped.{left, found, gone, begins}
+use Rattle.lset_rule.proofs.Stepped.{left, found, gone, begins, left_is, found_is, Tied, end_more, is_run_more, end_other, end_begin}
+use Rattle.lset_rule.proofs.Stepped.{end_go, end_laws, end_tied, in_locals}
 use Rattle.lset_rule.specs.Rule.{Holds, MatchesLog, StandsIn}
 use Rattle.lset_rule.specs.Views.{Stands, HasThread, InTime, IsOpen, IsIdle}
 use Rattle.lset_rule.specs.Calls.{gone_view, begun_view, record_after, Goes, Starts}
-use Rattle.lset_rule.proofs.Stepped.{left_is, found_is, Tied, end_more, is_run_more, end_other, end_begin, end_go, end_laws}
-use Rattle.lset_rule.proofs.Stepped.{end_tied, in_locals}
-use Rattle.lset_rule.proofs.Runs.{still_quiet, quiet_append, starts_more, asides_stay, before_more, after_calls}
-use Rattle.lset_rule.proofs.Runs.{after_calls_other, after_root, after_apart, after_in, after_in_order, after_before, BegunBy}
-use Rattle.lset_rule.proofs.Runs.{begun_by, after_in_time}
+use Rattle.lset_rule.proofs.Runs.{still_quiet, quiet_append, starts_more, asides_stay, before_more, after_calls, after_calls_other}
+use Rattle.lset_rule.proofs.Runs.{after_root, after_apart, after_in, after_in_order, after_before, BegunBy, begun_by, after_in_time}
 
 abbrev pub St : Type 0
 St = table.State (Unit {0}) View

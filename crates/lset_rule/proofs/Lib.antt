@@ -5,6 +5,5 @@ pub mod Calls
 pub mod Joins
 pub mod Counts
 pub mod Opens
-pub mod EndOfAll
 pub mod Ending
 pub mod RowSteps

@@ -9,7 +9,7 @@ use Rattle.lset_steps.specs.Steps.{Table}
 use Rattle.lset_steps.specs.Laws.{Lawful}
 use Rattle.lset_rule.specs.declared.slots.OwnSlots.{OwnSlots}
 use Rattle.lset_rule.specs.OwnSlots.{slots_of}
-use Rattle.lset_rule.specs.Seats.{TableSeat, IsOf, IsSeat, MayCall, HasCalled}
+use Rattle.lset_rule.specs.Seats.{TableSeat, IsSeat, MayCall, HasCalled}
 use Rattle.lset_rule.specs.RowSteps.{MayStep, HasStepped}
 use Rattle.lset_rule.proofs.Calls.{Comes, is_mid, mid_open, reached, comes_next, made}
 

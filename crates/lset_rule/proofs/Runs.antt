@@ -1,7 +1,6 @@
 -- Runs of a machine, and what a record says of each thread.
-use Rattle.std.proofs.Common.{◌≡◌, ◌≢◌, ◌⊎◌, inl, inr, ⊎_elim, ℕ, zero, suc, ◌<◌, ◌≤◌, ◌==◌, Bool, true, false, if◌then◌else◌}
-use Rattle.std.proofs.Common.{cond, List, [], ◌∷◌, ◌++◌, Option, Some, None, refl, sym, ap, ◌∙◌, subst, arith, eq-eqb, ne_eqb}
-use Rattle.std.proofs.Common.{append-nil, append_assoc}
+use Rattle.std.proofs.Common.{◌≡◌, ◌≢◌, ◌⊎◌, inl, inr, ℕ, zero, suc, ◌<◌, ◌≤◌, ◌==◌, Bool, true, false, if◌then◌else◌, cond, List, [], ◌∷◌}
+use Rattle.std.proofs.Common.{◌++◌, Option, Some, None, refl, sym, ap, ◌∙◌, subst, arith, eq-eqb, ne_eqb, append-nil, append_assoc}
 use Rattle.lset_words.specs.declared.Reply.{Reply}
 use Rattle.lset_words.specs.Log.{Log, Entry}
 use Rattle.lset_words.specs.Log.Entry.{began, stepped}
@@ -14,11 +13,10 @@ use Rattle.lset_rule.specs.declared.view.View.{View}
 use Rattle.lset_steps.specs.Steps.{Table}
 use Rattle.lset_rule.specs.Pasts.{root, calls_of, Before, GatheredBefore, InOrder, Apart, IsIn}
 use Rattle.lset_steps.specs.Worlds.{thread_of}
-use Rattle.lset_rule.specs.Runs.{Here, here, at_end, own, under_after, under_next, under_at, ending}
+use Rattle.lset_rule.specs.Runs.{Here, here, at_end, own, under_after, under_next, under_at, ending, StartsWith}
 use Rattle.lset_rule.proofs.Stepped.{end_other}
 use Rattle.lset_rule.specs.Views.{HasThread, HasAside, AreIdle, InTime}
 use Rattle.lset_rule.specs.Rule.{IsQuiet}
-use Rattle.lset_rule.specs.Runs.{StartsWith}
 use Rattle.lset_rule.specs.Calls.{record_after}
 use Rattle.lset_words.specs.Words.{Opening}
 
@@ -114,49 +112,6 @@ none_of_another u (Called' p r c) out =
     ∙ (append-nil (calls_of u r) ∙ none_of_another u r out)
 none_of_another u (Gathered' p r q g) out = λ i. none_of_another u r (λ h. out (inl h)) i
     ++ none_of_another u g (λ h. out (inr h)) i
-
--- a record that was gathered is another thread's
-pub gathered_in : (u : ℕ) (r : Past) → HasGathered u r → IsIn u r
-gathered_in u (Fresh t) h = absurd h
-gathered_in u (Called' p r c) h = gathered_in u r h
-gathered_in u (Gathered' p r q g) h = ⊎_elim (λ x. inl (gathered_in u r x)) (λ x. inr x) h
-
-gathered_other : (u : ℕ) (r : Past) → Apart r → HasGathered u r → u ≢ root r
-gathered_other u (Fresh t) apart h = absurd h
-gathered_other u (Called' p r c) apart h = gathered_other u r apart h
-gathered_other u (Gathered' p r q g) apart h =
-    ⊎_elim (gathered_other u r apart.0) (λ x e. apart.2 u (subst (λ z. IsIn z r) (sym e) (root_in r)) x) h
-
--- the calls of its own thread are its own calls
-pub calls_are_own_calls : (r : Past) → Apart r → calls_of (root r) r ≡ own_calls r
-calls_are_own_calls (Fresh t) apart = refl
-calls_are_own_calls (Called' p r c) apart = ap (λ b. calls_of (root r) r ++ cond b (c ∷ []) []) (eq-eqb (root r) (root r) refl)
-    ∙ ap (λ l. l ++ c ∷ []) (calls_are_own_calls r apart)
-calls_are_own_calls (Gathered' p r q g) apart =
-    ap (λ l. calls_of (root r) r ++ l) (none_of_another (root r) g (λ h. apart.2 (root r) (root_in r) h))
-    ∙ (append-nil (calls_of (root r) r) ∙ calls_are_own_calls r apart.0)
-
--- each gathered record has as its own calls the ended ones of its thread
-abbrev pub GatheredHave : (ℕ → List OwnCall) → Past → Type 0
-GatheredHave ended (Fresh t) = Unit {0}
-GatheredHave ended (Called' p r c) = GatheredHave ended r
-GatheredHave ended (Gathered' p r q g) = GatheredHave ended r × (ended (root g) ≡ own_calls g) × GatheredHave ended g
-
-pub gathered_have : (ended : ℕ → List OwnCall) (r : Past) → Apart r → ((u : ℕ) → HasGathered u r → ended u ≡ calls_of u r) →
-    GatheredHave ended r
-gathered_have ended (Fresh t) apart is = tt
-gathered_have ended (Called' p r c) apart is = gathered_have ended r apart
-    (λ u h. is u h ∙ (ap (λ b. calls_of u r ++ cond b (c ∷ []) []) (ne_eqb u (root r) (gathered_other u r apart h))
-    ∙ append-nil (calls_of u r)))
-gathered_have ended (Gathered' p r q g) apart is = (
-  gathered_have ended r apart.0 (λ u h. is u (inl h)
-      ∙ (ap (λ l. calls_of u r ++ l) (none_of_another u g (λ x. apart.2 u (gathered_in u r h) x)) ∙ append-nil (calls_of u r))),
-  is (root g) (inr (root_in g)) ∙
-      (ap (λ l. l ++ calls_of (root g) g) (none_of_another (root g) r (λ x. apart.2 (root g) x (root_in g)))
-      ∙ calls_are_own_calls g apart.1),
-  gathered_have ended g apart.1 (λ u h. is u (inr (gathered_in u g h))
-      ∙ ap (λ l. l ++ calls_of u g) (none_of_another u r (λ x. apart.2 u x (gathered_in u g h)))),
-)
 
 -- the record after a step
 pub after_calls : (t : ℕ) (r : Past) (a : Option Reply) (u : Option Under) (n : ℕ) → root r ≡ t → calls_of t r

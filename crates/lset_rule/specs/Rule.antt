@@ -42,10 +42,6 @@ StandsIn views j t = (v : View) × (get_elem? views j ≡ some v) × (v.spent �
 -- in one view: in that of its seat, and (by `seat` of MatchesLog) in no other. Seats are not counted: the view of a seat that was
 -- dropped stays. What any view has seen, also one that is spent, is the first events: so a view without a thread still says what a
 -- seat had seen.
---
--- What follows from it, at the end of the whole list L (proofs/EndOfAll): the registers of each thread, its call under way and
--- its ended calls are those of the view that has it; and the ended calls of the thread of a record, of the view's own or of a
--- gathered one, are the own calls of that record, with these numbers.
 pub record Holds (m : Table) (k : Opening) (s : table.State (Unit {0}) View) : Type 0 where
   pub log : List Event
   pub ran : IsRunOf m k log

@@ -11,7 +11,7 @@ use Rattle.lset_steps.specs.declared.Event.{Event}
 use Rattle.lset_steps.specs.Steps.{Table, State, Run, state_at, event_at, local_of, log_of}
 use Rattle.lset_rule.specs.declared.view.OwnCall.{OwnCall}
 use Rattle.lset_rule.specs.declared.view.Under.{Under}
-use Rattle.lset_words.specs.Words.{Opening, sizes}
+use Rattle.lset_words.specs.Words.{Opening}
 
 -- the list begins with these events
 abbrev pub StartsWith : List Event → List Event → Type 0

@@ -17,8 +17,7 @@ use Rattle.lset_steps.specs.Worlds.{WorldState}
 use Rattle.lset_schedule.specs.declared.value.Line.{Line}
 use Rattle.lset_schedule.specs.declared.value.Line.TheVariants as line
 use Rattle.lset_schedule.specs.Plan.{IsLine, IsSchedule, event_count}
-use Rattle.lset_schedule.specs.Generating.{events_of_line, events_of_lines, is_begin, IsGeneratedLine, StartsWithBegin}
-use Rattle.lset_schedule.specs.Generating.{IsGenerated}
+use Rattle.lset_schedule.specs.Generating.{events_of_line, events_of_lines, is_begin, IsGeneratedLine, StartsWithBegin, IsGenerated}
 use Rattle.lset_steps.proofs.MoreEvents.{RunsTo, runs_to_opening, runs_to_more}
 use Rattle.lset_schedule.proofs.RunLaws.{opening_rests}
 use Rattle.lset_schedule.specs.Drawing.{line_of_event, left_after, IsOver}

@@ -1,4 +1,4 @@
-ghost use Rattle.std.specs.Prelude.{◌≡◌, ◌∷◌, [], ◌<◌, ◌≤◌, codes, length, false, IfErr, MatchOption, OnOk};
+ghost use Rattle.std.specs.Prelude.{◌≡◌, ◌∷◌, [], ◌<◌, codes, false, IfErr, MatchOption, OnOk};
 ghost use Rattle.lset_text.specs.Parts.{cut_at};
 ghost use Rattle.lset_text.specs.Forms.{have_form};
 ghost use Rattle.lset_text.specs.Lines.{lines_from, IsGoodLine};

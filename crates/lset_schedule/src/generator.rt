@@ -1,4 +1,4 @@
-ghost use Rattle.std.specs.Prelude.{◌≡◌, ◌≢◌, ℕ, ◌<◌, ◌≤◌, ◌↔◌, IsTrue, IfOk, IfErr, MatchOption, length};
+ghost use Rattle.std.specs.Prelude.{◌≡◌, ℕ, ◌<◌, ◌≤◌, ◌↔◌, IsTrue, IfOk, IfErr, MatchOption, length};
 ghost use Rattle.lset_steps.specs.Steps.{Enabled, after};
 ghost use Rattle.lset_schedule.specs.Drawing.{line_of_event, left_after, event_drawn, before_turns, IsOver, AreDrawn, AreOfSeed};
 ghost use Rattle.lset_schedule.specs.Generating.{IsAccepted, IsGenerated, Refuses};

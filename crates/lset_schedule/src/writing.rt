@@ -1,4 +1,4 @@
-ghost use Rattle.std.specs.Prelude.{◌≡◌, ◌++◌, ◌∷◌, [], map, IfOk, OnOk, Some, string_bytes};
+ghost use Rattle.std.specs.Prelude.{◌≡◌, ◌++◌, map, IfOk, OnOk, Some, string_bytes};
 ghost use Rattle.lset_text.specs.Parts.{ended, text_of};
 ghost use Rattle.lset_schedule.specs.Plan.{HasWordsOfVersion, view, line_text, schedule_text};
 

@@ -1,11 +1,9 @@
 -- How a session goes on from line to line.
-use Rattle.std.proofs.Common.{◌≡◌, ◌≢◌, ℕ, ◌+◌, ◌-◌, ◌<◌, ◌≤◌, Bool, true, false, eqb, List, [], ◌∷◌, ◌++◌, length, Option, Some}
-use Rattle.std.proofs.Common.{None, if◌then◌else◌}
-use Rattle.std.proofs.Common.{refl, sym, ap, ◌∙◌, subst, append_assoc, append-nil, arith, length-append, length-take, take, drop, get_or}
-use Rattle.std.proofs.Common.{take-append-drop}
+use Rattle.std.proofs.Common.{◌≡◌, ◌≢◌, ℕ, ◌+◌, ◌-◌, ◌<◌, ◌≤◌, Bool, true, false, eqb, List, [], ◌∷◌, ◌++◌, length, Option, Some, None}
+use Rattle.std.proofs.Common.{if◌then◌else◌, refl, sym, ap, ◌∙◌, subst, append_assoc, append-nil, arith, length-append, length-take, take}
+use Rattle.std.proofs.Common.{drop, get_or, take-append-drop, add-one}
 use Rattle.std.proofs.lemmas.Bool.{ne_eqb, lt-ltb, le-ltb}
 use Rattle.std.proofs.Math.Seq.{take-suc}
-use Rattle.std.proofs.Common.{add-one}
 use Rattle.std.proofs.lemmas.List.{map-append}
 use Rattle.std.proofs.lemmas.Grind.{flat_map-append}
 use Rattle.std.proofs.lemmas.List.Elements.{All-head, All-tail}
@@ -22,10 +20,8 @@ use Rattle.lset_session.specs.declared.sessions.Why.TheVariants as why
 use Rattle.lset_session.specs.declared.requests.Request.{Request}
 use Rattle.lset_session.specs.declared.requests.Request.TheVariants as request
 use Rattle.lset_session.specs.Devices.{CutShort, Writes}
-use Rattle.lset_session.specs.SessionText.{Turn, line, long, limit, turns_after, turns_at, turns_of, request_of, end_after}
-use Rattle.lset_session.specs.SessionText.{end_of}
-use Rattle.lset_session.specs.SessionText.{Exchange, made, too_long, at_limit, turn_of, answer_of, call_of, turns_in}
-use Rattle.lset_session.specs.SessionText.{answers_in, calls_in}
+use Rattle.lset_session.specs.SessionText.{Turn, line, long, limit, turns_after, turns_at, turns_of, request_of, end_after, end_of}
+use Rattle.lset_session.specs.SessionText.{Exchange, made, too_long, at_limit, turn_of, answer_of, call_of, turns_in, answers_in, calls_in}
 use Rattle.lset_session.specs.Sessions.{Wrote, text_end, IsSession}
 use Rattle.lset_session.specs.Talks.{WroteSoFar, IsLast, Told, Heard, IsTalk, pending_of, counted, ending}
 use Rattle.lset_session.specs.declared.sessions.Talk.{Talk}

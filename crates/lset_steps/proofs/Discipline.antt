@@ -1,8 +1,8 @@
 -- A machine whose every step is one of the changes keeps its laws over every run.
-use Rattle.std.specs.Prelude.{◌≡◌, ◌≢◌, ℕ, ◌+◌, ◌/◌, ◌%◌, ◌<◌, ◌≤◌, ◌⊎◌, ◌-◌, Bool, true, false, Option, Some, None, List, []}
-use Rattle.std.specs.Prelude.{◌∷◌, slice_index, slice_set, slice_index_or, length, refl, if◌then◌else◌, ◌==◌, ◌||◌}
+use Rattle.std.specs.Prelude.{◌≡◌, ◌≢◌, ℕ, ◌+◌, ◌%◌, ◌<◌, ◌≤◌, ◌⊎◌, ◌-◌, Bool, true, false, Option, Some, None, List, slice_index}
+use Rattle.std.specs.Prelude.{slice_set, slice_index_or, length, refl, if◌then◌else◌, ◌==◌, ◌||◌}
 use Rattle.std.proofs.Common.{arith, inl, inr, sym, ◌∙◌, ap, subst, zero, suc, get_or-set_other, get_or-set_same, length-set}
-use Rattle.std.proofs.lemmas.List.FromFn.{get_or-map-range_with_len, length-map-range_with_len}
+use Rattle.std.proofs.lemmas.List.FromFn.{length-map-range_with_len}
 use Rattle.lset_words.proofs.Numbers.{same_or_not, equal_test, unequal_test}
 use Rattle.lset_words.specs.Words.{tail_word, IsWithin, Opens, target, Sizes, Opening, sizes}
 use Rattle.lset_words.specs.declared.Call.{Call}
@@ -12,15 +12,13 @@ use Rattle.lset_steps.specs.declared.Local.{Local}
 use Rattle.lset_steps.specs.declared.Action.{Action}
 use Rattle.lset_steps.specs.declared.Event.{Event}
 use Rattle.lset_steps.specs.declared.Event.TheVariants.{Begin, Go}
-use Rattle.lset_steps.specs.Steps.{log_of, entry_of, Table, State, opening, opening_word, idle, local_of, after, left_by, seen_by}
-use Rattle.lset_steps.specs.Steps.{seen_next, Enabled, Run, state_at}
+use Rattle.lset_steps.specs.Steps.{log_of, entry_of, Table, State, opening, idle, local_of, after, left_by, seen_by, seen_next, Enabled}
+use Rattle.lset_steps.specs.Steps.{Run, state_at}
 use Rattle.lset_words.specs.Log.{is_change, begun_at, has_changed, begun_after, changed_after}
-use Rattle.lset_steps.specs.Chain.{View, view, Published, InChain, IsOrdered, UnmarkedInChain, Changed, UnlinkedStays, node_key}
-use Rattle.lset_steps.specs.Chain.{node_link, contents_of, counts_of}
+use Rattle.lset_steps.specs.Chain.{View, view, IsOrdered, Changed, UnlinkedStays, node_link, contents_of, counts_of}
 use Rattle.lset_steps.proofs.Moves.{Move, KeepsNodes, KeepsMarked, Course}
-use Rattle.lset_words.specs.Account.{FitsSometime}
+use Rattle.lset_words.specs.Account.{FitsSometime, MayChange, count_after}
 use Rattle.lset_steps.specs.Laws.{Lawful, BeginLaws, StateLaws, Registers, StepLaws, StepAt, Answered, used_in, view_of, views}
-use Rattle.lset_words.specs.Account.{MayChange, count_after}
 use Rattle.lset_steps.proofs.Memory.{WordStep, Memory, moved, left_is, named_in, lock_use, mine_counted, others_counted, goes_on}
 use Rattle.lset_steps.proofs.Memory.{memory_after, inside}
 use Rattle.lset_steps.proofs.MoveLaws.{move-changed, marked_stays, later_same, later_more}

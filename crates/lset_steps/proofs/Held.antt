@@ -1,10 +1,8 @@
 -- What the holder of node locks knows of the nodes that it has locked, and what it may do to them: for every list whose links are
 -- written under node locks.
-use Rattle.std.specs.Prelude.{◌≡◌, ◌≢◌, ℕ, ◌+◌, ◌*◌, ◌/◌, ◌%◌, ◌<◌, ◌≤◌, ◌⊎◌, Bool, true, false, Option, Some, None, List, []}
-use Rattle.std.specs.Prelude.{slice_set, refl}
-use Rattle.std.proofs.Common.{arith, inl, inr, sym, ◌∙◌, ap}
-use Rattle.lset_words.specs.Words.{key_index, link_index, lock_index, tail_word, node_count, word_count, slot_node, target}
-use Rattle.lset_words.specs.Words.{key_of, Sizes}
+use Rattle.std.specs.Prelude.{◌≡◌, ◌≢◌, ℕ, ◌+◌, ◌*◌, ◌/◌, ◌%◌, ◌<◌, Bool, true, false, Option, Some, None, List, [], slice_set, refl}
+use Rattle.std.proofs.Common.{arith, inl, inr, ◌∙◌, ap}
+use Rattle.lset_words.specs.Words.{key_index, link_index, lock_index, tail_word, node_count, word_count, slot_node, target, key_of, Sizes}
 use Rattle.lset_words.specs.declared.Call.{Call}
 use Rattle.lset_words.specs.declared.Key.{Key}
 use Rattle.lset_steps.specs.declared.Action.{Action}

@@ -1,10 +1,8 @@
 -- HINDSIGHT (after O'Hearn and others): a node that was in the chain at some moment of a call had there, at one of the call's
 -- moments, the link word that it has now. So what a walk finds at its end was so at a moment of the call.
-use Rattle.std.proofs.Common.{◌≡◌, ◌≢◌, ℕ, zero, suc, ◌+◌, ◌-◌, ◌/◌, ◌%◌, ◌<◌, ◌≤◌, ◌⊎◌, inl, inr, [], sym, refl, ap, subst, ◌∙◌}
-use Rattle.std.proofs.Common.{arith}
+use Rattle.std.proofs.Common.{◌≡◌, ◌≢◌, ℕ, zero, suc, ◌+◌, ◌-◌, ◌/◌, ◌%◌, ◌<◌, ◌≤◌, ◌⊎◌, inl, inr, [], sym, refl, ap, subst, ◌∙◌, arith}
 use Rattle.lset_steps.specs.Chain.{View, InChain, IsOrdered, Seen}
-use Rattle.lset_steps.proofs.Moves.{KeepsNodes}
-use Rattle.lset_steps.proofs.Moves.{Course, InPast, Had, Lacked}
+use Rattle.lset_steps.proofs.Moves.{KeepsNodes, Course, InPast, Had, Lacked}
 use Rattle.lset_steps.proofs.Segments.{gap, one_key}
 use Rattle.lset_steps.proofs.QuietMove.{in_chain_published, chain_on}
 

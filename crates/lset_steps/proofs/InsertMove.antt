@@ -1,6 +1,5 @@
 -- What inserting a node between a node of the chain and its next does to order, chain and content.
-use Rattle.std.proofs.Common.{◌≡◌, ◌≢◌, ℕ, ◌+◌, ◌*◌, ◌/◌, ◌%◌, ◌<◌, ◌≤◌, ◌⊎◌, inl, inr, List, [], ◌∷◌, sym, refl, ap, subst, ◌∙◌}
-use Rattle.std.proofs.Common.{arith}
+use Rattle.std.proofs.Common.{◌≡◌, ◌≢◌, ℕ, ◌+◌, ◌*◌, ◌/◌, ◌%◌, ◌<◌, ◌≤◌, ◌⊎◌, inl, inr, List, [], ◌∷◌, sym, refl, ap, subst, ◌∙◌, arith}
 use Rattle.lset_steps.specs.Chain.{View, Segment, InChain, InContent, IsOrdered}
 use Rattle.lset_steps.proofs.Moves.{Inserts, KeepsNodes}
 use Rattle.lset_steps.proofs.Segments.{sides, gap}

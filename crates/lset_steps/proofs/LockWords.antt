@@ -3,7 +3,7 @@ use Rattle.std.specs.Prelude.{◌≡◌, ◌≢◌, ℕ, ◌+◌, ◌<◌, ◌�
 use Rattle.std.proofs.Common.{arith, inl, inr, sym, ◌∙◌, ap, subst, zero, suc, get_or-set_other, get_or-set_same}
 use Rattle.std.proofs.lemmas.List.FromFn.{get_or-map-range_with_len}
 use Rattle.lset_words.proofs.Numbers.{same_or_not, if_same, if_other}
-use Rattle.lset_words.specs.Words.{word_count, lock_index, Opening, sizes}
+use Rattle.lset_words.specs.Words.{word_count, Opening, sizes}
 use Rattle.lset_steps.specs.declared.Action.{Action}
 use Rattle.lset_steps.specs.declared.Action.TheVariants.{Load, Store, Exchange}
 use Rattle.lset_steps.specs.declared.Event.{Event}

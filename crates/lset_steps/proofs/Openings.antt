@@ -6,8 +6,7 @@ use Rattle.std.proofs.Common.{arith, inl, inr, sym, ◌∙◌, ap, subst, map, r
 use Rattle.std.proofs.lemmas.List.{get_or_default, replicate_more}
 use Rattle.std.proofs.lemmas.List.FromFn.{get_or-map-range_with_len, length-map-range_with_len, map-range_with_len_more}
 use Rattle.std.proofs.lemmas.List.Elements.{Contains-get_or}
-use Rattle.lset_words.proofs.Numbers.{same_or_not, below_or_not, equal_test, unequal_test, if_below}
-use Rattle.lset_words.proofs.Numbers.{if_not_below}
+use Rattle.lset_words.proofs.Numbers.{same_or_not, below_or_not, equal_test, unequal_test, if_below, if_not_below}
 use Rattle.lset_words.specs.Words.{key_index, link_index, lock_index, tail_word, word_count, node_count, opening_node}
 use Rattle.lset_words.specs.Words.{Opening, Opens, sizes}
 use Rattle.lset_steps.specs.declared.Local.{Local}

@@ -22,10 +22,9 @@ use Rattle.lset_steps.proofs.ContentLists.{chain_is}
 use Rattle.lset_steps.proofs.RunContents.{ContentList, content_at}
 use Rattle.lset_steps.proofs.RunAccount.{account_of}
 use Rattle.lset_steps.proofs.LockWords.{lock_word}
-use Rattle.lset_steps.specs.Promises.{FrozenNodes, NoLinkIsMarked, InRange, ThreadInRange, SortedChain, ChainIsSorted, LockWords}
-use Rattle.lset_steps.specs.Promises.{LockUses, UnlinkedNodesStay, SeenInThePast, UnmarkedNodesInChain, ChangeIsNamed}
-use Rattle.lset_steps.specs.Promises.{NamedChange, RepliesFit, IsContains, TrueMeansChange, HasAccount, ContentIsListed}
-use Rattle.lset_steps.specs.Promises.{ListedContent}
+use Rattle.lset_steps.specs.Promises.{FrozenNodes, NoLinkIsMarked, InRange, ThreadInRange, SortedChain, ChainIsSorted, LockWords, LockUses}
+use Rattle.lset_steps.specs.Promises.{UnlinkedNodesStay, SeenInThePast, UnmarkedNodesInChain, ChangeIsNamed, NamedChange, RepliesFit}
+use Rattle.lset_steps.specs.Promises.{IsContains, TrueMeansChange, HasAccount, ContentIsListed, ListedContent}
 
 -- the run goes on with a step of a thread with an open call
 module _ (T : Table) (law : Lawful T) (op : Opening) (last k t : ℕ) (es : ℕ → Event) (r : Run T op es last) (l : k ≤ last)

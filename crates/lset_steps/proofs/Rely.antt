@@ -15,9 +15,8 @@ use Rattle.lset_steps.proofs.UnlinkMove.{unlink_keeps}
 use Rattle.lset_steps.proofs.Memory.{WordStep, Memory, reads, fails, takes, gives, own_key, own_link, puts, sets_mark, cuts}
 use Rattle.lset_steps.proofs.Memory.{drops, own_of, row_once, no_own, goes_on, others_counted, at_put, at_mark, at_unlink}
 use Rattle.lset_steps.proofs.Memory.{at_lock, at_own_key, at_own_link}
-use Rattle.lset_steps.proofs.AfterWrite.{set_other, key_after_link, link_after_link, lock_after_link, list_lock_after_link}
-use Rattle.lset_steps.proofs.AfterWrite.{link_after_key, key_after_key, lock_after_key, list_lock_after_key, key_after_lock}
-use Rattle.lset_steps.proofs.AfterWrite.{link_after_lock}
+use Rattle.lset_steps.proofs.AfterWrite.{set_other, key_after_link, link_after_link, lock_after_link, list_lock_after_link, link_after_key}
+use Rattle.lset_steps.proofs.AfterWrite.{key_after_key, lock_after_key, list_lock_after_key, key_after_lock, link_after_lock}
 
 pub record Rely (v w : View) (q u : ℕ) : Type 0 where
   pub goes : KeepsNodes v w

@@ -10,8 +10,7 @@ use Rattle.lset_steps.proofs.MoveLaws.{marked_stays}
 use Rattle.lset_steps.proofs.QuietMove.{in_chain_published}
 use Rattle.lset_steps.proofs.Memory.{WordStep, Memory, reads, fails, takes, gives, own_key, own_link, puts, sets_mark, cuts}
 use Rattle.lset_steps.proofs.Memory.{drops, own_of, row_once, no_own, moved, goes_on, others_counted}
-use Rattle.lset_steps.proofs.AfterWrite.{key_after_link, link_after_link, link_after_key, key_after_key, key_after_lock}
-use Rattle.lset_steps.proofs.AfterWrite.{link_after_lock}
+use Rattle.lset_steps.proofs.AfterWrite.{key_after_link, link_after_link, link_after_key, key_after_key, key_after_lock, link_after_lock}
 
 pub record Remains (v w : View) (q u : ℕ) : Type 0 where
   pub goes : KeepsNodes v w

@@ -1,6 +1,5 @@
 -- A run of a lawful machine has an account: what the placement of its calls rests on.
-use Rattle.std.specs.Prelude.{◌≡◌, ◌≢◌, ℕ, ◌<◌, ◌≤◌, Bool, true, false, if◌then◌else◌, ◌==◌, Option, Some, None}
-use Rattle.std.specs.Prelude.{length, refl}
+use Rattle.std.specs.Prelude.{◌≡◌, ◌≢◌, ℕ, ◌<◌, ◌≤◌, Bool, true, false, ◌==◌, Option, Some, None, length, refl}
 use Rattle.std.proofs.Common.{arith, inl, inr, sym, ◌∙◌, ap, subst, zero, suc}
 use Rattle.std.proofs.lemmas.List.FromFn.{get_or-map-range_with_len}
 use Rattle.lset_words.proofs.Numbers.{same_or_not, equal_test, unequal_test}
@@ -14,8 +13,7 @@ use Rattle.lset_steps.specs.declared.Local.{Local}
 use Rattle.lset_steps.specs.declared.Event.{Event}
 use Rattle.lset_steps.specs.declared.Event.TheVariants.{Begin, Go}
 use Rattle.lset_steps.specs.Steps.{Table, Run, Enabled, state_at, after, told, local_of, seen_next, idle, entry_of, log_of}
-use Rattle.lset_steps.specs.Chain.{View, view, InContent, Published, contents_of, counts_of}
-use Rattle.lset_steps.proofs.QuietMove.{in_chain_published}
+use Rattle.lset_steps.specs.Chain.{View, view, InContent, contents_of, counts_of}
 use Rattle.lset_steps.specs.Laws.{Lawful, StateLaws, StepAt, views, view_of, used_in, Answered}
 use Rattle.lset_words.specs.Words.{Opening, sizes}
 use Rattle.lset_steps.proofs.Openings.{content_opens}

@@ -1,6 +1,5 @@
 -- What leaving out the next of a node of the chain does to order, chain and content.
-use Rattle.std.proofs.Common.{◌≡◌, ◌≢◌, ℕ, ◌+◌, ◌*◌, ◌/◌, ◌%◌, ◌<◌, ◌≤◌, ◌⊎◌, inl, inr, List, [], ◌∷◌, sym, refl, ap, subst, ◌∙◌}
-use Rattle.std.proofs.Common.{arith}
+use Rattle.std.proofs.Common.{◌≡◌, ◌≢◌, ℕ, ◌+◌, ◌*◌, ◌/◌, ◌%◌, ◌<◌, ◌≤◌, ◌⊎◌, inl, inr, List, [], ◌∷◌, sym, refl, ap, subst, ◌∙◌, arith}
 use Rattle.lset_words.proofs.Numbers.{same_or_not}
 use Rattle.lset_steps.specs.Chain.{View, Segment, InChain, InContent, IsOrdered}
 use Rattle.lset_steps.proofs.Moves.{Unlinks, KeepsNodes}

@@ -1,11 +1,9 @@
 -- What a walk without locks knows from step to step, and the moment of its end (after O'Hearn and others).
-use Rattle.std.proofs.Common.{◌≡◌, ◌≢◌, ℕ, ◌+◌, ◌/◌, ◌%◌, ◌<◌, ◌≤◌, [], sym, refl, ap, subst, ◌∙◌, arith}
+use Rattle.std.proofs.Common.{◌≡◌, ◌≢◌, ℕ, ◌+◌, ◌/◌, ◌%◌, ◌<◌, ◌≤◌, sym, refl, ap, subst, ◌∙◌, arith}
 use Rattle.lset_steps.specs.Chain.{View, IsOrdered, Seen}
-use Rattle.lset_steps.proofs.Moves.{Course, InPast, Had, Lacked}
-use Rattle.lset_steps.proofs.Moves.{At20, At21, At22, At25}
+use Rattle.lset_steps.proofs.Moves.{Course, InPast, Had, Lacked, At20, At21, At22, At25}
 use Rattle.lset_steps.proofs.QuietMove.{in_chain_published}
-use Rattle.lset_steps.proofs.Hindsight.{hindsight, next_in_past, key_stays, in_past_on, seen_on, lacked_between, had_at}
-use Rattle.lset_steps.proofs.Hindsight.{lacked_at}
+use Rattle.lset_steps.proofs.Hindsight.{hindsight, next_in_past, key_stays, in_past_on, seen_on, lacked_between, had_at, lacked_at}
 
 -- other threads' steps, and the own loads
 pub at20_on : (vs : ℕ → View) (first now later k curr : ℕ) → now ≤ later → At20 vs first now k curr → At20 vs first later k curr

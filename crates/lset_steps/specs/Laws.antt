@@ -1,6 +1,5 @@
 -- What holds of every run of a machine: the law that each list carries.
-use Rattle.std.specs.Prelude.{◌≡◌, ◌≢◌, ℕ, suc, ◌+◌, ◌<◌, ◌≤◌, ◌⊎◌, ◌%◌, Bool, false, List, Option, Some, None, slice_index}
-use Rattle.std.specs.Prelude.{length}
+use Rattle.std.specs.Prelude.{◌≡◌, ◌≢◌, ℕ, suc, ◌+◌, ◌<◌, ◌≤◌, ◌⊎◌, ◌%◌, Bool, false, List, Option, Some, None, slice_index, length}
 use Rattle.lset_words.specs.Words.{lock_index, word_count, node_count, tail_word, target, Sizes, Opening, sizes}
 use Rattle.lset_words.specs.declared.Key.{Key}
 use Rattle.lset_words.specs.declared.Call.{Call}
@@ -13,8 +12,7 @@ use Rattle.lset_steps.specs.declared.Action.TheVariants.{Load, Store, Exchange}
 use Rattle.lset_steps.specs.declared.Event.{Event}
 use Rattle.lset_steps.specs.declared.Event.TheVariants.{Go}
 use Rattle.lset_steps.specs.Steps.{Table, State, state_at, Run, local_of, seen_next, log_of, idle}
-use Rattle.lset_steps.specs.Chain.{View, view, IsOrdered, InChain, UnmarkedInChain, Changed, UnlinkedStays, Seen, contents_of}
-use Rattle.lset_steps.specs.Chain.{counts_of}
+use Rattle.lset_steps.specs.Chain.{View, view, IsOrdered, InChain, UnmarkedInChain, Changed, UnlinkedStays, Seen, contents_of, counts_of}
 
 -- the view of a state, and of each moment of a run
 abbrev pub used_in : State → ℕ → ℕ

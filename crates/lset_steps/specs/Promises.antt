@@ -17,8 +17,7 @@ use Rattle.lset_steps.specs.declared.Action.TheVariants.{Load, Store, Exchange}
 use Rattle.lset_steps.specs.declared.Event.{Event}
 use Rattle.lset_steps.specs.declared.Event.TheVariants.{Begin, Go}
 use Rattle.lset_steps.specs.Steps.{Table, State, Run, state_at, local_of, log_of}
-use Rattle.lset_steps.specs.Chain.{View, InContent, IsChain, InChain, UnmarkedInChain, UnlinkedStays, Seen, contents_of}
-use Rattle.lset_steps.specs.Chain.{counts_of}
+use Rattle.lset_steps.specs.Chain.{View, InContent, IsChain, InChain, UnmarkedInChain, UnlinkedStays, Seen, contents_of, counts_of}
 use Rattle.lset_steps.specs.Laws.{Registers, IsLockWord, LockUse, word_named, views}
 use Rattle.lset_steps.specs.Worlds.{IsContent}
 

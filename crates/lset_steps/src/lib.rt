@@ -1,7 +1,7 @@
 //! Step machines over the words of a list, and worlds that run them one atomic step at a time.
 #![tactic(auto)]
 
-ghost use Rattle.std.specs.Prelude.{◌≡◌, ℕ, ◌+◌, ◌*◌, ◌<◌, ◌≤◌};
+ghost use Rattle.std.specs.Prelude.{◌≡◌, ◌+◌, ◌*◌, ◌<◌};
 ghost use Rattle.lset_words.specs.declared.Kind.{Kind};
 ghost use Rattle.lset_steps.specs.Steps.{Table, idle};
 ghost use Rattle.lset_steps.specs.Laws.{Lawful, Occurs, Sees};

@@ -1,10 +1,12 @@
-ghost use Rattle.std.specs.Prelude.{◌≡◌, ◌≢◌, ℕ, ◌+◌, ◌*◌, ◌/◌, ◌%◌, ◌^◌, ◌<◌, ◌≤◌, IfOk, OnErr, MatchOption, MatchResult, IsTrue, ◌↔◌, length, slice_index, map, List, All};
+ghost use Rattle.std.specs.Prelude.{◌≡◌, ◌≢◌, ◌+◌, ◌*◌, ◌/◌, ◌%◌, ◌^◌, ◌<◌, ◌≤◌, IfOk, MatchOption, IsTrue, ◌↔◌, length, slice_index, map};
+ghost use Rattle.std.specs.Prelude.{All};
 ghost use Rattle.std.specs.List.{range_with_len};
 ghost use Rattle.std.specs.List.Sorted.{IsStrictlyIncreasing};
 ghost use Rattle.lset_words.specs.Words.{word_count, node_count, lock_index, opening_node, empty};
 ghost use Rattle.lset_steps.specs.Chain.{node_key, node_link};
-ghost use Rattle.lset_steps.specs.Steps.{Enabled, Table, idle, opening, opening_of, opening_word, opening_next, opening_link, opening_key, after, told, local_of, seen_by, seen_next, left_by};
-ghost use Rattle.lset_steps.specs.Laws.{Occurs, Sees, StateLaws, word_named, view_of};
+ghost use Rattle.lset_steps.specs.Steps.{Enabled, idle, opening, opening_of, opening_word, opening_next, opening_link, opening_key, after};
+ghost use Rattle.lset_steps.specs.Steps.{told, local_of, seen_by, seen_next, left_by};
+ghost use Rattle.lset_steps.specs.Laws.{StateLaws, word_named, view_of};
 ghost use Rattle.lset_steps.specs.Worlds.{WorldState, IsRun, StepResult, IsContent, AreChainKeys, unmarked_keys, IsPickedFromChain};
 
 use crate::{Action, Event, Local, Machine, Told};

@@ -15,9 +15,8 @@ use Rattle.lset_text.specs.declared.words.Version.TheVariants.{Two}
 use Rattle.lset_text.specs.Parts.{cut_at, text_of, all_from, Lacks}
 use Rattle.lset_text.specs.Forms.{told_in}
 use Rattle.lset_text.specs.Results.{◌>>=◌, or_fail}
-use Rattle.lset_text.specs.Headers.{kind_line, number_line, header_lines, IsHeader, fault, title_in, kind_form, kind_in}
-use Rattle.lset_text.specs.Headers.{number_form, number_after, line_due, told_by_line, title_told, kind_told}
-use Rattle.lset_text.specs.Headers.{threads_told, quota_told, header_of}
+use Rattle.lset_text.specs.Headers.{kind_line, number_line, header_lines, IsHeader, fault, title_in, kind_form, kind_in, number_form}
+use Rattle.lset_text.specs.Headers.{number_after, line_due, told_by_line, title_told, kind_told, threads_told, quota_told, header_of}
 use Rattle.lset_text.proofs.PartLaws.{some_part, cut_text, text_from_cut}
 use Rattle.lset_text.proofs.ReadingLaws.{bind_ok, or_fail_ok, test_some, ok_is}
 use Rattle.lset_text.proofs.WordLaws.{same_bytes}

@@ -10,8 +10,7 @@ use Rattle.std.proofs.lemmas.Bool.{or_right, or_left, or_cases, eq-eqb, eqb-true
 use Rattle.std.proofs.lemmas.Bool.{false_from_ne_true, not_from_false, not-true, cases_eq}
 use Rattle.std.proofs.lemmas.List.Elements.{All-from_get_or}
 use Rattle.std.proofs.lemmas.Int.Digits.{digits_value_more, digits_more}
-use Rattle.std.proofs.lemmas.Str.Parse.{IsNumeralModel, numerals_by_value, tells_all_ascii_digits, digits_value-take-le}
-use Rattle.std.proofs.lemmas.Str.Parse.{digit_at}
+use Rattle.std.proofs.lemmas.Str.Parse.{IsNumeralModel, numerals_by_value, tells_all_ascii_digits, digits_value-take-le, digit_at}
 use Rattle.std.proofs.lemmas.Fmt.{decimal-digits_value, digits_decimal, digits_value-decimal, decimal_nonempty}
 use Rattle.std.proofs.lemmas.Fmt.{first_decimal, decimal_digit}
 use Rattle.lset_text.specs.Parts.{Lacks}

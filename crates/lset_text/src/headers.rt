@@ -1,4 +1,4 @@
-ghost use Rattle.std.specs.Prelude.{◌≡◌, ◌<◌, ◌++◌, [], ◌∷◌, length, string_bytes, IfOk, OnOk, Ok, Err, MatchResult};
+ghost use Rattle.std.specs.Prelude.{◌≡◌, ◌<◌, ◌++◌, length, string_bytes, IfOk, OnOk, Ok, Err, MatchResult};
 ghost use Rattle.lset_text.specs.Parts.{cut_at, text_of};
 ghost use Rattle.lset_text.specs.Headers.{
   kind_in,

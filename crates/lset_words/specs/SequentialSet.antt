@@ -1,6 +1,5 @@
 -- The sequential set: Herlihy and Shavit's interface, and this project's quota of successful adds for each thread.
-use Rattle.std.specs.Prelude.{◌≡◌, ℕ, ◌+◌, ◌==◌, ◌||◌, nat_lt, Bool, false, if◌then◌else◌, List, [], ◌∷◌, replicate, slice_index}
-use Rattle.std.specs.Prelude.{slice_set}
+use Rattle.std.specs.Prelude.{◌≡◌, ℕ, ◌+◌, ◌==◌, ◌||◌, nat_lt, Bool, false, if◌then◌else◌, List, [], ◌∷◌, replicate, slice_index, slice_set}
 use Rattle.lset_words.specs.declared.Call.{Call}
 use Rattle.lset_words.specs.Words.{Opening}
 use Rattle.lset_words.specs.declared.Call.TheVariants.{Add, Remove, Contains, Ceiling}

@@ -1,11 +1,11 @@
 -- A number that was claimed, and that no call takes out, is found.
-use Rattle.std.proofs.Common.{◌≡◌, ◌≢◌, ⊎_elim, inl, inr, ℕ, zero, suc, ◌+◌, ◌<◌, ◌==◌, Bool, true, false, cond, List, [], ◌∷◌, ◌++◌}
-use Rattle.std.proofs.Common.{map, All, IfSome, Option, Some, None, refl, sym, ap, ◌∙◌, subst, arith, if◌then◌else◌}
+use Rattle.std.proofs.Common.{◌≡◌, ◌≢◌, ⊎_elim, inl, inr, ℕ, zero, ◌+◌, ◌<◌, ◌==◌, Bool, true, false, cond, List, [], ◌∷◌, ◌++◌, map, All}
+use Rattle.std.proofs.Common.{IfSome, Option, Some, None, refl, sym, ap, ◌∙◌, subst, arith, if◌then◌else◌}
 use Rattle.std.specs.Prelude.{nat_lt}
 use Rattle.std.proofs.lemmas.Bool.{cases_Bool}
 use Rattle.std.proofs.lemmas.List.Elements.{recursion_from_All, All-head, All-tail}
 use Rattle.std.specs.List.{AllByRecursion}
-use Rattle.lset_words.proofs.Numbers.{same_or_not, equal_test, unequal_test, same_number}
+use Rattle.lset_words.proofs.Numbers.{same_or_not, equal_test, unequal_test}
 use Rattle.lset_words.specs.declared.Call.{Call}
 use Rattle.lset_words.specs.declared.Call.TheVariants.{Add, Remove, Contains, Ceiling}
 use Rattle.lset_words.specs.declared.Reply.{Reply}
@@ -14,8 +14,8 @@ use Rattle.lset_words.specs.SequentialSet.{SetState, Answered, IsLegal, opening_
 use Rattle.lset_words.specs.Records.{CallMade, Record, HasOwnCalls, Keeps, called, fresh, calls_by, own_calls, placed_by, thread_of}
 use Rattle.lset_steps.specs.declared.Event.{Event}
 use Rattle.lset_steps.specs.Steps.{Table}
-use Rattle.lset_rule.specs.Runs.{StartsWith, history_of}
-use Rattle.lset_live.specs.Explained.{IsOneOrderInTime, StandsBefore}
+use Rattle.lset_rule.specs.Runs.{StartsWith}
+use Rattle.lset_live.specs.Explained.{IsOneOrderInTime}
 use Rattle.lset_live.specs.Seats.{SetValue}
 use Rattle.lset_live.proofs.Receipts.{keep_order}
 use Rattle.own_threads.specs.declared.Claim.{Claim}

@@ -1,6 +1,5 @@
 -- What clerks claim, and what they find.
 use Rattle.std.specs.Prelude.{◌≡◌, ◌≢◌, ℕ, List, [], map, Option, Some, None, IfSome}
-use Rattle.atomic_table.specs.Seated.{TableId}
 use Rattle.lset_words.specs.declared.Call.TheVariants.{Add, Contains}
 use Rattle.lset_words.specs.declared.Reply.{Reply}
 use Rattle.lset_words.specs.declared.Reply.TheVariants.{Full}

@@ -6,7 +6,6 @@
 mod note;
 
 ghost use Rattle.std.specs.Prelude.{◌≡◌, ◌≢◌, [], ◌∷◌, IfOk, IfSome};
-ghost use Rattle.lset_words.specs.Records.{fresh};
 ghost use Rattle.lset_words.specs.Words.{empty};
 ghost use Rattle.lset_words.specs.declared.Reply.TheVariants.{Full, True};
 ghost use Rattle.lset_live.specs.Explained.{IsOneLegalOrder};

@@ -1,6 +1,5 @@
 -- What is known at each place of the lazy list.
-use Rattle.std.specs.Prelude.{◌≡◌, ◌≢◌, ℕ, suc, ◌+◌, ◌*◌, ◌/◌, ◌%◌, ◌<◌, ◌≤◌, Bool, true, false, Option, Some, None, List}
-use Rattle.std.specs.Prelude.{slice_set, refl}
+use Rattle.std.specs.Prelude.{◌≡◌, ◌≢◌, ℕ, suc, ◌+◌, ◌*◌, ◌/◌, ◌%◌, ◌<◌, ◌≤◌, Bool, true, false, Option, Some, None, List, slice_set, refl}
 use Rattle.std.proofs.Common.{arith, inl, inr, sym, ◌∙◌, ap}
 use Rattle.lset_words.proofs.Numbers.{same_or_not, below_or_not, if_below, if_not_below, if_same, if_other}
 use Rattle.lset_words.specs.Words.{key_index, link_index, lock_index, tail_word, node_count, slot_node, target, key_of, Sizes}
@@ -16,16 +15,14 @@ use Rattle.lset_steps.proofs.Memory.{key_wrote, lock_wrote}
 use Rattle.lset_steps.proofs.AfterWrite.{lock_after_link, link_after_link, key_after_link, lock_after_lock}
 use Rattle.lset_steps.proofs.Rely.{Rely}
 use Rattle.lset_steps.proofs.Discipline.{Here, Thread}
-use Rattle.lset_steps.proofs.Replies.{Adding, Removing, removing_kept, registers_begun, keep_more, keep, keep_ckey, keep_succ}
-use Rattle.lset_steps.proofs.Replies.{keep_walk}
+use Rattle.lset_steps.proofs.Replies.{Adding, Removing, removing_kept, registers_begun, keep_more, keep, keep_ckey, keep_succ, keep_walk}
 use Rattle.lset_steps.specs.Rows.{decided_on, goes_to, own_slot}
 use Rattle.lset_steps.specs.ReadRows.{first_row, read_action, read_fed, continued}
 use Rattle.lset_steps.proofs.ReadTables.{HasReadRows, in_each_read_row}
 use Rattle.lset_steps.proofs.ReadOutline.{Reading, begun_reading_is, reading_on, call_begins, reads_on, even_or_odd}
-use Rattle.lset_steps.proofs.Held.{Between, Leaves, LockedStep, in_chain, leaves_of, between_on, adding_on, removing_on}
-use Rattle.lset_steps.proofs.Held.{own_key_on, own_link_on, reads_word, frees, writes_own_key, writes_own_link, puts_between}
-use Rattle.lset_steps.proofs.Held.{marks_between, cuts_between, curr_is_not_pred, found_no_tail, leaves_own_key}
-use Rattle.lset_steps.proofs.Held.{leaves_own_link}
+use Rattle.lset_steps.proofs.Held.{Between, Leaves, LockedStep, in_chain, leaves_of, between_on, adding_on, removing_on, own_key_on}
+use Rattle.lset_steps.proofs.Held.{own_link_on, reads_word, frees, writes_own_key, writes_own_link, puts_between, marks_between}
+use Rattle.lset_steps.proofs.Held.{cuts_between, curr_is_not_pred, found_no_tail, leaves_own_key, leaves_own_link}
 use Rattle.lset_steps.proofs.UnlockedWalk.{Spot, Found, spot_kept, found_kept, found_apart, spot_behind, spot_behind_head}
 use Rattle.lset_steps.proofs.UnlockedWalk.{next_inside, small_key, keeps_locked}
 use Rattle.lset_steps.proofs.ReadWalk.{ShowsReading, low_row}

@@ -18,9 +18,8 @@ use Rattle.lset_steps.proofs.Moves.{KeepsNodes}
 use Rattle.lset_steps.proofs.Hindsight.{key_stays, unmarked_before}
 use Rattle.lset_steps.proofs.QuietMove.{in_chain_published, chain_on}
 use Rattle.lset_steps.specs.Laws.{Registers, Due}
-use Rattle.lset_steps.proofs.Memory.{WordStep, Memory, Writes, reads, fails, own_key, own_link, puts, sets_mark, cuts, own_of}
-use Rattle.lset_steps.proofs.Memory.{one_more, one_more_same, next_published as next_of, inner, own_in, goes_on, memory_after}
-use Rattle.lset_steps.proofs.Memory.{link_wrote, key_wrote}
+use Rattle.lset_steps.proofs.Memory.{WordStep, Memory, Writes, reads, fails, own_key, own_link, puts, sets_mark, cuts, own_of, one_more}
+use Rattle.lset_steps.proofs.Memory.{one_more_same, next_published as next_of, inner, own_in, goes_on, memory_after, link_wrote, key_wrote}
 use Rattle.lset_steps.proofs.AfterWrite.{not_link, key_after_link}
 use Rattle.lset_steps.proofs.Remains.{Remains}
 use Rattle.lset_steps.proofs.Discipline.{Here, Thread}

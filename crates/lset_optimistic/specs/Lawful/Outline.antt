@@ -11,13 +11,11 @@ use Rattle.lset_steps.specs.declared.Action.TheVariants.{Load, Store}
 use Rattle.lset_steps.specs.Chain.{View, view, InChain, FitsIn, node_key, node_link, node_lock}
 use Rattle.lset_steps.proofs.Moves.{KeepsNodes}
 use Rattle.lset_steps.specs.Laws.{Registers}
-use Rattle.lset_steps.proofs.Memory.{Memory, own_of, one_more, one_more_same, link_wrote, key_wrote, lock_wrote, own_in, inner}
-use Rattle.lset_steps.proofs.Memory.{inside}
+use Rattle.lset_steps.proofs.Memory.{Memory, own_of, one_more, one_more_same, link_wrote, key_wrote, lock_wrote, own_in, inner, inside}
 use Rattle.lset_steps.proofs.AfterWrite.{lock_after_link, lock_after_lock, key_after_link}
 use Rattle.lset_steps.proofs.Rely.{Rely}
 use Rattle.lset_steps.proofs.Discipline.{Here, Thread}
-use Rattle.lset_steps.proofs.Replies.{Adding, Removing, registers_begun, keep_more, keep, keep_ckey, keep_succ, keep_passed}
-use Rattle.lset_steps.proofs.Replies.{keep_node}
+use Rattle.lset_steps.proofs.Replies.{Adding, Removing, registers_begun, keep_more, keep, keep_ckey, keep_succ, keep_passed, keep_node}
 use Rattle.lset_steps.specs.Rows.{decided_on, goes_to, own_slot}
 use Rattle.lset_steps.proofs.Held.{Held, Behind, Between, Leaves, LockedStep, head_held, rely_same, leaves_of, held_on}
 use Rattle.lset_steps.proofs.Held.{between_on, adding_on, removing_on, own_key_on, own_link_on, reads_word, frees, writes_own_key}

@@ -1,4 +1,4 @@
-use Rattle.std.proofs.Common.{◌≡◌, ◌∙◌, ◌<◌, IfSome, length, ap, sym, subst, arith}
+use Rattle.std.proofs.Common.{◌≡◌, ◌∙◌, IfSome, length, ap, sym, subst, arith}
 use Rattle.std.proofs.lemmas.List.FromFn.{length-map-range_with_len}
 use Rattle.lset_live.specs.Seats.{new_seat}
 use Rattle.ffi_sets.specs.Facts.{AreOf}

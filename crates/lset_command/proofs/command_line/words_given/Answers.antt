@@ -4,8 +4,7 @@ use Rattle.clap.specs.Words.{found_of, rows_of, subcommand_of}
 use Rattle.clap.specs.Kinds.{HasKind}
 use Rattle.clap.specs.Walk.{texts}
 use Rattle.lset_command.specs.CommandLine.{listset}
-use Rattle.lset_command.proofs.Chosen.{fails_as, no_command, one_command, program_faults, program_matches, chosen_command}
-use Rattle.lset_command.proofs.Chosen.{chosen_replay}
+use Rattle.lset_command.proofs.Chosen.{fails_as, no_command, one_command, program_faults, program_matches, chosen_command, chosen_replay}
 use Rattle.lset_command.proofs.command_line.words_given.Goals as goal
 
 pub returns-in_err-matches-clause-refused : goal.returns-in_err-matches-clause-refused

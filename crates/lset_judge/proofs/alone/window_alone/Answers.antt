@@ -1,4 +1,4 @@
-use Rattle.std.proofs.Common.{ap, ◌∙◌, sym, subst}
+use Rattle.std.proofs.Common.{ap, ◌∙◌}
 use Rattle.lset_judge.specs.Window.{calls_numbered}
 use Rattle.lset_judge.proofs.AloneLemmas.{within_alone, rising_alone, history_alone}
 use Rattle.lset_judge.proofs.alone.window_alone.Goals as goal

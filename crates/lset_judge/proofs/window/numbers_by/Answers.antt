@@ -1,4 +1,4 @@
-use Rattle.std.proofs.Common.{rules, arith, ◌≡◌, ℕ, List, [], ◌∷◌, ◌+◌, ◌++◌}
+use Rattle.std.proofs.Common.{rules, arith, ℕ, List, ◌+◌}
 use Rattle.std.proofs.lemmas.Grind.{common_steps}
 use Rattle.lset_judge.proofs.Whole.{RisesBelow, rises_more, rises_on}
 use Rattle.lset_judge.proofs.window.numbers_by.Goals as goal

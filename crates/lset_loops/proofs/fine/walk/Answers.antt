@@ -1,7 +1,6 @@
-use Rattle.std.proofs.Common.{◌≡◌, ◌<◌, ◌≤◌, None, refl, sym, ap, arith}
+use Rattle.std.proofs.Common.{◌<◌, ◌≤◌, refl, arith}
 use Rattle.lset_words.specs.Words.{target}
 use Rattle.lset_words.proofs.Numbers.{if_below, if_not_below}
-use Rattle.lset_loops.specs.Calling.{row}
 use Rattle.lset_loops.proofs.Calling.{moved, to_curr}
 use Rattle.lset_loops.proofs.fine.walk.Goals as goal
 

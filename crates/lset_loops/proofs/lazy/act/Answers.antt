@@ -1,4 +1,4 @@
-use Rattle.std.proofs.Common.{◌≡◌, refl, ap}
+use Rattle.std.proofs.Common.{refl, ap}
 use Rattle.lset_words.specs.Words.{key_index}
 use Rattle.lset_steps.specs.declared.Action.TheVariants.{Store}
 use Rattle.lset_lazy.specs.Lazy.{targets}

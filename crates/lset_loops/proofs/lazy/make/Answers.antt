@@ -1,11 +1,11 @@
-use Rattle.std.proofs.Common.{◌≡◌, ◌/◌, None, refl, ap}
+use Rattle.std.proofs.Common.{None, refl, ap}
 use Rattle.lset_words.specs.Words.{link_index}
 use Rattle.lset_words.proofs.Numbers.{if_other}
 use Rattle.lset_steps.specs.declared.Action.TheVariants.{Load}
 use Rattle.lset_steps.specs.ReadRows.{continued}
 use Rattle.lset_lazy.specs.Lazy.{lazy}
 use Rattle.lset_loops.specs.Calling.{row}
-use Rattle.lset_loops.proofs.Calling.{moved, to_curr, no_rest}
+use Rattle.lset_loops.proofs.Calling.{moved, no_rest}
 use Rattle.lset_loops.proofs.lazy.make.Goals as goal
 
 pub loop-init : goal.loop-init

@@ -1,7 +1,6 @@
 use Rattle.std.proofs.lemmas.Result.{IfOk-weaker}
 use Rattle.lset_report.specs.Report.{view}
-use Rattle.lset_report.proofs.ReportTexts.{found_in, has_words}
-use Rattle.lset_report.proofs.ReportTexts.{only_in}
+use Rattle.lset_report.proofs.ReportTexts.{found_in, has_words, only_in}
 use Rattle.lset_report.proofs.reading.read_report.Goals as goal
 
 pub returns-clause-found : goal.returns-clause-found

@@ -1,5 +1,4 @@
-use Rattle.lset_report.proofs.ReportTexts.{is_found}
-use Rattle.lset_report.proofs.ReportTexts.{reads_text}
+use Rattle.lset_report.proofs.ReportTexts.{is_found, reads_text}
 use Rattle.lset_report.proofs.reading.reports_read_back.Goals as goal
 
 pub returns : goal.returns

@@ -1,8 +1,7 @@
 use Rattle.std.proofs.Common.{◌≡◌, ◌++◌}
 use Rattle.crossbeam_channel.specs.Claims.{view, IsSeatAt}
 use Rattle.crossbeam_channel.specs.Ends.{sends_on}
-use Rattle.lset_server.specs.Tallies.{tally}
-use Rattle.lset_server.specs.Tallies.{numbers_below}
+use Rattle.lset_server.specs.Tallies.{tally, numbers_below}
 use Rattle.lset_server.proofs.serving.accept_all.Given as goal
 
 abbrev pub invariant-loop-number : goal.invariant-loop-number

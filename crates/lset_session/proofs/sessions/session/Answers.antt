@@ -1,5 +1,4 @@
-use Rattle.std.proofs.Common.{◌≡◌, ◌++◌, ◌<◌, None, Some, take, length, refl, ◌∙◌, rules, []}
-use Rattle.std.proofs.Common.{ap, subst, append-nil}
+use Rattle.std.proofs.Common.{◌≡◌, ◌++◌, ◌<◌, None, Some, take, length, refl, ◌∙◌, rules, [], ap, subst, append-nil}
 use Rattle.std.specs.Io.KnownBytes.{Consumes}
 use Rattle.std.proofs.KnownBytes.{Consumes-trans, Consumes-kept}
 use Rattle.lset_session.specs.declared.sessions.Why.TheVariants.{End, ReadFault}

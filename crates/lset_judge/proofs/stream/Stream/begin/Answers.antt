@@ -1,7 +1,7 @@
 use Rattle.std.proofs.Common.{◌++◌, ◌∷◌, [], ◌∙◌, ap, subst}
 use Rattle.lset_words.specs.Words.{key_of}
-use Rattle.lset_judge.specs.Events.{kind_if, until_if, begin_event}
-use Rattle.lset_judge.specs.Stream.{record_of, behind_all, IsMetBy}
+use Rattle.lset_judge.specs.Events.{kind_if, begin_event}
+use Rattle.lset_judge.specs.Stream.{record_of, IsMetBy}
 use Rattle.lset_judge.proofs.Begun.{call_begun}
 use Rattle.lset_judge.proofs.stream.Stream.begin.Goals as goal
 
