@@ -58,6 +58,15 @@ upto_same m (Some c) n = elim (cases_lt c (suc m)) [
 adds_same : (t m : ℕ) (x : TimedCall) → ((traced x).changed ≡ Some (suc m) → ⊥) → adds_upto t (suc m) x ≡ adds_upto t m x
 adds_same t m x n = ap (λ b. is_add_of t x && b) (upto_same m (traced x).changed n)
 
+-- one more call counts by one, or not
+one_counted : (b : Bool) (c : Call) (o : Option ℕ) (a n : ℕ) → o ≡ Some a
+    → (if b then count_after (change_of c) n else n) ≡ bit (b && (is_add c && is_some o)) + n
+one_counted false c o a n e = omega arith
+one_counted true (call.Add k) o a n e = rw e (omega arith)
+one_counted true (call.Remove k) o a n e = omega arith
+one_counted true (call.Contains k) o a n e = omega arith
+one_counted true (call.Ceiling k) o a n e = omega arith
+
 after_more : (c : Call) (v n : ℕ) → count_after (change_of c) (v + n) ≡ v + count_after (change_of c) n
 after_more (call.Add k) v n = omega arith
 after_more (call.Remove k) v n = refl
@@ -71,6 +80,14 @@ counted_more (Some x) t v n = by_test (x.thread == t)
     by_test : (b : Bool) → (if b then count_after (change_of x.call) (v + n) else v + n) ≡ v + (if b then count_after (change_of x.call) n else n)
     by_test true = after_more x.call v n
     by_test false = refl
+
+cond_false_and : (b : Bool) → bit (b && false) ≡ 0
+cond_false_and true = refl
+cond_false_and false = refl
+
+cond_true_and : (b : Bool) → bit (b && true) ≡ bit b
+cond_true_and true = refl
+cond_true_and false = refl
 
 module _ (t m : ℕ) where
   abbrev now : TimedCall → ℕ

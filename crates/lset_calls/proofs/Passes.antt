@@ -3,8 +3,9 @@ use Rattle.std.proofs.Common.{◌≡◌, ℕ, ◌+◌, ◌<◌, ◌≤◌, ◌�
 use Rattle.std.proofs.Common.{length, get_or, take, replicate, refl, sym, subst, ◌∙◌, ap, arith}
 use Rattle.std.specs.Prelude.{Option, Some, None, All, IfSome, IsSomeAnd, ◌==◌, slice_index_or, slice_set, count_by, unwrap_or}
 use Rattle.std.specs.List.Sorted.{IsNonDecreasingBy}
-use Rattle.std.proofs.lemmas.Bool.{cases_lt, and_right, and_from, and_left}
+use Rattle.std.proofs.lemmas.Bool.{cases_order, cases_lt, and_right, and_from, and_left}
 use Rattle.std.proofs.lemmas.List.{get_or_default, get_or-set_same, get_or-set_other, length-set, get_or-replicate}
+use Rattle.std.proofs.lemmas.List.Elements.{All-get_or}
 use Rattle.std.proofs.lemmas.List.Sums.{count_by_more_yes, count_by_more_no}
 use Rattle.lset_words.proofs.Numbers.{same_or_not, equal_test, unequal_test}
 use Rattle.lset_words.specs.declared.TheConstants.{MOST_THREADS}
@@ -82,8 +83,46 @@ module _ (limit : ℕ) (ms : List Moment) where
     pub is_one : (last.at ≡ 0) ⊎ ((p : ℕ) × (p < k) × (moment_at ms p ≡ last))
     pub upto : (i : ℕ) → i < k → (moment_at ms i).line < first → ((moment_at ms i).at < last.at) ⊎ (moment_at ms i ≡ last)
 
+  pub shared_none : SharedUpTo limit no_moment 0
+  shared_none = record {
+    pairs = first_none IsSameMoment limit ms;
+    is_one = inl refl;
+    upto = λ i a b. absurd (omega arith);
+  }
+
+  pub shared_skip : (first : ℕ) (last : Moment) (k : ℕ) → SharedUpTo first last k → first ≤ (moment_at ms k).line
+      → SharedUpTo first last (k + 1)
+  shared_skip first last k h l = record {
+    pairs = first_more IsSameMoment limit ms first k h.pairs (λ i a b c e. absurd (omega arith));
+    is_one = elim h.is_one [
+      | inl z ↦ inl z
+      | inr o ↦ inr (o.0, (let a : o.0 < k = o.1 in omega arith), o.2)
+    ];
+    upto = λ i a b. elim (last_or_before i k a) [
+      | inl e ↦ (let f : (moment_at ms i).line ≡ (moment_at ms k).line = ap (λ z. (moment_at ms z).line) e in absurd (omega arith))
+      | inr c ↦ h.upto i c b
+    ];
+  }
+
+  -- the next moment is later than all that count
+  shared_next : (first : ℕ) (last : Moment) (k : ℕ) → FirstUpTo IsSameMoment limit ms first k
+      → ((i : ℕ) → i < k → (moment_at ms i).line < first → (moment_at ms i).at < (moment_at ms k).at)
+      → SharedUpTo first (moment_at ms k) (k + 1)
+  shared_next first last k pairs earlier = record {
+    pairs = first_more IsSameMoment limit ms first k pairs (λ i a b c e.
+        let f : (moment_at ms i).at < (moment_at ms k).at = earlier i a b in
+        let s : (moment_at ms i).at ≡ (moment_at ms k).at = e in omega arith);
+    is_one = inr (k, omega arith, refl);
+    upto = λ i a b. elim (last_or_before i k a) [
+      | inl e ↦ inr (ap (λ z. moment_at ms z) e)
+      | inr c ↦ inl (earlier i c b)
+    ];
+  }
+
   module _ (sorted : IsNonDecreasingBy (λ (m : Moment). m.at) ms) (counted : All (λ (m : Moment). 0 < m.at) ms) (first : ℕ)
       (last : Moment) (k : ℕ) (inside : k < length ms) (h : SharedUpTo first last k) (low : (moment_at ms k).line < first) where
+    above : 0 < (moment_at ms k).at
+    above = All-get_or (λ (m : Moment). 0 < m.at) ms k no_moment inside counted
 
     not_later : last.at ≤ (moment_at ms k).at
     not_later = elim h.is_one [
@@ -92,6 +131,46 @@ module _ (limit : ℕ) (ms : List Moment) where
           let b : (moment_at ms o.0).at ≤ (moment_at ms k).at = sorted o.0 k no_moment (omega arith) inside in
           let c : (moment_at ms o.0).at ≡ last.at = ap (λ (m : Moment). m.at) o.2 in omega arith)
     ]
+
+    pub shared_later : ((moment_at ms k).at ≡ last.at → ⊥) → SharedUpTo first (moment_at ms k) (k + 1)
+    shared_later n = shared_next first last k h.pairs (λ i a b. elim (h.upto i a b) [
+      | inl l ↦ (let m : last.at ≤ (moment_at ms k).at = not_later in omega arith)
+      | inr e ↦ (let m : last.at ≤ (moment_at ms k).at = not_later in
+          let s : (moment_at ms i).at ≡ last.at = ap (λ (m : Moment). m.at) e in
+          elim (cases_order last.at (moment_at ms k).at) [
+            | inl f ↦ absurd (n (sym f))
+            | inr g ↦ elim g [ inl f ↦ omega arith | inr f ↦ absurd (omega arith) ]
+          ])
+    ])
+
+    -- two at one time: the greater line of the two is the first
+    found : (less : ℕ) → (moment_at ms k).at ≡ last.at → last.line ≤ less → (moment_at ms k).line ≤ less
+        → SomePairBelow IsSameMoment (less + 1) ms
+    found less e l m = elim h.is_one [
+      | inl z ↦ absurd (let a : 0 < (moment_at ms k).at = above in omega arith)
+      | inr o ↦ (let c : (moment_at ms o.0).line ≡ last.line = ap (λ (m : Moment). m.line) o.2 in
+          let d : (moment_at ms o.0).at ≡ last.at = ap (λ (m : Moment). m.at) o.2 in
+          pair_below IsSameMoment limit ms less o.0 k o.1 inside (omega arith) m (d ∙ sym e))
+    ]
+
+    pub shared_here : (moment_at ms k).at ≡ last.at → last.line < (moment_at ms k).line
+        → SharedUpTo (moment_at ms k).line last (k + 1)
+    shared_here e l = shared_skip (moment_at ms k).line last k (record {
+      pairs = first_less IsSameMoment limit ms first (moment_at ms k).line k h.pairs (omega arith)
+          (λ a. found (moment_at ms k).line e (omega arith) (omega arith));
+      is_one = h.is_one;
+      upto = λ i a b. h.upto i a (omega arith);
+    }) (omega arith)
+
+    pub shared_above : (moment_at ms k).at ≡ last.at → (moment_at ms k).line ≤ last.line
+        → SharedUpTo (min first last.line) (moment_at ms k) (k + 1)
+    shared_above e l = shared_next (min first last.line) last k
+        (first_less IsSameMoment limit ms first (min first last.line) k h.pairs (omega arith)
+        (λ a. found (min first last.line) e (omega arith) (omega arith)))
+        (λ i a b. elim (h.upto i a (omega arith)) [
+          | inl c ↦ omega arith
+          | inr f ↦ (let s : (moment_at ms i).line ≡ last.line = ap (λ (m : Moment). m.line) f in absurd (omega arith))
+        ])
 
 -- ---- calls that overlap: of a thread's calls in lines below `first` each but the last has ended before the last begins
 abbrev pub last_at : List (Option ℕ) → ℕ → Option ℕ

@@ -1,5 +1,5 @@
 -- Where a call stands, by the changes that were noted and by the count at its beginning, is where it stands by its set.
-use Rattle.std.proofs.Common.{◌≡◌, ℕ, ◌≤◌, inl, inr, Bool, true, List, sym, subst, arith}
+use Rattle.std.proofs.Common.{◌≡◌, ℕ, ◌≤◌, inl, inr, Bool, true, List, refl, sym, subst, arith}
 use Rattle.std.specs.Prelude.{Option, Some, None, IfSome}
 use Rattle.lset_words.specs.declared.Call.{Call}
 use Rattle.lset_words.specs.declared.Call.TheVariants.{Ceiling}
@@ -46,6 +46,9 @@ module _ (changes : ℕ → List ℕ) (quota count : ℕ) where
 
 -- ---- where a call stands
 module _ (quota : ℕ) (contents : Contents) (counts : Counts) (x : TracedCall) where
+  pub stands_nowhere : x.changed ≡ None → x.ended ≡ None → StandsGiven quota contents counts x None
+  stands_nowhere e f = inl (subst (λ o. StandsBy quota contents counts x o x.ended None) (sym e)
+      (subst (λ o. StandsBy quota contents counts x None o None) (sym f) refl))
 
 -- ---- the same with a count that is as at each moment of the call
 module _ (quota : ℕ) (contents : Contents) (n k : Counts) (x : TracedCall) where

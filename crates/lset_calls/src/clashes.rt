@@ -54,7 +54,7 @@ pub fn moments_in_turn(alloc: Global, calls: &Calls) -> Result<Vec<Moment>, Allo
     for (line, made) in calls.calls.iter().enumerate() {
         push_moments(&mut moments, line as u32, *made)?;
     }
-    moments.sort_by_key(|moment| moment.at)?;
+    moments.sort_unstable_by_key(|moment| moment.at);
     Ok(moments)
 }
 

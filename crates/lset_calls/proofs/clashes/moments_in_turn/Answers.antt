@@ -15,7 +15,7 @@ returns c =
     ∙ sym (ap (λ xs. c.loop-line.moments.items ++ entries_from c.loop-line.line xs) (drop_all c.loop-line.line calls past))
     ∙ c.loop-line.invariant in
     record {
-      same = subst (λ xs. IsPermutation xs c.sort_by_key.new.self.items) all c.sort_by_key.ensures.permutation;
-      sorted = IsNonDecreasingBy-from_sort_by_key (λ (m : Moment). m.at) c.sort_by_key.new.self.items
-          c.in_ok-sort_by_key.ensures.sorted (λ a r q k. search rules);
+      same = subst (λ xs. IsPermutation xs c.sort_unstable_by_key.new.self.items) all c.sort_unstable_by_key.ensures.permutation;
+      sorted = IsNonDecreasingBy-from_sort_by_key (λ (m : Moment). m.at) c.sort_unstable_by_key.new.self.items
+          c.sort_unstable_by_key.ensures.sorted (λ a r q k. search rules);
     }
