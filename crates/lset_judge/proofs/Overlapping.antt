@@ -63,7 +63,6 @@ meets_open x y t = last ((key_of y.call).0 == (key_of x.call).0 && is_change y.c
 -- ---- changes that begin later
 
 module _ (calls : List CallRecord) (up : IsRising calls) (x : CallRecord) where
-
   later : (a b : ℕ) (d : CallRecord) → a ≤ b → b < length calls → (call_numbered calls a).begun ≤ (get_or calls b d).begun
   later a b d from inside =
       let g = ap (λ (y : CallRecord). y.begun) (get_or_default calls b no_call d inside) in

@@ -23,8 +23,8 @@ use Rattle.lset_steps.specs.declared.Event.TheVariants.{Begin, Go}
 use Rattle.lset_steps.specs.Steps.{Table, State, Enabled, state_at, event_at, local_of, entry_of}
 use Rattle.lset_steps.specs.Laws.{Lawful}
 use Rattle.lset_rule.specs.declared.view.OwnCall.{OwnCall}
-use Rattle.lset_rule.specs.declared.view.Under.{Under}
-use Rattle.lset_rule.specs.declared.view.Aside.{Aside}
+use Rattle.lset_rule.specs.declared.view.PendingCall.{PendingCall}
+use Rattle.lset_rule.specs.declared.view.SpareThread.{SpareThread}
 use Rattle.lset_rule.specs.declared.view.Past.{Past}
 use Rattle.lset_rule.specs.declared.view.View.{View}
 use Rattle.lset_rule.specs.Pasts.{calls_of, root}
@@ -43,7 +43,7 @@ use Rattle.lset_live.proofs.Orders.{keeps}
 use Rattle.lset_words.specs.Words.{Opening}
 
 -- a thread that begins a call has none under way
-may_begin : (T : Table) (s : State) (e : Event) (u : ℕ) (o : Option Under) → Tied o (local_of s u) → Enabled s e →
+may_begin : (T : Table) (s : State) (e : Event) (u : ℕ) (o : Option PendingCall) → Tied o (local_of s u) → Enabled s e →
     MayBegin (entry_of T s e) u o
 may_begin T s (Begin t c) u None ti en = λ is. refl
 may_begin T s (Begin t c) u (Some x) ti en = λ is. absurd (ti.0 (ap (λ z. (local_of s z).pc) (sym is) ∙ en.1))
@@ -57,7 +57,7 @@ calls_of_thread T law k es r u low = thread_calls (log_by T k es) u (length es)
     (tied T law k (event_at es) (length es) r u j low (omega arith)) (r.enabled j l)) (length es) (omega arith)
 
 -- a further thread of a view is idle, and its calls are those of the record
-aside_idle : (w : ℕ → Here) (t : ℕ) (r : Past) (os : List Aside) → AreIdle w t r os → (u : ℕ) → HasAside os u →
+aside_idle : (w : ℕ → Here) (t : ℕ) (r : Past) (os : List SpareThread) → AreIdle w t r os → (u : ℕ) → HasAside os u →
     ((w u).under ≡ None) × ((w u).done ≡ calls_of u r)
 aside_idle w t r [] a u h = absurd h
 aside_idle w t r (o ∷ os) a u h = ⊎_elim

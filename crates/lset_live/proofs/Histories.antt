@@ -10,7 +10,7 @@ use Rattle.lset_words.specs.Log.{record_of, history_at}
 use Rattle.lset_words.specs.Log.Entry.{began, stepped}
 use Rattle.lset_history.proofs.CallSteps.{way_of}
 use Rattle.lset_rule.specs.declared.view.OwnCall.{OwnCall}
-use Rattle.lset_rule.specs.declared.view.Under.{Under}
+use Rattle.lset_rule.specs.declared.view.PendingCall.{PendingCall}
 use Rattle.lset_rule.specs.Runs.{under_next, done_next, under_at, done_at, under_after, ending}
 
 abbrev pub of_thread : ℕ → List CallRecord → List CallRecord
@@ -19,12 +19,12 @@ of_thread u xs = filter (λ (x : CallRecord). x.thread == u) xs
 abbrev pub ended_record : ℕ → OwnCall → CallRecord
 ended_record u c = record { thread = u; call = c.call; begun = c.begun; ended = Some (c.ended, c.reply) }
 
-abbrev pub open_records : ℕ → Option Under → List CallRecord
+abbrev pub open_records : ℕ → Option PendingCall → List CallRecord
 open_records u None = []
 open_records u (Some o) = record { thread = u; call = o.call; begun = o.begun; ended = None } ∷ []
 
 -- the calls of a thread, by its ended calls and the one under way
-abbrev pub thread_records : ℕ → List OwnCall → Option Under → List CallRecord
+abbrev pub thread_records : ℕ → List OwnCall → Option PendingCall → List CallRecord
 thread_records u done under_way = map (ended_record u) done ++ open_records u under_way
 
 filter-append : (p : CallRecord → Bool) (xs ys : List CallRecord) → filter p (xs ++ ys) ≡ filter p xs ++ filter p ys
@@ -92,12 +92,12 @@ module _ (m : ℕ) (ch : Option Change) (a : Option Reply) where
   ends_done u (c ∷ cs) = ap (λ l. ended_record u c ∷ l) (ends_done u cs)
 
 -- the open call where the thread makes a step
-open_step : (m u : ℕ) (ch : Option Change) (a : Option Reply) (done : List OwnCall) (o : Option Under)
+open_step : (m u : ℕ) (ch : Option Change) (a : Option Reply) (done : List OwnCall) (o : Option PendingCall)
     → map (ends m ch a) (thread_records u done o) ≡ thread_records u (done ++ ending a o m) (under_after a o)
 open_step m u ch a done o = map-append (ends m ch a) (map (ended_record u) done) (open_records u o)
     ∙ (ap (λ l. l ++ map (ends m ch a) (open_records u o)) (ends_done m ch a u done) ∙ last a o)
   where
-    last : (a : Option Reply) (o : Option Under) → map (ended_record u) done
+    last : (a : Option Reply) (o : Option PendingCall) → map (ended_record u) done
         ++ map (ends m ch a) (open_records u o) ≡ thread_records u (done ++ ending a o m) (under_after a o)
     last (Some r) (Some x) = sym (append-nil (map (ended_record u) done ++ map (ends m ch (Some r)) (open_records u (Some x))))
         ∙ ap (λ l. l ++ []) (sym (map-append (ended_record u) done _))
@@ -106,11 +106,11 @@ open_step m u ch a done o = map-append (ends m ch a) (map (ended_record u) done)
     last None None = ap (λ l. map (ended_record u) l ++ []) (sym (append-nil done))
 
 -- one entry: a call begins only where the thread has none under way
-abbrev pub MayBegin : Entry → ℕ → Option Under → Type 0
+abbrev pub MayBegin : Entry → ℕ → Option PendingCall → Type 0
 MayBegin (began t c) u o = t ≡ u → o ≡ None
 MayBegin (stepped t ch a) u o = Unit {0}
 
-pub thread_next : (m : ℕ) (e : Entry) (u : ℕ) (xs : List TracedCall) (done : List OwnCall) (o : Option Under) → MayBegin e u o
+pub thread_next : (m : ℕ) (e : Entry) (u : ℕ) (xs : List TracedCall) (done : List OwnCall) (o : Option PendingCall) → MayBegin e u o
     → of_thread u (map record_of xs) ≡ thread_records u done o
     → of_thread u (map record_of (calls_after m e xs)) ≡ thread_records u (done_next m e u o done) (under_next m e u o)
 thread_next m (began t c) u xs done o may h =

@@ -9,7 +9,7 @@ use Rattle.lset_steps.specs.declared.Event.{Event}
 use Rattle.lset_steps.specs.declared.Event.TheVariants.{Begin, Go}
 use Rattle.lset_rule.specs.declared.slots.OwnSlots.{OwnSlots}
 use Rattle.lset_rule.specs.OwnSlots.{slots_of, resting}
-use Rattle.lset_rule.specs.declared.view.Under.{Under}
+use Rattle.lset_rule.specs.declared.view.PendingCall.{PendingCall}
 use Rattle.lset_rule.specs.declared.view.View.{View}
 use Rattle.lset_steps.specs.Steps.{Table, event_at}
 use Rattle.lset_steps.specs.Laws.{Lawful, Occurs}
@@ -55,7 +55,7 @@ by_answer m c v b log l None mid on st = (
 )
 by_answer m c v b log l (Some r) mid on st =
     let all = starts_on log b.seen (mid.log ++ Begin v.thread c ∷ []) on mid.since in
-    let u : Under = record { call = c; begun = length mid.log + 1; steps = mid.steps } in
+    let u : PendingCall = record { call = c; begun = length mid.log + 1; steps = mid.steps } in
     let long : length log + 1 ≡ length (log ++ Go b.thread ∷ []) = sym (length-append log (Go b.thread ∷ [])) in
     record {
       log = mid.log;

@@ -3,7 +3,7 @@ use Rattle.std.proofs.Common.{◌≡◌, ◌≢◌, ◌⊎◌, inl, inr, ⊎_eli
 use Rattle.std.proofs.Common.{◌∙◌, subst, arith, ◌++◌, false, append-nil, length-append}
 use mathlib.Core.Logic.{dite}
 use native.Mathlib.Decide.{ℕ_discrete}
-use Rattle.lset_rule.specs.declared.view.Aside.{Aside}
+use Rattle.lset_rule.specs.declared.view.SpareThread.{SpareThread}
 use Rattle.lset_rule.specs.declared.view.Past.{Past}
 use Rattle.lset_rule.specs.declared.view.View.{View}
 use Rattle.lset_words.specs.Words.{word_count, Opening, sizes, Sizes}
@@ -54,22 +54,22 @@ few (suc n) xs d b = ⊎_elim
     (λ out. let c = few n xs d (λ t j. let e = b t j in let ne : t ≢ n = λ (e' : t ≡ n). out (subst (In xs) e' j) in omega arith)
     in omega arith) (in_dec xs n)
 
-abbrev threads_of : List Aside → List ℕ
+abbrev threads_of : List SpareThread → List ℕ
 threads_of [] = []
 threads_of (o ∷ os) = o.thread ∷ threads_of os
 
 abbrev names : View → List ℕ
 names v = v.thread ∷ threads_of v.others
 
-long : (os : List Aside) → length (threads_of os) ≡ length os
+long : (os : List SpareThread) → length (threads_of os) ≡ length os
 long [] = refl
 long (o ∷ os) = ap suc (long os)
 
-in_has : (os : List Aside) (t : ℕ) → In (threads_of os) t → HasAside os t
+in_has : (os : List SpareThread) (t : ℕ) → In (threads_of os) t → HasAside os t
 in_has [] t i = i
 in_has (o ∷ os) t i = ⊎_elim inl (λ j. inr (in_has os t j)) i
 
-apart : (w : ℕ → Here) (t : ℕ) (r : Past) (os : List Aside) → AreIdle w t r os → Distinct (threads_of os)
+apart : (w : ℕ → Here) (t : ℕ) (r : Past) (os : List SpareThread) → AreIdle w t r os → Distinct (threads_of os)
 apart w t r [] a = tt
 apart w t r (o ∷ os) a = ((λ i. a.2 (in_has os o.thread i)), apart w t r os a.3)
 

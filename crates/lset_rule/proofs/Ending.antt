@@ -12,7 +12,7 @@ use Rattle.lset_steps.specs.declared.Fed.{Fed}
 use Rattle.lset_steps.specs.Steps.{Table, event_at, local_of, log_of}
 use Rattle.lset_steps.specs.Laws.{Lawful}
 use Rattle.lset_steps.specs.Promises.{IsContains}
-use Rattle.lset_rule.specs.declared.view.Under.{Under}
+use Rattle.lset_rule.specs.declared.view.PendingCall.{PendingCall}
 use Rattle.lset_rule.specs.declared.view.View.{View}
 use Rattle.lset_rule.specs.Runs.{Here, under_after, under_next, under_at, end_of, log_by}
 use Rattle.lset_rule.proofs.Calls.{Comes, is_mid, mid_open}
@@ -22,7 +22,7 @@ use Rattle.lset_rule.proofs.Keeps.{stands_at, own_tied}
 use Rattle.lset_words.specs.Words.{Opening, sizes}
 
 -- how many steps the call under way has made
-abbrev pub steps_of : Option Under → ℕ
+abbrev pub steps_of : Option PendingCall → ℕ
 steps_of None = 0
 steps_of (Some u) = u.steps
 
@@ -32,21 +32,21 @@ steps_left (Some r) bound steps = 0
 steps_left None bound steps = bound - steps
 
 -- the steps of the call under way are those since its Begin
-abbrev Counted : Option Under → ℕ → Type 0
+abbrev Counted : Option PendingCall → ℕ → Type 0
 Counted None n = Unit {0}
 Counted (Some u) n = u.steps ≡ n
 
-counted_step : (a : Option Reply) (o : Option Under) (n : ℕ) → Counted o n → Counted (under_after a o) (n + 1)
+counted_step : (a : Option Reply) (o : Option PendingCall) (n : ℕ) → Counted o n → Counted (under_after a o) (n + 1)
 counted_step (Some r) o n h = tt
 counted_step None None n h = tt
 counted_step None (Some u) n h = ap (λ z. z + 1) h
 
-counted_by : (b : Bool) (x y : Option Under) (n m : ℕ) → Counted x n → Counted y m →
+counted_by : (b : Bool) (x y : Option PendingCall) (n m : ℕ) → Counted x n → Counted y m →
     Counted (if b then x else y) (if b then n else m)
 counted_by true x y n m h k = h
 counted_by false x y n m h k = k
 
-counted_next : (T : Table) (k : Opening) (es : ℕ → Event) (j : ℕ) (e : Event) (t : ℕ) (o : Option Under) (n : ℕ) → es j ≡ e →
+counted_next : (T : Table) (k : Opening) (es : ℕ → Event) (j : ℕ) (e : Event) (t : ℕ) (o : Option PendingCall) (n : ℕ) → es j ≡ e →
     Counted o n
     → Counted (under_next (suc j) (log_of T k es j) t o) (steps_after e t n)
 counted_next T k es j (Begin u c) t o n is h =
@@ -58,7 +58,7 @@ counted T k es t zero = tt
 counted T k es t (suc j) = counted_next T k es j (es j) t (under_at (log_of T k es) t j) (steps_since es t j) refl
     (counted T k es t j)
 
-counted_is : (o : Option Under) (u : Under) (n : ℕ) → Counted o n → o ≡ Some u → u.steps ≡ n
+counted_is : (o : Option PendingCall) (u : PendingCall) (n : ℕ) → Counted o n → o ≡ Some u → u.steps ≡ n
 counted_is o u n h e = subst (λ z. Counted z n) e h
 
 -- there are fewer than the bound
@@ -87,14 +87,14 @@ one_more m n v w w' f f' c come none come' none' goes =
     let mid' = is_mid m c v w' f' come' none' in
     by_answer (m.feed w.local n).answer w.under w'.under _ _ mid.0.under mid'.0.under (ap (λ (z : View). z.under) goes.3)
   where
-    by_answer : (a : Option Reply) (o o' : Option Under) (u u' : Under) → o ≡ Some u → o' ≡ Some u' → o' ≡ under_after a o →
+    by_answer : (a : Option Reply) (o o' : Option PendingCall) (u u' : PendingCall) → o ≡ Some u → o' ≡ Some u' → o' ≡ under_after a o →
         steps_of o' ≡ steps_of o + 1
     by_answer (Some r) o o' u u' e e' is = absurd (nothing (sym is ∙ e'))
       where
         nothing : None ≡ Some u' → ⊥
         nothing p = subst (λ z. Empty z) p tt
           where
-            Empty : Option Under → Type 0
+            Empty : Option PendingCall → Type 0
             Empty None = Unit {0}
             Empty (Some x) = ⊥
     by_answer None o o' u u' e e' is = ap steps_of is

@@ -10,9 +10,9 @@ use lib.Seq.{set-get_or}
 use Rattle.atomic_table.specs.Table.{step, keeps, Allows, Splits, Joins}
 use Rattle.atomic_table.proofs.Lists.{at_set, set_else, at_longer, at_last}
 use Rattle.lset_steps.specs.declared.Event.{Event}
-use Rattle.lset_rule.specs.declared.view.Aside.{Aside}
+use Rattle.lset_rule.specs.declared.view.SpareThread.{SpareThread}
 use Rattle.lset_rule.specs.declared.view.Past.{Past, Fresh}
-use Rattle.lset_rule.specs.declared.view.Under.{Under}
+use Rattle.lset_rule.specs.declared.view.PendingCall.{PendingCall}
 use Rattle.lset_rule.specs.declared.view.View.{View}
 use Rattle.std.proofs.lemmas.Bool.{false≢true}
 use Rattle.lset_steps.specs.Steps.{Table}
@@ -83,7 +83,7 @@ module _ (m : Table) where
     theirs = f.theirs;
   }
 
-  module _ (v0 : View) (o : Aside) (os : List Aside) where
+  module _ (v0 : View) (o : SpareThread) (os : List SpareThread) where
     abbrev V : View
     V = record v0 { spent = false; under = None; past = Fresh v0.thread; others = o ∷ os }
 
@@ -171,7 +171,7 @@ module _ (m : Table) where
               (at_tail (set s.views id (left_view V)) (right_view V) x j is);
         }
 
-  pub splits : (k : Opening) (id : ℕ) (v : View) (o : Aside) (os : List Aside) → v.spent ≡ false → v.under ≡ None →
+  pub splits : (k : Opening) (id : ℕ) (v : View) (o : SpareThread) (os : List SpareThread) → v.spent ≡ false → v.under ≡ None →
       v.past ≡ Fresh v.thread → v.others ≡ o ∷ os → Splits (Holds m k) id v (left_view v) (right_view v)
   splits k id v o os sp idle fresh there = subst (λ (z : View). Splits (Holds m k) id z (left_view z) (right_view z))
       (λ i. record v { spent = sym sp i; under = sym idle i; past = sym fresh i; others = sym there i }) (splits_at v o os k id)
@@ -234,16 +234,16 @@ longer_by P log xs ys rx ry ex ey px py false is =
       kept = subst P (sym l) px;
     }
 
-has_end : (os ps : List Aside) (t : ℕ) → HasAside (os ++ ps) t → HasAside os t ⊎ HasAside ps t
+has_end : (os ps : List SpareThread) (t : ℕ) → HasAside (os ++ ps) t → HasAside os t ⊎ HasAside ps t
 has_end [] ps t h = inr h
 has_end (o ∷ os) ps t h = ⊎_elim (λ e. inl (inl e)) (λ x. ⊎_elim (λ y. inl (inr y)) (λ y. inr y) (has_end os ps t x)) h
 
-end_has : (os ps : List Aside) (t : ℕ) → HasAside os t ⊎ HasAside ps t → HasAside (os ++ ps) t
+end_has : (os ps : List SpareThread) (t : ℕ) → HasAside os t ⊎ HasAside ps t → HasAside (os ++ ps) t
 end_has [] ps t h = ⊎_elim (λ x. absurd x) (λ x. x) h
 end_has (o ∷ os) ps t h = ⊎_elim (λ x. ⊎_elim (λ e. inl e) (λ y. inr (end_has os ps t (inl y))) x)
     (λ x. inr (end_has os ps t (inr x))) h
 
-asides_move : (w w' : ℕ → Here) (t t' : ℕ) (r r' : Past) (os ps : List Aside) →
+asides_move : (w w' : ℕ → Here) (t t' : ℕ) (r r' : Past) (os ps : List SpareThread) →
     ((u : ℕ) → HasAside os u → (u ≢ t') × (w' u ≡ w u) × (calls_of u r' ≡ calls_of u r) × (¬ (HasAside ps u)))
     → AreIdle w t r os → AreIdle w' t' r' ps → AreIdle w' t' r' (os ++ ps)
 asides_move w w' t t' r r' [] ps same a b = b
@@ -254,7 +254,7 @@ asides_move w w' t t' r r' (o ∷ os) ps same a b = let s = same o.thread (inl r
   asides_move w w' t t' r r' os ps (λ u h. same u (inr h)) a.3 b,
 )
 
-pub not_own : (w : ℕ → Here) (t : ℕ) (r : Past) (os : List Aside) → AreIdle w t r os → ¬ (HasAside os t)
+pub not_own : (w : ℕ → Here) (t : ℕ) (r : Past) (os : List SpareThread) → AreIdle w t r os → ¬ (HasAside os t)
 not_own w t r [] a h = h
 not_own w t r (o ∷ os) a h = ⊎_elim (λ e. a.0 (sym e)) (λ x. not_own w t r os a.3 x) h
 
@@ -332,7 +332,7 @@ module _ (m : Table) where
         let b = longer_than w.seen lo.dy lo.from_y in
             before_more (length w.seen + 1) (length (longer v.seen w.seen) + 1) w.past (omega arith) g.stands.ended,
       );
-      before = subst (λ (z : Option Under). InTime z (gathered v.past w.past)) (sym v_idle) tt;
+      before = subst (λ (z : Option PendingCall). InTime z (gathered v.past w.past)) (sym v_idle) tt;
     }
 
     pub joined_fits : (so' : ℕ → ℕ) → ((t : ℕ) → so t ≡ i → so' t ≡ i) → ((t : ℕ) → so t ≡ j → so' t ≡ i) → MatchesLog m k log so' i J

@@ -13,7 +13,7 @@ use Rattle.lset_steps.specs.declared.Local.{Local}
 use Rattle.lset_steps.specs.declared.Action.{Action}
 use Rattle.lset_steps.specs.declared.Event.{Event}
 use Rattle.lset_steps.specs.declared.Event.TheVariants.{Begin, Go}
-use Rattle.lset_rule.specs.declared.view.Under.{Under}
+use Rattle.lset_rule.specs.declared.view.PendingCall.{PendingCall}
 use Rattle.lset_rule.specs.declared.view.Past.{Past}
 use Rattle.lset_rule.specs.declared.view.View.{View}
 use Rattle.lset_steps.specs.Steps.{Table, State, Enabled, event_at, after, local_of, seen_by, seen_next, left_by}
@@ -39,7 +39,7 @@ abbrev pub IsAt : Table → Opening → List Event → ℕ → Local → Type 0
 IsAt m k es t l = UnderWay m k (event_at es) (length es) t × (local_of (end_of m k es) t ≡ l)
 
 -- the view after an event of its thread
-abbrev pub later : View → List Event → Event → Local → Option Under → Past → View
+abbrev pub later : View → List Event → Event → Local → Option PendingCall → Past → View
 later v log e l u r = record v { local = l; under = u; past = r; seen = log ++ e ∷ [] }
 
 pub set_there : (l : List View) (i : ℕ) (a b : View) → get_elem? l i ≡ some a → get_elem? (set l i b) i ≡ some b
@@ -121,7 +121,7 @@ module _ (m : Table) where
         let le = length_seen h.log v.seen fit.rest fit.is in
         before_more (length v.seen + 1) n v.past (omega arith) fit.stands.ended
 
-    pub moves : (e : Event) (l : Local) (u : Option Under) (r : Past) (ws : List ℕ) → thread_of e ≡ v.thread → Enabled W e →
+    pub moves : (e : Event) (l : Local) (u : Option PendingCall) (r : Past) (ws : List ℕ) → thread_of e ≡ v.thread → Enabled W e →
         ws ≡ (after m W e).words
         → at_end m v.shape (h.log ++ e ∷ []) v.thread ≡ here l u (calls_of v.thread r) →
         ((x : ℕ) → x ≢ v.thread → calls_of x r ≡ calls_of x v.past) → root r ≡ root v.past → (Apart v.past → Apart r) →
@@ -179,7 +179,7 @@ module _ (m : Table) where
           ),
         )
 
-    module _ (u : Under) (is_open : v.under ≡ Some u) where
+    module _ (u : PendingCall) (is_open : v.under ≡ Some u) where
       busy : (local_of W v.thread).pc ≢ 0
       busy = (subst (λ o. Tied o (local_of W v.thread)) is_open tied_stood).0
 
@@ -286,7 +286,7 @@ goes_first m law slots id me k c low a acts shape is_idle = let v : View = me.0 
     let st = starts m law s v id h at is_idle.0 c low is_idle.1 in
     let s' : St = record { words = s.words; homes = s.homes; views = set s.views id b } in
     let h' : Holds m v.shape s' = st.1.0 in
-    let u : Under = record { call = c; begun = length h.log + 1; steps = 0 } in
+    let u : PendingCall = record { call = c; begun = length h.log + 1; steps = 0 } in
     let r = steps m law s' b id h' (set_there s.views id v b at) is_idle.0 u refl in
     let n : ℕ = found (m.next b.local) (slice_index s.words (word_named (m.next b.local))) in
     let w : View = gone_view m h'.log n b in

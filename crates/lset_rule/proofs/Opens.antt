@@ -8,7 +8,7 @@ use lib.ListN.{get_elem?}
 use Rattle.atomic_table.specs.Table as T
 use Rattle.lset_rule.specs.declared.slots.OwnSlots.{OwnSlots}
 use Rattle.lset_rule.specs.OwnSlots.{slots_of}
-use Rattle.lset_rule.specs.declared.view.Aside.{Aside}
+use Rattle.lset_rule.specs.declared.view.SpareThread.{SpareThread}
 use Rattle.lset_rule.specs.declared.view.Past.{Fresh}
 use Rattle.lset_rule.specs.declared.view.View.{View}
 use Rattle.std.proofs.lemmas.List.FromFn.{get_or-map-range_with_len, length-map-range_with_len}
@@ -118,7 +118,7 @@ pub cut_right : (k : Opening) (t : ℕ) → t + 1 < k.threads → right_view (sp
 cut_right k t lt = ap (λ os. right_view (record (opener k) { others = os })) (next_aside k t lt)
 
 pub spare_some : (k : Opening) (t : ℕ) → t + 1 < k.threads → 0 < length (spare k t).others
-spare_some k t lt = subst (λ (os : List Aside). 0 < length os) (sym (next_aside k t lt)) (omega arith)
+spare_some k t lt = subst (λ (os : List SpareThread). 0 < length os) (sym (next_aside k t lt)) (omega arith)
 
 pub spare_none : (k : Opening) (t : ℕ) → t + 1 ≡ k.threads → spare k t ≡ fresh k t
 spare_none k t is = let e : k.threads - 1 - t ≡ 0 = omega arith in let e' : k.threads - 1 ≡ t = omega arith in

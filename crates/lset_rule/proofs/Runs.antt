@@ -6,8 +6,8 @@ use Rattle.lset_words.specs.Log.{Log, Entry}
 use Rattle.lset_words.specs.Log.Entry.{began, stepped}
 use Rattle.lset_steps.specs.declared.Event.{Event}
 use Rattle.lset_rule.specs.declared.view.OwnCall.{OwnCall}
-use Rattle.lset_rule.specs.declared.view.Under.{Under}
-use Rattle.lset_rule.specs.declared.view.Aside.{Aside}
+use Rattle.lset_rule.specs.declared.view.PendingCall.{PendingCall}
+use Rattle.lset_rule.specs.declared.view.SpareThread.{SpareThread}
 use Rattle.lset_rule.specs.declared.view.Past.{Past, Fresh, Called', Gathered'}
 use Rattle.lset_rule.specs.declared.view.View.{View}
 use Rattle.lset_steps.specs.Steps.{Table}
@@ -36,7 +36,7 @@ quiet_append v (x ∷ xs) e q n = (q.0, quiet_append v xs e q.1 n)
 pub starts_more : (log seen : List Event) (e : Event) → StartsWith log seen → StartsWith (log ++ e ∷ []) seen
 starts_more log seen e (rest, is) = (rest ++ e ∷ [], ap (λ l. l ++ e ∷ []) is ∙ append_assoc seen rest (e ∷ []))
 
-pub asides_stay : (w w' : ℕ → Here) (t : ℕ) (r r' : Past) (os : List Aside) → ((u : ℕ) → HasAside os u → u ≢ t → w' u ≡ w u) →
+pub asides_stay : (w w' : ℕ → Here) (t : ℕ) (r r' : Past) (os : List SpareThread) → ((u : ℕ) → HasAside os u → u ≢ t → w' u ≡ w u) →
     ((u : ℕ) → u ≢ t → calls_of u r' ≡ calls_of u r)
     → AreIdle w t r os → AreIdle w' t r' os
 asides_stay w w' t r r' [] same calls a = tt
@@ -58,24 +58,24 @@ before_gathered n (Called' p r c) b = before_gathered n r b.0
 before_gathered n (Gathered' p r q g) b = (before_gathered n r b.0, b.1)
 
 -- the Begin of the call under way is one of the first n events
-abbrev pub BegunBy : Option Under → ℕ → Type 0
+abbrev pub BegunBy : Option PendingCall → ℕ → Type 0
 BegunBy None n = Unit {0}
 BegunBy (Some u) n = u.begun ≤ n
 
-begun_later : (o : Option Under) (n : ℕ) → BegunBy o n → BegunBy o (suc n)
+begun_later : (o : Option PendingCall) (n : ℕ) → BegunBy o n → BegunBy o (suc n)
 begun_later None n h = tt
 begun_later (Some u) n h = let first : u.begun ≤ n = h in omega arith
 
-begun_if : (b : Bool) (x y : Option Under) (n : ℕ) → BegunBy x n → BegunBy y n → BegunBy (if b then x else y) n
+begun_if : (b : Bool) (x y : Option PendingCall) (n : ℕ) → BegunBy x n → BegunBy y n → BegunBy (if b then x else y) n
 begun_if true x y n h k = h
 begun_if false x y n h k = k
 
-begun_after : (a : Option Reply) (o : Option Under) (n : ℕ) → BegunBy o n → BegunBy (under_after a o) n
+begun_after : (a : Option Reply) (o : Option PendingCall) (n : ℕ) → BegunBy o n → BegunBy (under_after a o) n
 begun_after (Some r) o n h = tt
 begun_after None None n h = tt
 begun_after None (Some u) n h = h
 
-begun_next : (e : Entry) (t n : ℕ) (o : Option Under) → BegunBy o n → BegunBy (under_next (suc n) e t o) (suc n)
+begun_next : (e : Entry) (t n : ℕ) (o : Option PendingCall) → BegunBy o n → BegunBy (under_next (suc n) e t o) (suc n)
 begun_next (began u c) t n o h =
     let now : suc n ≤ suc n = omega arith in
     begun_if (u == t) (Some (record { call = c; begun = suc n; steps = 0 })) o (suc n) now (begun_later o n h)
@@ -114,47 +114,47 @@ none_of_another u (Gathered' p r q g) out = λ i. none_of_another u r (λ h. out
     ++ none_of_another u g (λ h. out (inr h)) i
 
 -- the record after a step
-pub after_calls : (t : ℕ) (r : Past) (a : Option Reply) (u : Option Under) (n : ℕ) → root r ≡ t → calls_of t r
+pub after_calls : (t : ℕ) (r : Past) (a : Option Reply) (u : Option PendingCall) (n : ℕ) → root r ≡ t → calls_of t r
     ++ ending a u n ≡ calls_of t (record_after r a u n)
 after_calls t r (Some x) (Some u) n is = ap (λ b. calls_of t r ++ cond b (own u x n ∷ []) []) (sym (eq-eqb t (root r) (sym is)))
 after_calls t r (Some x) None n is = append-nil (calls_of t r)
 after_calls t r None u n is = append-nil (calls_of t r)
 
-pub after_calls_other : (t : ℕ) (r : Past) (a : Option Reply) (u : Option Under) (n : ℕ) → t ≢ root r →
+pub after_calls_other : (t : ℕ) (r : Past) (a : Option Reply) (u : Option PendingCall) (n : ℕ) → t ≢ root r →
     calls_of t (record_after r a u n) ≡ calls_of t r
 after_calls_other t r (Some x) (Some u) n ne = ap (λ b. calls_of t r ++ cond b (own u x n ∷ []) []) (ne_eqb t (root r) ne)
     ∙ append-nil (calls_of t r)
 after_calls_other t r (Some x) None n ne = refl
 after_calls_other t r None u n ne = refl
 
-pub after_root : (r : Past) (a : Option Reply) (u : Option Under) (n : ℕ) → root (record_after r a u n) ≡ root r
+pub after_root : (r : Past) (a : Option Reply) (u : Option PendingCall) (n : ℕ) → root (record_after r a u n) ≡ root r
 after_root r (Some x) (Some u) n = refl
 after_root r (Some x) None n = refl
 after_root r None u n = refl
 
-pub after_apart : (r : Past) (a : Option Reply) (u : Option Under) (n : ℕ) → Apart r → Apart (record_after r a u n)
+pub after_apart : (r : Past) (a : Option Reply) (u : Option PendingCall) (n : ℕ) → Apart r → Apart (record_after r a u n)
 after_apart r (Some x) (Some u) n h = h
 after_apart r (Some x) None n h = h
 after_apart r None u n h = h
 
-pub after_in : (r : Past) (a : Option Reply) (u : Option Under) (n t : ℕ) → IsIn t (record_after r a u n) → IsIn t r
+pub after_in : (r : Past) (a : Option Reply) (u : Option PendingCall) (n t : ℕ) → IsIn t (record_after r a u n) → IsIn t r
 after_in r (Some x) (Some u) n t h = h
 after_in r (Some x) None n t h = h
 after_in r None u n t h = h
 
-pub after_in_order : (r : Past) (a : Option Reply) (u : Option Under) (n : ℕ) → InOrder r → InTime u r →
+pub after_in_order : (r : Past) (a : Option Reply) (u : Option PendingCall) (n : ℕ) → InOrder r → InTime u r →
     InOrder (record_after r a u n)
 after_in_order r (Some x) (Some u) n o b = (o, before_gathered u.begun r b)
 after_in_order r (Some x) None n o b = o
 after_in_order r None u n o b = o
 
-pub after_before : (r : Past) (a : Option Reply) (u : Option Under) (i n k : ℕ) → BegunBy u i → i < k → n < k → Before k r →
+pub after_before : (r : Past) (a : Option Reply) (u : Option PendingCall) (i n k : ℕ) → BegunBy u i → i < k → n < k → Before k r →
     Before k (record_after r a u n)
 after_before r (Some x) (Some u) i n k begun low l b = let first : u.begun ≤ i = begun in (b, l, omega arith)
 after_before r (Some x) None i n k begun low l b = b
 after_before r None u i n k begun low l b = b
 
-pub after_in_time : (r : Past) (a : Option Reply) (u : Option Under) (n : ℕ) → InTime u r →
+pub after_in_time : (r : Past) (a : Option Reply) (u : Option PendingCall) (n : ℕ) → InTime u r →
     InTime (under_after a u) (record_after r a u n)
 after_in_time r (Some x) (Some u) n b = tt
 after_in_time r (Some x) None n b = tt

@@ -21,7 +21,7 @@ use Rattle.lset_steps.specs.Laws.{Lawful, StateLaws, StepAt, Answered, views, wo
 use Rattle.lset_steps.specs.Worlds.{thread_of}
 use Rattle.lset_steps.proofs.MoreEvents.{state_agree, run_more}
 use Rattle.lset_rule.specs.declared.view.OwnCall.{OwnCall}
-use Rattle.lset_rule.specs.declared.view.Under.{Under}
+use Rattle.lset_rule.specs.declared.view.PendingCall.{PendingCall}
 use Rattle.lset_rule.specs.Runs.{Here, here, under_after, ending, under_next, done_next, under_at, done_at, here_at, log_by}
 use Rattle.lset_rule.specs.Runs.{end_of, at_end, IsRunOf}
 use Rattle.lset_words.specs.Words.{Opening, sizes}
@@ -120,11 +120,11 @@ module _ (T : Table) (op : Opening) (es : ℕ → Event) (k t : ℕ) where
   other_local s (Begin u c) ne = get_or-set_other s.locals u t (T.begin c (local_of s u)) (idle 0 0) ne
   other_local s (Go u) ne = get_or-set_other s.locals u t (T.feed (local_of s u) (seen_next T s u)).local (idle 0 0) ne
 
-  other_under : (s : State) (e : Event) (o : Option Under) → t ≢ thread_of e → under_next (suc k) (entry_of T s e) t o ≡ o
+  other_under : (s : State) (e : Event) (o : Option PendingCall) → t ≢ thread_of e → under_next (suc k) (entry_of T s e) t o ≡ o
   other_under s (Begin u c) o ne = pick_not (u == t) _ _ (unequal_test u t (λ z. ne (sym z)))
   other_under s (Go u) o ne = pick_not (u == t) _ _ (unequal_test u t (λ z. ne (sym z)))
 
-  other_done : (s : State) (e : Event) (o : Option Under) (d : List OwnCall) → t ≢ thread_of e →
+  other_done : (s : State) (e : Event) (o : Option PendingCall) (d : List OwnCall) → t ≢ thread_of e →
       done_next (suc k) (entry_of T s e) t o d ≡ d
   other_done s (Begin u c) o d ne = refl
   other_done s (Go u) o d ne = pick_not (u == t) _ _ (unequal_test u t (λ z. ne (sym z)))
@@ -138,7 +138,7 @@ module _ (T : Table) (op : Opening) (es : ℕ → Event) (k t : ℕ) where
       λ i. here (l i) (u i) (d i)
 
 -- what a thread with a call under way holds, and one without
-abbrev pub Tied : Option Under → Local → Type 0
+abbrev pub Tied : Option PendingCall → Local → Type 0
 Tied None l = l.pc ≡ 0
 Tied (Some u) l = (l.pc ≢ 0) × (l.call ≡ u.call)
 
@@ -146,12 +146,12 @@ module _ (T : Table) (law : Lawful T) (op : Opening) (es : ℕ → Event) (last 
   len_locals : (k : ℕ) → k ≤ last → length (state_at T op es k).locals ≡ op.threads
   len_locals k l = (law.states op last k es r l).locals
 
-  tied_answer : (a : Option Reply) (done : Bool) (first now t : ℕ) (c : Call) (l : Local) (u : Under) → l.call ≡ u.call
+  tied_answer : (a : Option Reply) (done : Bool) (first now t : ℕ) (c : Call) (l : Local) (u : PendingCall) → l.call ≡ u.call
       → Answered done op.quota (views T op es) first now t c l.pc a → Tied (under_after a (Some u)) l
   tied_answer None done first now t c l u same h = (h, same)
   tied_answer (Some x) done first now t c l u same h = h.0
 
-  tied_go : (t k : ℕ) → k < last → es k ≡ Go t → (u : Under) → under_at (log_of T op es) t k ≡ Some u →
+  tied_go : (t k : ℕ) → k < last → es k ≡ Go t → (u : PendingCall) → under_at (log_of T op es) t k ≡ Some u →
       (local_of (state_at T op es k) t).call ≡ u.call
       → let f : Fed = T.feed (local_of (state_at T op es k) t) (seen_next T (state_at T op es k) t) in
       Tied (under_after f.answer (under_at (log_of T op es) t k)) f.local
@@ -161,7 +161,7 @@ module _ (T : Table) (law : Lawful T) (op : Opening) (es : ℕ → Event) (last 
       subst (λ o. Tied (under_after f.answer o) f.local) (sym is)
       (tied_answer f.answer _ _ _ t (local_of (state_at T op es k) t).call f.local u (st.same_call ∙ same) st.answered)
 
-  under_some : (o : Option Under) (l : Local) → Tied o l → l.pc ≢ 0 → (u : Under) × (o ≡ Some u) × (l.call ≡ u.call)
+  under_some : (o : Option PendingCall) (l : Local) → Tied o l → l.pc ≢ 0 → (u : PendingCall) × (o ≡ Some u) × (l.call ≡ u.call)
   under_some None l t ne = absurd (ne t)
   under_some (Some u) l t ne = (u, refl, t.1)
 

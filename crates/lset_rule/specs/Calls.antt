@@ -5,7 +5,7 @@ use Rattle.lset_words.specs.declared.Call.{Call}
 use Rattle.lset_words.specs.declared.Reply.{Reply}
 use Rattle.lset_steps.specs.declared.Event.{Event}
 use Rattle.lset_steps.specs.declared.Event.TheVariants.{Begin, Go}
-use Rattle.lset_rule.specs.declared.view.Under.{Under}
+use Rattle.lset_rule.specs.declared.view.PendingCall.{PendingCall}
 use Rattle.lset_rule.specs.declared.view.Past.{Past}
 use Rattle.lset_rule.specs.declared.view.View.{View}
 use Rattle.lset_steps.specs.Steps.{Table, seen_next}
@@ -23,7 +23,7 @@ begun_view m log c v = record v {
 }
 
 -- the record after event n: at the answer of the call under way it grows by that call
-abbrev pub record_after : Past → Option Reply → Option Under → ℕ → Past
+abbrev pub record_after : Past → Option Reply → Option PendingCall → ℕ → Past
 record_after r (Some x) (Some u) n = called r (own u x n)
 record_after r (Some x) None n = r
 record_after r None u n = r

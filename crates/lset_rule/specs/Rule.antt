@@ -7,7 +7,7 @@ use lib.ListN.{get_elem?}
 use Rattle.atomic_table.specs.Table as table
 use Rattle.atomic_table.specs.Table.{Me, Step}
 use Rattle.lset_steps.specs.declared.Event.{Event}
-use Rattle.lset_rule.specs.declared.view.Aside.{Aside}
+use Rattle.lset_rule.specs.declared.view.SpareThread.{SpareThread}
 use Rattle.lset_rule.specs.declared.view.Past.{Fresh}
 use Rattle.lset_rule.specs.declared.view.View.{View}
 use Rattle.lset_steps.specs.Steps.{Table, idle}
@@ -52,7 +52,7 @@ pub record Holds (m : Table) (k : Opening) (s : table.State (Unit {0}) View) : T
   pub known : (j : ℕ) (v : View) → get_elem? s.views j ≡ some v → StartsWith log v.seen
 
 -- MAKING THE FIRST SEAT: it has all threads, idle, the last one as its own
-abbrev pub asides_from : Opening → ℕ → ℕ → List Aside
+abbrev pub asides_from : Opening → ℕ → ℕ → List SpareThread
 asides_from k t zero = []
 asides_from k t (suc n) = record { thread = t; local = idle k.quota t } ∷ asides_from k (t + 1) n
 
@@ -72,7 +72,7 @@ opener k = record {
 
 -- SPLITTING A SEAT: it gives up its first further thread, and the new view has that thread, idle, with an empty record and the
 -- same events
-abbrev head_aside : View → List Aside → View
+abbrev head_aside : View → List SpareThread → View
 head_aside v [] = record v { spent = true }
 head_aside v (o ∷ os) = record v {
   thread = o.thread;
@@ -84,7 +84,7 @@ head_aside v (o ∷ os) = record v {
   theirs = [];
 }
 
-abbrev tail_asides : List Aside → List Aside
+abbrev tail_asides : List SpareThread → List SpareThread
 tail_asides [] = []
 tail_asides (o ∷ os) = os
 
@@ -99,7 +99,7 @@ right_view v = head_aside v v.others
 abbrev pub longer : List Event → List Event → List Event
 longer xs ys = cond (nat_le (length xs) (length ys)) ys xs
 
-abbrev pub aside : View → Aside
+abbrev pub aside : View → SpareThread
 aside w = record { thread = w.thread; local = w.local }
 
 abbrev pub joined : View → View → View

@@ -10,7 +10,7 @@ use Rattle.lset_steps.specs.declared.Local.{Local}
 use Rattle.lset_steps.specs.declared.Event.{Event}
 use Rattle.lset_steps.specs.Steps.{Table, State, Run, state_at, event_at, local_of, log_of}
 use Rattle.lset_rule.specs.declared.view.OwnCall.{OwnCall}
-use Rattle.lset_rule.specs.declared.view.Under.{Under}
+use Rattle.lset_rule.specs.declared.view.PendingCall.{PendingCall}
 use Rattle.lset_words.specs.Words.{Opening}
 
 -- the list begins with these events
@@ -20,40 +20,40 @@ StartsWith log seen = (rest : List Event) × (log ≡ seen ++ rest)
 -- a thread: its registers, its call under way and its ended calls
 pub record Here : Type 0 where
   pub local : Local
-  pub under : Option Under
+  pub under : Option PendingCall
   pub done : List OwnCall
 
-abbrev pub here : Local → Option Under → List OwnCall → Here
+abbrev pub here : Local → Option PendingCall → List OwnCall → Here
 here l u d = record { local = l; under = u; done = d }
 
 -- the call under way, once it has answered r at event n
-abbrev pub own : Under → Reply → ℕ → OwnCall
+abbrev pub own : PendingCall → Reply → ℕ → OwnCall
 own u r n = record { call = u.call; reply = r; begun = u.begun; ended = n }
 
 -- the call under way after a step that answered, or did not
-abbrev pub under_after : Option Reply → Option Under → Option Under
+abbrev pub under_after : Option Reply → Option PendingCall → Option PendingCall
 under_after (Some r) u = None
 under_after None None = None
 under_after None (Some u) = Some (record u { steps = u.steps + 1 })
 
 -- the call that ends at event n, if one does
-abbrev pub ending : Option Reply → Option Under → ℕ → List OwnCall
+abbrev pub ending : Option Reply → Option PendingCall → ℕ → List OwnCall
 ending (Some r) (Some u) n = own u r n ∷ []
 ending (Some r) None n = []
 ending None u n = []
 
 -- THE CALLS OF A THREAD in a log: the one under way, with the number of its Begin and the count of its steps, and the ended ones.
 -- under_next and done_next: after event n, from what was before it
-abbrev pub under_next : ℕ → Entry → ℕ → Option Under → Option Under
+abbrev pub under_next : ℕ → Entry → ℕ → Option PendingCall → Option PendingCall
 under_next n (began u c) t before = if u == t then Some (record { call = c; begun = n; steps = 0 }) else before
 under_next n (stepped u change answer) t before = if u == t then under_after answer before else before
 
-abbrev pub done_next : ℕ → Entry → ℕ → Option Under → List OwnCall → List OwnCall
+abbrev pub done_next : ℕ → Entry → ℕ → Option PendingCall → List OwnCall → List OwnCall
 done_next n (began u c) t open_now before = before
 done_next n (stepped u change answer) t open_now before = if u == t then before ++ ending answer open_now n else before
 
 -- after the first k events
-abbrev pub under_at : Log → ℕ → ℕ → Option Under
+abbrev pub under_at : Log → ℕ → ℕ → Option PendingCall
 under_at log t zero = None
 under_at log t (suc k) = under_next (suc k) (log k) t (under_at log t k)
 

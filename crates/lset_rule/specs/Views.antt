@@ -1,15 +1,15 @@
 -- WHAT A VIEW SAYS BY ITSELF. A seat's view is what its thread knows: the events that it has seen, and of each of its threads
 -- what that thread holds after them. Nothing here speaks of the table or of other seats.
 use Rattle.std.specs.Prelude.{◌≡◌, ◌≢◌, ◌⊎◌, ℕ, ◌+◌, ◌<◌, false, List, [], ◌∷◌, length, Option, Some, None}
-use Rattle.lset_rule.specs.declared.view.Under.{Under}
-use Rattle.lset_rule.specs.declared.view.Aside.{Aside}
+use Rattle.lset_rule.specs.declared.view.PendingCall.{PendingCall}
+use Rattle.lset_rule.specs.declared.view.SpareThread.{SpareThread}
 use Rattle.lset_rule.specs.declared.view.Past.{Past}
 use Rattle.lset_rule.specs.declared.view.View.{View}
 use Rattle.lset_steps.specs.Steps.{Table}
 use Rattle.lset_rule.specs.Pasts.{root, calls_of, Before, InOrder, Apart, IsIn}
 use Rattle.lset_rule.specs.Runs.{Here, here, at_end, IsRunOf}
 
-abbrev pub HasAside : List Aside → ℕ → Type 0
+abbrev pub HasAside : List SpareThread → ℕ → Type 0
 HasAside [] t = ⊥
 HasAside (o ∷ os) t = (t ≡ o.thread) ⊎ HasAside os t
 
@@ -19,13 +19,13 @@ HasThread v t = (t ≡ v.thread) ⊎ HasAside v.others t
 
 -- Each of these further threads is another than t and named once, is idle, and has ended just the calls of the record. `ends`
 -- says of each thread where it stands.
-abbrev pub AreIdle : (ℕ → Here) → ℕ → Past → List Aside → Type 0
+abbrev pub AreIdle : (ℕ → Here) → ℕ → Past → List SpareThread → Type 0
 AreIdle ends t r [] = Unit {0}
 AreIdle ends t r (o ∷ os) = (o.thread ≢ t) × (ends o.thread ≡ here o.local None (calls_of o.thread r))
     × (¬ (HasAside os o.thread)) × AreIdle ends t r os
 
 -- each call of the record had ended before the call under way began
-abbrev pub InTime : Option Under → Past → Type 0
+abbrev pub InTime : Option PendingCall → Past → Type 0
 InTime None r = Unit {0}
 InTime (Some u) r = Before u.begun r
 
@@ -49,7 +49,7 @@ pub record Stands (m : Table) (v : View) : Type 0 where
 
 -- the seat is in use, and its own thread has a call under way
 abbrev pub IsOpen : View → Type 0
-IsOpen v = (v.spent ≡ false) × ((u : Under) × (v.under ≡ Some u))
+IsOpen v = (v.spent ≡ false) × ((u : PendingCall) × (v.under ≡ Some u))
 
 -- the seat is in use, and its own thread has none
 abbrev pub IsIdle : View → Type 0

@@ -20,7 +20,7 @@ pub use pause::{Pause, Spin};
 pub use rounds::{Countless, Rounds, or_wait_forever};
 pub use rule::{Asking, Cutting, Follows, Heeding, Learning, Noting, Onward, Starting, Taking};
 pub use slots::OwnSlots;
-pub use view::{Aside, Opened, OwnCall, Past, Under, View};
+pub use view::{Opened, OwnCall, Past, PendingCall, SpareThread, View};
 pub use word_steps::{
     TableSeat, Words, exchange_first, exchange_on, load_first, load_on, start_on, step_on,
     store_first, store_on,

@@ -46,7 +46,7 @@ pub struct OwnCall {
 }
 
 /// A call under way.
-pub struct Under {
+pub struct PendingCall {
     pub call: Call,
     /// The number of its Begin.
     pub begun: u64,
@@ -65,7 +65,7 @@ pub enum Past {
 }
 
 /// A further thread of a seat, which is idle.
-pub struct Aside {
+pub struct SpareThread {
     pub thread: u32,
     pub local: Local,
 }
@@ -81,9 +81,9 @@ pub struct View {
     /// The registers of its own thread.
     pub local: Local,
     /// The call of its own thread that is under way.
-    pub under: Option<Under>,
+    pub under: Option<PendingCall>,
     /// Its further threads: those that it gathered, or that are still to be split off.
-    pub others: LinkedList<Aside>,
+    pub others: LinkedList<SpareThread>,
     /// Its record.
     pub past: Past,
     /// The events that it has seen.

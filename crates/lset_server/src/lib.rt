@@ -7,6 +7,6 @@ mod serving;
 mod workers;
 
 pub use lset_session::{
-    Device, Ended, Request, Sink, Source, Why, buffered_session, read_request, session,
+    Device, EndReason, Ended, Request, Sink, Source, buffered_session, read_request, session,
 };
 pub use serving::{ServeCause, ServeFault, Served, serve};

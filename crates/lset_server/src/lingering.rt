@@ -4,7 +4,7 @@
 ghost use Rattle.std.specs.Prelude.{◌≡◌, ◌<◌, ◌≤◌, ℕ, List, false, length};
 ghost use Rattle.std.specs.Io.KnownBytes.{Consumes, IsAtEnd};
 
-use lset_session::{Device, Source, Why};
+use lset_session::{Device, EndReason, Source};
 use std::io;
 use std::io::Read;
 use std::net::{Shutdown, TcpStream};
@@ -61,10 +61,10 @@ fn drop_rest<I: Source>(reader: &mut I)
 /// for a second and 1,048,576 bytes at most, so that the system has time to hand on the answers. Where the system refuses,
 /// the connection is let go at once. No contract says what a connection or a clock does; how many bytes are dropped is
 /// `drop_rest`'s.
-pub fn take_leave<R: Clock>(rt: &R, stream: &TcpStream, why: Why) {
+pub fn take_leave<R: Clock>(rt: &R, stream: &TcpStream, why: EndReason) {
     match why {
-        Why::Quit | Why::Long | Why::Limit => {}
-        Why::End | Why::ReadFault | Why::WriteFault => return,
+        EndReason::Quit | EndReason::Long | EndReason::Limit => {}
+        EndReason::End | EndReason::ReadFault | EndReason::WriteFault => return,
     }
     let Ok(start) = Instant::now(rt) else { return };
     if stream.shutdown(Shutdown::Write).is_err() {

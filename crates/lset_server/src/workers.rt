@@ -26,7 +26,7 @@ use std::time::Clock;
 
 /// What a worker gives back: its pass, its seat, and how many sessions it held and calls it made.
 #[derive(Drop)]
-pub struct Back<M: Running> {
+pub struct WorkerResult<M: Running> {
     pub pass: Token<TcpStream>,
     pub seat: Seat<M>,
     pub sessions: u64,
@@ -35,21 +35,21 @@ pub struct Back<M: Running> {
 
 /// What a worker owes: the channel, the set and the seat that it was started with, and the most sessions that it may hold.
 #[derive(Drop)]
-pub struct Owed<M: Running> {
+pub struct WorkerPromise<M: Running> {
     pub from: Snapshot<Receiver<TcpStream>>,
     pub set: Snapshot<LiveSet<M>>,
     pub seat: Snapshot<Seat<M>>,
     pub most: u64,
 }
 
-impl<M: Running> Promise<Back<M>> for Owed<M> {
+impl<M: Running> Promise<WorkerResult<M>> for WorkerPromise<M> {
     ghost kept_by = { λ p b. IsSeatAt (receives_on p.from.value) b.pass × (b.seat.set ≡ p.set.value)
         × HasWorked p.seat.value b.seat (view b.pass) b.sessions b.calls
         × (b.sessions ≤ p.most) × (b.calls ≤ MOST_LINES * p.most) };
 }
 
 /// A worker that was started.
-pub type Worker<M> = PromisedHandle<Back<M>, Owed<M>>;
+pub type Worker<M> = PromisedHandle<WorkerResult<M>, WorkerPromise<M>>;
 
 /// Waits for the next connection. `None` where no more come.
 fn next<R: Wait>(
@@ -97,7 +97,7 @@ fn work<R: Wait + Clock, M: Running>(
     set: &LiveSet<M>,
     mut seat: Seat<M>,
     most: u32,
-) -> Back<M>
+) -> WorkerResult<M>
     requires pass { IsSeatAt (receives_on from.now) pass × (view pass ≡ tally 1 [] []) }
     requires seat { seat.set ≡ set.now }
     ensures pass { IsSeatAt (receives_on from.now) result.pass }
@@ -114,7 +114,7 @@ fn work<R: Wait + Clock, M: Running>(
         calls += hold(rt, &connection.stream, set, &mut seat);
         sessions += 1;
     }
-    Back {
+    WorkerResult {
         pass,
         seat,
         sessions,
@@ -159,7 +159,7 @@ impl<'s, R: Threads + Wait + Clock + Sync, M: Running + Send + Sync> Pool<'s, R,
         let from = self.from;
         let set = self.set;
         let most = self.sessions;
-        let promise = Owed {
+        let promise = WorkerPromise {
             from: Snapshot::of(from),
             set: Snapshot::of(set),
             seat: Snapshot::of(&seat),
@@ -221,7 +221,7 @@ impl<'s, R: Threads + Wait + Clock + Sync, M: Running + Send + Sync> Pool<'s, R,
         let mut calls = 0u64;
         for worker in workers {
             let back = worker.join(self.rt);
-            let Back {
+            let WorkerResult {
                 pass: part,
                 seat: given,
                 sessions: served,

@@ -15,8 +15,8 @@ use Rattle.lset_text.proofs.PartLaws.{some_part}
 use Rattle.lset_words.specs.Records.{Record, CallMade, with_calls}
 use Rattle.lset_words.proofs.Records.{with_calls-append}
 use Rattle.lset_session.specs.declared.TheConstants.{LONGEST_LINE, MOST_LINES}
-use Rattle.lset_session.specs.declared.sessions.Why.{Why}
-use Rattle.lset_session.specs.declared.sessions.Why.TheVariants as why
+use Rattle.lset_session.specs.declared.sessions.EndReason.{EndReason}
+use Rattle.lset_session.specs.declared.sessions.EndReason.TheVariants as why
 use Rattle.lset_session.specs.declared.requests.Request.{Request}
 use Rattle.lset_session.specs.declared.requests.Request.TheVariants as request
 use Rattle.lset_session.specs.Devices.{CutShort, Writes}
@@ -91,7 +91,7 @@ end_quit : (e : Exchange) (q : Request) → turn_of e ≡ line q → q ≡ reque
 end_quit e request.Quit h is = ap (λ t. end_after t why.End) h
 end_quit e q h is = absurd cc
 
-end_other : (e : Exchange) (q : Request) (w : Why) → turn_of e ≡ line q → q ≢ request.Quit → end_after (turn_of e) w ≡ w
+end_other : (e : Exchange) (q : Request) (w : EndReason) → turn_of e ≡ line q → q ≢ request.Quit → end_after (turn_of e) w ≡ w
 end_other e request.Quit w h other = absurd (other refl)
 end_other e q w h other = ap (λ t. end_after t w) h
 
@@ -104,7 +104,7 @@ counted_is e q h = refl
 -- ---- what was heard
 
 -- the last line of a session was written, or its write has failed
-told_last : (left left' : ℕ) (bytes p' : List ℕ) (talk : List Exchange) (why : Why) (whole : Bool) → IsLast why
+told_last : (left left' : ℕ) (bytes p' : List ℕ) (talk : List Exchange) (why : EndReason) (whole : Bool) → IsLast why
     → ((more : List ℕ) → turns_at left (cut_at 10 (bytes ++ more)) ≡ turns_in talk ++ []) → end_of (turns_in talk) ≡ why
     → Told left bytes (ending whole why) left' p' talk
 told_last left left' bytes p' talk why true last all end = (last, λ more. ([], all more, λ _. (refl, end)))
@@ -118,7 +118,7 @@ wrote_whole w w' w'' s t h k =
 wrote_one : (w w' : Option (List ℕ)) (e : Exchange) → Appends w w' (answer_of e) → Appends w w' (answers_in (e ∷ []))
 wrote_one w w' e wrote = subst (Appends w w') (sym (append-nil (answer_of e))) wrote
 
-wrote_last : (w w' w'' : Option (List ℕ)) (said : List Exchange) (e : Exchange) (why : Why) (whole : Bool)
+wrote_last : (w w' w'' : Option (List ℕ)) (said : List Exchange) (e : Exchange) (why : EndReason) (whole : Bool)
     → (Appends w w'' (answers_in (said ++ e ∷ [])) → Wrote why w w'' (said ++ e ∷ []))
     → Appends w w' (answers_in said) → Writes whole w' w'' (answer_of e) → WroteSoFar (ending whole why) w w'' (said ++ e ∷ [])
 wrote_last w w' w'' said e why true is h k = is (wrote_whole w w' w'' said (e ∷ []) h (wrote_one w' w'' e k))
@@ -226,7 +226,7 @@ turns_then s t rest = sym (append_assoc (turns_in s) (turns_in t) rest) ∙ ap (
 end_then : (s t : List Exchange) → end_of (turns_in s) ≡ why.End → end_of (turns_in (s ++ t)) ≡ end_of (turns_in t)
 end_then s t h = ap end_of (map-append turn_of s t) ∙ end_append (turns_in s) (turns_in t) h
 
-told_then : (l l' l'' : ℕ) (p p' p'' cs : List ℕ) (o : Option Why) (s t : List Exchange) → Told l p None l' p' s →
+told_then : (l l' l'' : ℕ) (p p' p'' cs : List ℕ) (o : Option EndReason) (s t : List Exchange) → Told l p None l' p' s →
     Told l' (p' ++ cs) o l'' p'' t
     → Told l (p ++ cs) o l'' p'' (s ++ t)
 told_then l l' l'' p p' p'' cs None s t h k = (
@@ -248,7 +248,7 @@ told_then l l' l'' p p' p'' cs (Some w) s t h k = (
       ),
 )
 
-wrote_then : (o : Option Why) (w w' w'' : Option (List ℕ)) (s t : List Exchange) → Appends w w' (answers_in s) →
+wrote_then : (o : Option EndReason) (w w' w'' : Option (List ℕ)) (s t : List Exchange) → Appends w w' (answers_in s) →
     WroteSoFar o w' w'' t → WroteSoFar o w w'' (s ++ t)
 wrote_then None w w' w'' s t h k = wrote_whole w w' w'' s t h k
 wrote_then (Some why.WriteFault) w w' w'' s t h (said, last, front, b, cut, all, is, k) =
@@ -259,7 +259,7 @@ wrote_then (Some why.WriteFault) w w' w'' s t h (said, last, front, b, cut, all,
     (s ++ said, last, front, b, cut, others, is, subst (Appends w w'') answers whole)
 wrote_then (Some o) w w' w'' s t h k = wrote_whole w w' w'' s t h k
 
-pub heard_then : (l l' l'' : ℕ) (p p' p'' cs : List ℕ) (o : Option Why) (r r' r'' : Record) (w w' w'' : Option (List ℕ))
+pub heard_then : (l l' l'' : ℕ) (p p' p'' cs : List ℕ) (o : Option EndReason) (r r' r'' : Record) (w w' w'' : Option (List ℕ))
     (n n' n'' : ℕ)
     → Heard l p None l' p' r r' w w' n n' → Heard l' (p' ++ cs) o l'' p'' r' r'' w' w'' n' n'' →
     Heard l (p ++ cs) o l'' p'' r r'' w w'' n n''
@@ -280,7 +280,7 @@ heard_then l l' l'' p p' p'' cs o r r' r'' w w' w'' n n' n'' h k = record {
 -- ---- the bytes of one read
 
 -- one byte more
-pub heard_byte : (l l' l'' : ℕ) (p p' p'' xs : List ℕ) (i : ℕ) (o : Option Why) (r r' r'' : Record) (w w' w'' : Option (List ℕ))
+pub heard_byte : (l l' l'' : ℕ) (p p' p'' xs : List ℕ) (i : ℕ) (o : Option EndReason) (r r' r'' : Record) (w w' w'' : Option (List ℕ))
     (n n' n'' : ℕ)
     → i < length xs → Heard l (p ++ take i xs) None l' p' r r' w w' n n' →
     Heard l' (p' ++ get_or xs i 0 ∷ []) o l'' p'' r' r'' w' w'' n' n''
@@ -293,7 +293,7 @@ heard_byte l l' l'' p p' p'' xs i o r r' r'' w w' w'' n n' n'' lt h k =
     (heard_then l l' l'' (p ++ take i xs) p' p'' (get_or xs i 0 ∷ []) o r r' r'' w w' w'' n n' n'' h k)
 
 -- the bytes after the end are not heard
-pub heard_rest : (l l' : ℕ) (p p' xs : List ℕ) (i : ℕ) (end : Why) (r r' : Record) (w w' : Option (List ℕ)) (n n' : ℕ)
+pub heard_rest : (l l' : ℕ) (p p' xs : List ℕ) (i : ℕ) (end : EndReason) (r r' : Record) (w w' : Option (List ℕ)) (n n' : ℕ)
     → Heard l (p ++ take i xs) (Some end) l' p' r r' w w' n n' → Heard l (p ++ xs) (Some end) l' p' r r' w w' n n'
 heard_rest l l' p p' xs i end r r' w w' n n' h = record {
   talk = h.talk;
@@ -315,7 +315,7 @@ heard_rest l l' p p' xs i end r r' w w' n n' h = record {
 -- ---- the end
 
 -- no whole line is left, and no line has ended the session
-pub spoken_rest : (end : Why) (bytes : List ℕ) (t : Talk) (r r' : Record) (s s' w w' : Option (List ℕ)) → IsTalk t
+pub spoken_rest : (end : EndReason) (bytes : List ℕ) (t : Talk) (r r' : Record) (s s' w w' : Option (List ℕ)) → IsTalk t
     → ((talk : List Exchange) → Appends w w' (answers_in talk) → Wrote end w w' talk) → why.End ≡ text_end end
     → (end ≡ why.End → IsAtEnd s') → Consumes s s' bytes →
     Heard MOST_LINES bytes None t.left (pending_of t) r r' w w' 0 t.calls
@@ -339,7 +339,7 @@ spoken_rest end bytes t r r' s s' w w' is wrote at_end drained read h =
       drained = drained;
     }
 
-pub spoken_last : (end : Why) (bytes : List ℕ) (left : ℕ) (p : List ℕ) (r r' : Record) (s s' w w' : Option (List ℕ)) (n : ℕ)
+pub spoken_last : (end : EndReason) (bytes : List ℕ) (left : ℕ) (p : List ℕ) (r r' : Record) (s s' w w' : Option (List ℕ)) (n : ℕ)
     → Consumes s s' bytes → Heard MOST_LINES bytes (Some end) left p r r' w w' 0 n → IsSession end n s s' r r' w w'
 unfolding turns_of
 spoken_last end bytes left p r r' s s' w w' n read h =
@@ -359,10 +359,10 @@ spoken_last end bytes left p r r' s s' w w' n read h =
       drained = λ is. absurd (not_end end h.told.0 is);
     }
   where
-    not_end : (end : Why) → IsLast end → end ≡ why.End → ⊥
+    not_end : (end : EndReason) → IsLast end → end ≡ why.End → ⊥
     not_end end l is = subst IsLast is l
 
-    itself : (end : Why) → IsLast end → end ≡ text_end end
+    itself : (end : EndReason) → IsLast end → end ≡ text_end end
     itself why.End l = absurd l
     itself why.ReadFault l = absurd l
     itself end l = refl

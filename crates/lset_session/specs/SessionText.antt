@@ -17,8 +17,8 @@ use Rattle.lset_words.specs.Records.{CallMade}
 use Rattle.lset_session.specs.declared.TheConstants.{LONGEST_LINE, MOST_LINES}
 use Rattle.lset_session.specs.declared.requests.Request.{Request}
 use Rattle.lset_session.specs.declared.requests.Request.TheVariants as request
-use Rattle.lset_session.specs.declared.sessions.Why.{Why}
-use Rattle.lset_session.specs.declared.sessions.Why.TheVariants as why
+use Rattle.lset_session.specs.declared.sessions.EndReason.{EndReason}
+use Rattle.lset_session.specs.declared.sessions.EndReason.TheVariants as why
 
 -- ---- what a line asks for
 
@@ -65,13 +65,13 @@ unfoldable pub turns_of : List ℕ → List Turn
 turns_of bytes = turns_at MOST_LINES (cut_at 10 bytes)
 
 -- how a session with these turns ends
-abbrev pub end_after : Turn → Why → Why
+abbrev pub end_after : Turn → EndReason → EndReason
 end_after (line request.Quit) otherwise = why.Quit
 end_after (line other) otherwise = otherwise
 end_after long otherwise = why.Long
 end_after limit otherwise = why.Limit
 
-abbrev pub end_of : List Turn → Why
+abbrev pub end_of : List Turn → EndReason
 end_of [] = why.End
 end_of (t ∷ ts) = end_after t (end_of ts)
 

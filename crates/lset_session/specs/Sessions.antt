@@ -2,8 +2,8 @@
 use Rattle.std.specs.Prelude.{◌≡◌, ◌≢◌, ℕ, List, [], ◌∷◌, ◌++◌, length, Option}
 use Rattle.std.specs.Io.KnownBytes.{Appends, Consumes, IsAtEnd}
 use Rattle.lset_words.specs.Records.{Record, with_calls}
-use Rattle.lset_session.specs.declared.sessions.Why.{Why}
-use Rattle.lset_session.specs.declared.sessions.Why.TheVariants as why
+use Rattle.lset_session.specs.declared.sessions.EndReason.{EndReason}
+use Rattle.lset_session.specs.declared.sessions.EndReason.TheVariants as why
 use Rattle.lset_session.specs.SessionText.{Turn, turns_of, end_of, Exchange, turns_in, answers_in, calls_in, answer_of}
 
 -- the answers were written up to the last one, and of the last one a proper front
@@ -13,19 +13,19 @@ CutAnswers w w' talk =
     × (talk ≡ said ++ last ∷ []) × (answer_of last ≡ front ++ b ∷ cut) × Appends w w' (answers_in said ++ front)
 
 -- what was written of the answers, if the session has ended so
-abbrev pub Wrote : Why → Option (List ℕ) → Option (List ℕ) → List Exchange → Type 0
+abbrev pub Wrote : EndReason → Option (List ℕ) → Option (List ℕ) → List Exchange → Type 0
 Wrote why.WriteFault w w' talk = CutAnswers w w' talk
 Wrote end w w' talk = Appends w w' (answers_in talk)
 
 -- how the text that was read ends, if the session has ended so: a reader that has failed has ended no text
-abbrev pub text_end : Why → Why
+abbrev pub text_end : EndReason → EndReason
 text_end why.ReadFault = why.End
 text_end end = end
 
 -- A SESSION that has ended so and made so many calls: the bytes that were left to read before and after it (s, s'), the record
 -- of its
 -- seat (r, r'), and the bytes that were written (w, w').
-pub record IsSession (end : Why) (calls : ℕ) (s s' : Option (List ℕ)) (r r' : Record) (w w' : Option (List ℕ)) : Type 0 where
+pub record IsSession (end : EndReason) (calls : ℕ) (s s' : Option (List ℕ)) (r r' : Record) (w w' : Option (List ℕ)) : Type 0 where
   -- the bytes that were read, and what was asked and answered
   pub bytes : List ℕ
   pub talk : List Exchange

@@ -5,8 +5,8 @@ use Rattle.std.specs.Io.KnownBytes.{Appends}
 use Rattle.lset_text.specs.Parts.{cut_at, Lacks}
 use Rattle.lset_words.specs.Records.{Record, with_calls}
 use Rattle.lset_session.specs.declared.TheConstants.{LONGEST_LINE, MOST_LINES}
-use Rattle.lset_session.specs.declared.sessions.Why.{Why}
-use Rattle.lset_session.specs.declared.sessions.Why.TheVariants as why
+use Rattle.lset_session.specs.declared.sessions.EndReason.{EndReason}
+use Rattle.lset_session.specs.declared.sessions.EndReason.TheVariants as why
 use Rattle.lset_session.specs.declared.sessions.Talk.{Talk}
 use Rattle.lset_session.specs.declared.requests.Request.{Request}
 use Rattle.lset_session.specs.declared.requests.Request.TheVariants as request
@@ -14,19 +14,19 @@ use Rattle.lset_session.specs.SessionText.{Turn, turns_at, end_of, Exchange, tur
 use Rattle.lset_session.specs.Sessions.{Wrote}
 
 -- what was written of the answers, if the session continues (`None`) or has ended
-abbrev pub WroteSoFar : Option Why → Option (List ℕ) → Option (List ℕ) → List Exchange → Type 0
+abbrev pub WroteSoFar : Option EndReason → Option (List ℕ) → Option (List ℕ) → List Exchange → Type 0
 WroteSoFar None w w' talk = Appends w w' (answers_in talk)
 WroteSoFar (Some end) w w' talk = Wrote end w w' talk
 
 -- a turn ends a session so, or a write that has failed
-abbrev pub IsLast : Why → Type 0
+abbrev pub IsLast : EndReason → Type 0
 IsLast why.End = ⊥
 IsLast why.ReadFault = ⊥
 IsLast end = Unit {0}
 
 -- the turns of the talk are the first ones; if the session has not ended, those that follow are the turns of the bytes
 -- that are pending and of what comes after them
-abbrev pub Told : ℕ → List ℕ → Option Why → ℕ → List ℕ → List Exchange → Type 0
+abbrev pub Told : ℕ → List ℕ → Option EndReason → ℕ → List ℕ → List Exchange → Type 0
 Told left bytes None left' pending talk =
     (end_of (turns_in talk) ≡ why.End)
     × ((more : List ℕ) → turns_at left (cut_at 10 (bytes ++ more)) ≡ turns_in talk
@@ -36,7 +36,7 @@ Told left bytes (Some w) left' pending talk =
     × (w ≢ why.WriteFault → (later ≡ []) × (end_of (turns_in talk) ≡ w)))
 
 -- Of these bytes, if `left` lines may be answered: how the session continues (`None`) or ends, and what it did.
-pub record Heard (left : ℕ) (bytes : List ℕ) (o : Option Why) (left' : ℕ) (pending : List ℕ) (r r' : Record)
+pub record Heard (left : ℕ) (bytes : List ℕ) (o : Option EndReason) (left' : ℕ) (pending : List ℕ) (r r' : Record)
     (w w' : Option (List ℕ)) (calls calls' : ℕ) : Type 0 where
   pub talk : List Exchange
   pub told : Told left bytes o left' pending talk
@@ -61,7 +61,7 @@ abbrev pub Nearer : Talk → Talk → ℕ → Type 0
 Nearer t u n = (LONGEST_LINE + 1) * u.left + t.len + n ≤ (LONGEST_LINE + 1) * t.left + u.len
 
 -- a session heard these bytes
-abbrev pub Hears : List ℕ → Option Why → Talk → Talk → Record → Record → Option (List ℕ) → Option (List ℕ) → Type 0
+abbrev pub Hears : List ℕ → Option EndReason → Talk → Talk → Record → Record → Option (List ℕ) → Option (List ℕ) → Type 0
 Hears bytes o t u r r' w w' = Heard t.left (pending_of t ++ bytes) o u.left (pending_of u) r r' w w' t.calls u.calls
 
 -- the calls of a request
@@ -70,10 +70,10 @@ counted (request.Call c) = 1
 counted other = 0
 
 -- whether the writer has failed
-abbrev pub failed_by : Option Why → Bool
+abbrev pub failed_by : Option EndReason → Bool
 failed_by (Some why.WriteFault) = true
 failed_by other = false
 
 -- the last line was written, or not
-abbrev pub ending : Bool → Why → Option Why
+abbrev pub ending : Bool → EndReason → Option EndReason
 ending whole w = Some (if whole then w else why.WriteFault)

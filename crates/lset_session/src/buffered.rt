@@ -5,10 +5,10 @@
 ghost use Rattle.std.specs.Prelude.{◌≡◌, ◌≢◌, ◌<◌, ◌≤◌, None, false, Option, List, ℕ};
 ghost use Rattle.lset_session.specs.Sessions.{IsSession};
 ghost use Rattle.lset_session.specs.declared.TheConstants.{MOST_LINES};
-ghost use Rattle.lset_session.specs.declared.sessions.Why.{Why as Ending};
+ghost use Rattle.lset_session.specs.declared.sessions.EndReason.{EndReason as Ending};
 
 use crate::devices::{Sink, Source, write_all};
-use crate::sessions::{Ended, Why, session};
+use crate::sessions::{EndReason, Ended, session};
 use lset_words::SetCalls;
 use std::cell::RefCell;
 use std::sync::Wait;
@@ -160,7 +160,7 @@ pub fn buffered_session<R: Wait, I: Source + Drop, O: Sink + Drop, S: SetCalls>(
     requires seat { S.is_of set.now seat.old }
     requires works { (I.has_failed reader ≡ false) × (O.has_failed writer ≡ false) }
     // [Session] of what was read and of the calls that were made, and nothing of what was written.
-    ensures session { (end : Ending) × (left : Option (List ℕ)) × (result.why ≢ Why.WriteFault → result.why ≡ end)
+    ensures session { (end : Ending) × (left : Option (List ℕ)) × (result.why ≢ EndReason.WriteFault → result.why ≡ end)
         × IsSession end result.calls (I.remaining reader) left (S.record_of seat.old) (S.record_of seat.new) None None }
     ensures few { result.calls ≤ MOST_LINES }
     ensures seat { S.is_of set.now seat.new × (S.held_by seat.new ≡ S.held_by seat.old) }
@@ -184,7 +184,7 @@ pub fn buffered_session<R: Wait, I: Source + Drop, O: Sink + Drop, S: SetCalls>(
         ended
     } else {
         Ended {
-            why: Why::WriteFault,
+            why: EndReason::WriteFault,
             ..ended
         }
     }

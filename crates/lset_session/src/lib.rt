@@ -10,7 +10,7 @@ mod sessions;
 pub use buffered::buffered_session;
 pub use devices::{Device, Sink, Source, write_all};
 pub use requests::{Request, read_request};
-pub use sessions::{Ended, Why, session};
+pub use sessions::{EndReason, Ended, session};
 
 /// The maximum length of a line of a session, in bytes without its newline.
 pub const LONGEST_LINE: usize = 64;

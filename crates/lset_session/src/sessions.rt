@@ -17,7 +17,7 @@ use std::sync::Wait;
 
 /// Why a session has ended.
 #[derive(Clone, Copy, Debug, PartialEq, Eq)]
-pub enum Why {
+pub enum EndReason {
     /// A line was `QUIT`; it was answered `BYE`.
     Quit,
     /// No byte is left to read. A rest without a newline was dropped.
@@ -35,7 +35,7 @@ pub enum Why {
 /// The end of a session: why it ended, and how many calls it made.
 #[derive(Clone, Copy, Debug, PartialEq, Eq)]
 pub struct Ended {
-    pub why: Why,
+    pub why: EndReason,
     pub calls: u64,
 }
 
@@ -95,16 +95,16 @@ fn answer<R: Wait, W: Sink, S: SetCalls>(
 }
 
 /// Writes the line after which a session ends so, and returns how it has ended.
-fn last_line<W: Sink>(writer: &mut W, text: &[u8], why: Why) -> Why
+fn last_line<W: Sink>(writer: &mut W, text: &[u8], why: EndReason) -> EndReason
     requires works { W.has_failed writer.old ≡ false }
-    ensures { (whole : Bool) × (result ≡ (if whole then why else Why.WriteFault))
+    ensures { (whole : Bool) × (result ≡ (if whole then why else EndReason.WriteFault))
         × Writes whole (W.written writer.old) (W.written writer.new) text.now
         × (W.has_failed writer.new ≡ (if whole then false else true)) }
 {
     if write_all(writer, text) {
         why
     } else {
-        Why::WriteFault
+        EndReason::WriteFault
     }
 }
 
@@ -125,7 +125,7 @@ fn line_in<R: Wait, W: Sink, S: SetCalls>(
     set: &S,
     seat: &mut S::Seat,
     talk: &mut Talk,
-) -> Option<Why>
+) -> Option<EndReason>
     requires seat { S.is_of set.now seat.old }
     requires talk { IsTalk talk.old }
     requires works { W.has_failed writer.old ≡ false }
@@ -140,13 +140,13 @@ fn line_in<R: Wait, W: Sink, S: SetCalls>(
     talk.left -= 1;
     talk.calls += count_of(request);
     if !answer(rt, writer, set, seat, request) {
-        return Some(Why::WriteFault);
+        return Some(EndReason::WriteFault);
     }
     if let Request::Quit = request {
-        return Some(Why::Quit);
+        return Some(EndReason::Quit);
     }
     if talk.left == 0 {
-        return Some(last_line(writer, b"LIMIT\n", Why::Limit));
+        return Some(last_line(writer, b"LIMIT\n", EndReason::Limit));
     }
     None
 }
@@ -159,7 +159,7 @@ fn byte_in<R: Wait, W: Sink, S: SetCalls>(
     seat: &mut S::Seat,
     talk: &mut Talk,
     byte: u8,
-) -> Option<Why>
+) -> Option<EndReason>
     requires seat { S.is_of set.now seat.old }
     requires talk { IsTalk talk.old }
     requires works { W.has_failed writer.old ≡ false }
@@ -173,7 +173,7 @@ fn byte_in<R: Wait, W: Sink, S: SetCalls>(
         return line_in(rt, writer, set, seat, talk);
     }
     if talk.len == LONGEST_LINE {
-        return Some(last_line(writer, b"LONG\n", Why::Long));
+        return Some(last_line(writer, b"LONG\n", EndReason::Long));
     }
     talk.line[talk.len] = byte;
     talk.len += 1;
@@ -188,7 +188,7 @@ fn bytes_in<R: Wait, W: Sink, S: SetCalls>(
     seat: &mut S::Seat,
     talk: &mut Talk,
     bytes: &[u8],
-) -> Option<Why>
+) -> Option<EndReason>
     requires seat { S.is_of set.now seat.old }
     requires talk { IsTalk talk.old }
     requires works { W.has_failed writer.old ≡ false }
@@ -234,8 +234,8 @@ pub fn session<R: Wait, I: Source, O: Sink, S: SetCalls>(
     ensures session { IsSession result.why result.calls (I.remaining reader.old) (I.remaining reader.new)
         (S.record_of seat.old) (S.record_of seat.new) (O.written writer.old) (O.written writer.new) }
     // The faults are those of the devices.
-    ensures read_fault { IsTrue (I.has_failed reader.new) ↔ (result.why ≡ Why.ReadFault) }
-    ensures write_fault { IsTrue (O.has_failed writer.new) ↔ (result.why ≡ Why.WriteFault) }
+    ensures read_fault { IsTrue (I.has_failed reader.new) ↔ (result.why ≡ EndReason.ReadFault) }
+    ensures write_fault { IsTrue (O.has_failed writer.new) ↔ (result.why ≡ EndReason.WriteFault) }
     ensures few { result.calls ≤ MOST_LINES }
     ensures seat { S.is_of set.now seat.new × (S.held_by seat.new ≡ S.held_by seat.old) }
 {
@@ -249,13 +249,13 @@ pub fn session<R: Wait, I: Source, O: Sink, S: SetCalls>(
     loop {
         let Some(count) = reader.read(&mut buffer) else {
             return Ended {
-                why: Why::ReadFault,
+                why: EndReason::ReadFault,
                 calls: talk.calls,
             };
         };
         if count == 0 {
             return Ended {
-                why: Why::End,
+                why: EndReason::End,
                 calls: talk.calls,
             };
         }

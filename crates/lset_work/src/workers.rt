@@ -21,14 +21,14 @@ pub struct Done<M: Running> {
 
 /// What a thread owes: the calls of its program, made on its seat, unless its gate may answer false.
 #[derive(Drop)]
-pub struct Owed<M: Running, G: Gate> {
+pub struct WorkerPromise<M: Running, G: Gate> {
     pub set: Snapshot<LiveSet<M>>,
     pub gate: Snapshot<G>,
     pub seat: Snapshot<Seat<M>>,
     pub program: Snapshot<Vec<Call>>,
 }
 
-impl<M: Running, G: Gate> Promise<Done<M>> for Owed<M, G> {
+impl<M: Running, G: Gate> Promise<Done<M>> for WorkerPromise<M, G> {
     ghost kept_by = { λ owed done. (done.seat.set ≡ owed.set.value) × (done.seat.held ≡ owed.seat.value.held)
         × MatchOption done.replies (G.may_shut owed.gate.value ≡ true)
         (λ v. IsMadeOn owed.seat.value.past owed.program.value.items v.items done.seat.past)
@@ -36,7 +36,7 @@ impl<M: Running, G: Gate> Promise<Done<M>> for Owed<M, G> {
 }
 
 /// A thread that was started.
-pub type Worker<M, G> = PromisedHandle<Done<M>, Owed<M, G>>;
+pub type Worker<M, G> = PromisedHandle<Done<M>, WorkerPromise<M, G>>;
 
 /// Makes the calls of a program until the gate answers false, and adds their replies. Tells whether all were made.
 fn make_calls<R: Wait, M: Running, G: Gate>(
@@ -116,7 +116,7 @@ impl<'s, R: Wait + Sync, M: Running + Send + Sync, G: Gate + Sync> Shared<'s, R,
         let rt = self.rt;
         let set = self.set;
         let gate = self.gate;
-        let owed = Owed {
+        let owed = WorkerPromise {
             set: Snapshot::of(set),
             gate: Snapshot::of(gate),
             seat: Snapshot::of(&seat),

@@ -3,7 +3,7 @@ use crate::failing::{FailingReader, FailingWriter};
 use crate::opened::{
     ANSWERS, CEILINGS, LINES, held, held_buffered, one_seat, stopped_at, was_held,
 };
-use lset_server::{Device, Ended, Sink, Source, Why, buffered_session};
+use lset_server::{Device, EndReason, Ended, Sink, Source, buffered_session};
 use std::alloc::Global;
 use std::cell::Cell;
 use std::process::Abort;
@@ -74,7 +74,7 @@ fn answers_leave_before_each_read(rt: HostRuntime) {
         seen: &seen,
     };
     let ended = buffered_session(&rt, asking, Counting { seen: &seen }, &set, &mut seat);
-    let (why, calls) = (Why::End, 0);
+    let (why, calls) = (EndReason::End, 0);
     assert!(&rt; ended == Ended { why, calls });
     assert!(&rt; seen.in_time.get());
     assert!(&rt; seen.written.get() == 12);
@@ -128,7 +128,7 @@ fn write_fails<R: Wait + Abort>(rt: &R, alloc: Global, at: u64) {
     let mut writer = FailingWriter::new(alloc, at);
     let (lines, answers) = (Device::new(LINES), Device::new(&mut writer));
     let ended = buffered_session(rt, lines, answers, &set, &mut seat);
-    let (why, calls) = (Why::WriteFault, 4);
+    let (why, calls) = (EndReason::WriteFault, 4);
     assert!(rt; ended == Ended { why, calls }, "{at}");
     stopped_at(rt, &writer, ANSWERS, at);
 }
@@ -147,7 +147,7 @@ fn write_fails_between<R: Wait + Abort>(rt: &R, alloc: Global, at: u64, reads: u
     let mut writer = FailingWriter::new(alloc, at);
     let (lines, answers) = (Device::new(&mut reader), Device::new(&mut writer));
     let ended = buffered_session(rt, lines, answers, &set, &mut seat);
-    let why = Why::WriteFault;
+    let why = EndReason::WriteFault;
     assert!(rt; ended == Ended { why, calls }, "{at}");
     assert!(rt; reader.reads() == reads, "{at}");
     stopped_at(rt, &writer, ANSWERS, at);

@@ -2,7 +2,7 @@ use crate::failing::{FailingReader, FailingWriter};
 use crate::opened::{
     ANSWERS, CEILINGS, LINES, held, held_buffered, one_seat, stopped_at, was_held,
 };
-use lset_server::{Device, Ended, Why, session};
+use lset_server::{Device, EndReason, Ended, session};
 use std::alloc::Global;
 use std::process::Abort;
 use std::sync::Wait;
@@ -25,7 +25,7 @@ fn write_fails<R: Wait + Abort>(
         &set,
         &mut seat,
     );
-    let why = Why::WriteFault;
+    let why = EndReason::WriteFault;
     assert!(rt; ended == Ended { why, calls }, "{at}");
     stopped_at(rt, &writer, answers, at);
 }
@@ -69,7 +69,7 @@ fn read_fails<R: Wait + Abort>(
     answers: &[u8],
     calls: u64,
 ) {
-    let why = Why::ReadFault;
+    let why = EndReason::ReadFault;
     let mut reader = FailingReader::new(lines, at);
     let session = held(rt, alloc, &mut Device::new(&mut reader));
     was_held(rt, &session, answers, Ended { why, calls });
@@ -85,7 +85,7 @@ fn read_fails_buffered<R: Wait + Abort>(
     answers: &[u8],
     calls: u64,
 ) {
-    let why = Why::ReadFault;
+    let why = EndReason::ReadFault;
     let mut reader = FailingReader::new(lines, at);
     let session = held_buffered(rt, alloc, Device::new(&mut reader));
     was_held(rt, &session, answers, Ended { why, calls });

@@ -1,12 +1,18 @@
 use crate::failing::FailingReader;
 use crate::opened::{held, held_buffered, was_held};
-use lset_server::{Device, Ended, Source, Why};
+use lset_server::{Device, EndReason, Ended, Source};
 use std::alloc::Global;
 use std::process::Abort;
 use std::sync::Wait;
 
 /// These bytes are answered so, also if each read returns one byte.
-fn is_answered<R: Wait + Abort>(rt: &R, alloc: Global, line: &[u8], answers: &[u8], why: Why) {
+fn is_answered<R: Wait + Abort>(
+    rt: &R,
+    alloc: Global,
+    line: &[u8],
+    answers: &[u8],
+    why: EndReason,
+) {
     let ended = Ended { why, calls: 0 };
     let session = held(rt, alloc, &mut Device::new(line));
     was_held(rt, &session, answers, ended);
@@ -21,10 +27,10 @@ const LONG: &[u8; 66] = b"AAAAAAAAAAAAAAAAAAAAAAAAAAAAAAAAAAAAAAAAAAAAAAAAAAAAAA
 #[test]
 fn a_long_line_ends_a_session(rt: HostRuntime) {
     let long = LONG.as_slice();
-    is_answered(&rt, rt.alloc(), &long[1..65], b"", Why::End);
-    is_answered(&rt, rt.alloc(), &long[1..], b"BAD\n", Why::End);
-    is_answered(&rt, rt.alloc(), &long[..65], b"LONG\n", Why::Long);
-    is_answered(&rt, rt.alloc(), long, b"LONG\n", Why::Long);
+    is_answered(&rt, rt.alloc(), &long[1..65], b"", EndReason::End);
+    is_answered(&rt, rt.alloc(), &long[1..], b"BAD\n", EndReason::End);
+    is_answered(&rt, rt.alloc(), &long[..65], b"LONG\n", EndReason::Long);
+    is_answered(&rt, rt.alloc(), long, b"LONG\n", EndReason::Long);
 }
 
 /// Gives empty lines, and then the last bytes.
@@ -84,15 +90,15 @@ fn is_answered_after<R: Wait + Abort>(
 }
 
 /// The end of a session that made so many calls.
-fn end(why: Why, calls: u64) -> Ended {
+fn end(why: EndReason, calls: u64) -> Ended {
     Ended { why, calls }
 }
 
 #[test]
 fn a_session_has_a_million_lines(rt: HostRuntime) {
-    let (limit, one) = (end(Why::Limit, 0), end(Why::Limit, 1));
+    let (limit, one) = (end(EndReason::Limit, 0), end(EndReason::Limit, 1));
     is_answered_after(&rt, rt.alloc(), 1_000_000, b"", b"LIMIT\n", limit);
-    let quit = end(Why::Quit, 0);
+    let quit = end(EndReason::Quit, 0);
     is_answered_after(&rt, rt.alloc(), 999_999, b"QUIT\n", b"BYE\n", quit);
     let (adds, answers) = (b"ADD 1\nADD 2\n", b"TRUE\nLIMIT\n");
     is_answered_after(&rt, rt.alloc(), 999_999, adds, answers, one);

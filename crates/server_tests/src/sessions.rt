@@ -1,13 +1,13 @@
 use crate::failing::FailingReader;
 use crate::opened::{ANSWERS, CEILINGS, FOUND, LINES, held, last_seat, opened, was_held};
-use lset_server::{Device, Ended, Request, Why, read_request, session};
+use lset_server::{Device, EndReason, Ended, Request, read_request, session};
 use lset_words::{Call, Key, Reply};
 use std::alloc::Global;
 use std::process::Abort;
 use std::sync::Wait;
 
 /// A text, its answers, and how the session ends.
-type Row = (&'static [u8], &'static [u8], Why, u64);
+type Row = (&'static [u8], &'static [u8], EndReason, u64);
 
 /// The texts are answered so, each on a set of its own.
 fn are_answered<R: Wait + Abort>(rt: &R, alloc: Global, rows: &[Row]) {
@@ -18,19 +18,19 @@ fn are_answered<R: Wait + Abort>(rt: &R, alloc: Global, rows: &[Row]) {
 }
 
 const FIRST_ROWS: [Row; 5] = [
-    (LINES, ANSWERS, Why::Quit, 4),
-    (b"ADD 7", b"", Why::End, 0),
-    (b"", b"", Why::End, 0),
+    (LINES, ANSWERS, EndReason::Quit, 4),
+    (b"ADD 7", b"", EndReason::End, 0),
+    (b"", b"", EndReason::End, 0),
     (
         b"ADD 4294967295\nADD 0\nQUIT\nADD 1\n",
         b"TRUE\nTRUE\nBYE\n",
-        Why::Quit,
+        EndReason::Quit,
         2,
     ),
     (
         b"ADD 1\nADD 2\nADD 3\nADD 4\nADD 5\n",
         b"TRUE\nTRUE\nTRUE\nTRUE\nFULL\n",
-        Why::End,
+        EndReason::End,
         5,
     ),
 ];
@@ -41,17 +41,17 @@ fn lines_are_answered(rt: HostRuntime) {
 }
 
 const ROWS_OF_CEILINGS: [Row; 3] = [
-    (CEILINGS, FOUND, Why::Quit, 3),
+    (CEILINGS, FOUND, EndReason::Quit, 3),
     (
         b"ADD 0\nADD 4294967295\nCEILING 0\nCEILING 1\nCEILING 4294967295\nREMOVE 4294967295\nCEILING 1\n",
         b"TRUE\nTRUE\nAT 0\nAT 4294967295\nAT 4294967295\nTRUE\nNONE\n",
-        Why::End,
+        EndReason::End,
         7,
     ),
     (
         b"ADD 8\nADD 2\nADD 6\nADD 4\nADD 5\nCEILING 5\nCEILING 6\nCEILING 9\nCONTAINS 5\n",
         b"TRUE\nTRUE\nTRUE\nTRUE\nFULL\nAT 6\nAT 6\nNONE\nFALSE\n",
-        Why::End,
+        EndReason::End,
         9,
     ),
 ];
@@ -65,13 +65,13 @@ const BAD_ROWS: [Row; 2] = [
     (
         b"ADD 4294967296\nADD 07\nadd 7\nADD  7\nADD 7\r\n\nADD 7 \n ADD 7\nQUIT 7\n",
         b"BAD\nBAD\nBAD\nBAD\nBAD\nBAD\nBAD\nBAD\nBAD\n",
-        Why::End,
+        EndReason::End,
         0,
     ),
     (
         b"CEILING 4294967296\nCEILING 07\nceiling 7\nCEILING  7\nCEILING\nCEILING \nCEILING 7 7\nCEILINGS 7\nAT 7\n",
         b"BAD\nBAD\nBAD\nBAD\nBAD\nBAD\nBAD\nBAD\nBAD\n",
-        Why::End,
+        EndReason::End,
         0,
     ),
 ];
@@ -95,7 +95,7 @@ fn other_lines_are_bad(rt: HostRuntime) {
 fn pieces_have_no_part_in_it(rt: HostRuntime) {
     let mut reader = FailingReader::new(LINES, 0);
     let session = held(&rt, rt.alloc(), &mut Device::new(&mut reader));
-    let (why, calls) = (Why::Quit, 4);
+    let (why, calls) = (EndReason::Quit, 4);
     was_held(&rt, &session, ANSWERS, Ended { why, calls });
     assert!(rt; reader.reads() == 44);
 }
@@ -115,6 +115,6 @@ fn a_gathered_seat_is_asked(rt: HostRuntime) {
         &set,
         &mut zero,
     );
-    let (why, calls) = (Why::Quit, 1);
+    let (why, calls) = (EndReason::Quit, 1);
     was_held(&rt, &(written, ended), b"TRUE\nBYE\n", Ended { why, calls });
 }

@@ -1,11 +1,11 @@
 use Rattle.std.proofs.Common.{◌≡◌, ◌<◌, List, [], ◌∷◌, length, refl, sym, ap, ◌∙◌, arith}
-use Rattle.lset_rule.specs.declared.view.Aside.{Aside}
+use Rattle.lset_rule.specs.declared.view.SpareThread.{SpareThread}
 use Rattle.lset_rule.proofs.Joins.{splits}
 use Rattle.lset_rule.proofs.Counts.{some_words}
 use Rattle.lset_live.specs.Seats.{SetValue}
 use Rattle.lset_live.proofs.set.LiveSet.split_off.Goals as goal
 
-uncons : (os : List Aside) → 0 < length os → (o : Aside) × (rest : List Aside) × (os ≡ o ∷ rest)
+uncons : (os : List SpareThread) → 0 < length os → (o : SpareThread) × (rest : List SpareThread) × (os ≡ o ∷ rest)
 uncons [] lt = absurd (omega arith)
 uncons (o ∷ os) lt = (o, os, refl)
 
