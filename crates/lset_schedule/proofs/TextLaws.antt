@@ -1,6 +1,6 @@
 -- The two laws: what is read is the text of the schedule, and the text of a schedule is read.
 use Rattle.std.proofs.Common.{◌≡◌, ℕ, ◌<◌, ◌^◌, inl, inr, List, [], ◌∷◌, ◌++◌, map, false, Result, Ok, Err, refl, ap, subst, ◌∙◌, sym, arith}
-use Rattle.std.specs.Prelude.{MatchResult, ◌≢◌}
+use Rattle.std.specs.Prelude.{IfOk, MatchResult, ◌≢◌}
 use Rattle.std.specs.List.{AllByRecursion}
 use Rattle.lset_words.specs.declared.Key.{Key}
 use Rattle.lset_words.specs.Words.{key_of}
@@ -95,3 +95,14 @@ pub gives_ok : {X Y : Type 0} (view : X → Y) (r : Result X ScheduleFault) (y :
     → MatchResult r (λ x. view x ≡ y) (λ e. e.cause ≡ Memory)
 gives_ok view (Ok x) y gives = sym (ok_is y (view x) gives)
 gives_ok view (Err e) y gives = is_memory e.cause (λ other. let bad = gives other in cc)
+
+pub found_in : (bytes : List ℕ) (r : Result Schedule ScheduleFault) → Gives view r (reading bytes)
+    → IfOk r (λ s. IsSchedule (view s) × (bytes ≡ schedule_text (view s)))
+found_in bytes (Ok s) gives = is_found bytes (view s) gives
+found_in bytes (Err e) gives = tt
+
+pub only_in : (bytes : List ℕ) (r : Result Schedule ScheduleFault) → Gives view r (reading bytes) → (p : Plan) → IsSchedule p
+    → bytes ≡ schedule_text p → MatchResult r (λ s. view s ≡ p) (λ e. e.cause ≡ Memory)
+only_in bytes r gives p is text =
+    let read : reading bytes ≡ Ok p = ap reading text ∙ reads_text p is in
+    gives_ok view r p (subst (Gives view r) read gives)
