@@ -1,7 +1,7 @@
 -- What a command of clap is once a setting was made that a parse does not read.
-use Rattle.std.proofs.Common.{◌≡◌, ◌∙◌, ap, false, IfOk, Result, Ok, Err}
+use Rattle.std.proofs.Common.{◌≡◌, ◌∙◌, ap, IfOk, Result, Ok, Err}
 use Rattle.std.specs.declared.alloc.AllocError.{AllocError}
-use Rattle.clap.specs.Words.{App, app_of}
+use Rattle.clap.specs.Words.{App}
 use Rattle.clap.specs.Simple.{app_of_fields}
 use Rattle.clap.specs.declared.Command.{Command}
 use Rattle.clap.specs.declared.Command.TheViews.{out-Command}
@@ -17,10 +17,3 @@ pub Makes-named : (made : Result Command AllocError) (old : Command) (a : App) (
     → IsApp old a → Makes made a
 Makes-named (Ok c) old a Rest same (is, local) = (app_of_fields-same same.0 ∙ is, ap (λ f. f.has_globals) same.0 ∙ local)
 Makes-named (Err e) old a Rest same is = same
-
--- what the two clauses of a function that makes a command say
-pub both : (made : Result Command AllocError) (a : App) → IfOk made (λ c. app_of c ≡ a)
-    → IfOk made (λ c. (out-Command c).has_globals ≡ false)
-    → Makes made a
-both (Ok c) a app local = (app, local)
-both (Err e) a app local = app

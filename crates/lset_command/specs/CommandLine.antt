@@ -237,18 +237,12 @@ first_value choice = slice_get choice.values 0
 
 -- the word for what a command reads: its first value, or the sixth of `serve`, if it has one; the other commands read nothing
 abbrev pub file_by : Command → List Text → Option Text
-file_by Replay values = slice_get values 0
-file_by Judge values = slice_get values 0
-file_by Report values = slice_get values 0
-file_by Check values = slice_get values 0
-file_by Show values = slice_get values 0
-file_by Trace values = slice_get values 0
-file_by Draft values = slice_get values 0
 file_by Example values = None
 file_by Gen values = None
 file_by Run values = None
 file_by Serve values = slice_get values 5
 file_by Faults values = None
+file_by command values = slice_get values 0
 
 abbrev pub file_of : Choice → Option Text
 file_of choice = file_by choice.command choice.values
@@ -266,18 +260,8 @@ several values = if nat_lt 1 (length values) then Some values else None
 
 -- the files of `judge`, if they are several: parts of one recording, in order
 abbrev pub parts_by : Command → List Text → Option (List Text)
-parts_by Replay values = None
 parts_by Judge values = several values
-parts_by Report values = None
-parts_by Check values = None
-parts_by Show values = None
-parts_by Trace values = None
-parts_by Draft values = None
-parts_by Example values = None
-parts_by Gen values = None
-parts_by Run values = None
-parts_by Serve values = None
-parts_by Faults values = None
+parts_by command values = None
 
 abbrev pub parts_of : Choice → Option (List Text)
 parts_of choice = parts_by choice.command choice.values

@@ -1,11 +1,10 @@
 ghost use Rattle.std.specs.Prelude.{◌≡◌, ◌++◌, ◌↔◌, [], IfOk, IsTrue, OnOk, codes, false, map, option_map, string_bytes};
 ghost use Rattle.clap.specs.Words.{FailsBy, app_of, fault_of, found_of, kind_of, new_app, new_rule, rows_of, rule_of, subcommand_of};
 ghost use Rattle.clap.specs.Walk.{first_of, texts};
-ghost use Rattle.clap.specs.declared.Command.TheViews.{out-Command};
 ghost use Rattle.clap.specs.declared.error.kind.ErrorKind.TheVariants.{OutOfMemory};
 ghost use Rattle.lset_command.specs.CommandLine.{choice_in, choice_of, command_named, file_app, file_of, first_value, path_of, six_values, serve_app};
 ghost use Rattle.lset_command.specs.CommandLine.{example_app, files_app, files_rule, flag_rule, gen_app, judge_app, option_rule, parts_of, run_app, several, show_app, trace_app};
-ghost use Rattle.lset_command.specs.CommandLine.{MakesWithArg, MakesWithSubcommand, MakesWithValue, is_on, is_option, listset, replay_app, options_in, options_of, rule_past_the_last, values_by, values_in};
+ghost use Rattle.lset_command.specs.CommandLine.{IsApp, Makes, MakesWithArg, MakesWithSubcommand, MakesWithValue, is_on, is_option, listset, replay_app, options_in, options_of, rule_past_the_last, values_by, values_in};
 
 use clap::error::ErrorKind;
 use clap::{Arg, ArgAction, ArgMatches, Error};
@@ -122,17 +121,7 @@ impl Words {
     {
         match self.command {
             Command::Judge => self.several_values(),
-            Command::Replay
-            | Command::Report
-            | Command::Check
-            | Command::Show
-            | Command::Trace
-            | Command::Draft
-            | Command::Example
-            | Command::Gen
-            | Command::Run
-            | Command::Serve
-            | Command::Faults => None,
+            _ => None,
         }
     }
 
@@ -245,8 +234,7 @@ fn file_command<'a>(
     file_help: &'a str,
     example: &'a str,
 ) -> Result<clap::Command<'a>, AllocError>
-    ensures app { IfOk result (λ c. app_of c ≡ file_app name.entry.now) }
-    ensures local { IfOk result (λ c. (out-Command c).has_globals ≡ false) }
+    ensures { Makes result (file_app name.entry.now) }
 {
     clap::Command::new(alloc, name)
         .about(about)
@@ -255,8 +243,7 @@ fn file_command<'a>(
 }
 
 fn show_command<'a>(alloc: Global) -> Result<clap::Command<'a>, AllocError>
-    ensures app { IfOk result (λ c. app_of c ≡ show_app) }
-    ensures local { IfOk result (λ c. (out-Command c).has_globals ≡ false) }
+    ensures { Makes result show_app }
 {
     let command = file_command(
         alloc,
@@ -297,8 +284,7 @@ fn show_command<'a>(alloc: Global) -> Result<clap::Command<'a>, AllocError>
 }
 
 fn trace_command<'a>(alloc: Global) -> Result<clap::Command<'a>, AllocError>
-    ensures app { IfOk result (λ c. app_of c ≡ trace_app) }
-    ensures local { IfOk result (λ c. (out-Command c).has_globals ≡ false) }
+    ensures { Makes result trace_app }
 {
     let command = file_command(
         alloc,
@@ -319,8 +305,7 @@ fn trace_command<'a>(alloc: Global) -> Result<clap::Command<'a>, AllocError>
 }
 
 fn draft_command<'a>(alloc: Global) -> Result<clap::Command<'a>, AllocError>
-    ensures app { IfOk result (λ c. app_of c ≡ file_app (codes "draft")) }
-    ensures local { IfOk result (λ c. (out-Command c).has_globals ≡ false) }
+    ensures { Makes result (file_app (codes "draft")) }
 {
     file_command(
         alloc,
@@ -332,8 +317,7 @@ fn draft_command<'a>(alloc: Global) -> Result<clap::Command<'a>, AllocError>
 }
 
 fn example_command<'a>(alloc: Global) -> Result<clap::Command<'a>, AllocError>
-    ensures app { IfOk result (λ c. app_of c ≡ example_app) }
-    ensures local { IfOk result (λ c. (out-Command c).has_globals ≡ false) }
+    ensures { Makes result example_app }
 {
     clap::Command::new(alloc, "example")
         .about("Print a classic schedule, or the list of their names")
@@ -360,8 +344,7 @@ fn random_command<'a>(
     example: &'a str,
     calls_help: &'a str,
 ) -> Result<clap::Command<'a>, AllocError>
-    ensures app { IfOk result (λ c. app_of c ≡ six_values name.entry.now) }
-    ensures local { IfOk result (λ c. (out-Command c).has_globals ≡ false) }
+    ensures { Makes result (six_values name.entry.now) }
 {
     let command = clap::Command::new(alloc, name)
         .about(about)
@@ -391,8 +374,7 @@ fn random_command<'a>(
 }
 
 fn serve_command<'a>(alloc: Global) -> Result<clap::Command<'a>, AllocError>
-    ensures app { IfOk result (λ c. app_of c ≡ serve_app) }
-    ensures local { IfOk result (λ c. (out-Command c).has_globals ≡ false) }
+    ensures { Makes result serve_app }
 {
     let command = clap::Command::new(alloc, "serve")
         .about("Serve one set to clients on 127.0.0.1, and print the remaining keys at the end")
@@ -433,8 +415,7 @@ fn serve_command<'a>(alloc: Global) -> Result<clap::Command<'a>, AllocError>
 }
 
 fn gen_command<'a>(alloc: Global) -> Result<clap::Command<'a>, AllocError>
-    ensures app { IfOk result (λ c. app_of c ≡ gen_app) }
-    ensures local { IfOk result (λ c. (out-Command c).has_globals ≡ false) }
+    ensures { Makes result gen_app }
 {
     random_command(
         alloc,
@@ -448,8 +429,7 @@ fn gen_command<'a>(alloc: Global) -> Result<clap::Command<'a>, AllocError>
 }
 
 fn run_command<'a>(alloc: Global) -> Result<clap::Command<'a>, AllocError>
-    ensures app { IfOk result (λ c. app_of c ≡ run_app) }
-    ensures local { IfOk result (λ c. (out-Command c).has_globals ≡ false) }
+    ensures { Makes result run_app }
 {
     random_command(
         alloc,
@@ -468,8 +448,7 @@ fn run_command<'a>(alloc: Global) -> Result<clap::Command<'a>, AllocError>
 }
 
 fn replay_command<'a>(alloc: Global) -> Result<clap::Command<'a>, AllocError>
-    ensures app { IfOk result (λ c. app_of c ≡ replay_app) }
-    ensures local { IfOk result (λ c. (out-Command c).has_globals ≡ false) }
+    ensures { Makes result replay_app }
 {
     let command = file_command(
         alloc,
@@ -482,8 +461,7 @@ fn replay_command<'a>(alloc: Global) -> Result<clap::Command<'a>, AllocError>
 }
 
 fn judge_files<'a>(alloc: Global) -> Result<clap::Command<'a>, AllocError>
-    ensures app { IfOk result (λ c. app_of c ≡ files_app (codes "judge")) }
-    ensures local { IfOk result (λ c. (out-Command c).has_globals ≡ false) }
+    ensures { Makes result (files_app (codes "judge")) }
 {
     clap::Command::new(alloc, "judge")
         .about(
@@ -499,8 +477,7 @@ fn judge_files<'a>(alloc: Global) -> Result<clap::Command<'a>, AllocError>
 }
 
 fn judge_command<'a>(alloc: Global) -> Result<clap::Command<'a>, AllocError>
-    ensures app { IfOk result (λ c. app_of c ≡ judge_app) }
-    ensures local { IfOk result (λ c. (out-Command c).has_globals ≡ false) }
+    ensures { Makes result judge_app }
 {
     let command = judge_files(alloc);
     and_arg(
@@ -515,8 +492,7 @@ fn judge_command<'a>(alloc: Global) -> Result<clap::Command<'a>, AllocError>
 }
 
 fn report_command<'a>(alloc: Global) -> Result<clap::Command<'a>, AllocError>
-    ensures app { IfOk result (λ c. app_of c ≡ file_app (codes "report")) }
-    ensures local { IfOk result (λ c. (out-Command c).has_globals ≡ false) }
+    ensures { Makes result (file_app (codes "report")) }
 {
     file_command(
         alloc,
@@ -528,8 +504,7 @@ fn report_command<'a>(alloc: Global) -> Result<clap::Command<'a>, AllocError>
 }
 
 fn check_command<'a>(alloc: Global) -> Result<clap::Command<'a>, AllocError>
-    ensures app { IfOk result (λ c. app_of c ≡ file_app (codes "check")) }
-    ensures local { IfOk result (λ c. (out-Command c).has_globals ≡ false) }
+    ensures { Makes result (file_app (codes "check")) }
 {
     file_command(
         alloc,
@@ -542,8 +517,7 @@ fn check_command<'a>(alloc: Global) -> Result<clap::Command<'a>, AllocError>
 
 // Its help is what it prints.
 fn faults_command<'a>(alloc: Global, help: &'a str) -> clap::Command<'a>
-    ensures app { app_of result ≡ new_app (codes "faults") }
-    ensures local { (out-Command result).has_globals ≡ false }
+    ensures { IsApp result (new_app (codes "faults")) }
 {
     clap::Command::new(alloc, "faults")
         .about("Explain every error message")

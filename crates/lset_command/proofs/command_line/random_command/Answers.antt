@@ -1,12 +1,11 @@
 use Rattle.std.proofs.Common.{◌∙◌, ap}
-use Rattle.std.proofs.lemmas.Result.{IfOk-weaker}
 use Rattle.clap.specs.Words.{new_app}
-use Rattle.lset_command.specs.CommandLine.{IsApp, Makes, six_values}
+use Rattle.lset_command.specs.CommandLine.{IsApp}
 use Rattle.lset_command.proofs.Commands.{app_of_fields-same}
 use Rattle.lset_command.proofs.command_line.random_command.Goals as goal
 
-is_random : (c : goal.After-and_value) → Makes c.and_value.result (six_values c.args.name.now)
-is_random c =
+pub returns : goal.returns
+returns c =
     let begun : IsApp c.after_help-command.result (new_app c.args.name.now) = (
       app_of_fields-same c.after_help-command.ensures ∙ app_of_fields-same c.override_usage.ensures
           ∙ app_of_fields-same c.about.ensures ∙ c.new.ensures.app,
@@ -19,9 +18,3 @@ is_random c =
     let calls = c.and_value-command-4.ensures _ quota in
     let keys = c.and_value-command-5.ensures _ calls in
     c.and_value.ensures _ keys
-
-pub returns-clause-app : goal.returns-clause-app
-returns-clause-app c = IfOk-weaker c.and_value.result _ _ (λ r is. is.0) (is_random c)
-
-pub returns-clause-local : goal.returns-clause-local
-returns-clause-local c = IfOk-weaker c.and_value.result _ _ (λ r is. is.1) (is_random c)

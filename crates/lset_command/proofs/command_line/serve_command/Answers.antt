@@ -1,12 +1,11 @@
 use Rattle.std.proofs.Common.{◌∙◌, ap, codes}
-use Rattle.std.proofs.lemmas.Result.{IfOk-weaker}
 use Rattle.clap.specs.Words.{new_app}
-use Rattle.lset_command.specs.CommandLine.{IsApp, Makes, serve_app}
+use Rattle.lset_command.specs.CommandLine.{IsApp}
 use Rattle.lset_command.proofs.Commands.{app_of_fields-same}
 use Rattle.lset_command.proofs.command_line.serve_command.Goals as goal
 
-is_serve : (c : goal.After-and_arg) → Makes c.and_arg.result serve_app
-is_serve c =
+pub returns : goal.returns
+returns c =
     let begun : IsApp c.after_help-command.result (new_app (codes "serve")) = (
       app_of_fields-same c.after_help-command.ensures ∙ app_of_fields-same c.override_usage.ensures
           ∙ app_of_fields-same c.about.ensures ∙ c.new.ensures.app,
@@ -20,9 +19,3 @@ is_serve c =
     let sessions = c.and_value-command-5.ensures _ port in
     let file = c.and_value-command-6.ensures _ sessions in
     c.and_arg.ensures _ _ file c.values_past_the_last.ensures.rule c.values_past_the_last.ensures.local
-
-pub returns-clause-app : goal.returns-clause-app
-returns-clause-app c = IfOk-weaker c.and_arg.result _ _ (λ r is. is.0) (is_serve c)
-
-pub returns-clause-local : goal.returns-clause-local
-returns-clause-local c = IfOk-weaker c.and_arg.result _ _ (λ r is. is.1) (is_serve c)

@@ -1,16 +1,6 @@
-use Rattle.std.proofs.lemmas.Result.{IfOk-weaker}
-use Rattle.lset_command.specs.CommandLine.{Makes, trace_app}
-use Rattle.lset_command.proofs.Commands.{both}
 use Rattle.lset_command.proofs.command_line.trace_command.Goals as goal
 
-is_trace : (c : goal.After-and_arg) → Makes c.and_arg.result trace_app
-is_trace c =
-    let file = both c.file_command-command.result _ c.file_command-command.ensures.app c.file_command-command.ensures.local in
-    let chain = c.and_arg-command.ensures _ _ file c.flag.ensures.rule c.flag.ensures.local in
+pub returns : goal.returns
+returns c =
+    let chain = c.and_arg-command.ensures _ _ c.file_command-command.ensures c.flag.ensures.rule c.flag.ensures.local in
     c.and_arg.ensures _ _ chain c.lacks_option.ensures.rule c.lacks_option.ensures.local
-
-pub returns-clause-app : goal.returns-clause-app
-returns-clause-app c = IfOk-weaker c.and_arg.result _ _ (λ r is. is.0) (is_trace c)
-
-pub returns-clause-local : goal.returns-clause-local
-returns-clause-local c = IfOk-weaker c.and_arg.result _ _ (λ r is. is.1) (is_trace c)
