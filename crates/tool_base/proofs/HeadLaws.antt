@@ -1,36 +1,19 @@
 -- An input that is read on, and its first line.
-use Rattle.std.proofs.Common.{◌≡◌, ◌≢◌, ℕ, ◌+◌, ◌<◌, ◌≤◌, ◌⊎◌, inl, inr, Bool, true, false, List, [], ◌++◌, length, take, drop, Option, Some, None, refl, sym, ap, subst, ◌∙◌}
-use Rattle.std.proofs.Common.{append_assoc, append-nil, arith, length-append, take-append-drop, codes}
+use Rattle.std.proofs.Common.{◌≡◌, ℕ, ◌+◌, ◌<◌, ◌≤◌, ◌⊎◌, inl, inr, Bool, true, false, List, [], ◌++◌, length, take, Option, Some, None, sym, ap, subst, ◌∙◌}
+use Rattle.std.proofs.Common.{append_assoc, append-nil, arith, take-append-drop}
 use Rattle.std.specs.Prelude.{IfSome}
-use Rattle.std.specs.Io.KnownBytes.{Consumes, IsAtEnd}
+use Rattle.std.specs.Io.KnownBytes.{Consumes}
 use Rattle.std.specs.Str.{bytes_eq}
-use Rattle.std.proofs.KnownBytes.{Consumes-trans, Consumes-whole}
+use Rattle.std.proofs.KnownBytes.{Consumes-trans}
 use Rattle.std.proofs.lemmas.List.{take-append-le}
 use Rattle.lset_text.proofs.WordLaws.{same_bytes}
-use Rattle.tool_base.specs.declared.streams.TheConstants.{LONGEST}
 use Rattle.tool_base.specs.Heads.{ReadsOn, IsHead, begins_long, after_long_title, long_title}
 
 -- ---- what was read so far, and one read more
 
 pub read_more : (all now next : Option (List ℕ)) (front new : List ℕ) (some : Bool) → Consumes all now front → ReadsOn now next front new some
     → Consumes all next new
-read_more all now next front new some read on =
-    subst (Consumes all next) (sym on.1) (Consumes-trans all now next front on.0 read on.2)
-
--- a read that gave none
-pub read_whole : (all now next : Option (List ℕ)) (front new : List ℕ) → Consumes all now front → ReadsOn now next front new false
-    → IfSome all (λ bytes. new ≡ bytes)
-read_whole all now next front new read on =
-    Consumes-whole all next new (λ bytes. new ≡ bytes) (read_more all now next front new false read on) (on.3 refl).1 refl
-
-pub read_none : (now next : Option (List ℕ)) (front new : List ℕ) → ReadsOn now next front new false → new ≡ front
-read_none now next front new on = on.1 ∙ ap (λ piece. front ++ piece) (on.3 refl).0 ∙ append-nil front
-
-pub all_long : (all now : Option (List ℕ)) (front : List ℕ) → Consumes all now front
-    → IfSome now (λ rest. LONGEST < length front + length rest) → IfSome all (λ bytes. LONGEST < length bytes)
-all_long None now front read long = tt
-all_long (Some xs) None front read long = absurd read
-all_long (Some xs) (Some ys) front read long = let n = ap length read in omega (arith, n, long, length-append front ys)
+read_more all now next front new some read on = subst (Consumes all next) (sym on.1) (Consumes-trans all now next front on.0 read on.2)
 
 -- ---- the first line
 
@@ -50,13 +33,6 @@ begins_more head more begins =
     let all : head ++ more ≡ long_title ++ (after_long_title head ++ more) =
     ap (λ front. front ++ more) is ∙ append_assoc long_title (after_long_title head) more in
     (ap begins_long all, ap after_long_title all)
-
--- of an input whose first bytes these are
-pub long_input : (all rest : Option (List ℕ)) (head : List ℕ) → Consumes all rest head → begins_long head ≡ true
-    → IfSome all (λ bytes. begins_long bytes ≡ true)
-long_input None rest head read begins = tt
-long_input (Some xs) None head read begins = absurd read
-long_input (Some xs) (Some ys) head read begins = ap begins_long read ∙ (begins_more head ys begins).0
 
 -- of an input whose first bytes are others
 pub other_input : (all rest : Option (List ℕ)) (head : List ℕ) → IsHead all rest head → begins_long head ≡ false

@@ -7,8 +7,3 @@ pub range_of : (low high : ℕ) (piece : List ℕ) (found : Option ℕ) → high
     → IfSome found (λ n. (low ≤ n) × (n ≤ high))
 range_of low high piece None wide is = tt
 range_of low high piece (Some n) wide is = let known = number_ok low high piece n wide (sym is) in (known.1, known.2)
-
-pub least_of : (low high : ℕ) (piece : List ℕ) (found : Option ℕ) → high < 2 ^ 64 → found ≡ number_in low high piece
-    → IfSome found (λ n. low ≤ n)
-least_of low high piece None wide is = tt
-least_of low high piece (Some n) wide is = (number_ok low high piece n wide (sym is)).1

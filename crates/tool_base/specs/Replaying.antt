@@ -24,8 +24,7 @@ pub record IsReported (bytes : List ℕ) (p : Plan) (r : ReportValue) : Type 0 w
 -- the first fault of the text, or of the replay
 abbrev pub IsFirstFault : Result Plan ScheduleFault → Trouble → Type 0
 IsFirstFault (Err fault) t = t ≡ of_schedule fault
-IsFirstFault (Ok p) t =
-    (refusal : ReplayFault) × (t ≡ of_replay refusal) × IsRefusal (table_of p.kind) (opening_in p) (events_of p) refusal
+IsFirstFault (Ok p) t = (refusal : ReplayFault) × (t ≡ of_replay refusal) × IsRefusal (table_of p.kind) (opening_in p) (events_of p) refusal
 
 -- what is made of the bytes of an input: the text of the report, or a trouble with the input, or its first fault
 abbrev pub Replays : List ℕ → Made → Type 0

@@ -4,8 +4,7 @@ use Rattle.std.specs.Io.KnownBytes.{Appends, Keeps}
 use Rattle.tool_base.specs.declared.answer.Answer.{Answer}
 use Rattle.tool_base.specs.declared.streams.TheConstants.{LONGEST}
 use Rattle.tool_base.specs.declared.trouble.Trouble.{Trouble}
-use Rattle.tool_base.specs.declared.trouble.Trouble.TheVariants.{CannotRead, TooLong, LongReport, CutOff, LongRecording, CannotWrite, Memory, Line, Bad}
-use Rattle.tool_base.specs.declared.trouble.Trouble.TheVariants.{CannotListen, Work, Serve}
+use Rattle.tool_base.specs.declared.trouble.Trouble.TheVariants.{CannotRead, TooLong, LongRecording, CannotWrite, Memory}
 use Rattle.tool_base.specs.Heads.{begins_long}
 use Rattle.tool_base.specs.Trouble.{trouble_text}
 use Rattle.tool_base.specs.Trouble as trouble
@@ -50,13 +49,16 @@ line_of (Err t) = trouble_text t
 abbrev pub AppendsFront : Option (List ℕ) → Option (List ℕ) → List ℕ → Type 0
 AppendsFront old new text = (front : List ℕ) × (rest : List ℕ) × (text ≡ front ++ rest) × Appends old new front
 
--- A tool that makes something of its input ends so: what it made reaches the output, a trouble gets its line, and the exit
--- status is
--- that of the outcome.
+-- What was made is delivered so: it reaches the output, a trouble gets its line, and the exit status is that of the outcome.
+abbrev pub IsDelivered : Made → Option (List ℕ) → Option (List ℕ) → Option (List ℕ) → Option (List ℕ) → ℕ → Type 0
+IsDelivered made output_old output_new faults_old faults_new status =
+    (outcome : Outcome) × Delivers made output_old output_new outcome
+    × AppendsFront faults_old faults_new (line_of outcome) × (status ≡ status_of outcome)
+
+-- A tool that makes something of its input ends so: what it made is delivered.
 abbrev pub Ends : (Made → Type 0) → Option (List ℕ) → Option (List ℕ) → Option (List ℕ) → Option (List ℕ) → ℕ → Type 0
 Ends IsMade output_old output_new faults_old faults_new status =
-    (made : Made) × (outcome : Outcome) × IsMade made × Delivers made output_old output_new outcome
-    × AppendsFront faults_old faults_new (line_of outcome) × (status ≡ status_of outcome)
+    (made : Made) × IsMade made × IsDelivered made output_old output_new faults_old faults_new status
 
 -- an input that is not too long
 abbrev pub IsTaken : List ℕ → Type 0
@@ -66,13 +68,6 @@ IsTaken bytes = length bytes ≤ LONGEST
 abbrev pub IsInputTrouble : List ℕ → Trouble → Type 0
 IsInputTrouble bytes CannotRead = Unit {0}
 IsInputTrouble bytes TooLong = LONGEST < length bytes
-IsInputTrouble bytes LongReport = ⊥
-IsInputTrouble bytes CutOff = ⊥
 IsInputTrouble bytes LongRecording = begins_long bytes ≡ true
-IsInputTrouble bytes CannotWrite = ⊥
 IsInputTrouble bytes Memory = Unit {0}
-IsInputTrouble bytes (Line number cause) = ⊥
-IsInputTrouble bytes (Bad wrong) = ⊥
-IsInputTrouble bytes CannotListen = ⊥
-IsInputTrouble bytes (Work name) = ⊥
-IsInputTrouble bytes (Serve name) = ⊥
+IsInputTrouble bytes t = ⊥

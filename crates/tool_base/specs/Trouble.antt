@@ -41,16 +41,8 @@ of_input input.LongRecording = LongRecording
 of_input input.Memory = Memory
 
 abbrev pub of_schedule_line : ℕ → Cause → Trouble
-of_schedule_line number schedule.Header = Line number (line.Schedule schedule.Header)
-of_schedule_line number schedule.Kind = Line number (line.Schedule schedule.Kind)
-of_schedule_line number schedule.Threads = Line number (line.Schedule schedule.Threads)
-of_schedule_line number schedule.Quota = Line number (line.Schedule schedule.Quota)
-of_schedule_line number schedule.Event = Line number (line.Schedule schedule.Event)
-of_schedule_line number schedule.Number = Line number (line.Schedule schedule.Number)
-of_schedule_line number schedule.TooMany = Line number (line.Schedule schedule.TooMany)
-of_schedule_line number schedule.Opening = Line number (line.Schedule schedule.Opening)
-of_schedule_line number schedule.NotEnded = Line number (line.Schedule schedule.NotEnded)
 of_schedule_line number schedule.Memory = Memory
+of_schedule_line number cause = Line number (line.Schedule cause)
 
 -- of a text that is no schedule
 abbrev pub of_schedule : ScheduleFault → Trouble
@@ -64,47 +56,24 @@ of_replay (replay.Idle number) = Line number line.Idle
 of_replay replay.Memory = Memory
 
 abbrev pub of_report_line : ℕ → ReportCause → Trouble
-of_report_line number report.Header = Line number (line.Report report.Header)
-of_report_line number report.Kind = Line number (line.Report report.Kind)
-of_report_line number report.Threads = Line number (line.Report report.Threads)
-of_report_line number report.Quota = Line number (line.Report report.Quota)
-of_report_line number report.Line = Line number (line.Report report.Line)
-of_report_line number report.Number = Line number (line.Report report.Number)
-of_report_line number report.TooMany = Line number (line.Report report.TooMany)
-of_report_line number report.Opening = Line number (line.Report report.Opening)
-of_report_line number report.History = Line number (line.Report report.History)
-of_report_line number report.NotEnded = Line number (line.Report report.NotEnded)
 of_report_line number report.Memory = Memory
+of_report_line number cause = Line number (line.Report cause)
 
 -- of a text that is no report
 abbrev pub of_report : ReportFault → Trouble
 of_report fault = of_report_line fault.line fault.cause
 
 abbrev pub of_calls_line : ℕ → CallsCause → Trouble
-of_calls_line number calls.Header = Line number (line.Calls calls.Header)
-of_calls_line number calls.Kind = Line number (line.Calls calls.Kind)
-of_calls_line number calls.Threads = Line number (line.Calls calls.Threads)
-of_calls_line number calls.Quota = Line number (line.Calls calls.Quota)
-of_calls_line number calls.Line = Line number (line.Calls calls.Line)
-of_calls_line number calls.Number = Line number (line.Calls calls.Number)
-of_calls_line number calls.TooMany = Line number (line.Calls calls.TooMany)
-of_calls_line number calls.Opening = Line number (line.Calls calls.Opening)
-of_calls_line number calls.History = Line number (line.Calls calls.History)
-of_calls_line number calls.Point = Line number (line.Calls calls.Point)
-of_calls_line number calls.NotEnded = Line number (line.Calls calls.NotEnded)
 of_calls_line number calls.Memory = Memory
+of_calls_line number cause = Line number (line.Calls cause)
 
 -- of a text that is none of calls
 abbrev pub of_calls : CallsFault → Trouble
 of_calls fault = of_calls_line fault.line fault.cause
 
 abbrev pub of_long_line : ℕ → LongCause → Trouble
-of_long_line number long.Line = Line number (line.Long long.Line)
-of_long_line number long.Number = Line number (line.Long long.Number)
-of_long_line number long.Opening = Line number (line.Long long.Opening)
-of_long_line number long.History = Line number (line.Long long.History)
-of_long_line number long.NotEnded = Line number (line.Long long.NotEnded)
 of_long_line number long.Memory = Memory
+of_long_line number cause = Line number (line.Long cause)
 
 -- of a text that is no long recording
 abbrev pub of_long : LongFault → Trouble
@@ -118,18 +87,9 @@ of_clash clash.CutOff = CutOff
 of_clash clash.Memory = Memory
 
 abbrev pub status_of : Trouble → ℕ
-status_of CannotRead = 1
-status_of TooLong = 1
-status_of LongReport = 1
-status_of CutOff = 1
-status_of LongRecording = 1
-status_of CannotWrite = 1
 status_of Memory = 3
-status_of (Line number cause) = 1
 status_of (Bad wrong) = 2
-status_of CannotListen = 1
-status_of (Work name) = 1
-status_of (Serve name) = 1
+status_of t = 1
 
 abbrev pub name_of : LineCause → List ℕ
 name_of line.NoThread = codes "NoThread"

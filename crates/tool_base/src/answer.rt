@@ -1,5 +1,5 @@
 ghost use Rattle.std.specs.Prelude.{◌≡◌, IfOk, Result};
-ghost use Rattle.tool_base.specs.Tools.{Delivers, AppendsFront, Made, Outcome, view, status_of, line_of};
+ghost use Rattle.tool_base.specs.Tools.{Delivers, IsDelivered, AppendsFront, view};
 ghost use Rattle.tool_base.specs.Trouble.{trouble_text};
 
 use crate::streams::put;
@@ -145,8 +145,8 @@ pub fn deliver<W: Write, F: Write>(
     output: &mut W,
     faults: &mut F,
 ) -> u8
-    ensures { (outcome : Outcome) × Delivers (view made) (W.contents output.old) (W.contents output.new) outcome
-        × AppendsFront (F.contents faults.old) (F.contents faults.new) (line_of outcome) × (result ≡ status_of outcome) }
+    ensures { IsDelivered (view made)
+        (W.contents output.old) (W.contents output.new) (F.contents faults.old) (F.contents faults.new) result }
 {
     let written = match made {
         Ok(answer) => answer.write(output),

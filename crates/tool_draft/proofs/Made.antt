@@ -1,12 +1,13 @@
 -- The lines of a draft, one after another: what is made of them, and how far the run has come.
 use Rattle.std.proofs.Common.{◌≡◌, ℕ, zero, suc, ◌+◌, ◌-◌, ◌<◌, ◌≤◌, List, [], ◌∷◌, ◌++◌, length, take, get_or, replicate, refl}
-use Rattle.std.proofs.Common.{sym, ap, subst, ◌∙◌, append_assoc, add-one, arith}
+use Rattle.std.proofs.Common.{sym, ap, subst, ◌∙◌, append_assoc, arith}
 use Rattle.std.specs.List.{AllByRecursion, sum_by}
 use Rattle.std.proofs.lemmas.Grind.{flat_map-append}
-use Rattle.std.proofs.lemmas.List.{append-nil, get_or_default}
+use Rattle.std.proofs.lemmas.List.{append-nil, get_or_default, take_more}
 use Rattle.std.proofs.lemmas.List.Sums.{sum_by-append, sum_by-cons}
 use Rattle.lset_words.specs.Words.{Sizes, Opening, sizes}
 use Rattle.lset_text.specs.declared.words.Version.TheVariants.{Two}
+use Rattle.lset_text.proofs.TextLaws.{all_both}
 use Rattle.lset_steps.specs.declared.Event.{Event}
 use Rattle.lset_steps.specs.declared.Event.TheVariants as event
 use Rattle.lset_steps.specs.Steps.{Table, State, opening}
@@ -23,7 +24,7 @@ use Rattle.tool_draft.specs.declared.fault.DraftCause.{DraftCause}
 use Rattle.tool_draft.specs.Drafts.{DraftValue, opening_in, first_event_line}
 use Rattle.tool_draft.specs.Counts.{steps_on, AreEnabled}
 use Rattle.tool_draft.specs.Expanding.{after_line, IsEnabledLine, IsLineOf, IsLineFault, IsMade, after_lines, AreLinesOf}
-use Rattle.tool_draft.specs.Expanding.{AreLinesOfDraft, IsFirstFault, line_at}
+use Rattle.tool_draft.specs.Expanding.{IsFirstFault, line_at}
 
 -- ---- the events of a line more
 
@@ -48,8 +49,7 @@ runs_line T op es s (line.Begin t call) run enabled = runs_to_more T op es s (ev
 runs_line T op es s (line.Go t n) run enabled = runs_steps T op es s t n run enabled
 
 events_more : (lines : List Line) (l : Line) → events_of_lines (lines ++ l ∷ []) ≡ events_of_lines lines ++ events_of_line l
-events_more lines l =
-    flat_map-append events_of_line lines (l ∷ []) ∙ ap (λ es. events_of_lines lines ++ es) (append-nil (events_of_line l))
+events_more lines l = flat_map-append events_of_line lines (l ∷ []) ∙ ap (λ es. events_of_lines lines ++ es) (append-nil (events_of_line l))
 
 -- ---- a line more
 
@@ -64,19 +64,6 @@ lines_more T s [] [] d l are here = (here, tt)
 lines_more T s [] (x ∷ ls) d l are here = absurd are
 lines_more T s (e ∷ ds) [] d l are here = absurd are
 lines_more T s (e ∷ ds) (x ∷ ls) d l are here = (are.0, lines_more T (after_line T s x) ds ls d l are.1 here)
-
-all_more : {X : Type 0} (P : X → Type 0) (xs : List X) (x : X) → AllByRecursion P xs → P x
-    → AllByRecursion P (xs ++ x ∷ [])
-all_more P [] x all h = (h, tt)
-all_more P (y ∷ ys) x all h = (all.0, all_more P ys x all.1 h)
-
-pub taken_more : (ds : List DraftLine) (i : ℕ) → i < length ds → take (i + 1) ds ≡ take i ds ++ line_at ds i ∷ []
-taken_more ds i below = ap (λ k. take k ds) (add-one i) ∙ suc_more ds i below
-  where
-    suc_more : (ds : List DraftLine) (i : ℕ) → i < length ds → take (suc i) ds ≡ take i ds ++ line_at ds i ∷ []
-    suc_more [] i below = absurd (omega arith)
-    suc_more (d ∷ ds) zero below = refl
-    suc_more (d ∷ ds) (suc i) below = ap (λ (es : List DraftLine). d ∷ es) (suc_more ds i (omega arith))
 
 -- what indexing gives
 pub line_is : (ds es : List DraftLine) (i : ℕ) (none : DraftLine) → ds ≡ es → i < length ds → get_or ds i none ≡ line_at es i
@@ -102,10 +89,10 @@ module _ (T : Table) (d : DraftValue) (i left : ℕ) (lines : List Line) (w : Wo
         run = subst (λ es. RunsTo T (opening_in d) es w'.state) (sym (events_more lines l))
             (subst (λ s. RunsTo T (opening_in d) (events_of_lines lines ++ events_of_line l) s) (sym state_is)
             (runs_line T (opening_in d) (events_of_lines lines) w.state l h.run made.enabled));
-        lines_are = subst (λ ds. AreLinesOf T (opening (opening_in d)) ds (lines ++ l ∷ [])) (sym (taken_more d.lines i below))
+        lines_are = subst (λ ds. AreLinesOf T (opening (opening_in d)) ds (lines ++ l ∷ [])) (sym (take_more d.lines i (Out 0) below))
             (lines_more T (opening (opening_in d)) (take i d.lines) lines (line_at d.lines i) l h.lines_are
             (subst (λ s. IsLineOf T s (line_at d.lines i) l) h.state made.line_of));
-        fit = all_more (IsLine Two) lines l h.fit made.fits;
+        fit = all_both (IsLine Two) lines (l ∷ []) h.fit (made.fits, tt);
         total =
             let sum : sum_by event_count (lines ++ l ∷ []) ≡ sum_by event_count lines + sum_by event_count (l ∷ []) =
             sum_by-append event_count lines (l ∷ []) in

@@ -2,10 +2,9 @@
 use Rattle.std.proofs.Common.{◌≡◌, ◌≢◌, ℕ, suc, ◌+◌, ◌<◌, ◌≤◌, ◌⊎◌, inl, inr, sym, ap, subst, ◌∙◌}
 use Rattle.std.proofs.Common.{add-one, arith}
 use Rattle.lset_steps.specs.declared.Event.TheVariants.{Go}
-use Rattle.lset_steps.specs.declared.world.StepFault.{StepFault}
 use Rattle.lset_steps.specs.Steps.{Table, Enabled, after, local_of}
-use Rattle.lset_steps.specs.Worlds.{WorldState, Refused}
-use Rattle.tool_draft.specs.Counts.{steps_on, world_on, row_on, AreEnabled, IsNotYet, IsRefusedAt}
+use Rattle.lset_steps.specs.Worlds.{WorldState}
+use Rattle.tool_draft.specs.Counts.{steps_on, world_on, row_on, AreEnabled, IsNotYet}
 
 -- n steps of the thread lead from the first world to the second
 pub record HasStepped (T : Table) (w : WorldState) (t n : ℕ) (w' : WorldState) : Type 0 where

@@ -41,8 +41,7 @@ pub record IsRefusedAt (T : Table) (w : WorldState) (t m : ℕ) (why : StepFault
 -- why a thread comes to no row within so many steps: one of them is refused, or they are not enough
 abbrev pub IsStopFault : Table → WorldState → ℕ → ℕ → ℕ → DraftCause → Type 0
 IsStopFault T w most t row cause.TooMany = ⊥
-IsStopFault T w most t row (cause.Refused why) =
-    (m : ℕ) × (m < most) × IsRefusedAt T w t m why × IsNotYet T w.state t row m
+IsStopFault T w most t row (cause.Refused why) = (m : ℕ) × (m < most) × IsRefusedAt T w t m why × IsNotYet T w.state t row m
 IsStopFault T w most t row cause.Waits = AreEnabled T w.state t most × IsNotYet T w.state t row most
 
 -- ---- what the two ways of stepping answer

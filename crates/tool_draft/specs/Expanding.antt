@@ -62,8 +62,7 @@ IsLineFault T w left (To t row) why = IsStopFault T w (most_steps left) t row wh
 
 -- what becomes of a world when the events of a line of a schedule are made
 abbrev pub MakesPlain : Table → WorldState → ℕ → Line → Result (Unit {0}) DraftCause → WorldState → Type 0
-MakesPlain T w left l (Ok done) w' =
-    (event_count l ≤ left) × IsEnabledLine T w.state l × (w' ≡ record w { state = after_line T w.state l })
+MakesPlain T w left l (Ok done) w' = (event_count l ≤ left) × IsEnabledLine T w.state l × (w' ≡ record w { state = after_line T w.state l })
 MakesPlain T w left l (Err why) w' = IsPlainFault T w left l why
 
 -- what is made of a line, if this many events are left

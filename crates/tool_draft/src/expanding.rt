@@ -1,12 +1,11 @@
-ghost use Rattle.std.specs.Prelude.{◌≡◌, ◌≤◌, length, IfOk, MatchResult};
+ghost use Rattle.std.specs.Prelude.{◌≡◌, length, IfOk, MatchResult};
 ghost use Rattle.lset_words.specs.Words.{Opens, sizes};
 ghost use Rattle.lset_steps.specs.Steps.{opening};
 ghost use Rattle.lset_schedule.specs.Plan as plan;
 ghost use Rattle.lset_schedule.specs.declared.TheConstants.{MOST_EVENTS};
 ghost use Rattle.lset_lists.specs.Tables.{table_of};
 ghost use Rattle.tool_draft.specs.Drafts.{IsDraft, IsDraftLine, opening_in, view};
-ghost use Rattle.tool_draft.specs.Counts.{TakesSteps};
-ghost use Rattle.tool_draft.specs.Expanding.{AreLinesOfDraft, Expands, IsRefusal, MakesLine, MakesPlain, most_steps};
+ghost use Rattle.tool_draft.specs.Expanding.{AreLinesOfDraft, Expands, IsRefusal, MakesLine, MakesPlain};
 
 use crate::fault::{DraftCause, DraftFault};
 use crate::stepping::{steps_to, take_steps};

@@ -7,12 +7,10 @@ use Rattle.lset_report.specs.Report.{ReportValue}
 use Rattle.lset_report.specs.ReportReading.{reading, ReportsReadBack}
 use Rattle.lset_judge.specs.Verdict.{IsUnexplained}
 use Rattle.tool_examples.specs.declared.example.Example.{Example}
-use Rattle.tool_examples.specs.declared.example.Example.TheVariants.{FailedTries, Full, HandOverHand, SameGap}
-use Rattle.tool_examples.specs.declared.example.Example.TheVariants.{StalePred, MarkedInChain, MarkedPred, ReadInAnothersStep}
-use Rattle.tool_examples.specs.declared.example.Example.TheVariants.{OpensWithKeys}
-use Rattle.tool_examples.specs.declared.example.Example.TheVariants.{TwoRemovers, Snip, TriesAgain, LeftInChain}
-use Rattle.tool_examples.specs.declared.example.Example.TheVariants.{CeilingMeetsMark, CeilingLeftInChain, BehindTheWalk}
-use Rattle.tool_examples.specs.declared.example.Example.TheVariants.{CeilingInAnothersStep, NothingInAnothersStep}
+use Rattle.tool_examples.specs.declared.example.Example.TheVariants.{SameGap}
+use Rattle.tool_examples.specs.declared.example.Example.TheVariants.{StalePred}
+use Rattle.tool_examples.specs.declared.example.Example.TheVariants.{TwoRemovers, Snip, LeftInChain}
+use Rattle.tool_examples.specs.declared.example.Example.TheVariants.{CeilingLeftInChain}
 use Rattle.tool_examples.specs.Examples.{broken_of, kind_of, IsBrokenReportOf}
 use Rattle.tool_examples.specs.declared.texts.TheConstants as texts
 use Rattle.tool_examples.proofs.ReadReports as read
@@ -44,18 +42,7 @@ is_broken_report back LeftInChain text is =
 is_broken_report back CeilingLeftInChain text is =
     read_as back CeilingLeftInChain read.ceiling_left_in_chain texts.CEILING_LEFT_IN_CHAIN_BROKEN.now text
     read.reads_ceiling_left_in_chain refl unexplained.ceiling_left_in_chain_is_unexplained is
-is_broken_report back FailedTries text is = absurd (cc is)
-is_broken_report back Full text is = absurd (cc is)
-is_broken_report back HandOverHand text is = absurd (cc is)
-is_broken_report back MarkedInChain text is = absurd (cc is)
-is_broken_report back MarkedPred text is = absurd (cc is)
-is_broken_report back ReadInAnothersStep text is = absurd (cc is)
-is_broken_report back CeilingInAnothersStep text is = absurd (cc is)
-is_broken_report back OpensWithKeys text is = absurd (cc is)
-is_broken_report back TriesAgain text is = absurd (cc is)
-is_broken_report back CeilingMeetsMark text is = absurd (cc is)
-is_broken_report back BehindTheWalk text is = absurd (cc is)
-is_broken_report back NothingInAnothersStep text is = absurd (cc is)
+is_broken_report back e text is = absurd (cc is)
 
 pub is_broken_report_text : ReportsReadBack → (e : Example) (o : Option (Bor (List ℕ))) → option_copied o ≡ broken_of e
     → IfSome o (λ text. IsBrokenReportOf e text.now)

@@ -78,43 +78,11 @@ plan_of NothingInAnothersStep = plan_with Two LockFree 2 1 (5 ∷ 7 ∷ []) (cei
 is_text_of_plan : (e : Example) → text_of e ≡ schedule_text (plan_of e)
 unfolding digits
 is_text_of_plan FailedTries = refl
-is_text_of_plan Full = refl
-is_text_of_plan HandOverHand = refl
-is_text_of_plan SameGap = refl
-is_text_of_plan StalePred = refl
-is_text_of_plan MarkedInChain = refl
-is_text_of_plan MarkedPred = refl
-is_text_of_plan ReadInAnothersStep = refl
-is_text_of_plan CeilingInAnothersStep = refl
-is_text_of_plan OpensWithKeys = refl
-is_text_of_plan TwoRemovers = refl
-is_text_of_plan Snip = refl
-is_text_of_plan TriesAgain = refl
-is_text_of_plan LeftInChain = refl
-is_text_of_plan CeilingMeetsMark = refl
-is_text_of_plan CeilingLeftInChain = refl
-is_text_of_plan BehindTheWalk = refl
-is_text_of_plan NothingInAnothersStep = refl
+is_text_of_plan e = refl
 
 is_of_kind : (e : Example) → (plan_of e).kind ≡ kind_of e
 is_of_kind FailedTries = refl
-is_of_kind Full = refl
-is_of_kind HandOverHand = refl
-is_of_kind SameGap = refl
-is_of_kind StalePred = refl
-is_of_kind MarkedInChain = refl
-is_of_kind MarkedPred = refl
-is_of_kind ReadInAnothersStep = refl
-is_of_kind CeilingInAnothersStep = refl
-is_of_kind OpensWithKeys = refl
-is_of_kind TwoRemovers = refl
-is_of_kind Snip = refl
-is_of_kind TriesAgain = refl
-is_of_kind LeftInChain = refl
-is_of_kind CeilingMeetsMark = refl
-is_of_kind CeilingLeftInChain = refl
-is_of_kind BehindTheWalk = refl
-is_of_kind NothingInAnothersStep = refl
+is_of_kind e = refl
 
 two_threads : Opens (empty 2 4)
 two_threads = opens_empty 2 4 (record { some = lit< tt; few = lit≤ tt; small = lit≤ tt; opens = lit≤ tt })
@@ -144,24 +112,14 @@ five_and_seven = record {
 }
 
 is_schedule : (e : Example) → IsSchedule (plan_of e)
-is_schedule FailedTries = record { opens = two_threads; opening = refl; lines = search rules; few = lit≤ tt }
 is_schedule Full = record { opens = one_thread; opening = refl; lines = search rules; few = lit≤ tt }
-is_schedule HandOverHand = record { opens = two_threads; opening = refl; lines = search rules; few = lit≤ tt }
-is_schedule SameGap = record { opens = two_threads; opening = refl; lines = search rules; few = lit≤ tt }
-is_schedule StalePred = record { opens = two_threads; opening = refl; lines = search rules; few = lit≤ tt }
-is_schedule MarkedInChain = record { opens = two_threads; opening = refl; lines = search rules; few = lit≤ tt }
-is_schedule MarkedPred = record { opens = two_threads; opening = refl; lines = search rules; few = lit≤ tt }
-is_schedule ReadInAnothersStep = record { opens = two_threads; opening = refl; lines = search rules; few = lit≤ tt }
 is_schedule CeilingInAnothersStep = record { opens = five_alone; opening = tt; lines = search rules; few = lit≤ tt }
 is_schedule OpensWithKeys = record { opens = two_keys; opening = tt; lines = search rules; few = lit≤ tt }
-is_schedule TwoRemovers = record { opens = two_threads; opening = refl; lines = search rules; few = lit≤ tt }
-is_schedule Snip = record { opens = two_threads; opening = refl; lines = search rules; few = lit≤ tt }
-is_schedule TriesAgain = record { opens = two_threads; opening = refl; lines = search rules; few = lit≤ tt }
-is_schedule LeftInChain = record { opens = two_threads; opening = refl; lines = search rules; few = lit≤ tt }
 is_schedule CeilingMeetsMark = record { opens = two_threads; opening = tt; lines = search rules; few = lit≤ tt }
 is_schedule CeilingLeftInChain = record { opens = two_threads; opening = tt; lines = search rules; few = lit≤ tt }
 is_schedule BehindTheWalk = record { opens = two_threads; opening = tt; lines = search rules; few = lit≤ tt }
 is_schedule NothingInAnothersStep = record { opens = five_and_seven; opening = tt; lines = search rules; few = lit≤ tt }
+is_schedule e = record { opens = two_threads; opening = refl; lines = search rules; few = lit≤ tt }
 
 -- each text is that of a schedule on the example's list
 pub is_schedule_text : (e : Example) → IsScheduleOf e (text_of e)

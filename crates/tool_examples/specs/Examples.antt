@@ -103,24 +103,13 @@ text_of NothingInAnothersStep = texts.NOTHING_IN_ANOTHERS_STEP.now
 
 -- the text of the report of a broken list, without the check in question, of the examples that have one
 abbrev pub broken_of : Example → Option (List ℕ)
-broken_of FailedTries = None
-broken_of Full = None
-broken_of HandOverHand = None
 broken_of SameGap = Some texts.SAME_GAP_BROKEN.now
 broken_of StalePred = Some texts.STALE_PRED_BROKEN.now
-broken_of MarkedInChain = None
-broken_of MarkedPred = None
-broken_of ReadInAnothersStep = None
-broken_of CeilingInAnothersStep = None
-broken_of OpensWithKeys = None
 broken_of TwoRemovers = Some texts.TWO_REMOVERS_BROKEN.now
 broken_of Snip = Some texts.SNIP_BROKEN.now
-broken_of TriesAgain = None
 broken_of LeftInChain = Some texts.LEFT_IN_CHAIN_BROKEN.now
-broken_of CeilingMeetsMark = None
 broken_of CeilingLeftInChain = Some texts.CEILING_LEFT_IN_CHAIN_BROKEN.now
-broken_of BehindTheWalk = None
-broken_of NothingInAnothersStep = None
+broken_of e = None
 
 -- the text of a schedule on the example's list
 abbrev pub IsScheduleOf : Example → List ℕ → Type 0
@@ -128,8 +117,7 @@ IsScheduleOf e text = (p : Plan) × IsSchedule p × (p.kind ≡ kind_of e) × (t
 
 -- the text of a report on the example's list that no order explains, its own or another
 abbrev pub IsBrokenReportOf : Example → List ℕ → Type 0
-IsBrokenReportOf e text =
-    (r : ReportValue) × IsReport r × (r.kind ≡ kind_of e) × (text ≡ report_text r) × IsUnexplained r.history r.keys
+IsBrokenReportOf e text = (r : ReportValue) × IsReport r × (r.kind ≡ kind_of e) × (text ≡ report_text r) × IsUnexplained r.history r.keys
 
 -- ---- laws
 

@@ -1,16 +1,7 @@
 ghost use Rattle.std.specs.Prelude.{◌≡◌, Some, IfSome};
 ghost use Rattle.std.specs.Option.{option_copied};
-ghost use Rattle.tool_examples.specs.Examples.{
-  name_of,
-  kind_of,
-  about_of,
-  text_of,
-  broken_of,
-  IsScheduleOf,
-  IsBrokenReportOf,
-  NamesAreDistinct,
-  EachIsListed,
-};
+ghost use Rattle.tool_examples.specs.Examples.{name_of, kind_of, about_of, text_of, broken_of, IsScheduleOf, IsBrokenReportOf};
+ghost use Rattle.tool_examples.specs.Examples.{NamesAreDistinct, EachIsListed};
 
 use crate::texts;
 use lset_report::reports_read_back;

@@ -1,5 +1,5 @@
 -- What is made of a text whose calls were read.
-use Rattle.std.proofs.Common.{◌≡◌, ℕ, ◌⊎◌, inl, inr, List, length, Ok, Err, sym, subst, ap, ◌∙◌}
+use Rattle.std.proofs.Common.{◌≡◌, ℕ, ◌⊎◌, inl, inr, List, Ok, Err, sym, subst, ap, ◌∙◌}
 use Rattle.std.specs.Prelude.{Result, IfOk, IfErr}
 use Rattle.lset_history.specs.History.{HistoryValue}
 use Rattle.lset_calls.specs.declared.fault.CallsFault.{CallsFault}
@@ -18,11 +18,6 @@ pub refused : (bytes : List ℕ) (c : CallsValue) (t : Trouble) → IsTaken byte
     → (t ≡ Memory) ⊎ IsFaultOfJudged c t → Judges bytes (Err t)
 refused bytes c t taken e (inl m) = inl (subst (λ x. IsInputTrouble bytes x) (sym m) tt)
 refused bytes c t taken e (inr f) = inr (taken, subst (λ r. IsFirstFaultOfJudged r t) (sym e) f)
-
-pub told : (bytes : List ℕ) (c : CallsValue) (t : Trouble) → reading bytes ≡ Ok c
-    → (t ≡ Memory) ⊎ IsFaultOfJudged c t → (t ≡ Memory) ⊎ IsFirstFaultOfJudged (reading bytes) t
-told bytes c t e (inl m) = inl m
-told bytes c t e (inr f) = inr (subst (λ r. IsFirstFaultOfJudged r t) (sym e) f)
 
 calls_in : CallsValue → Result CallsValue CallsFault → CallsValue
 calls_in c (Ok d) = d

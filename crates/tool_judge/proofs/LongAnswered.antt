@@ -1,6 +1,7 @@
 -- What is made of a long recording.
 use Rattle.std.proofs.Common.{◌≡◌, ◌≢◌, ℕ, ◌<◌, ◌⊎◌, inl, inr, Bool, true, false, List, length, ◌++◌, Ok, Err, Option, Some, None, refl, sym, ap, subst, ◌∙◌}
 use Rattle.std.specs.Prelude.{IfSome}
+use Rattle.std.proofs.lemmas.Option.{IfSome_then}
 use Rattle.std.specs.Io.KnownBytes.{Consumes}
 use Rattle.lset_long.specs.declared.fault.LongCause.{LongCause}
 use Rattle.lset_long.specs.declared.fault.LongCause.TheVariants as wrong
@@ -17,7 +18,7 @@ use Rattle.tool_base.specs.declared.streams.InputFault.{InputFault}
 use Rattle.tool_base.specs.declared.streams.InputFault.TheVariants as input
 use Rattle.tool_base.specs.declared.streams.TheConstants.{LONGEST}
 use Rattle.tool_base.specs.Tools.{Made, IsInputTrouble, view}
-use Rattle.tool_base.specs.Heads.{begins_long, after_long_title, IsHead}
+use Rattle.tool_base.specs.Heads.{begins_long, after_long_title}
 use Rattle.tool_base.specs.Trouble.{of_input, of_long, of_long_line}
 use Rattle.tool_base.proofs.HeadLaws.{begins_more}
 use Rattle.tool_judge.specs.Judging.{Judges, JudgesAny, JudgesIf, JudgesLong, long_answer}
@@ -29,12 +30,8 @@ of_fault bytes e t is says = by e.line e.cause is says
   where
     by : (line : ℕ) (cause : LongCause) → t ≡ of_long_line line cause → (cause ≢ wrong.Memory → Says bytes (Err (fault line cause)))
         → JudgesLong bytes (Err t)
-    by line wrong.Line is says = inr (inr (fault line wrong.Line, says (λ bad. absurd cc), is))
-    by line wrong.Number is says = inr (inr (fault line wrong.Number, says (λ bad. absurd cc), is))
-    by line wrong.Opening is says = inr (inr (fault line wrong.Opening, says (λ bad. absurd cc), is))
-    by line wrong.History is says = inr (inr (fault line wrong.History, says (λ bad. absurd cc), is))
-    by line wrong.NotEnded is says = inr (inr (fault line wrong.NotEnded, says (λ bad. absurd cc), is))
     by line wrong.Memory is says = inr (inl is)
+    by line cause is says = inr (inr (fault line cause, says (λ bad. absurd cc), is))
 
 -- the answer on what the bytes say
 pub answered : (bytes : List ℕ) (c : LongValue) (said : LongAnswer) (a : Answer) → Says bytes (Ok c) → IsAnswered c said
@@ -66,9 +63,8 @@ long_any (Some xs) (Some ys) head front made read begins is judged =
 -- any other input
 pub short_any : (all : Option (List ℕ)) (text : List ℕ) (made : Made) → IfSome all (λ bytes. text ≡ bytes) → begins_long text ≡ false
     → Judges text made → IfSome all (λ bytes. JudgesAny bytes made)
-short_any None text made is other judged = tt
-short_any (Some xs) text made is other judged =
-    subst (λ bytes. JudgesAny bytes made) is (subst (λ b. JudgesIf b text made) (sym other) judged)
+short_any all text made is other judged = IfSome_then all is (λ bytes same.
+    subst (λ bytes. JudgesAny bytes made) same (subst (λ b. JudgesIf b text made) (sym other) judged))
 
 -- whatever the bytes of an input are
 pub if_known : (all : Option (List ℕ)) (P : List ℕ → Type 0) → ((bytes : List ℕ) → P bytes) → IfSome all P

@@ -1,5 +1,5 @@
 -- What `judge` makes of an input.
-use Rattle.std.specs.Prelude.{◌≡◌, ℕ, ◌*◌, ◌⊎◌, List, [], ◌∷◌, ◌++◌, map, codes, length, Bool, true, false, nat_lt, if◌then◌else◌}
+use Rattle.std.specs.Prelude.{◌≡◌, ℕ, ◌*◌, ◌⊎◌, List, [], ◌∷◌, ◌++◌, map, codes, length, Bool, true, false, nat_lt}
 use Rattle.std.specs.Prelude.{Option, Some, None, Result, Ok, Err, Contains}
 use Rattle.std.specs.List.Sorted.{IsStrictlyIncreasing}
 use Rattle.std.specs.Fmt.{decimal}
@@ -60,8 +60,7 @@ abbrev pub is_few : ℕ → ℕ → Bool
 is_few overlapped calls = nat_lt (overlapped * 100) (calls * 5)
 
 abbrev pub hint : Bool → List ℕ
-hint true =
-    codes "that is few, and a bug shows only if calls meet: take fewer keys, more threads, or pauses in the set\n"
+hint true = codes "that is few, and a bug shows only if calls meet: take fewer keys, more threads, or pauses in the set\n"
 hint false = []
 
 -- how many calls there are, how many of them overlap a change of their key, and what to do if these are few
@@ -246,8 +245,7 @@ pub record IsLongAnswer (c : LongValue) (answer : AnswerValue) : Type 0 where
 -- memory was refused
 abbrev pub JudgesLong : List ℕ → Made → Type 0
 JudgesLong bytes (Ok answer) = (c : LongValue) × Says bytes (Ok c) × (bytes ≡ text_after_title c) × IsLongAnswer c answer
-JudgesLong bytes (Err t) =
-    (t ≡ CannotRead) ⊎ ((t ≡ Memory) ⊎ ((fault : LongFault) × Says bytes (Err fault) × (t ≡ of_long fault)))
+JudgesLong bytes (Err t) = (t ≡ CannotRead) ⊎ ((t ≡ Memory) ⊎ ((fault : LongFault) × Says bytes (Err fault) × (t ≡ of_long fault)))
 
 -- WHAT IS MADE OF AN INPUT: by its first line, of a long recording, or of any other text
 abbrev pub JudgesIf : Bool → List ℕ → Made → Type 0

@@ -1,7 +1,6 @@
-ghost use Rattle.std.specs.Prelude.{◌≡◌, ◌++◌, [], ◌∷◌, ◌<◌, map, length, All, IfOk, IfSome, OnOk, string_bytes};
+ghost use Rattle.std.specs.Prelude.{◌≡◌, ◌++◌, ◌<◌, map, length, All, IfOk, OnOk, string_bytes};
 ghost use Rattle.lset_calls.specs.Texts.{call_line};
 ghost use Rattle.lset_text.specs.Parts.{ended, text_of};
-ghost use Rattle.lset_words.specs.History.{call_numbered};
 ghost use Rattle.tool_judge.specs.Judging.{alone_line, shown_call, shown_calls, state_line, state_words, unchanged_line, window_text, without_point};
 
 use lset_history::History;

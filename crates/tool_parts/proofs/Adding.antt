@@ -1,7 +1,6 @@
 -- One part more is kept.
-use Rattle.std.proofs.Common.{◌≡◌, ℕ, ◌+◌, List, [], ◌∷◌, ◌++◌, map, length, length-append, Bool, Option, Some, None, Ok, refl, sym, subst, ap, ◌∙◌, arith, inl, inr}
+use Rattle.std.proofs.Common.{◌≡◌, ℕ, ◌+◌, List, [], ◌∷◌, ◌++◌, length, length-append, Bool, Option, Some, None, refl, sym, subst, ap, ◌∙◌, arith, inl}
 use Rattle.std.proofs.lemmas.List.{length-map}
-use Rattle.lset_words.specs.declared.history.CallRecord.{CallRecord}
 use Rattle.lset_judge.specs.declared.verdict.Refusal.{Refusal}
 use Rattle.lset_judge.specs.declared.verdict.Verdict.{Verdict}
 use Rattle.lset_judge.specs.declared.verdict.Verdict.TheVariants.{NotLinearizable}

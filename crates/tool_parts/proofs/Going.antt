@@ -1,9 +1,9 @@
 -- The files of a recording are gone over.
-use Rattle.std.proofs.Common.{◌≡◌, ℕ, ◌+◌, ◌<◌, ◌≤◌, zero, suc, add-one, map, drop, get_or, drop-cons, true, List, [], ◌∷◌, ◌++◌, length, length-append, Option, Some, None, Ok, Err, refl, sym, subst, ap, ◌∙◌, arith, inl, inr}
-use Rattle.std.specs.Prelude.{◌⊎◌, IfSome, Result}
-use Rattle.lset_words.specs.declared.history.Placed.{Placed}
-use Rattle.lset_parts.specs.Parts.{Part, ExplainsWithoutQuota, whole_calls, keys_left}
-use Rattle.lset_parts.specs.Kept.{KeptParts, IsKeptOf}
+use Rattle.std.proofs.Common.{◌≡◌, ℕ, ◌+◌, ◌<◌, map, drop, get_or, true, List, [], ◌∷◌, ◌++◌, length, length-append, Option, Some, None, Ok, Err, sym, subst, ap, ◌∙◌, arith, inl, inr}
+use Rattle.std.specs.Prelude.{◌⊎◌, IfSome}
+use Rattle.std.proofs.lemmas.List.{at_drop_more}
+use Rattle.lset_parts.specs.Parts.{Part, ExplainsWithoutQuota, whole_calls}
+use Rattle.lset_parts.specs.Kept.{KeptParts}
 use Rattle.lset_parts.proofs.Whole.{explains_whole}
 use Rattle.lset_parts.proofs.Kept.{none_kept}
 use Rattle.tool_base.specs.declared.trouble.Trouble.{Trouble}
@@ -11,7 +11,7 @@ use Rattle.tool_base.specs.declared.trouble.Trouble.TheVariants.{CannotRead}
 use Rattle.tool_parts.specs.declared.key_part.KeyPart.{KeyPart}
 use Rattle.tool_parts.specs.declared.kept.Finding.{Finding}
 use Rattle.tool_parts.specs.declared.kept.Kept.{Kept}
-use Rattle.tool_parts.specs.Parting.{IsPartOf, IsKept, IsKeptBy, IsFinding, JudgesFile, StopsAt, FindsAt, GoesOver, FilesMade, IsWholeExplained}
+use Rattle.tool_parts.specs.Parting.{IsKept, IsKeptBy, JudgesFile, StopsAt, FindsAt, GoesOver, FilesMade, IsWholeExplained}
 use Rattle.tool_parts.specs.Parting.{AllExplained, IsTrouble}
 
 -- behind some parts, what the rest makes is made of all
@@ -21,11 +21,6 @@ pub record Goes (asked : Option KeyPart) (parts : ℕ) (IsFile : Option (List �
   pub kept_is : IsKept ps kept
   pub count : length ps ≡ index
   pub goes : (made : FilesMade) → GoesOver asked parts IsFile rest ps made → GoesOver asked parts IsFile all [] made
-
--- before the first file
-pub at_first : (asked : Option KeyPart) (parts : ℕ) (IsFile : Option (List ℕ) → Type 0) (all : List (List ℕ)) (kept : Kept) → IsKept [] kept
-    → Goes asked parts IsFile all all 0 kept
-at_first asked parts IsFile all kept is = record { ps = []; kept_is = is; count = refl; goes = λ made over. over }
 
 with_rest : (asked : Option KeyPart) (parts : ℕ) (IsFile : Option (List ℕ) → Type 0) (all rest other : List (List ℕ)) (index : ℕ) (kept : Kept)
     → rest ≡ other → Goes asked parts IsFile all rest index kept → Goes asked parts IsFile all other index kept
@@ -41,13 +36,7 @@ ended asked parts IsFile all rest index kept made g none says =
 -- the paths from a place on
 rest_next : {X : Type 0} (f : X → List ℕ) (xs : List X) (i : ℕ) (x : X) → i < length xs → x ≡ get_or xs i x
     → map f (drop i xs) ≡ f x ∷ map f (drop (i + 1) xs)
-rest_next f xs i x l is = rw add-one (ap (map f) (drop-cons xs i x l) ∙ ap (λ y. f y ∷ map f (drop (suc i) xs)) (sym is))
-
-pub rest_none : {X : Type 0} (f : X → List ℕ) (xs : List X) (i : ℕ) → length xs ≤ i → map f (drop i xs) ≡ []
-rest_none f [] zero l = refl
-rest_none f [] (suc i) l = refl
-rest_none f (x ∷ xs) zero l = absurd (omega arith)
-rest_none f (x ∷ xs) (suc i) l = rest_none f xs i (omega arith)
+rest_next f xs i x l is = at_drop_more (map f) xs i x l ∙ ap (λ y. f y ∷ map f (drop (i + 1) xs)) (sym is)
 
 -- at a file, whose path and those behind it are left
 pub at_file : {X : Type 0} (f : X → List ℕ) (asked : Option KeyPart) (parts : ℕ) (IsFile : Option (List ℕ) → Type 0) (xs : List X) (i : ℕ) (x : X)

@@ -1,5 +1,4 @@
 mod Asking
-mod Differences
 mod Adding
 mod Telling
 mod Going

@@ -1,14 +1,13 @@
 -- What a file has of a part, and what is made of an only part.
-use Rattle.std.proofs.Common.{◌≡◌, false, ℕ, ◌+◌, ◌<◌, List, [], ◌∷◌, ◌++◌, length, Option, Some, None, Ok, Err, refl, sym, subst, ap, ◌∙◌, arith, inl, inr}
-use Rattle.std.specs.Prelude.{◌⊎◌, IfSome, IfOk, IfErr, Result, All}
-use Rattle.std.specs.List.Sorted.{IsStrictlyIncreasing}
+use Rattle.std.proofs.Common.{◌≡◌, false, ℕ, ◌+◌, List, [], ◌∷◌, ◌++◌, length, Option, Some, None, Ok, Err, refl, sym, subst, ap, ◌∙◌, arith, inl, inr}
+use Rattle.std.specs.Prelude.{◌⊎◌, IfSome, IfOk, IfErr, Result}
 use Rattle.lset_history.specs.History.{HistoryValue}
 use Rattle.lset_calls.specs.Calls.{CallsValue, AreCalls}
 use Rattle.lset_calls.specs.Texts.{calls_text}
 use Rattle.lset_calls.specs.Reading.{reading}
 use Rattle.lset_calls.specs.Histories.{IsHistoryOf}
 use Rattle.lset_parts.specs.Parts.{Part, IsExplained, whole_calls}
-use Rattle.lset_parts.specs.Kept.{KeptParts, IsKeptOf}
+use Rattle.lset_parts.specs.Kept.{KeptParts}
 use Rattle.lset_parts.proofs.Joining.{all_head}
 use Rattle.tool_base.specs.declared.trouble.Trouble.{Trouble}
 use Rattle.tool_base.specs.declared.trouble.Trouble.TheVariants.{Memory}
@@ -21,15 +20,9 @@ use Rattle.tool_parts.specs.declared.kept.Told.{Told}
 use Rattle.tool_parts.specs.declared.kept.Kept.{Kept}
 use Rattle.tool_parts.specs.Findings.{finding_text}
 use Rattle.tool_parts.specs.KeyParts.{history_asked, keys_asked}
-use Rattle.tool_parts.specs.Parting.{IsPartOf, IsWholeJudged, IsKept, IsKeptBy, IsFindingNext, IsFinding, IsToldBy, IsKeysTold, part_at}
+use Rattle.tool_parts.specs.Parting.{IsPartOf, IsKept, IsKeptBy, IsFindingNext, IsToldBy, part_at}
 use Rattle.tool_parts.specs.Parting.{JudgesText, JudgesRead, JudgesInput, JudgesPart, IsTrouble}
 use Rattle.tool_parts.proofs.Adding.{whole_length}
-
--- of the keys that are asked for
-pub told_of_keys : (c : CallsValue) (h : HistoryValue) (left : List ℕ) (asked : KeyPart) (r : Option Told) → c.cut_off ≡ false → IsHistoryOf c h
-    → AreKeysOf c.keys left → IsKeysTold h left asked r → IsToldBy c (Some asked) r
-told_of_keys c h left asked None known history keys told = (h, left, known, history, keys, told)
-told_of_keys c h left asked (Some t) known history keys told = (h, left, known, history, keys, told.0, told.1, told.2, told.3)
 
 abbrev part_of_text : (bytes : List ℕ) (c : CallsValue) (asked : Option KeyPart) (h : HistoryValue) (left : List ℕ) (p : Part) → AreCalls c
     → bytes ≡ calls_text c → c.cut_off ≡ false → IsHistoryOf c h → AreKeysOf c.keys left → p.history ≡ history_asked asked h → p.keys ≡ keys_asked asked left

@@ -41,8 +41,7 @@ refused_text lines false = lines ++ codes "calls of an earlier part are pending,
 abbrev pub finding_text : Finding → List ℕ
 finding_text (Refused lines rests) = refused_text lines.items rests
 finding_text (OtherKeys key) = other_keys_text key
-finding_text Undecided =
-    codes "undecided: a ceiling or a full: judge the whole in one file, by its points\n"
+finding_text Undecided = codes "undecided: a ceiling or a full: judge the whole in one file, by its points\n"
 finding_text Late = codes "undecided: the parts before it are too long\n"
 finding_text Early = codes "undecided: one of its calls ended before a call of an earlier part began\n"
 

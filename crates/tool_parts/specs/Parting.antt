@@ -16,8 +16,7 @@ use Rattle.tool_base.specs.declared.trouble.Trouble.{Trouble}
 use Rattle.tool_base.specs.declared.trouble.Trouble.TheVariants.{CannotRead, Memory, Bad}
 use Rattle.tool_base.specs.declared.trouble.ValueName.TheVariants.{Keys}
 use Rattle.tool_base.specs.Trouble.{trouble_text, status_of}
-use Rattle.tool_base.specs.Tools.{AnswerValue, Made, Outcome, IsTaken, IsInputTrouble, Delivers, AppendsFront, line_of}
-use Rattle.tool_base.specs.Tools as tools
+use Rattle.tool_base.specs.Tools.{AnswerValue, Made, IsTaken, IsInputTrouble, IsDelivered, AppendsFront}
 use Rattle.tool_judge.specs.Judging.{AreKeysOf, IsFirstFault, ok_line}
 use Rattle.tool_parts.specs.declared.key_part.KeyPart.{KeyPart}
 use Rattle.tool_parts.specs.declared.kept.Finding.{Finding}
@@ -210,8 +209,7 @@ JudgesFiles (Some asked) paths IsFile made = GoesOver asked (length paths) IsFil
 -- output stays as it is
 abbrev pub Ended : Option (List ℕ) → Option (List ℕ) → Option (List ℕ) → Option (List ℕ) → ℕ → FilesMade → Type 0
 Ended output_old output_new faults_old faults_new status (Ok answer) =
-    (outcome : Outcome) × Delivers (Ok answer) output_old output_new outcome
-    × AppendsFront faults_old faults_new (line_of outcome) × (status ≡ tools.status_of outcome)
+    IsDelivered (Ok answer) output_old output_new faults_old faults_new status
 Ended output_old output_new faults_old faults_new status (Err told) =
     Keeps output_old output_new × AppendsFront faults_old faults_new told.line × (status ≡ told.status)
 

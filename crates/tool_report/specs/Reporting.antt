@@ -61,8 +61,7 @@ no_order_text = codes "no order explains these calls: judge shows why\n"
 
 -- the text of the report has more bytes than a text that is read may have
 abbrev pub IsOfLongReport : List ℕ → Trouble → Type 0
-IsOfLongReport bytes t =
-    (t ≡ LongReport) × (c : CallsValue) × (r : ReportValue) × IsReported bytes c r × (LONGEST < length (report_text r))
+IsOfLongReport bytes t = (t ≡ LongReport) × (c : CallsValue) × (r : ReportValue) × IsReported bytes c r × (LONGEST < length (report_text r))
 
 -- an answer is the text of the report, which is not too long to be read, or says that no order explains the calls
 abbrev pub IsReport : List ℕ → AnswerValue → Type 0
@@ -76,8 +75,7 @@ SaysNone bytes answer = (c : CallsValue) × AreCalls c × (bytes ≡ calls_text 
 -- what is made of the bytes of an input: such an answer, or a trouble with the input, or its first fault
 abbrev pub Reports : List ℕ → Made → Type 0
 Reports bytes (Ok answer) = IsTaken bytes × (IsReport bytes answer ⊎ SaysNone bytes answer)
-Reports bytes (Err t) =
-    IsInputTrouble bytes t ⊎ (IsTaken bytes × (IsFirstFault (reading bytes) t ⊎ IsOfLongReport bytes t))
+Reports bytes (Err t) = IsInputTrouble bytes t ⊎ (IsTaken bytes × (IsFirstFault (reading bytes) t ⊎ IsOfLongReport bytes t))
 
 -- ---- what the functions on the way say
 

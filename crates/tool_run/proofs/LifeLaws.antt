@@ -2,6 +2,7 @@
 use Rattle.std.proofs.Common.{◌≡◌, ℕ, zero, suc, ◌+◌, ◌<◌, ◌≤◌, ◌%◌, ◌^◌, true, false, List, [], ◌∷◌, length, map, sum_by, All}
 use Rattle.std.proofs.Common.{refl, sym, ap, ◌∙◌, subst, arith}
 use Rattle.std.specs.List.{range_with_len}
+use Rattle.std.proofs.lemmas.Simd.{map-map}
 use Rattle.std.proofs.lemmas.List.{length-map}
 use Rattle.std.proofs.lemmas.List.Elements.{All-cons, All-nil, All-head, All-tail}
 use Rattle.std.proofs.lemmas.List.FromFn.{length-range_with_len}
@@ -46,10 +47,6 @@ seen_short calls_of ps lists e all = go calls_of ps (subst (All (λ l. length l 
         (All-head (λ l. length l < 2 ^ 32) (calls_of p) (map calls_of ps) all)
         (go calls_of ps (All-tail (λ l. length l < 2 ^ 32) (calls_of p) (map calls_of ps) all))
 
-pub new_records : (set : SetValue) (ts : List ℕ) → map (λ (s : SeatValue). s.past) (map (new_seat set) ts) ≡ map fresh ts
-new_records set [] = refl
-new_records set (t ∷ ts) = ap (λ l. fresh t ∷ l) (new_records set ts)
-
 new_held : (set : SetValue) (ts : List ℕ) → sum_by (λ (s : SeatValue). s.held) (map (new_seat set) ts) ≡ length ts
 new_held set [] = refl
 new_held set (t ∷ ts) = omega (
@@ -70,7 +67,8 @@ opened_length set o seats is = ap (λ l. length l) is.1 ∙ length-map (range_wi
 
 pub opened_records : (set : SetValue) (o : Opening) (seats : List SeatValue) → IsOpened set o seats
     → map (λ (s : SeatValue). s.past) seats ≡ map fresh (range_with_len 0 o.threads)
-opened_records set o seats is = ap (map (λ (s : SeatValue). s.past)) is.1 ∙ new_records set (range_with_len 0 o.threads)
+opened_records set o seats is = ap (map (λ (s : SeatValue). s.past)) is.1
+    ∙ map-map (λ (s : SeatValue). s.past) (new_seat set) (range_with_len 0 o.threads)
 
 pub programs_length : {P : Type 0} (calls_of : P → List Call) (ps : List P) (threads calls keys seed : ℕ) →
     map calls_of ps ≡ programs_of threads calls keys seed

@@ -84,8 +84,7 @@ few_calls lives threads calls made one few_lives few_threads short made_is one_i
 pub same_outcome : (replies : List (List Reply)) (left : List ℕ) (r r' : RandomRequest) (k k' : List ℕ) → r ≡ r' → k ≡ k' →
     IsOutcome r k replies left
     → IsOutcome r' k' replies left
-same_outcome replies left r r' k k' e f is =
-    subst (λ z. IsOutcome z k' replies left) e (subst (λ z. IsOutcome r z replies left) f is)
+same_outcome replies left r r' k k' e f is = subst (λ z. IsOutcome z k' replies left) e (subst (λ z. IsOutcome r z replies left) f is)
 
 module _ (first : RandomRequest) (many : ℕ) (counts : Counts) (keys : List ℕ) (so_far : IsSummary first many counts keys)
     (replies : List (List Reply)) (left : List ℕ) (is : IsOutcome (life_of first many) keys replies left) where

@@ -1,11 +1,11 @@
 -- What `run` makes of its values.
 use Rattle.std.specs.Prelude.{◌≡◌, ℕ, ◌+◌, ◌<◌, ◌≤◌, List, [], ◌∷◌, codes, flat_map, length, map, Result, Ok, Err}
-use Rattle.std.specs.Fmt.{decimal}
 use Rattle.std.specs.List.{range_with_len}
 use Rattle.lset_words.specs.declared.Call.{Call}
 use Rattle.lset_words.specs.declared.Reply.{Reply}
 use Rattle.lset_words.specs.declared.TheConstants.{MOST_OPENING}
-use Rattle.lset_text.specs.Parts.{line_of, text_of}
+use Rattle.lset_text.specs.Headers.{number_line}
+use Rattle.lset_text.specs.Parts.{text_of}
 use Rattle.lset_schedule.specs.Draws.{programs_of}
 use Rattle.lset_words.specs.Records.{fresh}
 use Rattle.lset_live.specs.Explained.{IsOneLegalOrder}
@@ -25,10 +25,6 @@ use Rattle.tool_run.specs.Asked.{life_of, lives_request_of}
 use Rattle.tool_run.specs.Counting.{counts_of}
 
 -- ---- the text of what lives left
-
--- a name, and a number
-abbrev pub number_line : List ℕ → ℕ → List ℕ
-number_line name n = line_of (name ∷ decimal n ∷ [])
 
 -- how many calls there were, how many with each reply, how many keys, and each key
 abbrev pub summary_text : Counts → List ℕ → List ℕ
@@ -73,8 +69,7 @@ replies_of lives = flat_map (λ (l : Life). flat_map (λ (r : List Reply). r) l.
 -- Each life opens with the keys that the one before it leaves, the first with `opening`; that one has the number `number`.
 abbrev pub AreLives : RandomRequest → ℕ → List ℕ → List Life → Type 0
 AreLives first number opening [] = Unit {0}
-AreLives first number opening (l ∷ ls) =
-    IsOutcome (life_of first number) opening l.replies l.keys × AreLives first (number + 1) l.keys ls
+AreLives first number opening (l ∷ ls) = IsOutcome (life_of first number) opening l.replies l.keys × AreLives first (number + 1) l.keys ls
 
 -- ---- what is made of a request
 

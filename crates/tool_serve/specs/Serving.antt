@@ -12,8 +12,8 @@ use Rattle.lset_server.specs.Serving.{IsServed}
 use Rattle.lset_server.specs.declared.serving.ServeCause.{ServeCause}
 use Rattle.lset_server.specs.declared.serving.ServeCause.TheVariants as cause
 use Rattle.tool_base.specs.declared.trouble.Trouble.{Trouble}
-use Rattle.tool_base.specs.declared.trouble.Trouble.TheVariants.{CannotRead, TooLong, CannotWrite, Memory, Line, Bad}
-use Rattle.tool_base.specs.declared.trouble.Trouble.TheVariants.{CannotListen, Work, Serve}
+use Rattle.tool_base.specs.declared.trouble.Trouble.TheVariants.{CannotWrite, Memory, Bad}
+use Rattle.tool_base.specs.declared.trouble.Trouble.TheVariants.{CannotListen, Serve}
 use Rattle.tool_base.specs.declared.trouble.ValueName.{ValueName}
 use Rattle.tool_base.specs.declared.trouble.ValueName.TheVariants as name
 use Rattle.tool_base.specs.declared.trouble.ServeName.TheVariants as serve
@@ -37,8 +37,7 @@ serve_request_of values = do
 
 -- what is asked for lies within the limits
 abbrev pub IsWithinLimits : ServeRequest → Type 0
-IsWithinLimits request =
-    (0 < request.seats) × (request.seats ≤ MOST_THREADS) × (request.quota ≤ MOST_QUOTA) × (request.port ≤ MOST_PORT)
+IsWithinLimits request = (0 < request.seats) × (request.seats ≤ MOST_THREADS) × (request.quota ≤ MOST_QUOTA) × (request.port ≤ MOST_PORT)
 
 -- ---- the texts
 

@@ -1,33 +1,16 @@
 //! The texts of a server.
-ghost use Rattle.std.specs.Prelude.{◌≡◌, ◌++◌, map, codes, IfOk, OnOk, string_bytes};
-ghost use Rattle.lset_text.specs.Parts.{ended, text_of};
-ghost use Rattle.lset_text.specs.Headers.{number_line};
+ghost use Rattle.std.specs.Prelude.{◌≡◌, IfOk, string_bytes};
 ghost use Rattle.tool_serve.specs.Serving.{first_line, served_text};
 
 use lset_server::Served;
 use std::alloc::{AllocError, Global};
+use tool_base::{put_keys, put_number};
 
 /// Returns the line that names the port on which the server listens.
 pub fn first_line(alloc: Global, port: u16) -> Result<String, AllocError>
     ensures { IfOk result (λ s. string_bytes s ≡ first_line port) }
 {
     format!(in alloc; "listening 127.0.0.1:{port}\n")
-}
-
-fn put_number(out: &mut String, name: &str, number: u64) -> Result<(), AllocError>
-    ensures { OnOk result (string_bytes out.new ≡ string_bytes out.old ++ ended (number_line name.now number)) }
-{
-    writeln!(out, "{name} {number}")?;
-    Ok(())
-}
-
-fn put_keys(out: &mut String, keys: &[u32]) -> Result<(), AllocError>
-    ensures { OnOk result (string_bytes out.new ≡ string_bytes out.old ++ text_of (map (number_line (codes "key")) keys.now)) }
-{
-    for key in keys {
-        put_number(out, "key", u64::from(*key))?;
-    }
-    Ok(())
 }
 
 /// Returns the last lines of a server: how many sessions it served and how many calls it made, and each remaining key.

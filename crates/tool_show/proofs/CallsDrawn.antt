@@ -1,13 +1,11 @@
 -- The picture of a refusal tells a refusal; and of the calls of a text.
-use Rattle.std.proofs.Common.{◌≡◌, ℕ, List, [], ◌∷◌, refl, sym, subst, inl, inr}
-use Rattle.std.specs.Prelude.{◌==◌, Bool, true, false, Option, Some, None, IfSome}
-use Rattle.lset_words.specs.declared.Key.{Key}
+use Rattle.std.proofs.Common.{◌≡◌, ℕ, List, refl, subst}
+use Rattle.std.specs.Prelude.{Bool, true, false, Option, Some, None, IfSome}
 use Rattle.lset_words.specs.declared.Kind.{Kind}
 use Rattle.lset_words.specs.declared.history.Placed.{Placed}
 use Rattle.lset_words.specs.SequentialSet.{has_key}
 use Rattle.lset_words.proofs.Numbers.{equal_test}
 use Rattle.lset_history.specs.History.{HistoryValue}
-use Rattle.lset_history.specs.declared.refusal.Refusal as why
 use Rattle.lset_history.specs.Faults.{Explains}
 use Rattle.lset_judge.specs.declared.verdict.Refusal.{Refusal}
 use Rattle.lset_judge.specs.declared.window.Window.{Window}

@@ -1,6 +1,5 @@
--- The picture of a schedule, from its replay; and of the bytes that were read.
-use Rattle.std.proofs.Common.{◌≡◌, ℕ, List, Option, Some, None, refl, ap, ◌∙◌, subst}
-use Rattle.std.specs.Option.{IfSome}
+-- The picture of a schedule, from its replay.
+use Rattle.std.proofs.Common.{◌≡◌, ℕ, List, Option, Some, None, refl, ap, subst}
 use Rattle.lset_words.specs.declared.history.Point.{Point}
 use Rattle.lset_lists.specs.Tables.{table_of}
 use Rattle.lset_schedule.specs.Plan.{Plan}
@@ -8,13 +7,10 @@ use Rattle.lset_steps.specs.declared.world.StepFault.{StepFault}
 use Rattle.lset_report.specs.Report.{ReportValue}
 use Rattle.lset_replay.specs.Fronts.{IsReplayUpto}
 use Rattle.lset_replay.specs.Reports.{IsExplained}
-use Rattle.tool_drawing.specs.declared.picture.Window.{Window}
 use Rattle.tool_drawing.specs.Pictures.{PictureValue}
-use Rattle.tool_base.specs.Tools.{Made}
 use Rattle.tool_show.specs.Bars.{BarsAreApart}
 use Rattle.tool_show.specs.ReportPictures.{report_in}
 use Rattle.tool_show.specs.SchedulePictures.{IsPictureOfSchedule}
-use Rattle.tool_show.specs.Showing.{Shows}
 use Rattle.tool_show.proofs.InBars.{has_run_points}
 
 abbrev run_drawn : ReportValue → List Point → ℕ → Option (ℕ × StepFault) → PictureValue
@@ -46,11 +42,3 @@ schedule_picture p r points events refused upto explained apart =
       accepted = refl;
       in_bars = record { apart = apart; points = λ none. has_run_points _ r.history.calls r.order points upto.points_are.bars };
     }
-
--- what is made of the bytes that were read is made of those of the input
-pub shown_of : (remaining : Option (List ℕ)) (window : Window) (items read : List ℕ) (made : Made)
-    → read ≡ items → IfSome remaining (λ bytes. items ≡ bytes) → Shows window read made
-    → IfSome remaining (λ bytes. Shows window bytes made)
-shown_of None window items read made e is h = tt
-shown_of (Some bytes) window items read made e is h =
-    let S : List ℕ → Type 0 = λ bs. Shows window bs made in subst S (e ∙ is) h

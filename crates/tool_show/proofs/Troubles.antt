@@ -13,8 +13,7 @@ use Rattle.lset_report.specs.declared.report_fault.ReportFault.{ReportFault}
 use Rattle.lset_report.specs.ReportReading as reports
 use Rattle.tool_base.specs.declared.answer.Answer.{Answer}
 use Rattle.tool_base.specs.declared.trouble.Trouble.{Trouble}
-use Rattle.tool_base.specs.declared.trouble.Trouble.TheVariants.{CannotRead, TooLong, LongReport, CutOff, LongRecording, CannotWrite, Memory, Line, Bad}
-use Rattle.tool_base.specs.declared.trouble.Trouble.TheVariants.{CannotListen, Work, Serve}
+use Rattle.tool_base.specs.declared.trouble.Trouble.TheVariants.{CannotRead, Memory}
 use Rattle.tool_base.specs.Trouble.{of_schedule_line, of_report_line, of_calls_line, of_clash}
 use Rattle.tool_base.specs.Checking as checking
 use Rattle.lset_calls.specs.declared.fault.CallsCause.{CallsCause}
@@ -31,45 +30,18 @@ use Rattle.tool_show.specs.Showing.{IsWrong, IsScheduleFault}
 -- 0 of an input that cannot be read, and 1 of every other trouble
 abbrev count_of : Trouble → ℕ
 count_of CannotRead = 0
-count_of TooLong = 1
-count_of LongReport = 1
-count_of CutOff = 1
-count_of LongRecording = 1
-count_of CannotWrite = 1
-count_of Memory = 1
-count_of (Line number cause) = 1
-count_of (Bad wrong) = 1
-count_of CannotListen = 1
-count_of (Work name) = 1
-count_of (Serve name) = 1
+count_of t = 1
 
 is_other : (t : Trouble) → count_of t ≡ 1 → t ≢ CannotRead
 is_other t h e = let k : 0 ≡ 1 = sym (ap count_of e) ∙ h in omega (arith, k)
 
 of_a_schedule : (number : ℕ) (cause : Cause) → count_of (of_schedule_line number cause) ≡ 1
-of_a_schedule number schedule.Header = refl
-of_a_schedule number schedule.Kind = refl
-of_a_schedule number schedule.Threads = refl
-of_a_schedule number schedule.Quota = refl
-of_a_schedule number schedule.Event = refl
-of_a_schedule number schedule.Number = refl
-of_a_schedule number schedule.TooMany = refl
-of_a_schedule number schedule.Opening = refl
-of_a_schedule number schedule.NotEnded = refl
 of_a_schedule number schedule.Memory = refl
+of_a_schedule number cause = refl
 
 of_a_report : (number : ℕ) (cause : ReportCause) → count_of (of_report_line number cause) ≡ 1
-of_a_report number report.Header = refl
-of_a_report number report.Kind = refl
-of_a_report number report.Threads = refl
-of_a_report number report.Quota = refl
-of_a_report number report.Line = refl
-of_a_report number report.Number = refl
-of_a_report number report.TooMany = refl
-of_a_report number report.Opening = refl
-of_a_report number report.History = refl
-of_a_report number report.NotEnded = refl
 of_a_report number report.Memory = refl
+of_a_report number cause = refl
 
 in_a_schedule : (r : Result Plan ScheduleFault) (t : Trouble) → IsScheduleFault r t → count_of t ≡ 1
 in_a_schedule (Err fault) t e = ap count_of e ∙ of_a_schedule fault.line fault.cause
@@ -80,24 +52,12 @@ in_a_report (Err fault) t e = ap count_of e ∙ of_a_report fault.line fault.cau
 in_a_report (Ok r) t f = absurd f
 
 of_recorded : (number : ℕ) (cause : CallsCause) → count_of (of_calls_line number cause) ≡ 1
-of_recorded number calls.Header = refl
-of_recorded number calls.Kind = refl
-of_recorded number calls.Threads = refl
-of_recorded number calls.Quota = refl
-of_recorded number calls.Line = refl
-of_recorded number calls.Number = refl
-of_recorded number calls.TooMany = refl
-of_recorded number calls.Opening = refl
-of_recorded number calls.History = refl
-of_recorded number calls.Point = refl
-of_recorded number calls.NotEnded = refl
 of_recorded number calls.Memory = refl
+of_recorded number cause = refl
 
 of_a_clash : (fault : ClashFault) → count_of (of_clash fault) ≡ 1
-of_a_clash (clash.History number) = refl
-of_a_clash (clash.Quota number) = refl
-of_a_clash clash.CutOff = refl
 of_a_clash clash.Memory = refl
+of_a_clash fault = refl
 
 in_calls : (r : Result CallsValue CallsFault) (t : Trouble) → judging.IsFirstFault r t → count_of t ≡ 1
 in_calls (Err fault) t e = ap count_of e ∙ of_recorded fault.line fault.cause

@@ -11,8 +11,7 @@ use Rattle.tool_drawing.specs.Pictures.{PictureValue}
 use Rattle.tool_judge.specs.Judging.{reason_text, window_text}
 
 abbrev pub of_full : ℕ → List ℕ
-of_full call =
-    codes "\nnot linearizable\ncall " ++ decimal call ++ codes " answers full, and its thread has not used its quota up\n"
+of_full call = codes "\nnot linearizable\ncall " ++ decimal call ++ codes " answers full, and its thread has not used its quota up\n"
 
 -- as `judge` says it
 abbrev pub of_key : List CallRecord → Refusal → Window → List ℕ

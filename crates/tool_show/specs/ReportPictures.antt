@@ -1,9 +1,9 @@
 -- The picture of a report.
 use Rattle.std.specs.Prelude.{◌≡◌, ℕ, Bool, true, false, List, [], map, zip, Option, Some, None}
 use Rattle.lset_words.specs.declared.Call.{Call}
-use Rattle.lset_words.specs.declared.Call.TheVariants.{Add, Remove, Contains, Ceiling}
+use Rattle.lset_words.specs.declared.Call.TheVariants.{Add, Remove}
 use Rattle.lset_words.specs.declared.Reply.{Reply}
-use Rattle.lset_words.specs.declared.Reply.TheVariants.{True, False, Full, At, Nothing}
+use Rattle.lset_words.specs.declared.Reply.TheVariants.{True}
 use Rattle.lset_words.specs.declared.history.CallRecord.{CallRecord}
 use Rattle.lset_words.specs.declared.history.Placed.{Placed}
 use Rattle.lset_words.specs.declared.history.Point.{Point}
@@ -20,17 +20,8 @@ use Rattle.tool_show.specs.Bars.{IsInBars}
 -- an add or a remove changes the set if its reply is True, and no other call does
 abbrev pub changes_set : Call → Reply → Bool
 changes_set (Add k) True = true
-changes_set (Add k) False = false
-changes_set (Add k) Full = false
-changes_set (Add k) (At x) = false
-changes_set (Add k) Nothing = false
 changes_set (Remove k) True = true
-changes_set (Remove k) False = false
-changes_set (Remove k) Full = false
-changes_set (Remove k) (At x) = false
-changes_set (Remove k) Nothing = false
-changes_set (Contains k) r = false
-changes_set (Ceiling k) r = false
+changes_set call reply = false
 
 -- the point of a place at a moment
 abbrev pub point_at : List CallRecord → Placed × ℕ → Point

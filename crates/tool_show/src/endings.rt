@@ -1,4 +1,4 @@
-ghost use Rattle.std.specs.Prelude.{◌≡◌, ◌<◌, ◌++◌, IfOk, All, length};
+ghost use Rattle.std.specs.Prelude.{◌≡◌, ◌<◌, IfOk, All, length};
 ghost use Rattle.tool_drawing.specs.Pictures.{view};
 ghost use Rattle.tool_show.specs.Endings.{of_full, of_key, IsEnding};
 

@@ -1,4 +1,4 @@
-ghost use Rattle.std.specs.Prelude.{◌≡◌, ◌≢◌, ◌⊎◌, IfOk, IfErr, IfSome, IsTrue};
+ghost use Rattle.std.specs.Prelude.{◌≡◌, ◌≢◌, ◌⊎◌, IfOk, IfErr, IfSome};
 ghost use Rattle.lset_schedule.specs.ScheduleReading as schedules;
 ghost use Rattle.lset_report.specs.ReportReading as reports;
 ghost use Rattle.tool_drawing.specs.Pictures.{view};
@@ -6,19 +6,8 @@ ghost use Rattle.tool_base.specs.Tools.{Ends, IsTaken};
 ghost use Rattle.tool_base.specs.Tools as tools;
 ghost use Rattle.tool_base.specs.Checking as checking;
 ghost use Rattle.tool_base.specs.declared.trouble.Trouble.TheVariants.{Memory};
-ghost use Rattle.tool_show.specs.Showing.{
-  ShowsSchedule,
-  ShowsReport,
-  ShowsText,
-  Shows,
-  IsDrawn,
-  IsFirstFault,
-  IsScheduleFault,
-  IsWrong,
-  has_calls_title,
-  has_report_title,
-  status_of,
-};
+ghost use Rattle.tool_show.specs.Showing.{ShowsSchedule, ShowsReport, ShowsText, Shows, IsDrawn, IsFirstFault, IsScheduleFault, IsWrong};
+ghost use Rattle.tool_show.specs.Showing.{has_calls_title, has_report_title, status_of};
 
 use crate::calls::{Drawing, of_calls};
 use crate::{Form, ending, picture_of_replay, picture_of_report};

@@ -11,8 +11,7 @@ use Rattle.lset_replay.specs.Events.{events_of}
 use Rattle.lset_replay.specs.Tracing.{HearsEvents, TellsEvents}
 use Rattle.tool_base.specs.declared.trouble.Trouble.{Trouble}
 use Rattle.tool_base.specs.Trouble.{of_schedule}
-use Rattle.tool_base.specs.Tools.{Made, Outcome, Delivers, AppendsFront, IsTaken, IsInputTrouble, line_of}
-use Rattle.tool_base.specs.Tools as tools
+use Rattle.tool_base.specs.Tools.{Made, IsTaken, IsInputTrouble}
 use Rattle.tool_base.specs.declared.trouble.Trouble.TheVariants.{CannotWrite, Memory}
 use Rattle.std.specs.declared.alloc.AllocError.{AllocError}
 
@@ -54,9 +53,3 @@ abbrev pub made_for : Result Bool AllocError → ℕ → Made
 made_for (Ok true) status = Ok (record { text = []; status = status })
 made_for (Ok false) status = Err CannotWrite
 made_for (Err refused) status = Err Memory
-
--- and how it reaches the output
-abbrev pub HowItEnds : Made → Option (List ℕ) → Option (List ℕ) → Option (List ℕ) → Option (List ℕ) → ℕ → Type 0
-HowItEnds made old new faults_old faults_new status =
-    (outcome : Outcome) × Delivers made old new outcome × AppendsFront faults_old faults_new (line_of outcome)
-    × (status ≡ tools.status_of outcome)

@@ -1,9 +1,9 @@
 ghost use Rattle.std.specs.Prelude.{◌≡◌, ◌≢◌, ◌⊎◌, Err, IfErr, IfOk, IfSome};
 ghost use Rattle.lset_schedule.specs.Plan as plan;
 ghost use Rattle.lset_schedule.specs.ScheduleReading.{reading};
-ghost use Rattle.tool_base.specs.Tools.{Ends, IsTaken, view};
+ghost use Rattle.tool_base.specs.Tools.{Ends, IsDelivered, IsTaken, view};
 ghost use Rattle.tool_base.specs.declared.trouble.Trouble.TheVariants.{Memory};
-ghost use Rattle.tool_trace.specs.Tracing.{HowItEnds, IsFirstFault, IsTraced, Traces, made_for, status_of};
+ghost use Rattle.tool_trace.specs.Tracing.{IsFirstFault, IsTraced, Traces, made_for, status_of};
 
 use crate::heard::text_of_run;
 use crate::streamed::{Known, known_of, write_run};
@@ -101,7 +101,8 @@ fn made_of(
 
 /// Ends without a trace.
 fn refuse<W: Write, F: Write>(alloc: Global, trouble: Trouble, output: &mut W, faults: &mut F) -> u8
-    ensures { HowItEnds (Err trouble) (W.contents output.old) (W.contents output.new) (F.contents faults.old) (F.contents faults.new) result }
+    ensures { IsDelivered (Err trouble)
+        (W.contents output.old) (W.contents output.new) (F.contents faults.old) (F.contents faults.new) result }
 {
     deliver(alloc, Err(trouble), output, faults)
 }

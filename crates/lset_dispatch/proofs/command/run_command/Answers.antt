@@ -8,36 +8,29 @@ use Rattle.lset_dispatch.proofs.Endings.{at_command, at_once, served, with_argum
 use Rattle.lset_dispatch.proofs.command.run_command.Goals as goal
 
 pub returns-in-Replay : goal.returns-in-Replay
-returns-in-Replay g c =
-    at_command _ _ _ _ _ _ Replay _ _ _ _ c.in-Replay.is refl (at_once _ _ _ _ _ _ c.replay.ensures)
+returns-in-Replay g c = at_command _ _ _ _ _ _ Replay _ _ _ _ c.in-Replay.is refl (at_once _ _ _ _ _ _ c.replay.ensures)
 
 pub returns-in-Judge : goal.returns-in-Judge
-returns-in-Judge g c =
-    at_command _ _ _ _ _ _ Judge _ _ _ _ c.in-Judge.is refl (at_once _ _ _ _ _ _ c.judge.ensures)
+returns-in-Judge g c = at_command _ _ _ _ _ _ Judge _ _ _ _ c.in-Judge.is refl (at_once _ _ _ _ _ _ c.judge.ensures)
 
 pub returns-in-Report : goal.returns-in-Report
-returns-in-Report g c =
-    at_command _ _ _ _ _ _ Report _ _ _ _ c.in-Report.is refl (at_once _ _ _ _ _ _ c.tool_report.ensures)
+returns-in-Report g c = at_command _ _ _ _ _ _ Report _ _ _ _ c.in-Report.is refl (at_once _ _ _ _ _ _ c.tool_report.ensures)
 
 pub returns-in-Check : goal.returns-in-Check
-returns-in-Check g c =
-    at_command _ _ _ _ _ _ Check _ _ _ _ c.in-Check.is refl (at_once _ _ _ _ _ _ c.tool_check.ensures)
+returns-in-Check g c = at_command _ _ _ _ _ _ Check _ _ _ _ c.in-Check.is refl (at_once _ _ _ _ _ _ c.tool_check.ensures)
 
 pub returns-in-Show : goal.returns-in-Show
-returns-in-Show g c =
-    at_command _ _ _ _ _ _ Show _ _ _ _ c.in-Show.is refl (at_once _ _ _ _ _ _ c.show.ensures)
+returns-in-Show g c = at_command _ _ _ _ _ _ Show _ _ _ _ c.in-Show.is refl (at_once _ _ _ _ _ _ c.show.ensures)
 
 pub returns-in-Trace : goal.returns-in-Trace
-returns-in-Trace g c =
-    at_command _ _ _ _ _ _ Trace _ _ _ _ c.in-Trace.is refl (at_once _ _ _ _ _ _ c.trace.ensures)
+returns-in-Trace g c = at_command _ _ _ _ _ _ Trace _ _ _ _ c.in-Trace.is refl (at_once _ _ _ _ _ _ c.trace.ensures)
 
 pub returns-in-Draft : goal.returns-in-Draft
-returns-in-Draft g c =
-    at_command _ _ _ _ _ _ Draft _ _ _ _ c.in-Draft.is refl (at_once _ _ _ _ _ _ c.tool_draft.ensures)
+returns-in-Draft g c = at_command _ _ _ _ _ _ Draft _ _ _ _ c.in-Draft.is refl (at_once _ _ _ _ _ _ c.tool_draft.ensures)
 
 pub returns-in-Example : goal.returns-in-Example
 returns-in-Example g c =
-    let named = with_argument (Exampled c.args.words.now.options.broken) _ _ _ _ _ _ _ c.first_value.ensures
+    let named = with_argument _ _ _ _ _ (Exampled c.args.words.now.options.broken) _ _ c.first_value.ensures
     c.tool_example.ensures in
     at_command _ _ _ _ _ _ Example _ _ _ _ c.in-Example.is refl (at_once _ _ _ _ _ _ named)
 
@@ -68,5 +61,4 @@ returns-in-None g c =
     (served _ _ _ _ _ _ _ _ values (options_of c.args.words.now.options) file texts c.tool_serve.ensures)
 
 pub returns-in-Faults : goal.returns-in-Faults
-returns-in-Faults g c =
-    at_command _ _ _ _ _ _ Faults _ _ _ _ c.in-Faults.is refl (at_once _ _ _ _ _ _ c.tool_faults.ensures)
+returns-in-Faults g c = at_command _ _ _ _ _ _ Faults _ _ _ _ c.in-Faults.is refl (at_once _ _ _ _ _ _ c.tool_faults.ensures)

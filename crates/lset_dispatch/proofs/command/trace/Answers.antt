@@ -5,9 +5,9 @@ use Rattle.lset_dispatch.proofs.command.trace.Goals as goal
 
 pub returns-in-None : goal.returns-in-None
 returns-in-None g c =
-    with_argument (λ name. TracesFor name (g.R.Read.remaining c.args.input.now)) _ _ _ _ _ None _ c.in-None.ensures c.tool_trace.ensures
+    with_argument _ _ _ _ _ (λ name. TracesFor name (g.R.Read.remaining c.args.input.now)) None _ c.in-None.ensures c.tool_trace.ensures
 
 pub returns-in-Some : goal.returns-in-Some
 returns-in-Some g c =
-    with_argument (λ name. TracesFor name (g.R.Read.remaining c.args.input.now)) _ _ _ _ _ (Some c.in-Some.name.now) _ c.in-Some.ensures
+    with_argument _ _ _ _ _ (λ name. TracesFor name (g.R.Read.remaining c.args.input.now)) (Some c.in-Some.name.now) _ c.in-Some.ensures
     c.tool_trace_broken.ensures

@@ -18,5 +18,4 @@ returns-in_err-body-clause-memory c =
     (c.in_err-body.ensures.memory memory))
 
 pub returns-clause-exact : goal.returns-clause-exact
-returns-clause-exact c =
-    reading_is c.as_bytes.result.now c.args.bytes.now c.as_bytes.ensures.value ∙ rw c.in_ok-body.ensures.exact refl
+returns-clause-exact c = reading_is c.as_bytes.result.now c.args.bytes.now c.as_bytes.ensures.value ∙ rw c.in_ok-body.ensures.exact refl

@@ -1,4 +1,4 @@
-use Rattle.std.proofs.Common.{◌≡◌, ap, sym, ◌∙◌, true, false, Err, subst}
+use Rattle.std.proofs.Common.{◌≡◌, ap, sym, ◌∙◌, false, Err, subst}
 use Rattle.std.specs.Prelude.{IfSome}
 use Rattle.std.proofs.lemmas.Result.{err_from_is_err_and}
 use Rattle.tool_base.specs.Heads.{after_long_title, begins_long}

@@ -11,8 +11,7 @@ use Rattle.tool_judge.proofs.long.judge_long.Goals as goal
 
 -- the bytes before, a piece and the others
 regrouped : (front bytes piece more : List ℕ) → ((front ++ bytes) ++ piece) ++ more ≡ front ++ ((bytes ++ piece) ++ more)
-regrouped front bytes piece more =
-    ap (λ t. t ++ more) (append_assoc front bytes piece) ∙ append_assoc front (bytes ++ piece) more
+regrouped front bytes piece more = ap (λ t. t ++ more) (append_assoc front bytes piece) ∙ append_assoc front (bytes ++ piece) more
 
 pub returns-in_err-feed : goal.returns-in_err-feed
 returns-in_err-feed g c =

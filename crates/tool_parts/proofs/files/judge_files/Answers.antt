@@ -1,9 +1,10 @@
-use Rattle.std.proofs.Common.{◌≡◌, ℕ, ◌<◌, ◌≤◌, List, length, map, drop, Err, Ok, subst, arith}
-use Rattle.std.specs.Prelude.{Option}
+use Rattle.std.proofs.Common.{◌≡◌, ℕ, ◌<◌, ◌≤◌, List, length, Err, Ok, subst, arith}
+use Rattle.std.specs.Prelude.{Option, map}
+use Rattle.std.proofs.lemmas.List.{at_drop_all}
 use Rattle.std.specs.String.{string_bytes}
 use Rattle.tool_parts.specs.declared.kept.Finding.{Finding}
 use Rattle.tool_parts.specs.Parting.{JudgesFile, line_of_stop, view_files}
-use Rattle.tool_parts.proofs.Going.{at_file, rest_none, stopped, found, went_on, ended}
+use Rattle.tool_parts.proofs.Going.{at_file, stopped, found, went_on, ended}
 use Rattle.tool_parts.proofs.files.judge_files.Goals as goal
 
 pub returns-in-Ok-Some : goal.returns-in-Ok-Some
@@ -46,5 +47,5 @@ returns g c =
     let xs = c.args.paths.now in
     let i = c.loop-index.index in
     let past : length xs ≤ i = (let t = c.loop-index-test.false in omega (arith, t)) in
-    ended _ _ _ _ _ i c.loop-index.kept (view_files c.all_explained.result) c.loop-index.invariant (rest_none string_bytes xs i past)
-    c.all_explained.ensures
+    ended _ _ _ _ _ i c.loop-index.kept (view_files c.all_explained.result) c.loop-index.invariant
+    (at_drop_all (map string_bytes) xs i past) c.all_explained.ensures

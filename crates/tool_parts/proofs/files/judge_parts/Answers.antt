@@ -1,4 +1,4 @@
-use Rattle.std.proofs.Common.{◌≡◌, List, [], ℕ, length, map, subst, sym}
+use Rattle.std.proofs.Common.{◌≡◌, List, [], ℕ, map, subst, sym}
 use Rattle.std.specs.Prelude.{Option}
 use Rattle.std.specs.String.{string_bytes}
 use Rattle.std.proofs.lemmas.List.{length-map}

@@ -1,4 +1,4 @@
-use Rattle.std.proofs.Common.{◌≡◌, ◌≤◌, ◌-◌, ℕ, Option, Some, ap, sym, ◌∙◌, arith, lit<}
+use Rattle.std.proofs.Common.{◌≤◌, ◌-◌, ℕ, ap, sym, ◌∙◌, arith, lit<}
 use Rattle.std.specs.Prelude.{option_map, option_and_then}
 use Rattle.lset_text.specs.Numbers.{number_in, max_number}
 use Rattle.lset_text.proofs.NumberLaws.{number_ok}

@@ -1,4 +1,4 @@
-use Rattle.std.proofs.Common.{◌≡◌, ◌≤◌, ◌-◌, ℕ, Some, ap, sym, arith}
+use Rattle.std.proofs.Common.{◌≤◌, ◌-◌, ℕ, ap, sym, arith}
 use Rattle.std.specs.Prelude.{option_map}
 use Rattle.lset_text.proofs.NumberLaws.{number_ok}
 use Rattle.tool_parts.specs.declared.key_part.KeyPart.{KeyPart}

@@ -1,4 +1,4 @@
-use Rattle.std.proofs.Common.{refl, subst, sym, ap, ◌∙◌, Some}
+use Rattle.std.proofs.Common.{ap, Some}
 use Rattle.tool_drawing.specs.Pictures.{view}
 use Rattle.tool_show.proofs.CallsDrawn.{refusal_drawn}
 use Rattle.tool_show.proofs.calls.of_refusal.Goals as goal

@@ -1,8 +1,9 @@
+use Rattle.std.proofs.Common.{◌∙◌, List, ℕ, subst}
+use Rattle.std.proofs.lemmas.Option.{IfSome_then}
 use Rattle.tool_base.specs.Tools.{view}
-use Rattle.tool_show.proofs.RunPictures.{shown_of}
+use Rattle.tool_show.specs.Showing.{Shows}
 use Rattle.tool_show.proofs.tool.drawn_of.Goals as goal
 
 pub returns : goal.returns
-returns g c =
-    shown_of (g.R.Read.remaining c.args.input.now) c.args.window c.in_ok-bytes.bytes.items c.deref.result.now
-    (view c.shown.result) c.deref.ensures.value c.in_ok-bytes.ensures.whole c.shown.ensures.shows
+returns g c = IfSome_then (g.R.Read.remaining c.args.input.now) c.in_ok-bytes.ensures.whole (λ bytes same.
+    subst (λ (bs : List ℕ). Shows c.args.window bs (view c.shown.result)) (c.deref.ensures.value ∙ same) c.shown.ensures.shows)

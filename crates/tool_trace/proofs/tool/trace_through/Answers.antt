@@ -2,13 +2,11 @@ use Rattle.std.proofs.Common.{Err}
 use Rattle.std.specs.Option.{IfSome}
 use Rattle.tool_base.specs.Tools.{view}
 use Rattle.tool_trace.specs.Tracing.{Traces, status_of}
-use Rattle.tool_trace.proofs.Written.{ended_as, ends_with, known_bytes, known_memory}
+use Rattle.tool_trace.proofs.Written.{ended_as, known_bytes, known_memory}
 use Rattle.tool_trace.proofs.tool.trace_through.Goals as goal
 
 pub returns-in-Err : goal.returns-in-Err
-returns-in-Err g c =
-    ends_with (λ made. IfSome (g.R.Read.remaining c.args.input.now) (λ bytes. Traces bytes made)) _ _ _ _ _ (Err c.in-Err.trouble)
-    c.in-Err.ensures.trouble c.refuse.ensures
+returns-in-Err g c = (Err c.in-Err.trouble, c.in-Err.ensures.trouble, c.refuse.ensures)
 
 pub returns : goal.returns
 returns g c =

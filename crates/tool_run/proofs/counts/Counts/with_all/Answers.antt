@@ -1,6 +1,6 @@
-use Rattle.std.proofs.Common.{◌≡◌, ℕ, suc, ◌+◌, ◌<◌, List, [], ◌∷◌, ◌++◌, flat_map, length, drop, drop-cons, get_or, refl, sym}
-use Rattle.std.proofs.Common.{ap, ◌∙◌, subst, arith}
-use Rattle.std.proofs.lemmas.List.{drop_all}
+use Rattle.std.proofs.Common.{◌≡◌, ℕ, ◌+◌, ◌<◌, List, [], ◌++◌, flat_map, length, drop, get_or, refl, sym}
+use Rattle.std.proofs.Common.{ap, ◌∙◌, subst}
+use Rattle.std.proofs.lemmas.List.{at_drop_more, drop_all}
 use Rattle.lset_words.specs.declared.Reply.{Reply}
 use Rattle.tool_run.specs.Counting.{HasRoom, counts_with}
 use Rattle.tool_run.proofs.CountLaws.{with_append, with_none, room_front, room_rest}
@@ -10,12 +10,7 @@ use Rattle.tool_run.proofs.counts.Counts.with_all.Goals as goal
 next : {X : Type 0} (f : X → List Reply) (ls : List X) (i : ℕ) (x : X) (xs : List Reply) → i < length ls → x ≡ get_or ls i x →
     xs ≡ f x
     → flat_map f (drop i ls) ≡ xs ++ flat_map f (drop (i + 1) ls)
-next f ls i x xs l is e =
-    let cons : drop i ls ≡ get_or ls i x ∷ drop (suc i) ls = drop-cons ls i x l in
-    let head : f (get_or ls i x) ≡ xs = ap f (sym is) ∙ sym e in
-    let tail : flat_map f (drop (suc i) ls) ≡ flat_map f (drop (i + 1) ls) =
-    ap (λ n. flat_map f (drop n ls)) (let one : suc i ≡ i + 1 = omega arith in one) in
-    ap (flat_map f) cons ∙ (λ j. head j ++ tail j)
+next f ls i x xs l is e = at_drop_more (flat_map f) ls i x l ∙ ap (λ ys. ys ++ flat_map f (drop (i + 1) ls)) (ap f (sym is) ∙ sym e)
 
 pub loop-list-init : goal.loop-list-init
 loop-list-init c = record { room = c.requires; rises = refl }
