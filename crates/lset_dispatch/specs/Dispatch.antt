@@ -38,23 +38,14 @@ abbrev pub ReplaysFor : Option Text → Option (List ℕ) → Made → Type 0
 ReplaysFor None input made = IfSome input (λ bytes. Replays bytes made)
 ReplaysFor (Some name) input made = broken.ByName (λ l m. IfSome input (λ bytes. broken.Replays l bytes m)) name made
 
-abbrev pub ReplaysBy : OptionValues → Option (List ℕ) → Made → Type 0
-ReplaysBy options input made = ReplaysFor options.lacks input made
-
 abbrev pub TracesFor : Option Text → Option (List ℕ) → Made → Type 0
 TracesFor None input made = IfSome input (λ bytes. Traces bytes made)
 TracesFor (Some name) input made = broken.ByName (λ l m. IfSome input (λ bytes. broken.Traces l bytes m)) name made
-
-abbrev pub TracesBy : OptionValues → Option (List ℕ) → Made → Type 0
-TracesBy options input made = TracesFor options.lacks input made
 
 -- what `judge` makes of its input: of all calls, or of those of the keys that an option asks for
 abbrev pub JudgesFor : Option Text → Option (List ℕ) → Made → Type 0
 JudgesFor None input made = IfSome input (λ bytes. JudgesAny bytes made)
 JudgesFor (Some keys) input made = JudgesKeys keys input made
-
-abbrev pub JudgesBy : OptionValues → Option (List ℕ) → Made → Type 0
-JudgesBy options input made = JudgesFor options.keys input made
 
 abbrev pub ShowsFor : Option Text → Window → Option (List ℕ) → Made → Type 0
 ShowsFor None window input made = IfSome input (λ bytes. Shows window bytes made)
@@ -73,16 +64,15 @@ abbrev pub ServesBy : Option Text → List Text → Option (List ℕ) → Option
 ServesBy None values input old first made = serve.Serves (serve.serve_request_of values) old first made
 ServesBy (Some word) values input old first made = serve.ServesWith (serve.serve_request_of values) input old first made
 
--- What a command makes of its values and options, and of the bytes of its input if they are known. Before that it takes the
--- output from
+-- What a command makes of its values and options, and of the bytes of its input if they are known. Before that it takes the output from
 -- the old to the first: `serve` writes the line that names its port, the others write nothing.
 abbrev pub DoesBy : Command → List Text → OptionValues → Option (List ℕ) → Option (List ℕ) → Option (List ℕ) → Made → Type 0
-DoesBy Replay values options input old first made = (first ≡ old) × ReplaysBy options input made
-DoesBy Judge values options input old first made = (first ≡ old) × JudgesBy options input made
+DoesBy Replay values options input old first made = (first ≡ old) × ReplaysFor options.lacks input made
+DoesBy Judge values options input old first made = (first ≡ old) × JudgesFor options.keys input made
 DoesBy Report values options input old first made = (first ≡ old) × IfSome input (λ bytes. Reports bytes made)
 DoesBy Check values options input old first made = (first ≡ old) × IfSome input (λ bytes. Checks bytes made)
 DoesBy Show values options input old first made = (first ≡ old) × ShowsBy options input made
-DoesBy Trace values options input old first made = (first ≡ old) × TracesBy options input made
+DoesBy Trace values options input old first made = (first ≡ old) × TracesFor options.lacks input made
 DoesBy Draft values options input old first made = (first ≡ old) × IfSome input (λ bytes. Drafts bytes made)
 DoesBy Example values options input old first made = (first ≡ old) × Exampled options.broken (slice_get values 0) made
 DoesBy Gen values options input old first made = (first ≡ old) × Generates values made
@@ -93,9 +83,8 @@ DoesBy Faults values options input old first made = (first ≡ old) × TellsFaul
 abbrev pub Does : Choice → Option (List ℕ) → Option (List ℕ) → Option (List ℕ) → Made → Type 0
 Does choice input old first made = DoesBy choice.command choice.values choice.options input old first made
 
--- if the path of no file is named, it does so on the standard input; else on what some file holds (that it is the one of this
--- path, or read
--- from its start, no clause says), or it says that it could not be read
+-- if the path of no file is named, it does so on the standard input; else on what some file holds (that it is the one of this path, or
+-- read from its start, no clause says), or it says that it could not be read
 abbrev pub DoesOn : Option Text → Choice → (Option (List ℕ) → Type 0) → Option (List ℕ) → Option (List ℕ) → Option (List ℕ) → Made
     → Type 0
 DoesOn None choice IsFile input old first made = Does choice input old first made

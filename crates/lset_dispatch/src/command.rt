@@ -2,7 +2,7 @@ ghost use Rattle.std.specs.Prelude.{◌≡◌, option_map, string_bytes};
 ghost use Rattle.std.specs.Option.{option_copied};
 ghost use Rattle.lset_command.specs.CommandLine.{choice_in, options_of};
 ghost use Rattle.tool_base.specs.Tools.{Ends};
-ghost use Rattle.lset_dispatch.specs.Dispatch.{CommandEnds, Does, JudgesBy, ReplaysBy, ShowsBy, TracesBy};
+ghost use Rattle.lset_dispatch.specs.Dispatch.{CommandEnds, Does, JudgesFor, ReplaysFor, ShowsBy, TracesFor};
 
 use lset_command::{Command, Options, Words};
 use std::alloc::Global;
@@ -60,7 +60,7 @@ fn replay<R: Read, W: Write, F: Write>(
     output: &mut W,
     faults: &mut F,
 ) -> u8
-    ensures { Ends (ReplaysBy (options_of options.now) (R.remaining input.old))
+    ensures { Ends (ReplaysFor (options_of options.now).lacks (R.remaining input.old))
         (W.contents output.old) (W.contents output.new) (F.contents faults.old) (F.contents faults.new) result }
 {
     match text_of(&options.lacks) {
@@ -77,7 +77,7 @@ fn judge<R: Read, W: Write, F: Write>(
     output: &mut W,
     faults: &mut F,
 ) -> u8
-    ensures { Ends (JudgesBy (options_of options.now) (R.remaining input.old))
+    ensures { Ends (JudgesFor (options_of options.now).keys (R.remaining input.old))
         (W.contents output.old) (W.contents output.new) (F.contents faults.old) (F.contents faults.new) result }
 {
     match text_of(&options.keys) {
@@ -94,7 +94,7 @@ fn trace<R: Read, W: Write, F: Write>(
     output: &mut W,
     faults: &mut F,
 ) -> u8
-    ensures { Ends (TracesBy (options_of options.now) (R.remaining input.old))
+    ensures { Ends (TracesFor (options_of options.now).lacks (R.remaining input.old))
         (W.contents output.old) (W.contents output.new) (F.contents faults.old) (F.contents faults.new) result }
 {
     match text_of(&options.lacks) {

@@ -196,18 +196,7 @@ impl Example {
             Example::Snip => Some(texts::SNIP_BROKEN),
             Example::LeftInChain => Some(texts::LEFT_IN_CHAIN_BROKEN),
             Example::CeilingLeftInChain => Some(texts::CEILING_LEFT_IN_CHAIN_BROKEN),
-            Example::FailedTries
-            | Example::Full
-            | Example::HandOverHand
-            | Example::MarkedInChain
-            | Example::MarkedPred
-            | Example::ReadInAnothersStep
-            | Example::CeilingInAnothersStep
-            | Example::OpensWithKeys
-            | Example::TriesAgain
-            | Example::CeilingMeetsMark
-            | Example::BehindTheWalk
-            | Example::NothingInAnothersStep => None,
+            _ => None,
         }
     }
 }
