@@ -29,20 +29,16 @@ written : (IsMade : Made → Type 0) (old mid new fold fnew : Option (List ℕ))
     → ((text : List ℕ) → IsMade (Ok (record { text = text; status = ends }))) → Grows old mid
     → IsDelivered (Ok (record { text = []; status = ends })) mid new fold fnew status → Ends IsMade old new fold fnew status
 written IsMade old mid new fold fnew ends status made (text, grown) (Ok s, (same, rest), told, is) =
-    (_, made (text ++ []), Ok s, (same, Appends-trans old mid new text [] grown rest), told, is)
+    (_, made (text ++ []), (Ok s, (same, Appends-trans old mid new text [] grown rest), told, is))
 written IsMade old mid new fold fnew ends status made (text, grown) (Err t, (wrong, front, rest, split, kept), told, is) = (
   _,
   made (text ++ front),
-  Err t,
   (
-    wrong,
-    text ++ front,
-    [],
-    sym (append-nil (text ++ front)),
-    Appends-trans old mid new text front grown kept,
+    Err t,
+    (wrong, text ++ front, [], sym (append-nil (text ++ front)), Appends-trans old mid new text front grown kept),
+    told,
+    is,
   ),
-  told,
-  is,
 )
 
 -- and where a write has failed
@@ -50,7 +46,7 @@ broken : (IsMade : Made → Type 0) (old mid new fold fnew : Option (List ℕ)) 
     → ((text : List ℕ) → IsMade (Ok (record { text = text; status = ends }))) → Grows old mid
     → IsDelivered (Err CannotWrite) mid new fold fnew status → Ends IsMade old new fold fnew status
 broken IsMade old mid new fold fnew ends status made (text, grown) (Err t, (wrong, kept), told, is) =
-    (_, made text, Err t, (wrong, text, [], sym (append-nil text), Appends-kept old mid new text grown kept), told, is)
+    (_, made text, (Err t, (wrong, text, [], sym (append-nil text), Appends-kept old mid new text grown kept), told, is))
 broken IsMade old mid new fold fnew ends status made (text, grown) (Ok s, never, told, is) = absurd never
 
 abbrev Written : Option (List ℕ) → Option (List ℕ) → Result Bool AllocError → Type 0
@@ -70,7 +66,7 @@ ended IsMade old mid new fold fnew (Ok true) ends status made memory grown how =
 ended IsMade old mid new fold fnew (Ok false) ends status made memory grown how =
     broken IsMade old mid new fold fnew ends status made grown how
 ended IsMade old mid new fold fnew (Err e) ends status made memory kept (Err t, (same, rest), told, is) =
-    (Err Memory, memory, Err t, (same, Keeps-trans old mid new kept rest), told, is)
+    (Err Memory, memory, (Err t, (same, Keeps-trans old mid new kept rest), told, is))
 ended IsMade old mid new fold fnew (Err e) ends status made memory kept (Ok s, never, told, is) = absurd never
 
 pub ended_as : (IsMade : Made → Type 0) (old mid new fold fnew : Option (List ℕ)) (r : Result Bool AllocError) (made : Made)

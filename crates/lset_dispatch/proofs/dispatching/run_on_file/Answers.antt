@@ -11,4 +11,4 @@ pub returns-in-Ok : goal.returns-in-Ok
 returns-in-Ok g c = on_file _ _ _ _ _ _ _ _ (choice_in c.args.words.now) _ c.in-Some.ensures (_, refl) c.run_command-in-Ok.ensures
 
 pub returns-in-Err : goal.returns-in-Err
-returns-in-Err g c = (_, Err CannotRead, not_opened _ _ _ (choice_in c.args.words.now) _ c.in-Some.ensures, c.deliver.ensures)
+returns-in-Err g c = (_, (Err CannotRead, not_opened _ _ _ (choice_in c.args.words.now) _ c.in-Some.ensures, c.deliver.ensures))
