@@ -73,44 +73,81 @@ module _ {sz : Sizes} {ws : List ℕ} {used : ℕ → ℕ} {t : ℕ} {vs : ℕ �
 
   row : rest size ws l.curr < size → At sz.quota t vs first now V done l → Row l
   row few (at0 e) = absurd (h.busy e)
-  row few (at1 e d) = at_row Row l 1 e (inl (tt, omega arith), record {
-    is_lock = inl refl;
-    inside = omega arith;
-    free = refl;
-    own = ap (λ n. n + 1) h.registers.thread;
-    early = λ z. z;
-    last = λ x m. absurd m.1;
-    taken = goes (λ x o m. absurd m.1) (λ z. omega arith) (λ z. absurd z) (λ c v. v) (omega arith);
-    mine = (refl, tt);
-    missed = λ s d. if_other s 0 d _ _;
-  })
+  row few (at1 e d) = at_row Row l 1 e (
+    inl (tt, omega arith),
+    record {
+      is_lock = inl refl;
+      inside = omega arith;
+      free = refl;
+      own = ap (λ n. n + 1) h.registers.thread;
+      early = λ z. z;
+      last = λ x m. absurd m.1;
+      taken = goes (λ x o m. absurd m.1) (λ z. omega arith) (λ z. absurd z) (λ c v. v) (omega arith);
+      mine = (refl, tt);
+      missed = λ s d. if_other s 0 d _ _;
+    },
+  )
   row few (at2 e d w) =
       let head : rest size ws 0 < size = few_by size (node_key ws) 0 (omega arith) in
       let next : rest size ws (node_link ws 0 / 2) < rest size ws 0 =
       fewer false sz ws used h.memory 0 h.memory.ordered.head_published (omega arith) in
       at_row Row l 2 e (inl (tt, omega arith), goes (λ x o m. m) (λ z. omega arith) (λ z. absurd z) (λ c v. v) (omega arith))
-  row few (at3 e d w) = at_row Row l 3 e (inl (tt, omega arith), by_below (To 3) (node_key ws l.curr) (target l.call)
-      (λ lt. goes (λ x o m. m) (λ z. omega arith) (λ z. absurd z) (λ c v. v) (omega arith))
-      (λ ge. by_decision (To 3) targets (node_key ws l.curr) (record l { pc = 3; ckey = node_key ws l.curr })
-      (goes (λ x o m. m) (λ z. omega arith) (λ z. tt) (λ c v. v) (omega arith))
-      (goes (λ x o m. m) (λ z. omega arith) (λ z. tt) (λ c v. v) (omega arith))
-      (λ r. goes (λ x o m. m) (λ z. omega arith) (λ z. tt) (λ c v. v) (omega arith))))
+  row few (at3 e d w) = at_row Row l 3 e (
+    inl (tt, omega arith),
+    by_below (To 3) (node_key ws l.curr) (target l.call)
+        (λ lt. goes (λ x o m. m) (λ z. omega arith) (λ z. absurd z) (λ c v. v) (omega arith))
+        (λ ge. by_decision (To 3) targets (node_key ws l.curr) (record l { pc = 3; ckey = node_key ws l.curr })
+        (goes (λ x o m. m) (λ z. omega arith) (λ z. tt) (λ c v. v) (omega arith))
+        (goes (λ x o m. m) (λ z. omega arith) (λ z. tt) (λ c v. v) (omega arith))
+        (λ r. goes (λ x o m. m) (λ z. omega arith) (λ z. tt) (λ c v. v) (omega arith))),
+  )
   row few (at4 e d w lt) =
       let less : rest size ws (node_link ws l.curr / 2) < rest size ws l.curr = fewer false sz ws used h.memory l.curr
       (curr_published w) (inner false sz ws used h.memory l.curr (target l.call) lt h.registers.low) in
       at_row Row l 4 e (inl (tt, omega arith), goes (λ x o m. m) (λ z. omega arith) (λ z. absurd z) (λ c v. v) (omega arith))
-  row few (at5 e d w a) = at_row Row l 5 e (inl (tt, omega arith), inl (
-    goes (λ x o m. m) (λ z. omega arith) (λ z. tt) (λ c v. v) (omega arith), tt, inl (tt, omega arith)))
-  row few (at6 e d w a x) = at_row Row l 6 e (inl (tt, omega arith), inl (
-    goes (λ x o m. m) (λ z. omega arith) (λ z. tt) (λ c v. v) (omega arith), tt, inl (tt, omega arith)))
-  row few (at7 e d w a x y) = at_row Row l 7 e (inl (tt, omega arith), inl (
-    goes (λ x o m. m) (λ z. omega arith) (λ z. tt) (λ c v. v) (omega arith), tt, inl (tt, omega arith)))
-  row few (at8 e d w a) = at_row Row l 8 e (inl (tt, omega arith),
-      goes (λ x o m. m) (λ z. omega arith) (λ z. tt) (λ c v. v) (omega arith))
-  row few (at9 e d w a x) = at_row Row l 9 e (inl (tt, omega arith), inl (
-    goes (λ x o m. m) (λ z. omega arith) (λ z. tt) (λ c v. v) (omega arith), tt, inl (tt, omega arith)))
-  row few (at10 e w r ry due) = at_row Row l 10 e (inl (tt, omega arith), inr (inl refl,
-      record { keeps = λ x o m. absurd (o m.0); then = inl (r, ry) }))
+  row few (at5 e d w a) = at_row Row l 5 e (
+    inl (tt, omega arith),
+    inl (
+      goes (λ x o m. m) (λ z. omega arith) (λ z. tt) (λ c v. v) (omega arith),
+      tt,
+      inl (tt, omega arith),
+    ),
+  )
+  row few (at6 e d w a x) = at_row Row l 6 e (
+    inl (tt, omega arith),
+    inl (
+      goes (λ x o m. m) (λ z. omega arith) (λ z. tt) (λ c v. v) (omega arith),
+      tt,
+      inl (tt, omega arith),
+    ),
+  )
+  row few (at7 e d w a x y) = at_row Row l 7 e (
+    inl (tt, omega arith),
+    inl (
+      goes (λ x o m. m) (λ z. omega arith) (λ z. tt) (λ c v. v) (omega arith),
+      tt,
+      inl (tt, omega arith),
+    ),
+  )
+  row few (at8 e d w a) = at_row Row l 8 e (
+    inl (tt, omega arith),
+    goes (λ x o m. m) (λ z. omega arith) (λ z. tt) (λ c v. v) (omega arith),
+  )
+  row few (at9 e d w a x) = at_row Row l 9 e (
+    inl (tt, omega arith),
+    inl (
+      goes (λ x o m. m) (λ z. omega arith) (λ z. tt) (λ c v. v) (omega arith),
+      tt,
+      inl (tt, omega arith),
+    ),
+  )
+  row few (at10 e w r ry due) = at_row Row l 10 e (
+    inl (tt, omega arith),
+    inr (
+      inl refl,
+      record { keeps = λ x o m. absurd (o m.0); then = inl (r, ry) },
+    ),
+  )
 
   row_of : Row l
   row_of = row (few_by size (node_key ws) l.curr h.registers.curr) h.at

@@ -77,30 +77,36 @@ module _ {sz : Sizes} {ws : List ℕ} {used : ℕ → ℕ} {t : ℕ} {vs : ℕ �
 
   module _ (few : rest size ws l.curr < size) (inside : l.curr < node_count sz) where
     takes_head : Row (record l { pc = 1 })
-    takes_head = (inl (tt, omega arith), record {
-      is_lock = inr (0, refl);
-      inside = omega arith;
-      free = refl;
-      own = ap (λ n. n + 1) h.registers.thread;
-      early = λ z. z;
-      last = λ x m. no_lock m;
-      taken = goes (λ x o m. no_lock m) (λ z. omega arith) (λ z. absurd z) (λ c v. v) (omega arith);
-      mine = inl (refl, tt);
-      missed = λ s d. if_other s 0 d _ _;
-    })
+    takes_head = (
+      inl (tt, omega arith),
+      record {
+        is_lock = inr (0, refl);
+        inside = omega arith;
+        free = refl;
+        own = ap (λ n. n + 1) h.registers.thread;
+        early = λ z. z;
+        last = λ x m. no_lock m;
+        taken = goes (λ x o m. no_lock m) (λ z. omega arith) (λ z. absurd z) (λ c v. v) (omega arith);
+        mine = inl (refl, tt);
+        missed = λ s d. if_other s 0 d _ _;
+      },
+    )
 
     takes_curr : Behind V t (target l.call) l.pred l.curr → Row (record l { pc = 3 })
-    takes_curr b = (inl (tt, omega arith), record {
-      is_lock = inr (l.curr, refl);
-      inside = omega arith;
-      free = refl;
-      own = ap (λ n. n + 1) h.registers.thread;
-      early = λ z. z;
-      last = λ x m. elim m [ inl p ↦ ranked size ws l.curr l.pred x p.0 (curr_less b) | inr c ↦ absurd c.1 ];
-      taken = goes (λ x o m. pred_only m) (λ z. omega arith) (λ z. absurd z) (λ c v. v) (omega arith);
-      mine = inr (refl, tt);
-      missed = λ s d. if_other s 0 d _ _;
-    })
+    takes_curr b = (
+      inl (tt, omega arith),
+      record {
+        is_lock = inr (l.curr, refl);
+        inside = omega arith;
+        free = refl;
+        own = ap (λ n. n + 1) h.registers.thread;
+        early = λ z. z;
+        last = λ x m. elim m [ inl p ↦ ranked size ws l.curr l.pred x p.0 (curr_less b) | inr c ↦ absurd c.1 ];
+        taken = goes (λ x o m. pred_only m) (λ z. omega arith) (λ z. absurd z) (λ c v. v) (omega arith);
+        mine = inr (refl, tt);
+        missed = λ s d. if_other s 0 d _ _;
+      },
+    )
 
     row : At sz.quota t vs first now V done l → Row l
     row (at0 e) = absurd (h.busy e)
@@ -111,32 +117,78 @@ module _ {sz : Sizes} {ws : List ℕ} {used : ℕ → ℕ} {t : ℕ} {vs : ℕ �
         fewer false sz ws used h.memory 0 h.memory.ordered.head_published (omega arith) in
         at_row Row l 2 e (inl (tt, omega arith), goes (λ x o m. pred_only m) (λ z. omega arith) (λ z. absurd z) (λ c v. v) (omega arith))
     row (at3 e d b) = at_row Row l 3 e (takes_curr b)
-    row (at4 e d b) = at_row Row l 4 e (inl (tt, omega arith), by_below (To 4) (node_key ws l.curr) (target l.call)
-        (λ lt. goes (λ x o m. m) (λ z. omega arith) (λ z. absurd z) (λ c v. v) (omega arith))
-        (λ ge. by_decision (To 4) targets (node_key ws l.curr) (record l { pc = 4; ckey = node_key ws l.curr })
-        (goes (λ x o m. m) (λ z. omega arith) (λ z. tt) (λ c v. v) (omega arith))
-        (goes (λ x o m. m) (λ z. omega arith) (λ z. tt) (λ c v. v) (omega arith))
-        (λ r. goes (λ x o m. m) (λ z. omega arith) (λ z. tt) (λ c v. v) (omega arith))))
-    row (at5 e d b lt) = at_row Row l 5 e (inl (tt, omega arith), inr (inr (l.pred, refl),
-        goes (λ x o m. gave_pred o m) (λ z. omega arith) (λ z. absurd z) (λ c v. v) (omega arith)))
+    row (at4 e d b) = at_row Row l 4 e (
+      inl (tt, omega arith),
+      by_below (To 4) (node_key ws l.curr) (target l.call)
+          (λ lt. goes (λ x o m. m) (λ z. omega arith) (λ z. absurd z) (λ c v. v) (omega arith))
+          (λ ge. by_decision (To 4) targets (node_key ws l.curr) (record l { pc = 4; ckey = node_key ws l.curr })
+          (goes (λ x o m. m) (λ z. omega arith) (λ z. tt) (λ c v. v) (omega arith))
+          (goes (λ x o m. m) (λ z. omega arith) (λ z. tt) (λ c v. v) (omega arith))
+          (λ r. goes (λ x o m. m) (λ z. omega arith) (λ z. tt) (λ c v. v) (omega arith))),
+    )
+    row (at5 e d b lt) = at_row Row l 5 e (
+      inl (tt, omega arith),
+      inr (
+        inr (l.pred, refl),
+        goes (λ x o m. gave_pred o m) (λ z. omega arith) (λ z. absurd z) (λ c v. v) (omega arith),
+      ),
+    )
     row (at6 e d x lt) =
         let less : rest size ws (node_link ws l.curr / 2) < rest size ws l.curr = next_less x.published lt in
-        at_row Row l 6 e (inl (tt, omega arith),
-        goes (λ x o m. elim m [ inl p ↦ absurd p.1 | inr c ↦ inl c ]) (λ z. omega arith) (λ z. absurd z) (λ c v. v) (omega arith))
-    row (at7 e d b a) = at_row Row l 7 e (inl (tt, omega arith), inl (
-      goes (λ x o m. m) (λ z. omega arith) (λ z. tt) (λ c v. v) (omega arith), tt, inl (tt, omega arith)))
-    row (at8 e d b a x) = at_row Row l 8 e (inl (tt, omega arith), inl (
-      goes (λ x o m. m) (λ z. omega arith) (λ z. tt) (λ c v. v) (omega arith), tt, inl (tt, omega arith)))
-    row (at9 e d b a x y) = at_row Row l 9 e (inl (tt, omega arith), inl (
-      goes (λ x o m. m) (λ z. omega arith) (λ z. tt) (λ c v. v) (omega arith), tt, inl (tt, omega arith)))
-    row (at10 e d b a) = at_row Row l 10 e (inl (tt, omega arith),
-        goes (λ x o m. m) (λ z. omega arith) (λ z. tt) (λ c v. v) (omega arith))
-    row (at11 e d b a x) = at_row Row l 11 e (inl (tt, omega arith), inl (
-      goes (λ x o m. m) (λ z. omega arith) (λ z. tt) (λ c v. v) (omega arith), tt, inl (tt, omega arith)))
-    row (at12 e p c d r ry due) = at_row Row l 12 e (inl (tt, omega arith), inr (inr (l.curr, refl),
-        goes (λ x o m. gave_curr o m) (λ z. omega arith) (λ z. tt) (λ c v. v) (omega arith)))
-    row (at13 e p r ry due) = at_row Row l 13 e (inl (tt, omega arith), inr (inr (l.pred, refl),
-        record { keeps = λ x o m. gave_pred o m; then = inl (r, ry) }))
+        at_row Row l 6 e (
+          inl (tt, omega arith),
+          goes (λ x o m. elim m [ inl p ↦ absurd p.1 | inr c ↦ inl c ]) (λ z. omega arith) (λ z. absurd z) (λ c v. v) (omega arith),
+        )
+    row (at7 e d b a) = at_row Row l 7 e (
+      inl (tt, omega arith),
+      inl (
+        goes (λ x o m. m) (λ z. omega arith) (λ z. tt) (λ c v. v) (omega arith),
+        tt,
+        inl (tt, omega arith),
+      ),
+    )
+    row (at8 e d b a x) = at_row Row l 8 e (
+      inl (tt, omega arith),
+      inl (
+        goes (λ x o m. m) (λ z. omega arith) (λ z. tt) (λ c v. v) (omega arith),
+        tt,
+        inl (tt, omega arith),
+      ),
+    )
+    row (at9 e d b a x y) = at_row Row l 9 e (
+      inl (tt, omega arith),
+      inl (
+        goes (λ x o m. m) (λ z. omega arith) (λ z. tt) (λ c v. v) (omega arith),
+        tt,
+        inl (tt, omega arith),
+      ),
+    )
+    row (at10 e d b a) = at_row Row l 10 e (
+      inl (tt, omega arith),
+      goes (λ x o m. m) (λ z. omega arith) (λ z. tt) (λ c v. v) (omega arith),
+    )
+    row (at11 e d b a x) = at_row Row l 11 e (
+      inl (tt, omega arith),
+      inl (
+        goes (λ x o m. m) (λ z. omega arith) (λ z. tt) (λ c v. v) (omega arith),
+        tt,
+        inl (tt, omega arith),
+      ),
+    )
+    row (at12 e p c d r ry due) = at_row Row l 12 e (
+      inl (tt, omega arith),
+      inr (
+        inr (l.curr, refl),
+        goes (λ x o m. gave_curr o m) (λ z. omega arith) (λ z. tt) (λ c v. v) (omega arith),
+      ),
+    )
+    row (at13 e p r ry due) = at_row Row l 13 e (
+      inl (tt, omega arith),
+      inr (
+        inr (l.pred, refl),
+        record { keeps = λ x o m. gave_pred o m; then = inl (r, ry) },
+      ),
+    )
 
   row_of : Row l
   row_of = row (few_by size (node_key ws) l.curr h.registers.curr) h.registers.curr h.at

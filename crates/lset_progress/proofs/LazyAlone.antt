@@ -123,30 +123,36 @@ module _ {sz : Sizes} {ws : List ℕ} {used : ℕ → ℕ} {t : ℕ} {vs : ℕ �
   module _ (few : rest size ws l.curr < size) (pred : l.pred < node_count sz) (curr : l.curr < node_count sz)
       (again : then_again size l.reply ≤ 2 * size + 7) where
     takes_pred : Row (record l { pc = 4 })
-    takes_pred = (inr (omega arith), record {
-      is_lock = inr (l.pred, refl);
-      inside = omega arith;
-      free = refl;
-      own = ap (λ n. n + 1) h.registers.thread;
-      early = λ z. z.0;
-      last = λ x m. no_lock m;
-      taken = goes (λ x o m. no_lock m) (λ z. omega arith) (λ z. absurd z.0) (λ c v. v) (omega arith);
-      mine = inl (refl, tt);
-      missed = λ s d. if_other s 0 d _ _;
-    })
+    takes_pred = (
+      inr (omega arith),
+      record {
+        is_lock = inr (l.pred, refl);
+        inside = omega arith;
+        free = refl;
+        own = ap (λ n. n + 1) h.registers.thread;
+        early = λ z. z.0;
+        last = λ x m. no_lock m;
+        taken = goes (λ x o m. no_lock m) (λ z. omega arith) (λ z. absurd z.0) (λ c v. v) (omega arith);
+        mine = inl (refl, tt);
+        missed = λ s d. if_other s 0 d _ _;
+      },
+    )
 
     takes_curr : Found V (target l.call) l.pred l.curr l.ckey → Row (record l { pc = 5 })
-    takes_curr f = (inr (omega arith), record {
-      is_lock = inr (l.curr, refl);
-      inside = omega arith;
-      free = refl;
-      own = ap (λ n. n + 1) h.registers.thread;
-      early = λ z. z.0;
-      last = λ x m. elim m [ inl p ↦ ranked size ws l.curr l.pred x p.0 (curr_less f) | inr c ↦ absurd c.1 ];
-      taken = goes (λ x o m. pred_only m) (λ z. omega arith) (λ z. absurd z.0) (λ c v. v) (omega arith);
-      mine = inr (refl, tt);
-      missed = λ s d. if_other s 0 d _ _;
-    })
+    takes_curr f = (
+      inr (omega arith),
+      record {
+        is_lock = inr (l.curr, refl);
+        inside = omega arith;
+        free = refl;
+        own = ap (λ n. n + 1) h.registers.thread;
+        early = λ z. z.0;
+        last = λ x m. elim m [ inl p ↦ ranked size ws l.curr l.pred x p.0 (curr_less f) | inr c ↦ absurd c.1 ];
+        taken = goes (λ x o m. pred_only m) (λ z. omega arith) (λ z. absurd z.0) (λ c v. v) (omega arith);
+        mine = inr (refl, tt);
+        missed = λ s d. if_other s 0 d _ _;
+      },
+    )
 
     -- the last lock is given back
     abbrev Last : Option Reply → Type 0
@@ -157,7 +163,7 @@ module _ {sz : Sizes} {ws : List ℕ} {used : ℕ → ℕ} {t : ℕ} {vs : ℕ �
       | inl z ↦
           (let y : then_again size l.reply ≡ 2 * size + 7 = rw z refl in
           subst Last (sym z) (goes (λ x o m. gave_pred o m) (λ z. omega arith) (λ r. absurd (subst (λ o. Only (is_some o)) z r.1))
-              (λ c v. v)
+          (λ c v. v)
           (omega arith)))
       | inr z ↦ subst Last (sym z.1) (stops (λ x o m. gave_pred o m))
     ]
@@ -168,18 +174,36 @@ module _ {sz : Sizes} {ws : List ℕ} {used : ℕ → ℕ} {t : ℕ} {vs : ℕ �
     read n {f} row a = reads_then shape size (node_key ws) ws (reads_at size (node_key ws) ws) (record l { pc = n }) f row a
 
     reads : Reading vs first now done l → Row l
-    reads (reads20 e d c a) = at_row Row l 20 e (inr (omega arith), read 20 (inl refl)
-        (from_20 h (node_key ws) (λ a p. refl) (round size) (omega arith) a))
-    reads (reads21 e d c a) = at_row Row l 21 e (inr (omega arith), read 21 (inr (inl refl))
-        (from_21 h (node_key ws) (λ a p. refl) (round size) (omega arith)))
-    reads (reads22 e d c a) = at_row Row l 22 e (inr (omega arith), read 22 (inr (inr (inl refl)))
-        (from_22 h (node_key ws) (λ a p. refl) (round size) (omega arith)))
-    reads (reads23 e d c a) = at_row Row l 23 e (inr (omega arith), read 23 (inr (inr (inr (inl refl))))
-        (from_23 h (node_key ws) (λ a p. refl) (round size) (omega arith) a))
-    reads (reads24 e d c a) = at_row Row l 24 e (inr (omega arith), read 24 (inr (inr (inr (inr (inl refl)))))
-        (from_24 h (node_key ws) (λ a p. refl) (round size) (omega arith)))
-    reads (reads25 e d c a) = at_row Row l 25 e (inr (omega arith), read 25 (inr (inr (inr (inr (inr refl)))))
-        (from_25 h (node_key ws) (λ a p. refl) (round size) (omega arith)))
+    reads (reads20 e d c a) = at_row Row l 20 e (
+      inr (omega arith),
+      read 20 (inl refl)
+          (from_20 h (node_key ws) (λ a p. refl) (round size) (omega arith) a),
+    )
+    reads (reads21 e d c a) = at_row Row l 21 e (
+      inr (omega arith),
+      read 21 (inr (inl refl))
+          (from_21 h (node_key ws) (λ a p. refl) (round size) (omega arith)),
+    )
+    reads (reads22 e d c a) = at_row Row l 22 e (
+      inr (omega arith),
+      read 22 (inr (inr (inl refl)))
+          (from_22 h (node_key ws) (λ a p. refl) (round size) (omega arith)),
+    )
+    reads (reads23 e d c a) = at_row Row l 23 e (
+      inr (omega arith),
+      read 23 (inr (inr (inr (inl refl))))
+          (from_23 h (node_key ws) (λ a p. refl) (round size) (omega arith) a),
+    )
+    reads (reads24 e d c a) = at_row Row l 24 e (
+      inr (omega arith),
+      read 24 (inr (inr (inr (inr (inl refl)))))
+          (from_24 h (node_key ws) (λ a p. refl) (round size) (omega arith)),
+    )
+    reads (reads25 e d c a) = at_row Row l 25 e (
+      inr (omega arith),
+      read 25 (inr (inr (inr (inr (inr refl)))))
+          (from_25 h (node_key ws) (λ a p. refl) (round size) (omega arith)),
+    )
 
     row : At sz.quota t vs first now V done l → Row l
     row (at0 e) = absurd (h.busy e)
@@ -188,40 +212,90 @@ module _ {sz : Sizes} {ws : List ℕ} {used : ℕ → ℕ} {t : ℕ} {vs : ℕ �
         let next : rest size ws (node_link ws 0 / 2) < rest size ws 0 =
         fewer true sz ws used h.memory 0 h.memory.ordered.head_published (omega arith) in
         let even : node_link ws 0 % 2 ≡ 0 = h.head_plain in
-        at_row Row l 1 e (inl ((tt, tt, tt), omega arith), goes (λ x o m. no_lock m) (λ z. omega arith) (λ z. absurd z.0)
-        (λ c v. ((no_steps (node_link ws) 0, omega arith), tt, tt)) (omega arith))
-    row (at2 e d x) = at_row Row l 2 e (inr (omega arith), by_below (To 2) (node_key ws l.curr) (target l.call)
-        (λ lt. goes (λ x o m. no_lock m) (λ z. omega arith) (λ z. absurd z.0) (λ c v. (tt, comes v.0 x.below, tt)) (omega arith))
-        (λ ge. goes (λ x o m. no_lock m) (λ z. omega arith) (λ z. absurd z.0) (λ c v. v) (omega arith)))
+        at_row Row l 1 e (
+          inl ((tt, tt, tt), omega arith),
+          goes (λ x o m. no_lock m) (λ z. omega arith) (λ z. absurd z.0)
+              (λ c v. ((no_steps (node_link ws) 0, omega arith), tt, tt)) (omega arith),
+        )
+    row (at2 e d x) = at_row Row l 2 e (
+      inr (omega arith),
+      by_below (To 2) (node_key ws l.curr) (target l.call)
+          (λ lt. goes (λ x o m. no_lock m) (λ z. omega arith) (λ z. absurd z.0) (λ c v. (tt, comes v.0 x.below, tt)) (omega arith))
+          (λ ge. goes (λ x o m. no_lock m) (λ z. omega arith) (λ z. absurd z.0) (λ c v. v) (omega arith)),
+    )
     row (at3 e d x lt) =
         let less : rest size ws (node_link ws l.curr / 2) < rest size ws l.curr =
         fewer true sz ws used h.memory l.curr x.curr_published (user l.curr lt) in
-        at_row Row l 3 e (inr (omega arith), goes (λ x o m. no_lock m) (λ z. omega arith) (λ z. absurd z.0)
-        (λ c v. ((v.1, (let even : node_link ws l.curr % 2 ≡ 0 = c l.curr v.1 in omega arith)), tt, tt)) (omega arith))
+        at_row Row l 3 e (
+          inr (omega arith),
+          goes (λ x o m. no_lock m) (λ z. omega arith) (λ z. absurd z.0)
+              (λ c v. ((v.1, (let even : node_link ws l.curr % 2 ≡ 0 = c l.curr v.1 in omega arith)), tt, tt)) (omega arith),
+        )
     row (at4 e d f) = at_row Row l 4 e takes_pred
     row (at5 e d f p) = at_row Row l 5 e (takes_curr f)
-    row (at6 e d f b) = at_row Row l 6 e (inr (omega arith), by_same (To 6) (node_link ws l.pred) (2 * l.curr)
-        (λ y. goes (λ x o m. m) (λ z. omega arith) (λ z. absurd z.0) (λ c v. v) (omega arith))
-        (λ y. fails (λ x o m. m) (λ z. omega arith) (λ z. absurd z.0) (λ c v. y v.0.1) (tt, tt, tt) (omega arith)))
-    row (at7 e d f b) = at_row Row l 7 e (inr (omega arith), by_same (To 7) (node_link ws l.curr % 2) 0
-        (λ y. by_decision (To 7) targets l.ckey (record l { pc = 7; succ = node_link ws l.curr / 2 })
-        (goes (λ x o m. m) (λ z. omega arith) (λ z. absurd z.0) (λ c v. (tt, tt, tt)) (omega arith))
-        (goes (λ x o m. m) (λ z. omega arith) (λ z. absurd z.0) (λ c v. (tt, tt, tt)) (omega arith))
-        (λ r. goes (λ x o m. m) (λ z. omega arith) (λ z. absurd z.0) (λ c v. (tt, tt, tt)) (omega arith)))
-        (λ y. fails (λ x o m. m) (λ z. omega arith) (λ z. absurd z.0) (λ c v. y (c l.curr (comes v.0 f.spot.below))) (tt, tt, tt)
-        (omega arith)))
-    row (at8 e d b a) = at_row Row l 8 e (inl ((tt, tt, tt), omega arith), inl (
-      goes (λ x o m. m) (λ z. omega arith) (λ z. z) (λ c v. v) (omega arith), (tt, tt), inl ((tt, tt, tt), omega arith)))
-    row (at9 e d b a x) = at_row Row l 9 e (inl ((tt, tt, tt), omega arith), inl (
-      goes (λ x o m. m) (λ z. omega arith) (λ z. z) (λ c v. v) (omega arith), (tt, tt), inl ((tt, tt, tt), omega arith)))
-    row (at10 e d b a x y) = at_row Row l 10 e (inl ((tt, tt, tt), omega arith), inl (
-      goes (λ x o m. m) (λ z. omega arith) (λ z. (tt, tt)) (λ c v. v) (omega arith), (tt, tt), inl ((tt, tt, tt), omega arith)))
-    row (at11 e d b a x) = at_row Row l 11 e (inl ((tt, tt, tt), omega arith), inl (
-      goes (λ x o m. m) (λ z. omega arith) (λ z. z) (λ c v. v) (omega arith), (tt, tt), inl ((tt, tt, tt), omega arith)))
-    row (at12 e d b a x) = at_row Row l 12 e (inl ((tt, tt, tt), omega arith), inl (
-      goes (λ x o m. m) (λ z. omega arith) (λ z. (tt, tt)) (λ c v. v) (omega arith), (tt, tt), inl ((tt, tt, tt), omega arith)))
-    row (at13 e b o) = at_row Row l 13 e (inl ((tt, tt, tt), omega arith), inr (inr (l.curr, refl),
-        goes (λ x o m. gave_curr o m) (λ z. omega arith) (λ z. z) (λ c v. v) (omega arith)))
+    row (at6 e d f b) = at_row Row l 6 e (
+      inr (omega arith),
+      by_same (To 6) (node_link ws l.pred) (2 * l.curr)
+          (λ y. goes (λ x o m. m) (λ z. omega arith) (λ z. absurd z.0) (λ c v. v) (omega arith))
+          (λ y. fails (λ x o m. m) (λ z. omega arith) (λ z. absurd z.0) (λ c v. y v.0.1) (tt, tt, tt) (omega arith)),
+    )
+    row (at7 e d f b) = at_row Row l 7 e (
+      inr (omega arith),
+      by_same (To 7) (node_link ws l.curr % 2) 0
+          (λ y. by_decision (To 7) targets l.ckey (record l { pc = 7; succ = node_link ws l.curr / 2 })
+          (goes (λ x o m. m) (λ z. omega arith) (λ z. absurd z.0) (λ c v. (tt, tt, tt)) (omega arith))
+          (goes (λ x o m. m) (λ z. omega arith) (λ z. absurd z.0) (λ c v. (tt, tt, tt)) (omega arith))
+          (λ r. goes (λ x o m. m) (λ z. omega arith) (λ z. absurd z.0) (λ c v. (tt, tt, tt)) (omega arith)))
+          (λ y. fails (λ x o m. m) (λ z. omega arith) (λ z. absurd z.0) (λ c v. y (c l.curr (comes v.0 f.spot.below))) (tt, tt, tt)
+          (omega arith)),
+    )
+    row (at8 e d b a) = at_row Row l 8 e (
+      inl ((tt, tt, tt), omega arith),
+      inl (
+        goes (λ x o m. m) (λ z. omega arith) (λ z. z) (λ c v. v) (omega arith),
+        (tt, tt),
+        inl ((tt, tt, tt), omega arith),
+      ),
+    )
+    row (at9 e d b a x) = at_row Row l 9 e (
+      inl ((tt, tt, tt), omega arith),
+      inl (
+        goes (λ x o m. m) (λ z. omega arith) (λ z. z) (λ c v. v) (omega arith),
+        (tt, tt),
+        inl ((tt, tt, tt), omega arith),
+      ),
+    )
+    row (at10 e d b a x y) = at_row Row l 10 e (
+      inl ((tt, tt, tt), omega arith),
+      inl (
+        goes (λ x o m. m) (λ z. omega arith) (λ z. (tt, tt)) (λ c v. v) (omega arith),
+        (tt, tt),
+        inl ((tt, tt, tt), omega arith),
+      ),
+    )
+    row (at11 e d b a x) = at_row Row l 11 e (
+      inl ((tt, tt, tt), omega arith),
+      inl (
+        goes (λ x o m. m) (λ z. omega arith) (λ z. z) (λ c v. v) (omega arith),
+        (tt, tt),
+        inl ((tt, tt, tt), omega arith),
+      ),
+    )
+    row (at12 e d b a x) = at_row Row l 12 e (
+      inl ((tt, tt, tt), omega arith),
+      inl (
+        goes (λ x o m. m) (λ z. omega arith) (λ z. (tt, tt)) (λ c v. v) (omega arith),
+        (tt, tt),
+        inl ((tt, tt, tt), omega arith),
+      ),
+    )
+    row (at13 e b o) = at_row Row l 13 e (
+      inl ((tt, tt, tt), omega arith),
+      inr (
+        inr (l.curr, refl),
+        goes (λ x o m. gave_curr o m) (λ z. omega arith) (λ z. z) (λ c v. v) (omega arith),
+      ),
+    )
     row (at14 e p o) = at_row Row l 14 e (inl ((tt, tt, tt), omega arith), inr (inr (l.pred, refl), gives_last))
     row (at_read a) = reads a
 
@@ -254,8 +328,12 @@ shows = record {
   calm_alone = λ op last k t es r upto others. when (not (within 8 14 (local_of (state_at lazy op es k) t).pc))
       (λ h. no_marks op last k t es r upto others (not_twelve (local_of (state_at lazy op es k) t).pc h));
   ready = λ op k es r. elim (row_12 (state_at lazy op es k) op.threads) [
-    | inl x ↦ inl (x.0, x.1, at_row (IsNear shape (sizes op) (state_at lazy op es k).words) (local_of (state_at lazy op es k) x.0) 12 x.2
-        ((tt, tt), inl ((tt, tt, tt), omega arith)))
+    | inl x ↦ inl (
+      x.0,
+      x.1,
+      at_row (IsNear shape (sizes op) (state_at lazy op es k).words) (local_of (state_at lazy op es k) x.0) 12 x.2
+          ((tt, tt), inl ((tt, tt, tt), omega arith)),
+    )
     | inr none ↦ inr (λ u un. when (not (within 8 14 (local_of (state_at lazy op es k) u).pc)) (λ h. plain_then op k es r none))
   ];
 }

@@ -101,19 +101,61 @@ shape = record {
 reads_at : (size : ℕ) (key : ℕ → ℕ) (ws : List ℕ) (l : Local) → IsReadRow l.pc → ReadsAt shape size key ws l
 reads_at size key ws l =
     let link : ℕ → ℕ = node_link ws in
-    in_each_read_row (λ n. ReadsAt shape size key ws (record l { pc = n }))
-    (λ x m. m, λ z. z, λ z. omega arith, refl, λ v. tt, λ a. outside link (record l { pc = 20 }) (λ c d. omega arith)
-        (λ h. absurd (omega arith)), λ c. c)
-    (λ x m. m, λ z. z, λ z. omega arith, refl, λ v. tt, λ a. outside link (record l { pc = 21 }) (λ c d. omega arith)
-        (λ h. absurd (omega arith)), λ c. c)
-    (λ x m. m, λ z. z, λ z. omega arith, refl, λ v. tt, λ a. outside link (record l { pc = 22 }) (λ c d. omega arith)
-        (λ h. absurd (omega arith)), λ c. c)
-    (λ x m. m, λ z. z, λ z. omega arith, refl, λ v. v.along (omega arith), λ a. outside link (record l { pc = 23 }) (λ c d. omega arith)
-        (λ h. a), λ c. c)
-    (λ x m. m, λ z. z, λ z. omega arith, refl, λ v. v.along (omega arith), λ a. outside link (record l { pc = 24 }) (λ c d. omega arith)
-        (λ h. a), λ c. c)
-    (λ x m. m, λ z. z, λ z. omega arith, refl, λ v. v.along (omega arith), λ a. outside link (record l { pc = 25 }) (λ c d. omega arith)
-        (λ h. a), λ c. c)
+    in_each_read_row (λ n. ReadsAt shape size key ws (record l { pc = n })) (
+      λ x m. m,
+      λ z. z,
+      λ z. omega arith,
+      refl,
+      λ v. tt,
+      λ a. outside link (record l { pc = 20 }) (λ c d. omega arith)
+          (λ h. absurd (omega arith)),
+      λ c. c,
+    ) (
+      λ x m. m,
+      λ z. z,
+      λ z. omega arith,
+      refl,
+      λ v. tt,
+      λ a. outside link (record l { pc = 21 }) (λ c d. omega arith)
+          (λ h. absurd (omega arith)),
+      λ c. c,
+    ) (
+      λ x m. m,
+      λ z. z,
+      λ z. omega arith,
+      refl,
+      λ v. tt,
+      λ a. outside link (record l { pc = 22 }) (λ c d. omega arith)
+          (λ h. absurd (omega arith)),
+      λ c. c,
+    ) (
+      λ x m. m,
+      λ z. z,
+      λ z. omega arith,
+      refl,
+      λ v. v.along (omega arith),
+      λ a. outside link (record l { pc = 23 }) (λ c d. omega arith)
+          (λ h. a),
+      λ c. c,
+    ) (
+      λ x m. m,
+      λ z. z,
+      λ z. omega arith,
+      refl,
+      λ v. v.along (omega arith),
+      λ a. outside link (record l { pc = 24 }) (λ c d. omega arith)
+          (λ h. a),
+      λ c. c,
+    ) (
+      λ x m. m,
+      λ z. z,
+      λ z. omega arith,
+      refl,
+      λ v. v.along (omega arith),
+      λ a. outside link (record l { pc = 25 }) (λ c d. omega arith)
+          (λ h. a),
+      λ c. c,
+    )
     l.pc
 
 -- its exchanges succeed, or there is time for another walk
@@ -161,9 +203,11 @@ module _ {sz : Sizes} {ws : List ℕ} {used : ℕ → ℕ} {t : ℕ} {vs : ℕ �
   to busy low valid less = (goes (λ x o m. m) busy (λ z. z) (λ c v. valid v) less, inr (λ c high. absurd (omega arith)))
 
   again : {n : ℕ} → (Valid (node_link ws) (record l { pc = n }) → ⊥) → From n ws (continued (record l { pc = 1 }))
-  again never = (fails (λ x o m. m) (λ z. omega arith) (λ z. z) (λ c v. never v)
-      (outside (node_link ws) (record l { pc = 1 }) (λ a b. omega arith) (λ a. absurd (omega arith))) (omega arith),
-      inr (λ c high. absurd (omega arith)))
+  again never = (
+    fails (λ x o m. m) (λ z. omega arith) (λ z. z) (λ c v. never v)
+        (outside (node_link ws) (record l { pc = 1 }) (λ a b. omega arith) (λ a. absurd (omega arith))) (omega arith),
+    inr (λ c high. absurd (omega arith)),
+  )
 
   ends : {k k' : Local} {ws' : List ℕ} {r : Reply} → After k ws' (record { local = k'; answer = Some r })
   ends {r = r} = (stops (λ x o m. m), inl (r, refl))
@@ -173,17 +217,20 @@ module _ {sz : Sizes} {ws : List ℕ} {used : ℕ → ℕ} {t : ℕ} {vs : ℕ �
 
   module _ (few : rest_by size key l.curr < size) where
     from_2 : V.published l.curr → Row (record l { pc = 2 })
-    from_2 p = (inr (omega arith), by_same (From 2 ws) (node_link ws l.curr % 2) 0
-        (λ even. to (λ z. omega arith) (omega arith) (λ v. record {
-          follows = λ a b. v.follows (omega arith) (omega arith);
-          unmarked = λ a. omega arith;
-          plain = λ a. absurd (omega arith);
-          same = λ a. absurd (omega arith);
-          along = λ a. absurd (omega arith);
-        }) (omega arith))
-        (λ odd. to (λ z. omega arith) (omega arith) (λ v. at_pred (node_link ws)
-        (record l { pc = 3; succ = node_link ws l.curr / 2 }) (omega arith, omega arith, λ z. omega arith)
-        (v.follows (omega arith) (omega arith))) (omega arith)))
+    from_2 p = (
+      inr (omega arith),
+      by_same (From 2 ws) (node_link ws l.curr % 2) 0
+          (λ even. to (λ z. omega arith) (omega arith) (λ v. record {
+            follows = λ a b. v.follows (omega arith) (omega arith);
+            unmarked = λ a. omega arith;
+            plain = λ a. absurd (omega arith);
+            same = λ a. absurd (omega arith);
+            along = λ a. absurd (omega arith);
+          }) (omega arith))
+          (λ odd. to (λ z. omega arith) (omega arith) (λ v. at_pred (node_link ws)
+          (record l { pc = 3; succ = node_link ws l.curr / 2 }) (omega arith, omega arith, λ z. omega arith)
+          (v.follows (omega arith) (omega arith))) (omega arith)),
+    )
 
     -- a marked curr is taken out: succ, which has less ahead, comes after pred
     from_3 : Spot V (target l.call) l.pred l.curr → node_link ws l.curr ≡ 2 * l.succ + 1 → Row (record l { pc = 3 })
@@ -193,86 +240,123 @@ module _ {sz : Sizes} {ws : List ℕ} {used : ℕ → ℕ} {t : ℕ} {vs : ℕ �
         let half : node_link ws l.curr / 2 ≡ l.succ = omega arith in
         let less : rest_by size key l.succ < rest_by size key l.curr =
         subst (λ z. rest_by size key z < rest_by size key l.curr) half
-        (fewer_by true sz ws used h.memory key agrees l.curr x.curr_published user) in
-        (inr (omega arith), by_exchange (From 3) ws (link_index l.pred) (2 * l.curr) (2 * l.succ)
-        (λ z. to (λ z. omega arith) (omega arith) (λ v. at_pred (node_link (slice_set ws (link_index l.pred) (2 * l.succ)))
-        (record l { pc = 2; curr = l.succ }) (omega arith, omega arith, λ z. omega arith)
-        (link_wrote true sz ws used h.memory l.pred (2 * l.succ) h.registers.pred)) (omega arith))
-        (λ z. again (λ v. z (v.follows (omega arith) (omega arith)))))
+        (fewer_by true sz ws used h.memory key agrees l.curr x.curr_published user) in (
+          inr (omega arith),
+          by_exchange (From 3) ws (link_index l.pred) (2 * l.curr) (2 * l.succ)
+              (λ z. to (λ z. omega arith) (omega arith) (λ v. at_pred (node_link (slice_set ws (link_index l.pred) (2 * l.succ)))
+              (record l { pc = 2; curr = l.succ }) (omega arith, omega arith, λ z. omega arith)
+              (link_wrote true sz ws used h.memory l.pred (2 * l.succ) h.registers.pred)) (omega arith))
+              (λ z. again (λ v. z (v.follows (omega arith) (omega arith)))),
+        )
 
     -- the key of an unmarked curr: the walk goes on, or the call decides
     from_4 : (l.curr ≢ 1 → rest_by size key l.succ < rest_by size key l.curr) → Row (record l { pc = 4 })
-    from_4 rises = (inr (omega arith), by_below (From 4 ws) (node_key ws l.curr) (target l.call)
-        (λ lt. let less : rest_by size key l.succ < rest_by size key l.curr = rises (inside_chain l.curr lt) in
-        to (λ z. omega arith) (omega arith) (λ v. at_pred (node_link ws) (record l { pc = 2; pred = l.curr; curr = l.succ })
-        (omega arith, omega arith, λ z. omega arith) (v.unmarked refl)) (omega arith))
-        (λ ge. by_decision (λ k. From 4 ws (decision_of k)) targets (node_key ws l.curr) (record l { pc = 4 })
-        (to (λ z. omega arith) (omega arith) (λ v. at_pred (node_link ws) (record l { pc = 5; reply = None })
-        (omega arith, omega arith, λ z. omega arith) (v.follows (omega arith) (omega arith))) (omega arith))
-        (to (λ z. omega arith) (omega arith) (λ v. record {
-          follows = λ a b. absurd (omega arith);
-          unmarked = λ a. absurd (omega arith);
-          plain = λ a. let f : node_link ws l.curr ≡ 2 * l.succ = v.unmarked refl in omega arith;
-          same = λ a. absurd (omega arith);
-          along = λ a. absurd (omega arith);
-        }) (omega arith))
-        (λ r. ends)))
+    from_4 rises = (
+      inr (omega arith),
+      by_below (From 4 ws) (node_key ws l.curr) (target l.call)
+          (λ lt. let less : rest_by size key l.succ < rest_by size key l.curr = rises (inside_chain l.curr lt) in
+          to (λ z. omega arith) (omega arith) (λ v. at_pred (node_link ws) (record l { pc = 2; pred = l.curr; curr = l.succ })
+          (omega arith, omega arith, λ z. omega arith) (v.unmarked refl)) (omega arith))
+          (λ ge. by_decision (λ k. From 4 ws (decision_of k)) targets (node_key ws l.curr) (record l { pc = 4 })
+          (to (λ z. omega arith) (omega arith) (λ v. at_pred (node_link ws) (record l { pc = 5; reply = None })
+          (omega arith, omega arith, λ z. omega arith) (v.follows (omega arith) (omega arith))) (omega arith))
+          (to (λ z. omega arith) (omega arith) (λ v. record {
+            follows = λ a b. absurd (omega arith);
+            unmarked = λ a. absurd (omega arith);
+            plain = λ a. let f : node_link ws l.curr ≡ 2 * l.succ = v.unmarked refl in omega arith;
+            same = λ a. absurd (omega arith);
+            along = λ a. absurd (omega arith);
+          }) (omega arith))
+          (λ r. ends)),
+    )
 
     -- an add writes its slot, which is no node of the list, and puts it in
     from_5 : Row (record l { pc = 5 })
-    from_5 = (inr (omega arith), to (λ z. omega arith) (omega arith)
-        (λ v. at_pred (node_link (slice_set ws (key_index (own_slot l)) (target l.call))) (record l { pc = 6 })
-        (omega arith, omega arith, λ z. omega arith)
-        (link_after_key ws (own_slot l) (target l.call) l.pred ∙ v.follows (omega arith) (omega arith))) (omega arith))
+    from_5 = (
+      inr (omega arith),
+      to (λ z. omega arith) (omega arith)
+          (λ v. at_pred (node_link (slice_set ws (key_index (own_slot l)) (target l.call))) (record l { pc = 6 })
+          (omega arith, omega arith, λ z. omega arith)
+          (link_after_key ws (own_slot l) (target l.call) l.pred ∙ v.follows (omega arith) (omega arith))) (omega arith),
+    )
 
     from_6 : V.published l.pred → used t < sz.quota → Row (record l { pc = 6 })
     from_6 p room =
         let own_is : own_slot l ≡ own_of sz.quota t used = rw (h.registers.thread, h.registers.quota, h.counts) refl in
-        let other : l.pred ≢ own_slot l = rw own_is (no_own true sz ws used h.memory t l.pred h.in_threads room p) in
-        (inr (omega arith), to (λ z. omega arith) (omega arith)
-        (λ v. at_pred (node_link (slice_set ws (link_index (own_slot l)) (2 * l.curr))) (record l { pc = 7 })
-        (omega arith, omega arith, λ z. omega arith)
-        (link_after_link ws (own_slot l) (2 * l.curr) l.pred other ∙ v.follows (omega arith) (omega arith))) (omega arith))
+        let other : l.pred ≢ own_slot l = rw own_is (no_own true sz ws used h.memory t l.pred h.in_threads room p) in (
+          inr (omega arith),
+          to (λ z. omega arith) (omega arith)
+              (λ v. at_pred (node_link (slice_set ws (link_index (own_slot l)) (2 * l.curr))) (record l { pc = 7 })
+              (omega arith, omega arith, λ z. omega arith)
+              (link_after_link ws (own_slot l) (2 * l.curr) l.pred other ∙ v.follows (omega arith) (omega arith))) (omega arith),
+        )
 
     from_7 : Row (record l { pc = 7 })
-    from_7 = (inr (omega arith), by_exchange (From 7) ws (link_index l.pred) (2 * l.curr) (2 * own_slot l)
-        (λ z. ends) (λ z. again (λ v. z (v.follows (omega arith) (omega arith)))))
+    from_7 = (
+      inr (omega arith),
+      by_exchange (From 7) ws (link_index l.pred) (2 * l.curr) (2 * own_slot l)
+          (λ z. ends) (λ z. again (λ v. z (v.follows (omega arith) (omega arith)))),
+    )
 
     -- a remove looks at the link of its node, and marks it
     from_8 : Row (record l { pc = 8 })
-    from_8 = (inr (omega arith), to (λ z. omega arith) (omega arith) (λ v. record {
-      follows = λ a b. absurd (omega arith);
-      unmarked = λ a. absurd (omega arith);
-      plain = λ a. absurd (omega arith);
-      same = λ a. let f : node_link ws l.curr % 2 ≡ 0 = v.plain refl in omega arith;
-      along = λ a. absurd (omega arith);
-    }) (omega arith))
+    from_8 = (
+      inr (omega arith),
+      to (λ z. omega arith) (omega arith) (λ v. record {
+        follows = λ a b. absurd (omega arith);
+        unmarked = λ a. absurd (omega arith);
+        plain = λ a. absurd (omega arith);
+        same = λ a. let f : node_link ws l.curr % 2 ≡ 0 = v.plain refl in omega arith;
+        along = λ a. absurd (omega arith);
+      }) (omega arith),
+    )
 
     from_9 : Row (record l { pc = 9 })
-    from_9 = (inr (omega arith), by_exchange (From 9) ws (link_index l.curr) (2 * l.succ) (2 * l.succ + 1)
-        (λ z. to (λ z. omega arith) (omega arith) (λ v. outside (node_link (slice_set ws (link_index l.curr) (2 * l.succ + 1)))
-        (record l { pc = 10 }) (λ a b. omega arith) (λ a. absurd (omega arith))) (omega arith))
-        (λ z. again (λ v. z (v.same refl))))
+    from_9 = (
+      inr (omega arith),
+      by_exchange (From 9) ws (link_index l.curr) (2 * l.succ) (2 * l.succ + 1)
+          (λ z. to (λ z. omega arith) (omega arith) (λ v. outside (node_link (slice_set ws (link_index l.curr) (2 * l.succ + 1)))
+          (record l { pc = 10 }) (λ a b. omega arith) (λ a. absurd (omega arith))) (omega arith))
+          (λ z. again (λ v. z (v.same refl))),
+    )
 
     -- a contains or a ceiling
     read : (n : ℕ) {f : Fed} → IsReadRow n → Reads (round size) size key ws (record l { pc = n }) f → From n ws f
-    read n {f} row a = (reads_then shape size key ws (reads_at size key ws) (record l { pc = n }) f row a, elim a [
-      | inl x ↦ inl x
-      | inr g ↦ inr (λ c high. c (g.high high))
-    ])
+    read n {f} row a = (
+      reads_then shape size key ws (reads_at size key ws) (record l { pc = n }) f row a,
+      elim a [
+        | inl x ↦ inl x
+        | inr g ↦ inr (λ c high. c (g.high high))
+      ],
+    )
 
     reads : Reading vs first now done l → Row l
     reads (reads20 e d c a) = at_row Row l 20 e (inr (omega arith), read 20 (inl refl) (from_20 h key agrees (round size) (omega arith) a))
-    reads (reads21 e d c a) = at_row Row l 21 e (inr (omega arith), read 21 (inr (inl refl))
-        (from_21 h key agrees (round size) (omega arith)))
-    reads (reads22 e d c a) = at_row Row l 22 e (inr (omega arith), read 22 (inr (inr (inl refl)))
-        (from_22 h key agrees (round size) (omega arith)))
-    reads (reads23 e d c a) = at_row Row l 23 e (inr (omega arith), read 23 (inr (inr (inr (inl refl))))
-        (from_23 h key agrees (round size) (omega arith) a))
-    reads (reads24 e d c a) = at_row Row l 24 e (inr (omega arith), read 24 (inr (inr (inr (inr (inl refl)))))
-        (from_24 h key agrees (round size) (omega arith)))
-    reads (reads25 e d c a) = at_row Row l 25 e (inr (omega arith), read 25 (inr (inr (inr (inr (inr refl)))))
-        (from_25 h key agrees (round size) (omega arith)))
+    reads (reads21 e d c a) = at_row Row l 21 e (
+      inr (omega arith),
+      read 21 (inr (inl refl))
+          (from_21 h key agrees (round size) (omega arith)),
+    )
+    reads (reads22 e d c a) = at_row Row l 22 e (
+      inr (omega arith),
+      read 22 (inr (inr (inl refl)))
+          (from_22 h key agrees (round size) (omega arith)),
+    )
+    reads (reads23 e d c a) = at_row Row l 23 e (
+      inr (omega arith),
+      read 23 (inr (inr (inr (inl refl))))
+          (from_23 h key agrees (round size) (omega arith) a),
+    )
+    reads (reads24 e d c a) = at_row Row l 24 e (
+      inr (omega arith),
+      read 24 (inr (inr (inr (inr (inl refl)))))
+          (from_24 h key agrees (round size) (omega arith)),
+    )
+    reads (reads25 e d c a) = at_row Row l 25 e (
+      inr (omega arith),
+      read 25 (inr (inr (inr (inr (inr refl)))))
+          (from_25 h key agrees (round size) (omega arith)),
+    )
 
     -- succ comes after curr
     rises_at : Was vs first now l.curr l.succ t (used t) (λ v. v.link l.curr % 2 ≡ 0) → l.curr ≢ 1
@@ -297,9 +381,12 @@ module _ {sz : Sizes} {ws : List ℕ} {used : ℕ → ℕ} {t : ℕ} {vs : ℕ �
         let next : rest_by size key (node_link ws 0 / 2) < rest_by size key 0 =
         fewer_by true sz ws used h.memory key agrees 0 h.memory.ordered.head_published (omega arith) in
         let even : node_link ws 0 % 2 ≡ 0 = h.head_plain in
-        at_row Row l 1 e (inr (omega arith), to (λ z. omega arith) (omega arith) (λ v. at_pred (node_link ws)
-        (record l { pc = 2; pred = 0; curr = node_link ws 0 / 2 }) (omega arith, omega arith, λ z. omega arith) (omega arith))
-            (omega arith))
+        at_row Row l 1 e (
+          inr (omega arith),
+          to (λ z. omega arith) (omega arith) (λ v. at_pred (node_link ws)
+              (record l { pc = 2; pred = 0; curr = node_link ws 0 / 2 }) (omega arith, omega arith, λ z. omega arith) (omega arith))
+              (omega arith),
+        )
     row (at2 e d s k) = at_row Row l 2 e (from_2 s.curr_published)
     row (at2_now e d s f i x) = at_row Row l 2 e (from_2 s.curr_published)
     row (at3 e d s p o) = at_row Row l 3 e (from_3 s o)
@@ -334,7 +421,7 @@ module _ (op : Opening) (last k : ℕ) (es : ℕ → Event) (r : Run lock_free o
           | inl a ↦ inl a
           | inr plain ↦ inr (subst (λ l. Left (node_count (sizes op)) key (after lock_free S (Go t)).words n l)
               (sym (put_same S t (lock_free.feed (local_of S t) (seen_next lock_free S t)).local
-                  (rw (known op last k es r upto).locals tn)))
+              (rw (known op last k es r upto).locals tn)))
               (record { open_call = p.busy; plain = plain g.plain; time = p.near g.plain n g.time }))
         ]
       ]

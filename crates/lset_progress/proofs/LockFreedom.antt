@@ -309,7 +309,7 @@ module _ (reads : Bool) (op : Opening) (last k : ℕ) (es : ℕ → Event) (r : 
     quietly : Quiet V W → Later
     quietly q = later 0 f.may_mark f.may_leave
         (let a : total (time_then 0) op.threads + counted reads (local_of S t).call ≤ total f.time op.threads + op.threads * 0 =
-            total_then 0 in
+        total_then 0 in
         let b = f.within in omega arith)
         (λ u un d. subst (λ n. Fits reads (sizes op) f.key S'.words n (local_of S u)) (omega arith)
         (fits_on reads (sizes op) S S' (has_changed (log_of lock_free op es) u k) (local_of S u) q (place_of (i.threads u un).at) f.key
@@ -325,7 +325,7 @@ module _ (reads : Bool) (op : Opening) (last k : ℕ) (es : ℕ → Event) (r : 
         (let m : price (sizes op) * (total leave size + total mark op.threads) + price (sizes op)
         ≤ price (sizes op) * (total f.may_leave size + total f.may_mark op.threads) =
         one_price (price (sizes op)) (total leave size + total mark op.threads) (total f.may_leave size + total f.may_mark op.threads)
-            less in
+        less in
         let a : total (time_then (round size)) op.threads + counted reads (local_of S t).call
         ≤ total f.time op.threads + price (sizes op) = total_then (round size) in
         let b = f.within in omega arith) disturbed markers nodes

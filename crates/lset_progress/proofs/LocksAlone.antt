@@ -270,14 +270,14 @@ module _ (T : Table) (law : Lawful T) (S : Shape) (most : Sizes → ℕ) (shows 
             | inl x ↦ inl (ends_late op k u es r un x)
             | inr same ↦ elim (own_step op k k u es r (omega arith) un g.enabled.1 (still u un)
                 (free_on op k k u es r (omega arith) un g.enabled.1 g (T.next (local_of (state_at T op es k) u)) refl y) n h) [
-              | inl x ↦ inr (inl x)
-              | inr p ↦ inr (inr (record {
-                time = p.1;
-                open_call = p.0;
-                stays = λ m l. timed_same S (node_count (sizes op)) (state_at T op es k).words
-                    (left_by (state_at T op es k).words (T.next (local_of (state_at T op es k) u))) m l same.0 same.1;
-              }))
-            ]
+                  | inl x ↦ inr (inl x)
+                  | inr p ↦ inr (inr (record {
+                    time = p.1;
+                    open_call = p.0;
+                    stays = λ m l. timed_same S (node_count (sizes op)) (state_at T op es k).words
+                        (left_by (state_at T op es k).words (T.next (local_of (state_at T op es k) u))) m l same.0 same.1;
+                  }))
+                ]
           ])
     ];
   }

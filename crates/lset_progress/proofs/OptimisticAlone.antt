@@ -100,37 +100,43 @@ module _ {sz : Sizes} {ws : List ℕ} {used : ℕ → ℕ} {t : ℕ} {vs : ℕ �
       let is : node_key ws l.curr ≡ l.ckey = f.is in
       let above : target l.call ≤ l.ckey = f.above in
       ahead_less (node_key ws) size (node_key ws l.pred) l.curr (inside false sz ws used h.memory l.curr f.spot.curr_published)
-          (omega arith)
+      (omega arith)
 
   module _ (few : rest size ws l.curr < size) (few_node : rest size ws l.node < size) (head : rest size ws 0 < size)
       (pred : l.pred < node_count sz) (curr : l.curr < node_count sz) (again : then_again size l.reply ≤ 4 * size + 4) where
     takes_pred : Row (record l { pc = 4 })
-    takes_pred = (inr (omega arith), record {
-      is_lock = inr (l.pred, refl);
-      inside = omega arith;
-      free = refl;
-      own = ap (λ n. n + 1) h.registers.thread;
-      early = λ z. z.0;
-      last = λ x m. no_lock m;
-      taken = goes (λ x o m. no_lock m) (λ z. omega arith) (λ z. absurd z.0) (λ c v. v) (omega arith);
-      mine = inl (refl, tt);
-      missed = λ s d. if_other s 0 d _ _;
-    })
+    takes_pred = (
+      inr (omega arith),
+      record {
+        is_lock = inr (l.pred, refl);
+        inside = omega arith;
+        free = refl;
+        own = ap (λ n. n + 1) h.registers.thread;
+        early = λ z. z.0;
+        last = λ x m. no_lock m;
+        taken = goes (λ x o m. no_lock m) (λ z. omega arith) (λ z. absurd z.0) (λ c v. v) (omega arith);
+        mine = inl (refl, tt);
+        missed = λ s d. if_other s 0 d _ _;
+      },
+    )
 
     takes_curr : Found V (target l.call) l.pred l.curr l.ckey → Row (record l { pc = 5 })
-    takes_curr f = (inr (omega arith), record {
-      is_lock = inr (l.curr, refl);
-      inside = omega arith;
-      free = refl;
-      own = ap (λ n. n + 1) h.registers.thread;
-      early = λ z. z.0;
-      last = λ x m. elim m [ inl p ↦ ranked size ws l.curr l.pred x p.0 (curr_less f) | inr c ↦ absurd c.1 ];
-      taken = by_same (To 5) l.pred 0
-          (λ y. goes (λ x o m. pred_only m) (λ z. omega arith) (λ z. absurd z.0) (λ c v. (tt, tt, v.2, tt, tt)) (omega arith))
-          (λ y. goes (λ x o m. pred_only m) (λ z. omega arith) (λ z. absurd z.0) (λ c v. (tt, tt, v.2, v.0, λ z. y (sym z))) (omega arith));
-      mine = by_same (λ k. shape.may k (lock_index l.curr)) l.pred 0 (λ y. inr (refl, tt)) (λ y. inr (refl, tt));
-      missed = λ s d. if_other s 0 d _ _;
-    })
+    takes_curr f = (
+      inr (omega arith),
+      record {
+        is_lock = inr (l.curr, refl);
+        inside = omega arith;
+        free = refl;
+        own = ap (λ n. n + 1) h.registers.thread;
+        early = λ z. z.0;
+        last = λ x m. elim m [ inl p ↦ ranked size ws l.curr l.pred x p.0 (curr_less f) | inr c ↦ absurd c.1 ];
+        taken = by_same (To 5) l.pred 0
+            (λ y. goes (λ x o m. pred_only m) (λ z. omega arith) (λ z. absurd z.0) (λ c v. (tt, tt, v.2, tt, tt)) (omega arith))
+            (λ y. goes (λ x o m. pred_only m) (λ z. omega arith) (λ z. absurd z.0) (λ c v. (tt, tt, v.2, v.0, λ z. y (sym z))) (omega arith));
+        mine = by_same (λ k. shape.may k (lock_index l.curr)) l.pred 0 (λ y. inr (refl, tt)) (λ y. inr (refl, tt));
+        missed = λ s d. if_other s 0 d _ _;
+      },
+    )
 
     -- the last lock is given back
     abbrev Last : Option Reply → Type 0
@@ -142,7 +148,7 @@ module _ {sz : Sizes} {ws : List ℕ} {used : ℕ → ℕ} {t : ℕ} {vs : ℕ �
       | inl z ↦
           (let y : then_again size l.reply ≡ 4 * size + 4 = rw z refl in
           subst Last (sym z) (goes (λ x o m. gave_curr o m) (λ z. omega arith) (λ r. absurd (subst (λ o. Only (is_some o)) z r.1))
-              (λ c v. v)
+          (λ c v. v)
           (omega arith)))
       | inr z ↦ subst Last (sym z.1) (record { keeps = λ x o m. gave_curr o m; then = inl (z.0, refl) })
     ]
@@ -152,19 +158,33 @@ module _ {sz : Sizes} {ws : List ℕ} {used : ℕ → ℕ} {t : ℕ} {vs : ℕ �
     row (at1 e d) =
         let next : rest size ws (node_link ws 0 / 2) < rest size ws 0 =
         fewer false sz ws used h.memory 0 h.memory.ordered.head_published (omega arith) in
-        at_row Row l 1 e (inl ((tt, tt, tt, tt, tt), omega arith), goes (λ x o m. no_lock m) (λ z. omega arith) (λ z. absurd z.0)
-        (λ c v. (no_steps (node_link ws) 0, tt, even 0 h.memory.ordered.head_published, tt, tt)) (omega arith))
-    row (at2 e d x k) = at_row Row l 2 e (inr (omega arith), by_below (To 2) (node_key ws l.curr) (target l.call)
-        (λ lt. goes (λ x o m. no_lock m) (λ z. omega arith) (λ z. absurd z.0) (λ c v.
-        (tt, path_on (node_link ws) 0 l.pred l.curr v.0 (user l.pred x.below)
-        (let f : node_link ws l.pred ≡ 2 * l.curr = v.2 in omega arith), tt, tt, tt)) (omega arith))
-        (λ ge. goes (λ x o m. no_lock m) (λ z. omega arith) (λ z. absurd z.0) (λ c v. v) (omega arith)))
+        at_row Row l 1 e (
+          inl ((tt, tt, tt, tt, tt), omega arith),
+          goes (λ x o m. no_lock m) (λ z. omega arith) (λ z. absurd z.0)
+              (λ c v. (no_steps (node_link ws) 0, tt, even 0 h.memory.ordered.head_published, tt, tt)) (omega arith),
+        )
+    row (at2 e d x k) = at_row Row l 2 e (
+      inr (omega arith),
+      by_below (To 2) (node_key ws l.curr) (target l.call)
+          (λ lt. goes (λ x o m. no_lock m) (λ z. omega arith) (λ z. absurd z.0) (λ c v. (
+            tt,
+            path_on (node_link ws) 0 l.pred l.curr v.0 (user l.pred x.below)
+                (let f : node_link ws l.pred ≡ 2 * l.curr = v.2 in omega arith),
+            tt,
+            tt,
+            tt,
+          )) (omega arith))
+          (λ ge. goes (λ x o m. no_lock m) (λ z. omega arith) (λ z. absurd z.0) (λ c v. v) (omega arith)),
+    )
     row (at3 e d p k b) =
         let is : node_key ws l.curr ≡ l.ckey = k in
         let less : rest size ws (node_link ws l.curr / 2) < rest size ws l.curr =
         fewer false sz ws used h.memory l.curr p (user l.curr (omega arith)) in
-        at_row Row l 3 e (inr (omega arith), goes (λ x o m. no_lock m) (λ z. omega arith) (λ z. absurd z.0)
-        (λ c v. (v.1, tt, even l.curr p, tt, tt)) (omega arith))
+        at_row Row l 3 e (
+          inr (omega arith),
+          goes (λ x o m. no_lock m) (λ z. omega arith) (λ z. absurd z.0)
+              (λ c v. (v.1, tt, even l.curr p, tt, tt)) (omega arith),
+        )
     row (at4 e d f) = at_row Row l 4 e takes_pred
     row (at5 e d f p) = at_row Row l 5 e (takes_curr f.found)
     row (at6 e d f c k start g x) =
@@ -173,36 +193,76 @@ module _ {sz : Sizes} {ws : List ℕ} {used : ℕ → ℕ} {t : ℕ} {vs : ℕ �
         let k' : node_key ws l.node ≤ l.pkey = k in
         let less : rest size ws (node_link ws l.node / 2) < rest size ws l.node =
         fewer false sz ws used h.memory l.node x.node_published (user l.node (omega arith)) in
-        at_row Row l 6 e (inr (omega arith), goes (λ x o m. m) (λ z. omega arith) (λ z. absurd z.0)
-        (λ c v. (tt, tt, v.2, path_from (node_link ws) l.node l.pred v.4 v.3, tt)) (omega arith))
+        at_row Row l 6 e (
+          inr (omega arith),
+          goes (λ x o m. m) (λ z. omega arith) (λ z. absurd z.0)
+              (λ c v. (tt, tt, v.2, path_from (node_link ws) l.node l.pred v.4 v.3, tt)) (omega arith),
+        )
     row (at7 e d f c start g x) =
         let is : node_key ws l.pred ≡ l.pkey = f.low in
-        at_row Row l 7 e (inr (omega arith), by_below (To 7) l.pkey (node_key ws l.node)
-        (λ lt. fails (λ x o m. m) (λ z. omega arith) (λ z. absurd z.0) (λ c v.
-        let up : node_key ws l.node ≤ node_key ws l.pred = path_up (view sz ws used) h.memory.ordered l.node l.pred x.node_published v.3 in
-        omega arith) (tt, tt, tt, tt, tt) (omega arith))
-        (λ ge. by_same (To 7) l.node l.pred
-        (λ y. goes (λ x o m. m) (λ z. omega arith) (λ z. absurd z.0) (λ c v. (tt, tt, v.2, tt, tt)) (omega arith))
-        (λ y. goes (λ x o m. m) (λ z. omega arith) (λ z. absurd z.0) (λ c v. (tt, tt, v.2, v.3, y)) (omega arith))))
-    row (at8 e d f c x a) = at_row Row l 8 e (inr (omega arith), by_same (To 8) (node_link ws l.pred / 2) l.curr
-        (λ y. by_decision (To 8) targets l.ckey (record l { pc = 8 })
-        (goes (λ x o m. m) (λ z. omega arith) (λ z. absurd z.0) (λ c v. (tt, tt, tt, tt, tt)) (omega arith))
-        (goes (λ x o m. m) (λ z. omega arith) (λ z. absurd z.0) (λ c v. (tt, tt, tt, tt, tt)) (omega arith))
-        (λ r. goes (λ x o m. m) (λ z. omega arith) (λ z. absurd z.0) (λ c v. (tt, tt, tt, tt, tt)) (omega arith)))
-        (λ y. fails (λ x o m. m) (λ z. omega arith) (λ z. absurd z.0)
-        (λ c v. let f : node_link ws l.pred ≡ 2 * l.curr = v.2 in y (omega arith)) (tt, tt, tt, tt, tt) (omega arith)))
-    row (at9 e d b a) = at_row Row l 9 e (inl ((tt, tt, tt, tt, tt), omega arith), inl (
-      goes (λ x o m. m) (λ z. omega arith) (λ z. z) (λ c v. v) (omega arith), (tt, tt), inl ((tt, tt, tt, tt, tt), omega arith)))
-    row (at10 e d b a x) = at_row Row l 10 e (inl ((tt, tt, tt, tt, tt), omega arith), inl (
-      goes (λ x o m. m) (λ z. omega arith) (λ z. z) (λ c v. v) (omega arith), (tt, tt), inl ((tt, tt, tt, tt, tt), omega arith)))
-    row (at11 e d b a x y) = at_row Row l 11 e (inl ((tt, tt, tt, tt, tt), omega arith), inl (
-      goes (λ x o m. m) (λ z. omega arith) (λ z. (tt, tt)) (λ c v. v) (omega arith), (tt, tt), inl ((tt, tt, tt, tt, tt), omega arith)))
-    row (at12 e d b a) = at_row Row l 12 e (inl ((tt, tt, tt, tt, tt), omega arith),
-        goes (λ x o m. m) (λ z. omega arith) (λ z. z) (λ c v. v) (omega arith))
-    row (at13 e d b a x) = at_row Row l 13 e (inl ((tt, tt, tt, tt, tt), omega arith), inl (
-      goes (λ x o m. m) (λ z. omega arith) (λ z. (tt, tt)) (λ c v. v) (omega arith), (tt, tt), inl ((tt, tt, tt, tt, tt), omega arith)))
-    row (at14 e p c d i o) = at_row Row l 14 e (inl ((tt, tt, tt, tt, tt), omega arith), inr (inr (l.pred, refl),
-        goes (λ x o m. gave_pred o m) (λ z. omega arith) (λ z. z) (λ c v. v) (omega arith)))
+        at_row Row l 7 e (
+          inr (omega arith),
+          by_below (To 7) l.pkey (node_key ws l.node)
+              (λ lt. fails (λ x o m. m) (λ z. omega arith) (λ z. absurd z.0) (λ c v.
+              let up : node_key ws l.node ≤ node_key ws l.pred = path_up (view sz ws used) h.memory.ordered l.node l.pred x.node_published v.3 in
+              omega arith) (tt, tt, tt, tt, tt) (omega arith))
+              (λ ge. by_same (To 7) l.node l.pred
+              (λ y. goes (λ x o m. m) (λ z. omega arith) (λ z. absurd z.0) (λ c v. (tt, tt, v.2, tt, tt)) (omega arith))
+              (λ y. goes (λ x o m. m) (λ z. omega arith) (λ z. absurd z.0) (λ c v. (tt, tt, v.2, v.3, y)) (omega arith))),
+        )
+    row (at8 e d f c x a) = at_row Row l 8 e (
+      inr (omega arith),
+      by_same (To 8) (node_link ws l.pred / 2) l.curr
+          (λ y. by_decision (To 8) targets l.ckey (record l { pc = 8 })
+          (goes (λ x o m. m) (λ z. omega arith) (λ z. absurd z.0) (λ c v. (tt, tt, tt, tt, tt)) (omega arith))
+          (goes (λ x o m. m) (λ z. omega arith) (λ z. absurd z.0) (λ c v. (tt, tt, tt, tt, tt)) (omega arith))
+          (λ r. goes (λ x o m. m) (λ z. omega arith) (λ z. absurd z.0) (λ c v. (tt, tt, tt, tt, tt)) (omega arith)))
+          (λ y. fails (λ x o m. m) (λ z. omega arith) (λ z. absurd z.0)
+          (λ c v. let f : node_link ws l.pred ≡ 2 * l.curr = v.2 in y (omega arith)) (tt, tt, tt, tt, tt) (omega arith)),
+    )
+    row (at9 e d b a) = at_row Row l 9 e (
+      inl ((tt, tt, tt, tt, tt), omega arith),
+      inl (
+        goes (λ x o m. m) (λ z. omega arith) (λ z. z) (λ c v. v) (omega arith),
+        (tt, tt),
+        inl ((tt, tt, tt, tt, tt), omega arith),
+      ),
+    )
+    row (at10 e d b a x) = at_row Row l 10 e (
+      inl ((tt, tt, tt, tt, tt), omega arith),
+      inl (
+        goes (λ x o m. m) (λ z. omega arith) (λ z. z) (λ c v. v) (omega arith),
+        (tt, tt),
+        inl ((tt, tt, tt, tt, tt), omega arith),
+      ),
+    )
+    row (at11 e d b a x y) = at_row Row l 11 e (
+      inl ((tt, tt, tt, tt, tt), omega arith),
+      inl (
+        goes (λ x o m. m) (λ z. omega arith) (λ z. (tt, tt)) (λ c v. v) (omega arith),
+        (tt, tt),
+        inl ((tt, tt, tt, tt, tt), omega arith),
+      ),
+    )
+    row (at12 e d b a) = at_row Row l 12 e (
+      inl ((tt, tt, tt, tt, tt), omega arith),
+      goes (λ x o m. m) (λ z. omega arith) (λ z. z) (λ c v. v) (omega arith),
+    )
+    row (at13 e d b a x) = at_row Row l 13 e (
+      inl ((tt, tt, tt, tt, tt), omega arith),
+      inl (
+        goes (λ x o m. m) (λ z. omega arith) (λ z. (tt, tt)) (λ c v. v) (omega arith),
+        (tt, tt),
+        inl ((tt, tt, tt, tt, tt), omega arith),
+      ),
+    )
+    row (at14 e p c d i o) = at_row Row l 14 e (
+      inl ((tt, tt, tt, tt, tt), omega arith),
+      inr (
+        inr (l.pred, refl),
+        goes (λ x o m. gave_pred o m) (λ z. omega arith) (λ z. z) (λ c v. v) (omega arith),
+      ),
+    )
     row (at15 e c o) = at_row Row l 15 e (inl ((tt, tt, tt, tt, tt), omega arith), inr (inr (l.curr, refl), gives_last))
 
   row_of : Row l
