@@ -1,6 +1,7 @@
 //! Calls with few rounds: the walk of each loop is as long as is known here, and a lock that is held is not waited for.
 ghost use Rattle.std.specs.Prelude.{◌≡◌};
 
+use crate::many::gathered;
 use crate::opened::last_seat;
 use crate::pauses::Count;
 use lset_coarse::CoarseList;
@@ -73,6 +74,24 @@ fn a_call_has_rounds(rt: HostRuntime) {
     at_each_list!(has_rounds, rt);
 }
 
+/// A walk to the first key, or to one below it, has one round.
+fn has_one_round<M: Bounded, R: Abort>(rt: &R, alloc: Global) {
+    let first = Key(10);
+    for call in [
+        Call::Add(Key(5)),
+        Call::Remove(first),
+        Call::Contains(first),
+    ] {
+        assert!(rt; first_reply::<M, R, One>(rt, alloc, call) == Some(Reply::True));
+        assert!(rt; first_reply::<M, R, Two>(rt, alloc, call) == Some(Reply::True));
+    }
+}
+
+#[test]
+fn one_round_is_enough_for_the_first_key(rt: HostRuntime) {
+    at_each_list!(has_one_round, rt);
+}
+
 /// A ceiling, which the lists that mark make by the interpreter, and a contains.
 fn reads_in_rounds<M: Bounded, R: Abort>(rt: &R, alloc: Global) {
     let (sought, asked) = (Call::Ceiling(Key(25)), Call::Contains(Key(30)));
@@ -98,6 +117,20 @@ fn goes_on_with_two<M: Bounded, R: Abort>(rt: &R, alloc: Global) {
 #[test]
 fn a_gathered_seat_has_rounds(rt: HostRuntime) {
     at_each_list!(goes_on_with_two, rt);
+}
+
+/// So has one that has taken in all seats that there may be.
+fn goes_on_with_all<M: Bounded, R: Abort>(rt: &R, alloc: Global) {
+    let (set, seats) = open_with::<M>(alloc, 64, 4, &KEYS).expect(rt, "not opened");
+    let seat = gathered(&set, seats).expect(rt, "no seat");
+    let made = set.call_within::<Spin, Hundred>(seat, Call::Add(Key(25)), &Spin::new());
+    let (all, reply) = made.expect(rt, "a seat that has taken all others in gives up");
+    assert!(rt; reply == Reply::True && all.held() == 64);
+}
+
+#[test]
+fn a_seat_that_holds_all_has_rounds(rt: HostRuntime) {
+    at_each_list!(goes_on_with_all, rt);
 }
 
 /// A call that had too few rounds keeps its locks: another that comes to one gives up too.

@@ -13,7 +13,13 @@ use std::sync::Wait;
 
 /// A seat adds `count` keys, from `first` up, in falling order: each stands right behind the head, where no key below it is
 /// in the list.
-fn fill<M: Running, R: Wait>(rt: &R, set: &LiveSet<M>, seat: &mut Seat<M>, first: u32, count: u32)
+pub fn fill<M: Running, R: Wait>(
+    rt: &R,
+    set: &LiveSet<M>,
+    seat: &mut Seat<M>,
+    first: u32,
+    count: u32,
+)
     requires { seat.old.set ≡ set.now }
     ensures { seat.new.set ≡ set.now }
 {

@@ -29,7 +29,13 @@ mod gathering;
 #[cfg(test)]
 mod largest;
 #[cfg(test)]
+mod largest_walks;
+#[cfg(test)]
 mod lives;
+#[cfg(test)]
+mod long_programs;
+#[cfg(test)]
+mod long_waits;
 #[cfg(test)]
 mod many;
 #[cfg(test)]

@@ -2,6 +2,7 @@ ghost use Rattle.std.specs.Prelude.{◌≡◌, All, IfSome};
 
 use lset_live::{LiveSet, Running, Seat, open};
 use lset_rule::Spin;
+use lset_steps::Machine;
 use lset_words::{Call, Key, Reply};
 use std::alloc::Global;
 use std::process::Abort;
@@ -93,7 +94,7 @@ fn make_all_calls<M: Running + Send + Sync, R: Threads + Wait + Sync>(
     );
 }
 
-pub fn gathered<M: Running>(set: &LiveSet<M>, mut seats: Vec<Seat<M>>) -> Option<Seat<M>>
+pub fn gathered<M: Machine>(set: &LiveSet<M>, mut seats: Vec<Seat<M>>) -> Option<Seat<M>>
     requires { All (λ s. s.set ≡ set.now) seats.items }
     ensures { IfSome result (λ s. s.set ≡ set.now) }
 {

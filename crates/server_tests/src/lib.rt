@@ -14,6 +14,8 @@ mod limits;
 #[cfg(test)]
 mod opened;
 #[cfg(test)]
+mod pieces;
+#[cfg(test)]
 mod serving;
 #[cfg(test)]
 mod sessions;

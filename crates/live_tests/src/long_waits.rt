@@ -1,0 +1,309 @@
+//! Calls that try again and again: at a lock that another seat has for long, and at links that another seat changes each time. No
+//! contract says how often a call tries before it gives up.
+ghost use Rattle.std.specs.Prelude.{◌≡◌};
+
+use crate::opened::{last_seat, two_seats};
+use crate::waiting::comes;
+use lset_coarse::CoarseList;
+use lset_fine::FineList;
+use lset_lazy::LazyList;
+use lset_live::{Bounded, Countless, LiveSet, Running, Seat, Spin, open};
+use lset_lock_free::LockFreeList;
+use lset_optimistic::OptimisticList;
+use lset_rule::Pause;
+use lset_words::{Call, Key, Reply};
+use std::alloc::Global;
+use std::cell::Cell;
+use std::process::Abort;
+use std::sync::Wait;
+use std::sync::atomic::{AtomicBool, AtomicU64, Ordering};
+use std::thread;
+use std::thread::{Threads, join};
+use std::time::{Clock, Duration};
+
+/// Stops after the step with a number, from 0, until another thread has tried often enough.
+#[derive(Drop)]
+struct Holding<'a, R> {
+    rt: &'a R,
+    stops_at: u64,
+    steps: Cell<u64>,
+    has_stopped: &'a AtomicBool,
+    tried: &'a AtomicBool,
+}
+
+impl<'a, R: Clock> Pause for Holding<'a, R> {
+    fn moved(&self, _thread: u32) {
+        let step = self.steps.get();
+        self.steps.set(step.wrapping_add(1));
+        if step == self.stops_at {
+            self.has_stopped.store(true, Ordering::SeqCst);
+            let _came = comes(self.rt, self.tried);
+        }
+    }
+
+    fn failed(&self, thread: u32) {
+        self.moved(thread);
+    }
+}
+
+/// Pauses as another pause does, and counts the tries that fail: it says when they are so many.
+#[derive(Drop)]
+struct Trying<'a, P> {
+    pause: P,
+    most: u64,
+    tries: Cell<u64>,
+    tried: &'a AtomicBool,
+}
+
+impl<'a, P: Pause> Pause for Trying<'a, P> {
+    fn moved(&self, thread: u32) {
+        self.pause.moved(thread);
+    }
+
+    fn failed(&self, thread: u32) {
+        let tries = self.tries.get().wrapping_add(1);
+        self.tries.set(tries);
+        if tries == self.most {
+            self.tried.store(true, Ordering::SeqCst);
+        }
+        self.pause.failed(thread);
+    }
+
+    fn taken(&self, thread: u32) {
+        self.pause.taken(thread);
+    }
+}
+
+/// Does nothing.
+#[derive(Drop)]
+struct Unpaused;
+
+impl Pause for Unpaused {
+    fn moved(&self, _thread: u32) {}
+
+    fn failed(&self, _thread: u32) {}
+}
+
+/// A seat adds 1, and stops with a lock.
+fn holds<M: Running, R: Wait + Clock>(
+    rt: &R,
+    set: &LiveSet<M>,
+    mut seat: Seat<M>,
+    stops_at: u64,
+    flags: (&AtomicBool, &AtomicBool),
+) -> Reply
+    requires { seat.set ≡ set.now }
+{
+    let holding = Holding {
+        rt,
+        stops_at,
+        steps: Cell::new(0),
+        has_stopped: flags.0,
+        tried: flags.1,
+    };
+    set.call(rt, &mut seat, Call::Add(Key(1)), &holding)
+}
+
+/// Once the other has stopped, a seat adds 2: its reply, and how often it tried in vain.
+fn tries<M: Running, R: Wait + Clock, P: Pause + Drop>(
+    rt: &R,
+    set: &LiveSet<M>,
+    mut seat: Seat<M>,
+    pause: P,
+    most: u64,
+    flags: (&AtomicBool, &AtomicBool),
+) -> (Reply, u64)
+    requires { seat.set ≡ set.now }
+{
+    let _came = comes(rt, flags.0);
+    let trying = Trying {
+        pause,
+        most,
+        tries: Cell::new(0),
+        tried: flags.1,
+    };
+    let reply = set.call(rt, &mut seat, Call::Add(Key(2)), &trying);
+    (reply, trying.tries.get())
+}
+
+/// Both seats add, in two threads.
+fn both_add<M: Running + Send + Sync, R: Threads + Wait + Clock + Sync, P: Pause + Send + Drop>(
+    rt: &R,
+    set: &LiveSet<M>,
+    seats: (Seat<M>, Seat<M>),
+    stops_at: u64,
+    pause: P,
+    most: u64,
+) -> (Reply, (Reply, u64))
+    requires { (seats.0.set ≡ set.now) × (seats.1.set ≡ set.now) }
+{
+    let (has_stopped, tried) = (AtomicBool::new(false), AtomicBool::new(false));
+    let flags = (&has_stopped, &tried);
+    let (zero, one) = seats;
+    join(
+        rt,
+        move || holds(rt, set, one, stops_at, flags),
+        move || tries(rt, set, zero, pause, most, flags),
+    )
+}
+
+/// Seat 1 has a lock, which its step `stops_at` takes, until seat 0 has tried for it so often; then both have their keys.
+fn waits_long<
+    M: Running + Send + Sync,
+    R: Threads + Wait + Clock + Abort + Sync,
+    P: Pause + Send + Drop,
+>(rt: &R, alloc: Global, stops_at: u64, pause: P, most: u64) {
+    let (set, zero, one) = two_seats::<M, R>(rt, alloc);
+    let (held, waited) = both_add(rt, &set, (zero, one), stops_at, pause, most);
+    assert!(rt; held == Reply::True && waited.0 == Reply::True);
+    assert!(rt; waited.1 >= most, "{} tries", waited.1);
+}
+
+/// More tries than a bound that seems large: a thread that has a lock may be stopped for long.
+const MANY_TRIES: u64 = 5_000_000;
+
+#[test]
+fn a_call_waits_as_long_as_a_lock_is_held(rt: HostRuntime) {
+    waits_long::<CoarseList, HostRuntime, Unpaused>(&rt, rt.alloc(), 0, Unpaused, MANY_TRIES);
+    waits_long::<FineList, HostRuntime, Unpaused>(&rt, rt.alloc(), 0, Unpaused, MANY_TRIES);
+    waits_long::<OptimisticList, HostRuntime, Unpaused>(&rt, rt.alloc(), 2, Unpaused, MANY_TRIES);
+    waits_long::<LazyList, HostRuntime, Unpaused>(&rt, rt.alloc(), 2, Unpaused, MANY_TRIES);
+}
+
+/// `Spin` pauses no longer after many tries than after some.
+#[test]
+fn a_pause_does_not_grow_without_end(rt: HostRuntime) {
+    waits_long::<CoarseList, HostRuntime, Spin>(&rt, rt.alloc(), 0, Spin::new(), 500);
+    waits_long::<LazyList, HostRuntime, Spin>(&rt, rt.alloc(), 2, Spin::new(), 500);
+}
+
+/// So often another seat changes the link that a call is about to change.
+const CHANGES: u64 = 1_100;
+
+/// Two threads in turn: one has asked so often for a change, and the other has made so many.
+#[derive(Drop)]
+struct Turns {
+    asked: AtomicU64,
+    made: AtomicU64,
+}
+
+/// Waits until there are so many, for at most 100,000 turns of a sleep of some microseconds: whether there are.
+fn are_there<R: Clock>(rt: &R, count: &AtomicU64, many: u64) -> bool {
+    for _ in 0..100_000 {
+        if count.load(Ordering::SeqCst) >= many {
+            return true;
+        }
+        thread::sleep(rt, Duration::from_nanos(5_000));
+    }
+    false
+}
+
+/// Asks for a change after the step `first`, from 0, and after each `period`-th step from there on, and waits for it.
+#[derive(Drop)]
+struct Disturbed<'a, R> {
+    rt: &'a R,
+    turns: &'a Turns,
+    next: Cell<u64>,
+    period: u64,
+    steps: Cell<u64>,
+}
+
+impl<'a, R: Clock> Pause for Disturbed<'a, R> {
+    fn moved(&self, _thread: u32) {
+        let step = self.steps.get();
+        self.steps.set(step.wrapping_add(1));
+        if step == self.next.get() && self.turns.asked.load(Ordering::SeqCst) < CHANGES {
+            self.next.set(step.wrapping_add(self.period));
+            let many = self
+                .turns
+                .asked
+                .fetch_add(1, Ordering::SeqCst)
+                .wrapping_add(1);
+            let _came = are_there(self.rt, &self.turns.made, many);
+        }
+    }
+
+    fn failed(&self, thread: u32) {
+        self.moved(thread);
+    }
+}
+
+/// A seat adds falling keys above 5, one each time that it is asked: each comes right behind the head.
+fn changes<M: Running, R: Wait + Clock>(rt: &R, set: &LiveSet<M>, mut seat: Seat<M>, turns: &Turns)
+    requires { seat.set ≡ set.now }
+{
+    for number in 0..CHANGES {
+        if !are_there(rt, &turns.asked, number.wrapping_add(1)) {
+            return;
+        }
+        let _reply = set.add(rt, &mut seat, Key(10_000u32.wrapping_sub(number as u32)));
+        turns.made.store(number.wrapping_add(1), Ordering::SeqCst);
+    }
+}
+
+/// A seat adds 5, disturbed after these steps; `None` if it gives up.
+fn is_disturbed<M: Bounded, R: Clock>(
+    rt: &R,
+    set: &LiveSet<M>,
+    seat: Seat<M>,
+    turns: &Turns,
+    steps: (u64, u64),
+) -> Option<Reply>
+    requires { seat.set ≡ set.now }
+{
+    let (first, period) = steps;
+    let disturbed = Disturbed {
+        rt,
+        turns,
+        next: Cell::new(first),
+        period,
+        steps: Cell::new(0),
+    };
+    let call = Call::Add(Key(5));
+    let (_seat, reply) = set.call_within::<Disturbed<'_, R>, Countless>(seat, call, &disturbed)?;
+    Some(reply)
+}
+
+/// Seat 1 adds 5 while seat 0 changes the set, in two threads: the reply.
+fn one_is_disturbed<M: Running + Send + Sync, R: Threads + Wait + Clock + Sync>(
+    rt: &R,
+    set: &LiveSet<M>,
+    seats: (Seat<M>, Seat<M>),
+    turns: &Turns,
+    steps: (u64, u64),
+) -> Option<Reply>
+    requires { (seats.0.set ≡ set.now) × (seats.1.set ≡ set.now) }
+{
+    let (zero, one) = seats;
+    let both = join(
+        rt,
+        move || is_disturbed(rt, set, one, turns, steps),
+        move || changes(rt, set, zero, turns),
+    );
+    both.0
+}
+
+/// A call whose link changes before it takes it, time and again, starts over each time, and comes to its end.
+fn starts_over<M: Running + Send + Sync, R: Threads + Wait + Clock + Abort + Sync>(
+    rt: &R,
+    alloc: Global,
+    steps: (u64, u64),
+) {
+    let (set, mut seats) = open::<M>(alloc, 2, 2_000).expect(rt, "not opened");
+    let one = last_seat(rt, &set, &mut seats);
+    let zero = last_seat(rt, &set, &mut seats);
+    let turns = Turns {
+        asked: AtomicU64::new(0),
+        made: AtomicU64::new(0),
+    };
+    let reply = one_is_disturbed(rt, &set, (zero, one), &turns, steps);
+    assert!(rt; reply == Some(Reply::True));
+    assert!(rt; turns.made.load(Ordering::SeqCst) == CHANGES);
+}
+
+#[test]
+fn a_call_starts_over_as_often_as_it_takes(rt: HostRuntime) {
+    starts_over::<OptimisticList, HostRuntime>(&rt, rt.alloc(), (1, 7));
+    starts_over::<LazyList, HostRuntime>(&rt, rt.alloc(), (1, 7));
+    starts_over::<LockFreeList, HostRuntime>(&rt, rt.alloc(), (4, 6));
+}
