@@ -18,6 +18,19 @@ fn adds(alloc: Global, replies: &[(u32, Reply)]) -> Result<History, Fail> {
     Ok(history)
 }
 
+/// Keys that do not rise are left by no order, whatever the calls are.
+#[test]
+fn a_full_hides_no_keys_that_do_not_rise(rt: HostRuntime) -> Result<(), Fail> {
+    let alloc = rt.alloc();
+    let calls = [(0, Reply::True), (0, Reply::True), (0, Reply::Full)];
+    for (count, keys) in [(2usize, [0u32, 0]), (3, [0, 0]), (3, [2, 0])] {
+        let history = adds(alloc, &calls[..count])?;
+        let claim = claim_of(alloc, &history, &keys)?;
+        assert!(rt; matches!(claim, Claim::OfKeys), "{claim:?}");
+    }
+    Ok(())
+}
+
 /// Thread 0 has used its slots up as it answers `full`, and thread 1 has put in one key.
 #[test]
 fn a_full_that_is_right_hides_none_that_is_not(rt: HostRuntime) -> Result<(), Fail> {

@@ -39,6 +39,24 @@ fn keys_of(alloc: Global, set: usize) -> Result<Vec<u32>, AllocError> {
     Ok(keys)
 }
 
+/// The last moment of a small history.
+const LAST_OF_SMALL: u32 = 17;
+
+/// The history with its moments as far from each other as there are moments.
+fn stretched(alloc: Global, history: &History) -> Result<History, AllocError> {
+    let times = u32::MAX / LAST_OF_SMALL;
+    let mut calls = Vec::new(alloc);
+    for call in history.calls() {
+        calls.push(CallRecord {
+            begun: times * call.begun,
+            ended: call.ended.map(|(end, reply)| (times * end, reply)),
+            ..*call
+        })?;
+    }
+    let opening = Vec::from_slice(alloc, history.opening())?;
+    Ok(History::from_calls(THREADS, 7, opening, calls))
+}
+
 /// What a set of the two keys answers, and leaves.
 fn answered(set: usize, call: Call) -> (Reply, usize) {
     let bit = 1usize << (call.key().0 % 2);
@@ -318,8 +336,14 @@ fn an_order_of_small_histories_is_found_if_there_is_one(rt: HostRuntime) -> Resu
         let (history, opening, left) = drawn_history(alloc, &mut rng)?;
         let keys = keys_of(alloc, left)?;
         let is_explained = has_order(history.calls(), opening, left);
-        let is_ordered = is_ordered(alloc, &history, &keys)?;
-        assert!(rt; is_ordered == Some(is_explained), "history {number}");
+        let is_found = is_ordered(alloc, &history, &keys)?;
+        assert!(rt; is_found == Some(is_explained), "history {number}");
+        let far = stretched(alloc, &history)?;
+        let is_found = is_ordered(alloc, &far, &keys)?;
+        assert!(rt;
+            is_found == Some(is_explained),
+            "history {number}, stretched"
+        );
     }
     Ok(())
 }
@@ -370,6 +394,19 @@ fn is_refused_alike(
     }
 }
 
+/// Whether the other judges refuse a history as `judge` does: the first moment by which a key has no order, and that key, do not depend
+/// on a quota that is large enough, nor on the keys left.
+fn are_refused_alike(
+    alloc: Global,
+    history: &History,
+    keys: &[u32],
+    refusal: Refusal,
+) -> Result<bool, AllocError> {
+    let refused = Verdict::NotLinearizable(refusal);
+    let is_alike_cut_off = refusal.moment.is_none() || judge_cut_off(alloc, history)? == refused;
+    Ok(judge_without_quota(alloc, history, keys)? == refused && is_alike_cut_off)
+}
+
 #[test]
 fn the_judge_is_right_of_small_histories(rt: HostRuntime) -> Result<(), Fail> {
     let alloc = rt.alloc();
@@ -406,6 +443,10 @@ fn the_judge_is_right_of_small_histories(rt: HostRuntime) -> Result<(), Fail> {
                 assert!(rt;
                     is_refused_alike(alloc, &history, &keys, refusal)?,
                     "history {number}, as a stream"
+                );
+                assert!(rt;
+                    are_refused_alike(alloc, &history, &keys, refusal)?,
+                    "history {number}, by the other judges"
                 );
                 let size = window_size(&rt, alloc, &history, &keys, refusal)?;
                 assert!(rt; size <= MOST_CALLS, "history {number}");
@@ -469,6 +510,7 @@ fn calls_that_the_judge_does_not_decide(rt: HostRuntime) -> Result<(), Fail> {
         let history = one_call(alloc, call, reply)?;
         assert!(rt; !is_judged(&history));
         assert!(rt; judge(alloc, &history, &[])? == lost);
+        assert!(rt; judge_without_quota(alloc, &history, &[])? == lost);
     }
     let history = one_call(alloc, Call::Ceiling(Key(1)), Reply::Nothing)?;
     assert!(rt; judge(alloc, &history, &[5])? == Verdict::Undecided);

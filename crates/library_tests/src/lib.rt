@@ -15,6 +15,8 @@ mod judge;
 #[cfg(test)]
 mod large;
 #[cfg(test)]
+mod large_refusals;
+#[cfg(test)]
 mod laws;
 #[cfg(test)]
 mod openings;

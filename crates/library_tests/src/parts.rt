@@ -155,10 +155,10 @@ fn parts_are_judged(rt: HostRuntime) -> Result<(), Fail> {
     Ok(())
 }
 
-/// A part of a set that opened with key 5: a `full` that ended at moment 2, before the parts before it had begun.
-fn full_and_early<R: Abort>(rt: &R, alloc: Global) -> Result<History, Fail> {
-    let mut history = History::opened(alloc, 1, 0, Vec::from_slice(alloc, &[5])?);
-    assert!(rt; history.begin(0, Call::Add(Key(6)), 1).is_ok());
+/// A part of a set that opened with a key: a `full` that ended at moment 2, before the parts before it had begun.
+fn full_and_early<R: Abort>(rt: &R, alloc: Global, key: u32) -> Result<History, Fail> {
+    let mut history = History::opened(alloc, 1, 0, Vec::from_slice(alloc, &[key])?);
+    assert!(rt; history.begin(0, Call::Add(Key(7)), 1).is_ok());
     assert!(rt; history.end(0, Reply::Full, 2).is_ok());
     Ok(history)
 }
@@ -175,21 +175,23 @@ fn the_first_fault_of_a_part_is_named(rt: HostRuntime) -> Result<(), Fail> {
         keys: &[5],
     };
     assert_eq!(rt; add_one(&rt, alloc, &mut parts, 4, adds)?, Some(Ok(())));
-    let early = full_and_early(&rt, alloc)?;
+    let early = full_and_early(&rt, alloc, 5)?;
     assert_eq!(rt; parts.judge(alloc, 0, &early, &[5]), Err(PartFault::Early));
     assert_eq!(rt;
         parts.judge(alloc, 4, &early, &[5]),
         Err(PartFault::HasFull)
     );
-    let other = History::opened(alloc, 1, 0, Vec::from_slice(alloc, &[6])?);
+    let other = full_and_early(&rt, alloc, 6)?;
     assert_eq!(rt;
         parts.judge(alloc, u64::MAX, &other, &[6]),
         Err(PartFault::Late)
     );
-    assert_eq!(rt;
-        parts.judge(alloc, 4, &other, &[6]),
-        Err(PartFault::Opening)
-    );
+    for since in [0u64, 4] {
+        assert_eq!(rt;
+            parts.judge(alloc, since, &other, &[6]),
+            Err(PartFault::Opening)
+        );
+    }
     assert_eq!(rt; parts.latest(), 7);
     Ok(())
 }

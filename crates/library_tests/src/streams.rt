@@ -49,10 +49,10 @@ fn the_first_fault_of_a_call_is_named(rt: HostRuntime) -> Result<(), Fail> {
 }
 
 /// Each of so many threads adds a key of its own, and no call ends.
-const MANY_THREADS: u32 = 1_000;
+const MANY_THREADS: u32 = 3_000;
 
 #[test]
-fn a_stream_of_a_thousand_pending_calls(rt: HostRuntime) -> Result<(), Fail> {
+fn a_stream_of_thousands_of_pending_calls(rt: HostRuntime) -> Result<(), Fail> {
     let mut stream = Stream::new(rt.alloc(), &[])?;
     for thread in 0..MANY_THREADS {
         stream.add(StreamCall {
@@ -62,7 +62,7 @@ fn a_stream_of_a_thousand_pending_calls(rt: HostRuntime) -> Result<(), Fail> {
             ended: None,
         })?;
     }
-    assert!(rt; stream.close(&[0, 500, 999])? == StreamVerdict::Linearizable);
+    assert!(rt; stream.close(&[0, 500, 2999])? == StreamVerdict::Linearizable);
     Ok(())
 }
 
@@ -72,18 +72,42 @@ const MANY_KEYS: u32 = 1_100_000;
 #[test]
 fn a_stream_opens_with_many_keys_and_leaves_them(rt: HostRuntime) -> Result<(), Fail> {
     let alloc = rt.alloc();
-    let keys = rising_keys(alloc)?;
+    let keys = rising_keys(alloc, MANY_KEYS)?;
     let mut stream = Stream::new(alloc, &keys)?;
     stream.add(add_of_six(0, 1, Some((2, Reply::False))))?;
     assert!(rt; stream.close(&keys)? == StreamVerdict::Linearizable);
     Ok(())
 }
 
-fn rising_keys(alloc: Global) -> Result<Vec<u32>, Fail>
+/// So many keys of which a stream hears by its calls.
+const KEYS_OF_CALLS: u32 = 200_000;
+
+/// Eight threads in turn add a key of their own each, and look for it.
+#[test]
+fn a_stream_of_calls_of_many_keys(rt: HostRuntime) -> Result<(), Fail> {
+    let alloc = rt.alloc();
+    let mut stream = Stream::new(alloc, &[])?;
+    for number in 0..KEYS_OF_CALLS {
+        let begun = 4 * u64::from(number) + 1;
+        let key = Key(number);
+        for (at, call) in [(begun, Call::Add(key)), (begun + 2, Call::Contains(key))] {
+            stream.add(StreamCall {
+                thread: number % 8,
+                call,
+                begun: at,
+                ended: Some((at + 1, Reply::True)),
+            })?;
+        }
+    }
+    assert!(rt; stream.close(&rising_keys(alloc, KEYS_OF_CALLS)?)? == StreamVerdict::Linearizable);
+    Ok(())
+}
+
+fn rising_keys(alloc: Global, count: u32) -> Result<Vec<u32>, Fail>
     ensures { IfOk result (λ v. IsStrictlyIncreasing v.items) }
 {
     let mut keys = Vec::new(alloc);
-    for key in 0..MANY_KEYS {
+    for key in 0..count {
         keys.push(key)?;
     }
     Ok(keys)

@@ -1,8 +1,12 @@
 //! A history that the judge does not decide, as it has a `ceiling` or a `full`, but of which it says that no order explains it: the calls
 //! of a key have none.
 
+use lset_claims::{Claim, claim_of};
 use lset_history::History;
-use lset_judge::{Refusal, Verdict, is_plain, judge, judge_cut_off, judge_without_quota};
+use lset_judge::{
+    Refusal, Verdict, is_judged, is_plain, judge, judge_cut_off, judge_without_quota,
+};
+use lset_order::{Found, find_order};
 use lset_parts::Parts;
 use lset_words::{Call, Key, Reply};
 use std::alloc::Global;
@@ -28,13 +32,48 @@ const OTHERS: [(Call, Reply); 3] = [
     (Call::Add(Key(6)), Reply::Full),
 ];
 
+/// No order takes key 5 out twice.
+const REFUSAL: Refusal = Refusal {
+    key: Key(5),
+    moment: Some(4),
+};
+
+/// Whether no order is found, and none is claimed, since key 5 has none.
+fn has_no_order(alloc: Global, history: &History, keys: &[u32]) -> Result<bool, Fail> {
+    let found = find_order(alloc, history, keys)?;
+    let claim = claim_of(alloc, history, keys)?;
+    let is_found = matches!(found, Found::NoOrder(refusal) if refusal == REFUSAL);
+    Ok(is_found && matches!(claim, Claim::OfKey(refusal, _) if refusal == REFUSAL))
+}
+
+#[test]
+fn a_quota_that_is_too_small_hides_no_refusal(rt: HostRuntime) -> Result<(), Fail> {
+    let alloc = rt.alloc();
+    let history = twice_removed(alloc, Call::Add(Key(6)), Reply::True)?;
+    assert!(rt; is_plain(&history) && !is_judged(&history));
+    assert!(rt; judge(alloc, &history, &[6])? == Verdict::NotLinearizable(REFUSAL));
+    assert!(rt; has_no_order(alloc, &history, &[6])?);
+    Ok(())
+}
+
+/// Of two `add`s of a thread with one slot the second is pending. An order that leaves it out explains the calls.
+#[test]
+fn an_order_is_found_if_a_pending_add_has_no_room(rt: HostRuntime) -> Result<(), Fail> {
+    let alloc = rt.alloc();
+    let mut history = History::new(alloc, 1, 1);
+    let number = history.begin(0, Call::Add(Key(5)), 1)?;
+    history.end(number, Reply::True, 2)?;
+    history.begin(0, Call::Add(Key(6)), 3)?;
+    assert!(rt; !is_judged(&history));
+    let found = find_order(alloc, &history, &[5])?;
+    assert!(rt; matches!(found, Found::Order(_)));
+    Ok(())
+}
+
 #[test]
 fn a_ceiling_or_a_full_hides_no_refusal(rt: HostRuntime) -> Result<(), Fail> {
     let alloc = rt.alloc();
-    let refused = Verdict::NotLinearizable(Refusal {
-        key: Key(5),
-        moment: Some(4),
-    });
+    let refused = Verdict::NotLinearizable(REFUSAL);
     for (call, reply) in OTHERS {
         let history = twice_removed(alloc, call, reply)?;
         assert!(rt; !is_plain(&history));
@@ -44,6 +83,7 @@ fn a_ceiling_or_a_full_hides_no_refusal(rt: HostRuntime) -> Result<(), Fail> {
             "{call:?}"
         );
         assert!(rt; judge_cut_off(alloc, &history)? == refused, "{call:?}");
+        assert!(rt; has_no_order(alloc, &history, &[])?, "{call:?}");
     }
     Ok(())
 }

@@ -7,6 +7,8 @@ mod commands;
 #[cfg(test)]
 mod devices;
 #[cfg(test)]
+mod drops;
+#[cfg(test)]
 mod examples;
 #[cfg(test)]
 mod failures;
@@ -22,3 +24,5 @@ mod row_texts;
 mod rows;
 #[cfg(test)]
 mod servers;
+#[cfg(test)]
+mod troubles;

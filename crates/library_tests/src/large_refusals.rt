@@ -1,0 +1,187 @@
+//! Large histories of which something is wrong, and the time that they take: a test has a minute, and a search of all pairs would take
+//! longer.
+
+use lset_claims::{Claim, claim_of};
+use lset_history::{History, OrderFault, check_order};
+use lset_judge::{Refusal, Verdict, judge, judge_cut_off, judge_without_quota, window_of_refusal};
+use lset_order::{Found, find_order};
+use lset_words::{Call, CallRecord, Key, MOST_QUOTA, MOST_THREADS, Placed, Reply};
+use std::alloc::{AllocError, Global};
+use std::process::Abort;
+use std::test::Fail;
+
+const FIVE: Key = Key(5);
+
+/// How often key 5 goes in and out.
+const TIMES: u32 = 100_000;
+
+/// A call with the reply true.
+fn true_call(thread: u32, call: Call, begun: u32, end: u32) -> CallRecord {
+    CallRecord {
+        thread,
+        call,
+        begun,
+        ended: Some((end, Reply::True)),
+    }
+}
+
+fn history_of(alloc: Global, quota: u32, calls: Vec<CallRecord>) -> History {
+    History::from_calls(MOST_THREADS, quota, Vec::new(alloc), calls)
+}
+
+/// The threads in turn put key 5 in and take it out; at last a call finds it, or does not.
+fn in_and_out(alloc: Global, last: Reply) -> Result<History, AllocError> {
+    let mut calls = Vec::new(alloc);
+    for number in 0..TIMES {
+        let (thread, at) = (number % MOST_THREADS, 4 * number);
+        calls.push(true_call(thread, Call::Add(FIVE), at + 1, at + 2))?;
+        calls.push(true_call(thread, Call::Remove(FIVE), at + 3, at + 4))?;
+    }
+    calls.push(CallRecord {
+        thread: 0,
+        call: Call::Contains(FIVE),
+        begun: 4 * TIMES + 1,
+        ended: Some((4 * TIMES + 2, last)),
+    })?;
+    Ok(history_of(alloc, MOST_QUOTA, calls))
+}
+
+/// The last call of these has no order by its end, and it is the one that is shown.
+fn assert_last_is_shown<R: Abort>(rt: &R, alloc: Global, history: &History) -> Result<(), Fail> {
+    let refusal = Refusal {
+        key: FIVE,
+        moment: Some(4 * TIMES + 2),
+    };
+    let refused = Verdict::NotLinearizable(refusal);
+    assert!(rt; judge(alloc, history, &[])? == refused);
+    assert!(rt; judge_without_quota(alloc, history, &[])? == refused);
+    assert!(rt; judge_cut_off(alloc, history)? == refused);
+    let window = window_of_refusal(alloc, history, &[], refusal)?;
+    assert!(rt;
+        window.calls.as_slice() == [2 * TIMES].as_slice(),
+        "{}",
+        window.calls.len()
+    );
+    let claim = claim_of(alloc, history, &[])?;
+    assert!(rt; matches!(claim, Claim::OfKey(told, _) if told == refusal));
+    let found = find_order(alloc, history, &[])?;
+    assert!(rt; matches!(found, Found::NoOrder(told) if told == refusal));
+    Ok(())
+}
+
+#[test]
+fn the_last_of_many_changes_of_a_key_is_wrong(rt: HostRuntime) -> Result<(), Fail> {
+    let alloc = rt.alloc();
+    let right = in_and_out(alloc, Reply::False)?;
+    assert!(rt; judge(alloc, &right, &[])? == Verdict::Linearizable);
+    assert!(rt; judge_cut_off(alloc, &right)? == Verdict::Linearizable);
+    assert_last_is_shown(&rt, alloc, &in_and_out(alloc, Reply::True)?)
+}
+
+/// Of an order of many calls the last place is wrong, or missing, or the keys are.
+#[test]
+fn an_order_of_many_calls_is_wrong_at_last(rt: HostRuntime) -> Result<(), Fail> {
+    let alloc = rt.alloc();
+    let history = in_and_out(alloc, Reply::False)?;
+    let Found::Order(mut order) = find_order(alloc, &history, &[])? else {
+        assert!(rt; false, "no order is found");
+        return Ok(());
+    };
+    let last = 2 * TIMES;
+    assert!(rt; check_order(alloc, &history, &order, &[5]) == Err(OrderFault::WrongSet));
+    assert!(rt; order.pop().is_some());
+    assert!(rt; check_order(alloc, &history, &order, &[]) == Err(OrderFault::Missing(last)));
+    for (call, reply, fault) in [
+        (last, Reply::True, OrderFault::WrongReply(last)),
+        (last - 1, Reply::True, OrderFault::Twice(last - 1)),
+        (last + 1, Reply::True, OrderFault::Unknown(last + 1)),
+    ] {
+        order.push(Placed { call, reply })?;
+        assert!(rt;
+            check_order(alloc, &history, &order, &[]) == Err(fault),
+            "{fault}"
+        );
+        assert!(rt; order.pop().is_some());
+    }
+    Ok(())
+}
+
+/// The key goes in and out by calls of which each overlaps the next, so that a change is pending at each moment; the last one finds the
+/// key gone. All of them may be needed, and that is not asked of each by itself.
+#[test]
+fn the_calls_of_a_key_that_never_rests_are_shown(rt: HostRuntime) -> Result<(), Fail> {
+    let alloc = rt.alloc();
+    let mut calls = Vec::new(alloc);
+    for number in 0..2 * TIMES {
+        let call = if number % 2 == 0 {
+            Call::Add(FIVE)
+        } else {
+            Call::Remove(FIVE)
+        };
+        calls.push(true_call(number % 2, call, 2 * number + 1, 2 * number + 4))?;
+    }
+    calls.push(true_call(2, Call::Remove(FIVE), 4 * TIMES + 1, 4 * TIMES + 5))?;
+    let history = history_of(alloc, MOST_QUOTA, calls);
+    let Verdict::NotLinearizable(refusal) = judge_without_quota(alloc, &history, &[])? else {
+        assert!(rt; false, "the calls are not refused");
+        return Ok(());
+    };
+    assert!(rt; refusal.key == FIVE && refusal.moment == Some(4 * TIMES + 5));
+    let window = window_of_refusal(alloc, &history, &[], refusal)?;
+    assert!(rt; window.key == FIVE && !window.calls.is_empty());
+    Ok(())
+}
+
+/// So many keys are put in, each by one call, and stay.
+const MANY_KEYS: u32 = 500_000;
+
+#[test]
+fn many_keys_are_put_in_and_stay(rt: HostRuntime) -> Result<(), Fail> {
+    let alloc = rt.alloc();
+    let (mut calls, mut keys) = (Vec::new(alloc), Vec::new(alloc));
+    for key in 0..MANY_KEYS {
+        let thread = key % MOST_THREADS;
+        calls.push(true_call(thread, Call::Add(Key(key)), 2 * key + 1, 2 * key + 2))?;
+        keys.push(key)?;
+    }
+    let history = history_of(alloc, MOST_QUOTA, calls);
+    assert!(rt; judge(alloc, &history, &keys)? == Verdict::Linearizable);
+    assert!(rt; keys.pop() == Some(MANY_KEYS - 1));
+    let lost = Refusal {
+        key: Key(MANY_KEYS - 1),
+        moment: None,
+    };
+    assert!(rt; judge(alloc, &history, &keys)? == Verdict::NotLinearizable(lost));
+    Ok(())
+}
+
+/// The slots of a thread.
+const QUOTA: u32 = 1_000;
+
+/// Each thread uses its slots up, but for the last one a slot; then each call of many answers `full`, and at last one of the last thread.
+#[test]
+fn the_last_of_many_fulls_is_too_soon(rt: HostRuntime) -> Result<(), Fail> {
+    let alloc = rt.alloc();
+    let last = MOST_THREADS - 1;
+    let mut calls = Vec::new(alloc);
+    for number in 0..MOST_THREADS * QUOTA - 1 {
+        let at = 2 * number;
+        calls.push(true_call(number / QUOTA, Call::Add(Key(number)), at + 1, at + 2))?;
+    }
+    for number in MOST_THREADS * QUOTA - 1..MANY_KEYS {
+        let is_last = number == MANY_KEYS - 1;
+        calls.push(CallRecord {
+            thread: if is_last { last } else { number % last },
+            call: Call::Add(Key(MANY_KEYS)),
+            begun: 2 * number + 1,
+            ended: Some((2 * number + 2, Reply::Full)),
+        })?;
+    }
+    let mut keys = Vec::new(alloc);
+    for key in 0..MOST_THREADS * QUOTA - 1 {
+        keys.push(key)?;
+    }
+    let claim = claim_of(alloc, &history_of(alloc, QUOTA, calls), &keys)?;
+    assert!(rt; matches!(claim, Claim::OfFull(call) if call == MANY_KEYS - 1));
+    Ok(())
+}

@@ -1,0 +1,90 @@
+//! Inputs that come byte by byte, as from a recorder that is slow: tens of thousands of reads.
+use std::alloc::{AllocError, Global};
+use std::io::{self, Read};
+use std::process::Abort;
+use std::test::Fail;
+use tool_base::tool_check;
+use tool_judge::tool_judge;
+
+/// So many calls in turn.
+const CALLS: u32 = 4_000;
+
+/// A text, byte by byte.
+#[derive(Drop)]
+struct Drops {
+    text: String,
+    next: usize,
+}
+
+impl Drops {
+    fn new(text: String) -> Drops {
+        Drops { text, next: 0 }
+    }
+}
+
+impl Read for Drops {
+    fn read(&mut self, buf: &mut [u8]) -> io::Result<usize> {
+        let bytes = self.text.as_bytes();
+        if buf.is_empty() || self.next >= bytes.len() {
+            return Ok(0);
+        }
+        buf[0] = bytes[self.next];
+        self.next = self.next.saturating_add(1);
+        Ok(1)
+    }
+}
+
+/// The lines `call`, each with what comes after its moments, and the last line.
+fn text_of(alloc: Global, head: &str, between: &str, after: &str) -> Result<String, AllocError> {
+    let mut text = String::from_str(alloc, head)?;
+    for number in 0..CALLS {
+        let begun = 2 * number + 1;
+        let end = begun + 1;
+        writeln!(&mut text, "call 0 contains 5 {begun}{between} {end}{after}")?;
+    }
+    writeln!(&mut text, "end")?;
+    Ok(text)
+}
+
+/// What `judge` writes of a text that comes byte by byte begins so.
+fn assert_judged<R: Abort>(rt: &R, alloc: Global, text: String) -> Result<(), Fail> {
+    let mut input = Drops::new(text);
+    let mut output = Vec::new(alloc);
+    let mut faults = Vec::new(alloc);
+    let status = tool_judge(alloc, &mut input, &mut output, &mut faults);
+    assert!(rt; status == 0 && faults.is_empty());
+    assert!(rt; output.starts_with(b"ok 4000 calls\n".as_slice()));
+    Ok(())
+}
+
+#[test]
+fn recorded_calls_come_byte_by_byte(rt: HostRuntime) -> Result<(), Fail> {
+    let alloc = rt.alloc();
+    let head = "listset-calls 2\nlist lazy\nthreads 1\nquota 0\n";
+    assert_judged(&rt, alloc, text_of(alloc, head, " -", " false")?)?;
+    assert_judged(
+        &rt,
+        alloc,
+        text_of(alloc, "listset-calls 3\n", "", " false")?,
+    )
+}
+
+/// A report without its order, so that the first call is missing.
+#[test]
+fn a_report_comes_byte_by_byte(rt: HostRuntime) -> Result<(), Fail> {
+    let alloc = rt.alloc();
+    let mut text = String::from_str(alloc, "listset-report 1\nlist lazy\nthreads 1\nquota 0\n")?;
+    for number in 0..CALLS {
+        let begun = 2 * number + 1;
+        let end = begun + 1;
+        writeln!(&mut text, "call {number} 0 contains 5 {begun} {end} false")?;
+    }
+    writeln!(&mut text, "end")?;
+    let mut input = Drops::new(text);
+    let mut output = Vec::new(alloc);
+    let mut faults = Vec::new(alloc);
+    let status = tool_check(alloc, &mut input, &mut output, &mut faults);
+    assert!(rt; status == 1 && faults.is_empty());
+    assert!(rt; output.as_slice() == b"refused Missing 0\n".as_slice());
+    Ok(())
+}
