@@ -5,12 +5,24 @@ use Rattle.lset_words.specs.declared.Reply.{Reply}
 use Rattle.lset_words.specs.Words.{Opening}
 use Rattle.lset_history.specs.declared.fault.HistoryFault.TheVariants as fault
 use Rattle.lset_history.specs.Changes.{IsFirst}
+use Rattle.lset_words.specs.declared.history.CallRecord.{CallRecord}
 use Rattle.lset_replay.specs.declared.places.OpenCall.{OpenCall}
+use Rattle.lset_replay.specs.declared.places.Linearized.{Linearized}
 use Rattle.lset_replay.specs.Blocks.{StandUpTo}
 use Rattle.lset_replay.specs.Trace.{Trace, fit, no_trace, trace_of}
 use Rattle.lset_replay.specs.declared.recorder.Recorder.{Recorder}
 use Rattle.lset_replay.proofs.LeastFits.{fit_is_first}
 use Rattle.broken_lists.specs.Keeping.{fit_or}
+
+pub same_trace : {a b : List CallRecord} {c d : List (Option OpenCall)} {e f : List (Option Linearized)} {g h : ℕ → List ℕ} → a ≡ b
+    → c ≡ d → e ≡ f → g ≡ h
+    → (let x : Trace = record { calls = a; under_way = c; places = e; changes = g } in x) ≡ record {
+      calls = b;
+      under_way = d;
+      places = f;
+      changes = h;
+    }
+same_trace p q r s = cc
 
 -- no call has begun
 pub stand_none : (op : Opening) (r : Recorder) → trace_of r ≡ no_trace op → StandUpTo 0 r.places.items

@@ -10,13 +10,13 @@ use Rattle.lset_words.specs.History.{IsHistory}
 use Rattle.lset_words.proofs.Numbers.{below_or_not}
 use Rattle.lset_history.specs.History.{HistoryValue, latest_moment}
 use Rattle.lset_history.proofs.Histories.{calls_of}
-use Rattle.lset_judge.specs.Rule.{Event, leaves, idle, State, opened, entered, ruled, open_changes}
+use Rattle.lset_judge.specs.Rule.{Event, leaves, idle, State, opened, found, entered, ruled, open_changes}
 use Rattle.lset_judge.specs.Events.{event_at, events_on, rule_explains}
 use Rattle.lset_judge.specs.Marks.{FailsBy}
 use Rattle.lset_judge.specs.Stream.{stepped, state_after}
 use Rattle.lset_judge.proofs.Leading.{at_once}
 use Rattle.lset_judge.proofs.Ruled.{ruled_none}
-use Rattle.lset_judge.proofs.Shifted.{later_option, later_event}
+use Rattle.lset_judge.proofs.Shifted.{later_option, later_event, later_found}
 use Rattle.lset_judge.proofs.Shifting.{goes_alike}
 use Rattle.lset_judge.proofs.InMoments.{InMoments, in_moments, event_later, event_idle}
 
@@ -58,6 +58,17 @@ same_after ev other b (suc m) same =
 -- ---- events of which the open changes end later
 
 module _ (L d : ℕ) (ev more : ℕ → Event) (b : Bool) (shifted : (m : ℕ) → m ≤ L → more m ≡ later_event L d (ev m)) where
+  later_step : (m : ℕ) (v : Event) (o : Option State) → suc m ≤ L
+      → stepped m (later_event L d v) (later_option L d o) ≡ later_option L d (stepped m v o)
+  later_step m v None l = refl
+  later_step m v (Some s) l = later_found L d m v s l
+
+  pub after_later : (m : ℕ) → m ≤ L → state_after more b m ≡ later_option L d (state_after ev b m)
+  after_later zero l = refl
+  after_later (suc m) l =
+      ap (λ (v : Event). stepped m v (state_after more b m)) (shifted (suc m) l)
+      ∙ ap (stepped m (later_event L d (ev (suc m)))) (after_later m (omega (arith, l)))
+      ∙ later_step m (ev (suc m)) (state_after ev b m) l
 
 pub not_later : (L d : ℕ) (o : Option State) → later_option L d o ≡ None → o ≡ None
 not_later L d None e = refl

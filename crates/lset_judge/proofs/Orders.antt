@@ -31,6 +31,10 @@ use Rattle.lset_judge.proofs.Leading.{succeeds}
 abbrev pub does : ℕ → Call → Reply → Kind
 does k c r = if (key_of c).0 == k then kind_of c r else nothing
 
+bool_apart : (b : Bool) (r q : Reply) → (if b then r else q) ≡ r → (r ≡ q → ⊥) → b ≡ true
+bool_apart true r q e n = refl
+bool_apart false r q e n = absurd (n (sym e))
+
 pub does_own : (quota thread : ℕ) (s : SetState) (c : Call) (r : Reply) → reply_to quota s thread c ≡ r
     → suits (has_key (key_of c).0 s.keys) (kind_of c r)
     × (has_key (key_of c).0 (after_call s thread c r).keys ≡ becomes (has_key (key_of c).0 s.keys) (kind_of c r))

@@ -5,11 +5,10 @@ use Rattle.std.specs.Prelude.{All, Option, Some, None, count_by, ◌==◌, ◌&&
 use Rattle.std.specs.List.{list_any}
 use Rattle.std.proofs.lemmas.Bool.{cases_Bool, true≢false}
 use Rattle.std.proofs.lemmas.Bool.Decides.{nat_tests}
-use Rattle.std.proofs.lemmas.List.{drop_more, get_or-drop, get_or-take, take-append-drop, length-drop, length-take, length-take-le}
-use Rattle.std.proofs.lemmas.List.{take_more, get_or_default}
+use Rattle.std.proofs.lemmas.List.{drop_more, drop_all, get_or-drop, get_or-take, take-append-drop, length-drop, length-take, length-take-le, take_more, get_or_default}
 use Rattle.std.proofs.lemmas.List.Elements.{filter-append}
 use Rattle.std.proofs.lemmas.List.Folds.{list_any-append, list_any_none}
-use Rattle.std.proofs.lemmas.List.Sums.{sum_by_more}
+use Rattle.std.proofs.lemmas.List.Sums.{sum_by_more, count_by-le-length}
 use Rattle.lset_words.specs.declared.Reply.{Reply}
 use Rattle.lset_words.specs.declared.history.CallRecord.{CallRecord}
 use Rattle.lset_words.specs.History.{IsHistory, call_numbered, no_call}
@@ -63,6 +62,15 @@ meets_open x y t = last ((key_of y.call).0 == (key_of x.call).0 && is_change y.c
 -- ---- changes that begin later
 
 module _ (calls : List CallRecord) (up : IsRising calls) (x : CallRecord) where
+  pub next_not : (n : ℕ) → n < length calls → meets x (call_numbered calls n) ≡ false → list_any (meets x) (drop n calls) ≡ list_any (meets x) (drop (n + 1) calls)
+  next_not n low f = ap (list_any (meets x)) (drop_more calls n no_call low) ∙ ap (λ b. b || list_any (meets x) (drop (n + 1) calls)) f
+
+  pub next_is : (n : ℕ) → n < length calls → meets x (call_numbered calls n) ≡ true → list_any (meets x) (drop n calls) ≡ true
+  next_is n low t = ap (list_any (meets x)) (drop_more calls n no_call low) ∙ ap (λ b. b || list_any (meets x) (drop (n + 1) calls)) t
+
+  pub past_all : (n : ℕ) → length calls ≤ n → list_any (meets x) (drop n calls) ≡ false
+  past_all n past = ap (list_any (meets x)) (drop_all n calls past)
+
   later : (a b : ℕ) (d : CallRecord) → a ≤ b → b < length calls → (call_numbered calls a).begun ≤ (get_or calls b d).begun
   later a b d from inside =
       let g = ap (λ (y : CallRecord). y.begun) (get_or_default calls b no_call d inside) in
@@ -175,3 +183,6 @@ module _ (calls : List CallRecord) (i : ℕ) (low : i < length calls) (earlier l
   pub counted_same : (count : ℕ) → count ≡ counted i → (earlier || later) ≡ false → count ≡ counted (i + 1)
   counted_same count is t = let e = sum_by_more (λ (x : CallRecord). cond (overlaps calls x) 1 0) calls i no_call low in
       let f = ap (λ b. ◌+◌ (counted i) (cond b 1 0)) (here ∙ t) in omega (arith, is, e, f)
+
+pub counted_few : (calls : List CallRecord) (i : ℕ) → count_by (overlaps calls) (take i calls) ≤ i
+counted_few calls i = let most = count_by-le-length (overlaps calls) (take i calls) in let long = length-take i calls in omega (arith, most, long)

@@ -1,6 +1,6 @@
 -- Calls that have their places, and what a call placed next replies.
-use Rattle.std.proofs.Common.{◌≡◌, ℕ, zero, suc, ◌<◌, ◌⊎◌, List, [], ◌∷◌, ◌++◌, Bool, true, false, inl, inr, refl, sym, ap, arith, subst}
-use Rattle.std.proofs.Common.{length, get_or, map}
+use Rattle.std.proofs.Common.{◌≡◌, ℕ, zero, suc, ◌<◌, ◌⊎◌, List, [], ◌∷◌, ◌++◌, Bool, true, false, inl, inr, refl, sym, ap, ◌∙◌, arith}
+use Rattle.std.proofs.Common.{subst, length, get_or, map}
 use Rattle.std.specs.Prelude.{◌==◌, ◌||◌, not, nat_lt, Option, Some, None, All, IfSome}
 use Rattle.std.proofs.lemmas.Bool.{true≢false}
 use Rattle.std.proofs.lemmas.Bool.Decides.{nat_tests}
@@ -67,6 +67,9 @@ placed_split n (x ∷ ps) p (inl e) = inl (inl e)
 placed_split n (x ∷ ps) p (inr q) = elim (placed_split n ps p q) [ inl r ↦ inl (inr r) | inr e ↦ inr e ]
 
 -- ---- replies
+
+pub not_of : (w b : Bool) → b ≡ not w → (c : Bool) → c ≡ b → c ≡ not w
+not_of w b e c f = f ∙ e
 
 pub change_replies : (quota thread : ℕ) (s : SetState) (c : Call) (o : Option (ℕ × Reply)) (w : Bool) → kind_if c o ≡ changes w
     → has_key (key_of c).0 s.keys ≡ not w → (w ≡ true → count_of s thread < quota)

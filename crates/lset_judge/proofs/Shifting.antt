@@ -67,6 +67,10 @@ turn_alike m n s u a = elim (cases_Bool s.there) [
       turn_from m n s u (options s) (options u) false e f a l refl refl)
 ]
 
+settled_none : (n m : ℕ) (v : Event) → settled n m v None ≡ None
+settled_none zero m v = refl
+settled_none (suc n) m v = refl
+
 settled_alike : (k m n : ℕ) (w : Bool) (s u : State) → Alike s u
     → is_some (settled k m (leaves w) (Some s)) ≡ is_some (settled k n (leaves w) (Some u))
 settled_alike zero m n w s u a = elim (cases_Bool (same w s.there)) [

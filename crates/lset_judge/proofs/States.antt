@@ -29,6 +29,9 @@ module _ (m n : BTreeMap ℕ KeyState) (key : ℕ) (w : KeyState) (up : UpdatesB
 pub state_found : (m : BTreeMap ℕ KeyState) (k : ℕ) (s : KeyState) → get nat_cmp m k ≡ Some s → state_for m k ≡ state_of s
 state_found m k s e = ap state_or e
 
+pub state_missing : (m : BTreeMap ℕ KeyState) (k : ℕ) → get nat_cmp m k ≡ None → state_for m k ≡ opened false
+state_missing m k e = ap state_or e
+
 -- one more opening key
 pub opened_more : (m n : BTreeMap ℕ KeyState) (keys : List ℕ) (i : ℕ) (w : KeyState) → i < length keys → state_of w ≡ opened true
     → UpdatesBy nat_cmp (nat_cmp (get_or keys i 0)) m n (Some w) → ((k : ℕ) → state_for m k ≡ opened (has_key k (take i keys)))

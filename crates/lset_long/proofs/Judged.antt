@@ -1,6 +1,6 @@
 -- What is kept goes on from line to line.
-use Rattle.std.proofs.Common.{◌≡◌, ℕ, ◌+◌, ◌-◌, ◌<◌, ◌^◌, true, List, [], ◌∷◌, ◌++◌, length, min, Option, Some, None, refl, sym, ap, subst}
-use Rattle.std.proofs.Common.{◌∙◌, arith}
+use Rattle.std.proofs.Common.{◌≡◌, ℕ, ◌+◌, ◌-◌, ◌<◌, ◌^◌, true, false, List, [], ◌∷◌, ◌++◌, length, min, Option, Some, None, refl, sym, ap, subst, ◌∙◌}
+use Rattle.std.proofs.Common.{arith, length-append}
 use Rattle.std.specs.Prelude.{nat_lt, slice_get}
 use Rattle.std.proofs.lemmas.Bool.{ltb-true}
 use Rattle.std.proofs.lemmas.List.{get_or_push, length_push}
@@ -9,15 +9,15 @@ use Rattle.lset_words.specs.declared.history.CallRecord.{CallRecord}
 use Rattle.lset_text.specs.Openings.{above_last, is_above}
 use Rattle.lset_text.proofs.OpeningLaws.{rises_more}
 use Rattle.lset_judge.specs.declared.stream.Stream.{Stream}
-use Rattle.lset_judge.specs.Stream.{behind_all}
+use Rattle.lset_judge.specs.Stream.{behind_all, record_of}
 use Rattle.lset_long.specs.declared.kept.Judging.{Judging}
 use Rattle.lset_long.specs.declared.lines.Line.{Line}
 use Rattle.lset_long.specs.declared.lines.Line.TheVariants as told
 use Rattle.lset_long.specs.declared.lines.Section.{Section}
 use Rattle.lset_long.specs.declared.lines.Section.TheVariants as part
 use Rattle.lset_long.specs.Texts.{LongValue}
-use Rattle.lset_long.specs.Reading.{SoFar, Comes}
-use Rattle.lset_long.specs.Kept.{AreKeys, IsFirst, IsJudging, IsKept, IsStreamKept}
+use Rattle.lset_long.specs.Reading.{SoFar, Comes, is_done, section_after, with_line, with_told}
+use Rattle.lset_long.specs.Kept.{AreKeys, IsFirst, IsJudging, IsKept, IsStreamKept, count_if, lines_of}
 
 -- ---- one key more
 
@@ -74,6 +74,22 @@ key_parts c k j kept low added =
 
 -- ---- the number of the next line
 
+still_open : (s : Section) (l : Line) → Comes s l → is_done s ≡ false
+still_open part.Opening l comes = refl
+still_open part.Calls l comes = refl
+still_open part.Keys l comes = refl
+still_open part.Done l comes = absurd comes
+
+lines_more : (s : SoFar) (l : Line) → Comes s.section l → lines_of (with_told s l) ≡ lines_of s + 1
+lines_more s l comes = by l (ap count_if (still_open s.section l comes))
+  where
+    by : (l : Line) → count_if (is_done s.section) ≡ 0 → lines_of (with_told s l) ≡ lines_of s + 1
+    by (told.Opening k) still = omega (arith, still, length-append s.told.opening (k ∷ []))
+    by (told.Call x) still = omega (arith, still, length_push s.told.calls (record_of x))
+    by (told.Key k) still = omega (arith, still, length-append s.told.keys (k ∷ []))
+    by told.End still = omega (arith, still)
+    by told.Cut still = omega (arith, still)
+
 few_calls : (opening : List ℕ) (calls : List CallRecord) (o : Option Stream) → IsStreamKept opening calls o → length calls < behind_all
 few_calls opening calls None kept = let n = ap length kept in omega (arith, n)
 few_calls opening calls (Some s) kept = let low = kept.0.moment in let few = kept.2 in omega (arith, low, few)
@@ -84,3 +100,33 @@ one_call_more opening calls x s n m kept counted next =
     let few = few_calls opening (calls ++ x ∷ []) (Some s) kept in
     let long = length_push calls x in
     omega (arith, few, long, counted, next)
+
+pub line_put : (s : SoFar) (l : Line) (j k q : Judging) → IsJudging s j → Comes s.section l → IsKept (with_line s.told l) k
+    → IsFirst (section_after l) k.stream → k.number ≡ j.number → q.section ≡ section_after l
+    → q.number ≡ min (k.number + 1) (2 ^ 64 - 1) → q.opening ≡ k.opening → q.stream ≡ k.stream → q.calls ≡ k.calls → q.keys ≡ k.keys
+    → q.cut_off ≡ k.cut_off → IsJudging (with_told s l) q × (q.number ≡ j.number + 1)
+line_put s l j k q judging comes kept first same section number opening stream calls keys cut =
+    let now = judging.kept in
+    let few = few_calls s.told.opening s.told.calls j.stream now.stream in
+    let opens = now.opens.few in
+    let left = now.left.few in
+    let at = judging.number in
+    let still = ap count_if (still_open s.section l comes) in
+    let next : q.number ≡ j.number + 1 = omega (arith, number, same, at, few, opens, left, still) in
+    let more = lines_more s l comes in (
+      record {
+        kept = record {
+          opening = ap (λ v. v.items) opening ∙ kept.opening;
+          opens = kept.opens;
+          stream = subst (IsStreamKept (with_line s.told l).opening (with_line s.told l).calls) (sym stream) kept.stream;
+          calls = calls ∙ kept.calls;
+          keys = ap (λ v. v.items) keys ∙ kept.keys;
+          left = kept.left;
+          cut_off = cut ∙ kept.cut_off;
+        };
+        section = section;
+        first = subst (IsFirst (section_after l)) (sym stream) first;
+        number = omega (arith, next, at, more);
+      },
+      next,
+    )

@@ -1,10 +1,11 @@
 -- What is kept of a run whose events have been followed.
 use Rattle.std.proofs.Common.{ℕ, List, sym, subst, arith}
-use Rattle.lset_words.specs.Account.{Account}
+use Rattle.lset_words.specs.Log.{Log}
+use Rattle.lset_words.specs.Account.{Account, Contents, Counts}
 use Rattle.lset_words.specs.Words.{Opening}
 use Rattle.lset_steps.specs.declared.Event.{Event}
-use Rattle.lset_steps.specs.Steps.{Table, Run, event_at}
-use Rattle.lset_steps.specs.Chain.{contents_of}
+use Rattle.lset_steps.specs.Steps.{Table, Run, event_at, log_of}
+use Rattle.lset_steps.specs.Chain.{contents_of, counts_of}
 use Rattle.lset_steps.specs.Laws.{views}
 use Rattle.lset_steps.specs.Worlds.{WorldState}
 use Rattle.lset_steps.specs.Promises.{HasAccount, ListedContent}
@@ -16,6 +17,19 @@ use Rattle.lset_replay.specs.Follows.{HasFollowed}
 use Rattle.lset_replay.proofs.Following.{Follows}
 use Rattle.lset_replay.proofs.KeyChanges.{HoldsKeys}
 use Rattle.lset_replay.proofs.Ready.{follows}
+
+-- what the run of these events shows: its log, and the contents and counts of its worlds
+pub record Shown : Type 1 where
+  pub log : Log
+  pub contents : Contents
+  pub counts : Counts
+
+abbrev pub shown : Table → Opening → List LineEvent → Shown
+shown T op events = record {
+  log = log_of T op (event_at (only_events events));
+  contents = contents_of (views T op (event_at (only_events events)));
+  counts = counts_of (views T op (event_at (only_events events)));
+}
 
 -- what is asked of a list: its runs have an account, and keys of `u32`
 pub record TellsKeys (T : Table) : Type 0 where

@@ -148,6 +148,12 @@ one_more set seat program items hs rest rest' h last vs vs' v done now step more
           (subst (λ l. HaveRun set (map seat j ++ seat h ∷ []) (map program j ++ program h ∷ []) (Some now) l) (sym told) next));
     }
 
+pub run_of : (set : SetValue) (seats seats' : List SeatValue) (programs programs' : List (List Call)) (last : Option SeatValue)
+    (replies : List (List Reply))
+    → seats ≡ seats' → programs ≡ programs' → HaveRun set seats programs last replies → HaveRun set seats' programs' last replies
+run_of set seats seats' programs programs' last replies e f h =
+    subst (λ l. HaveRun set seats' l last replies) f (subst (λ l. HaveRun set l programs last replies) e h)
+
 -- ---- another cause than that the programs do not fit
 
 pub memory_refuses : (F : Type 0) → F → (Memory ≡ Programs → ¬ F) × (¬ F → Memory ≡ Programs)
