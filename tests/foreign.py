@@ -48,8 +48,8 @@ class InstalledLibraries:
         return found
 
     def built(self, name, *flags):
-        """A program of C over the static library."""
-        made = self.room / name.partition(".")[0]
+        """A program of C over the static library, of foreign/tests if no folder is named."""
+        made = self.room / pathlib.Path(name).stem
         well("gcc", "-std=c11", *WARN, *flags, self.include, TESTS / name, self.library / "liblistset.a", "-pthread", "-o", made)
         return made
 
@@ -129,6 +129,13 @@ def misuse(installed):
     """What the sets refuse, and their allocations refused in turn."""
     flags = [MEMORY] if installed.works(MEMORY) else []
     well(installed.built("misuse.c", *flags, *WRAPPED))
+
+
+@needs("gcc")
+@test
+def largest_set(installed):
+    """Of each list the set with the most keys that there may be."""
+    well(installed.built(TOP / "tests" / "harness" / "largest_set.c"))
 
 
 @needs("gcc")
