@@ -1,9 +1,11 @@
-//! Inputs that come byte by byte, as from a recorder that is slow: tens of thousands of reads.
+//! Inputs that come byte by byte, as from a recorder that is slow, and an output that takes its text so: tens of thousands of reads, or of
+//! writes.
+use crate::devices::{Plan, WHOLE, Writer};
 use std::alloc::{AllocError, Global};
 use std::io::{self, Read};
 use std::process::Abort;
 use std::test::Fail;
-use tool_base::tool_check;
+use tool_base::{Answer, deliver, tool_check};
 use tool_judge::tool_judge;
 
 /// So many calls in turn.
@@ -86,5 +88,22 @@ fn a_report_comes_byte_by_byte(rt: HostRuntime) -> Result<(), Fail> {
     let status = tool_check(alloc, &mut input, &mut output, &mut faults);
     assert!(rt; status == 1 && faults.is_empty());
     assert!(rt; output.as_slice() == b"refused Missing 0\n".as_slice());
+    Ok(())
+}
+
+#[test]
+fn an_answer_is_written_byte_by_byte(rt: HostRuntime) -> Result<(), Fail> {
+    let alloc = rt.alloc();
+    let text = text_of(alloc, "listset-calls 3\n", "", " false")?.into_bytes();
+    let plan = Plan { most: 1, ..WHOLE };
+    let mut output = Writer::new(alloc, plan);
+    let mut faults = Vec::new(alloc);
+    let answer = Answer {
+        text: Vec::from_slice(alloc, &text)?,
+        status: 1,
+    };
+    assert!(rt; deliver(alloc, Ok(answer), &mut output, &mut faults) == 1);
+    assert!(rt; faults.is_empty() && output.calls >= text.len());
+    assert!(rt; output.taken.as_slice() == text.as_slice());
     Ok(())
 }
