@@ -66,9 +66,9 @@ struct MeetingOfAll<'a, R> {
 }
 
 impl<'a, R: Clock> MeetingOfAll<'a, R> {
-    /// Whether all come, within 20,000 turns of a sleep of one millisecond.
+    /// Whether all come, within 10,000 turns of a sleep of one millisecond.
     fn all_come(&self) -> bool {
-        for _ in 0..20_000 {
+        for _ in 0..10_000 {
             if self.count.load(Ordering::SeqCst) == u64::from(MOST_THREADS) {
                 return true;
             }
