@@ -132,6 +132,39 @@ fn the_calls_of_a_key_that_never_rests_are_shown(rt: HostRuntime) -> Result<(), 
     Ok(())
 }
 
+/// While a long call takes key 5 out, many calls find it, one does not, and the next does: three of them show it.
+#[test]
+fn the_calls_that_find_a_key_are_left_out(rt: HostRuntime) -> Result<(), Fail> {
+    let alloc = rt.alloc();
+    let mut calls = Vec::new(alloc);
+    calls.push(true_call(0, Call::Remove(FIVE), 1, u32::MAX - 1))?;
+    for number in 1..=TIMES + 2 {
+        let look = true_call(1, Call::Contains(FIVE), 2 * number, 2 * number + 1);
+        calls.push(if number == TIMES + 1 {
+            CallRecord {
+                ended: Some((2 * number + 1, Reply::False)),
+                ..look
+            }
+        } else {
+            look
+        })?;
+    }
+    let opening = Vec::from_slice(alloc, &[FIVE.0])?;
+    let history = History::from_calls(2, 0, opening, calls);
+    let refusal = Refusal {
+        key: FIVE,
+        moment: Some(2 * TIMES + 5),
+    };
+    assert!(rt; judge(alloc, &history, &[])? == Verdict::NotLinearizable(refusal));
+    let window = window_of_refusal(alloc, &history, &[], refusal)?;
+    assert!(rt;
+        window.calls.as_slice() == [0, TIMES + 1, TIMES + 2].as_slice(),
+        "{}",
+        window.calls.len()
+    );
+    Ok(())
+}
+
 /// So many keys are put in, each by one call, and stay.
 const MANY_KEYS: u32 = 500_000;
 
