@@ -34,8 +34,8 @@ pub extern "C" fn listset_open(
 
 /// Takes one of the seats that `seat` contains out of it, into `out`, which must be empty.
 ///
-/// Returns `DONE`, or an error and changes nothing: `IS_SEAT` if `out` is not empty, `NO_SEAT` if `seat` is empty or a
-/// closed set, `NO_MORE` if no seat can be split off it, `OUT_OF_MEMORY` if an allocation failed. Does not block.
+/// Returns `DONE`, or an error and changes nothing: `IS_SEAT` if `out` is not empty, `NO_SEAT` if `seat` is empty,
+/// `NO_MORE` if no seat can be split off it (so too if it is a closed set), `OUT_OF_MEMORY` if an allocation failed. Does not block.
 #[unsafe(no_mangle)]
 pub extern "C" fn listset_split(alloc: Global, seat: &mut CSeat, out: &mut CSeat) -> u8
     ensures { HasSplit seat.old.full seat.old.held out.old.full out.old.held result seat.new.full seat.new.held out.new.full out.new.held }

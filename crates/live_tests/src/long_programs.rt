@@ -1,4 +1,4 @@
-//! Programs as long as they may be, on as many seats as there may be, in any order; and what a gate is told of them.
+//! Programs as long as they may be, on as many seats as there may be, in any order; and the seats and numbers that a gate gets.
 ghost use Rattle.std.specs.Prelude.{◌≡◌, All};
 
 use crate::opened::last_seat;

@@ -97,7 +97,8 @@ impl<M: Running> LiveSet<M> {
     ///
     /// The seat's record grows by the call with its reply. The call begins after all that the seat had seen, and its
     /// answering step is the last event that the seat has then seen. One order of the calls of these events linearizes
-    /// their history and keeps the record (Herlihy and Wing). It may wait for the locks of others, and takes no memory.
+    /// their history and keeps the record (Herlihy and Wing). It may block while another thread
+    /// holds a lock that the call needs. It does not allocate.
     pub fn call<R: Wait, P: Pause>(
         &self,
         rt: &R,
@@ -282,8 +283,8 @@ impl<M: Machine> LiveSet<M> {
 }
 
 impl<M: RunningReads> LiveSet<M> {
-    /// Answers whether the key is there, waits for nobody, and takes no memory. It makes at most `bound` steps, each a
-    /// load (`lset_steps::OpenReads`). The answer counts as the reply `True` or `False`.
+    /// Returns whether the key is in the set, without blocking or allocating. It makes at most `bound` steps, each a
+    /// load (`lset_steps::OpenReads`). The result stands for the reply `True` or `False`.
     pub fn contains_now(&self, seat: &mut Seat<M>, key: Key) -> bool
         requires { seat.old.set ≡ self.now }
         ensures { HasAnswered M.table self.now seat.old (Contains key) (reply_of result) seat.new }
