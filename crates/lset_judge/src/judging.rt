@@ -196,8 +196,8 @@ pub(crate) fn first_failure(
 }
 
 /// Why no order explains the history and leaves the keys: a key, and the moment up to which its calls have no order, the first that the
-/// rule finds; in a history with `ceiling` and `full` too, and under any quota. If there is none and the judge decides the history
-/// (`is_judged`), under its own quota or another, some order explains it.
+/// rule finds; in a history with `ceiling` and `full` too, and under any quota. If there is none, the rule fails on no key; and if the judge
+/// decides the history (`is_judged`), under its own quota or another, some order explains it.
 ///
 /// `keys` are the keys left; they rise. It sorts the moments of the calls once, and goes over them once: n log n steps for n calls.
 pub fn first_refused(
@@ -213,6 +213,7 @@ pub fn first_refused(
         (λ _. (quota : ℕ) → IsUnexplained (with_quota quota history.now) keys.now)) }
     ensures passed_at_all { IfOk result (λ refused. refused ≡ None
         → (quota : ℕ) → IsJudged (with_quota quota history.now) → IsExplained (with_quota quota history.now) keys.now) }
+    ensures ruled { IfOk result (λ refused. refused ≡ None → RulePasses history.now keys.now) }
 {
     first_failure(alloc, history, Some(keys))
 }

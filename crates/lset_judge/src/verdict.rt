@@ -33,7 +33,7 @@ pub enum Verdict {
 
 /// Whether some order linearizes the calls of a history from its opening keys, and leaves these keys: the answer is `Linearizable` exactly
 /// if one does, and `NotLinearizable` exactly if none does, for each history that the judge decides (`is_judged`). Of any other it says
-/// `NotLinearizable` only if none does, and else `Undecided`.
+/// `NotLinearizable` only if none does, and `Undecided` only if its rule fails on no key.
 ///
 /// `keys` are the keys left; they rise. It fails only if memory is refused, and takes some 12 bytes for each begin and end of a call.
 /// (Linearizability is Herlihy and Wing's; that it is told in n log n steps for n calls of a set, this project's own.)
@@ -50,7 +50,7 @@ pub fn judge(alloc: Global, history: &History, keys: &[u32]) -> Result<Verdict, 
 
 /// As `judge`, of a set without a quota: it decides each history of which the ended calls answered true or false, and none is a
 /// `ceiling` (`is_plain`), however many adds a thread makes. Of any other it says `NotLinearizable` only if no order explains it under
-/// any quota, and else `Undecided`.
+/// any quota, and `Undecided` only if its rule fails on no key.
 ///
 /// `keys` are the keys left; they rise. It fails only if memory is refused, and takes as much as `judge`.
 pub fn judge_without_quota(
@@ -71,7 +71,7 @@ pub fn judge_without_quota(
 /// As `judge_without_quota`, of a recording that was cut off, as by a crash of the set: calls may be pending, and the keys left are not
 /// known. The answer is `Linearizable` exactly if there are keys left with which some order explains the calls, and `NotLinearizable`
 /// exactly if none does whatever keys are left, for each history that `is_plain`. Of any other it says `NotLinearizable` only if none does,
-/// and else `Undecided`.
+/// and `Undecided` only if with some keys left its rule fails on no key.
 ///
 /// It fails only if memory is refused, and takes as much as `judge`. A refusal has the same meaning for any keys left, so
 /// `window_of_refusal` takes it with any: with none, for one.

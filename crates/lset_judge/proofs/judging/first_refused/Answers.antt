@@ -41,3 +41,8 @@ returns-clause-passed_at_all c =
     (λ found m none quota judged. explained (with_quota quota h) keys c.first_failure.ensures.history c.first_failure.ensures.opens judged c.requires
     (none_fails h keys found m none))
     c.first_failure.ensures.judged
+
+pub returns-clause-ruled : goal.returns-clause-ruled
+returns-clause-ruled c =
+    let h = c.args.history.now in let keys = c.args.keys.now in
+    IfOk-weaker c.first_failure.result _ _ (none_fails h keys) c.first_failure.ensures.judged
