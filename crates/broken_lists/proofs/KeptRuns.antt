@@ -89,16 +89,13 @@ module _ (P : List TracedEvent → Type 0) (T : Table) (p : Plan) (op : Opening)
     (op_is : op ≡ opening_in p) (events_are : events ≡ events_of p) (told_is : told ≡ chains)
     (heard : IsHeard P (TellsEvent T op events told) k) where
   heard_there : IsHeard P (TellsEvent T (opening_in p) (events_of p) chains) k
-  heard_there = subst (λ b. IsHeard P (TellsEvent T (opening_in p) (events_of p) b) k) told_is
-      (subst (λ es. IsHeard P (TellsEvent T (opening_in p) es told) k) events_are
-      (subst (λ o. IsHeard P (TellsEvent T o events told) k) op_is heard))
+  heard_there = rw (op_is, events_are, told_is) at heard
 
   pub ends_early : (end : ℕ × BrokenStepError) → EndsAt T op events k end.0 end.1 → RunsAs P T p chains (Err end)
-  ends_early end at = record {
+  ends_early end at_end = record {
     events = k;
     heard = heard_there;
-    ends = subst (λ es. EndsAt T (opening_in p) es k end.0 end.1) events_are
-        (subst (λ o. EndsAt T o events k end.0 end.1) op_is at);
+    ends = rw (op_is, events_are) at at_end;
   }
 
   pub reports : (w : WorldState) (r : Recorder) → k ≡ length events → HasKept kept_after T op events k w r → (report : Report)
@@ -106,9 +103,7 @@ module _ (P : List TracedEvent → Type 0) (T : Table) (p : Plan) (op : Opening)
       → (view report).order ≡ blocks_upto r.places.items k → (view report).keys ≡ keys_met w.state.words
       → RunsAs P T p chains (Ok report)
   reports w r all kept report version kind history order keys =
-      let e : HasKept kept_after T (opening_in p) (events_of p) k w r =
-      subst (λ es. HasKept kept_after T (opening_in p) es k w r) events_are
-      (subst (λ o. HasKept kept_after T o events k w r) op_is kept) in
+      let e : HasKept kept_after T (opening_in p) (events_of p) k w r = rw (op_is, events_are) at kept in
       record {
         events = k;
         heard = heard_there;

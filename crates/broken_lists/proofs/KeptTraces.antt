@@ -3,7 +3,6 @@ use Rattle.std.proofs.Common.{◌≡◌, ℕ, ◌≤◌, List, length, ap, arith
 use Rattle.std.specs.Prelude.{◌-◌, Option, Some, None}
 use Rattle.lset_words.specs.declared.Reply.{Reply}
 use Rattle.lset_words.specs.Words.{Opening}
-use Rattle.lset_history.specs.declared.fault.HistoryFault.TheVariants as fault
 use Rattle.lset_history.specs.Changes.{IsFirst}
 use Rattle.lset_words.specs.declared.history.CallRecord.{CallRecord}
 use Rattle.lset_replay.specs.declared.places.OpenCall.{OpenCall}

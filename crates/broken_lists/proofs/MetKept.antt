@@ -1,7 +1,7 @@
 -- A deed that writes no key and no link of a node leaves what a walk meets.
 use Rattle.std.proofs.Common.{◌≡◌, ℕ, zero, suc, ◌/◌, ◌%◌, ◌≤◌, ◌⊎◌, inl, inr, Bool, true, false, List, sym, refl, subst, ◌∙◌, arith, rules}
 use Rattle.std.proofs.Common.{length, get_or-set_other}
-use Rattle.std.specs.Prelude.{nat_lt, ◌==◌, slice_index, slice_set, if◌then◌else◌, Option, Vec}
+use Rattle.std.specs.Prelude.{nat_lt, ◌==◌, slice_index, slice_set, Option, Vec}
 use Rattle.std.specs.declared.alloc.Global.{Global}
 use Rattle.std.proofs.lemmas.Bool.{cases_Bool}
 use Rattle.std.proofs.lemmas.List.{length-set}

@@ -1,5 +1,5 @@
 -- The broken lists: their names, the lists that they were, and their tables.
-use Rattle.std.specs.Prelude.{ℕ, List, codes}
+use Rattle.std.specs.Prelude.{ℕ, List, codes, slice_index_or}
 use Rattle.lset_words.specs.declared.Kind.{Kind}
 use Rattle.lset_words.specs.declared.Kind.TheVariants.{Coarse, Fine, Optimistic, Lazy, LockFree}
 use Rattle.lset_steps.specs.Steps.{Table}
@@ -8,6 +8,7 @@ use Rattle.broken_tables.specs.BrokenFine.{removes_with_one_lock, gives_back_pre
 use Rattle.broken_tables.specs.BrokenOptimistic.{validates_by_the_link, arrives_by_key}
 use Rattle.broken_tables.specs.BrokenLazy as lazy
 use Rattle.broken_tables.specs.BrokenLockFree as free
+use Rattle.broken_lists.specs.declared.lists.TheConstants.{ALL}
 use Rattle.broken_lists.specs.declared.lists.BrokenList.{BrokenList}
 use Rattle.broken_lists.specs.declared.lists.BrokenList.TheVariants.{Lock, SecondLock, HandOverHand, SecondWalk, SameNode}
 use Rattle.broken_lists.specs.declared.lists.BrokenList.TheVariants.{MarksInValidation, MarkInContains, MarkInCeiling, Mark}
@@ -63,3 +64,7 @@ table_of MarkInRemove = free.marks_twice
 table_of MarkAtKey = free.contains_by_key
 table_of NewSlot = free.uses_one_slot
 table_of LastSlot = free.full_too_soon
+
+-- the list at a place of ALL
+abbrev pub broken_at : ℕ → BrokenList
+broken_at place = slice_index_or ALL place LastSlot

@@ -1,6 +1,5 @@
 -- What a step of a broken list answers: the event is the table's, or it is refused and changes nothing.
 use Rattle.std.specs.Prelude.{◌≡◌, ◌<◌, ◌^◌, ℕ, length, Result, Ok, Err}
-use Rattle.lset_words.specs.Words.{IsWithin, word_count}
 use Rattle.lset_steps.specs.declared.Event.{Event}
 use Rattle.lset_steps.specs.declared.Event.TheVariants.{Begin, Go}
 use Rattle.lset_steps.specs.declared.Local.{Local}
@@ -17,12 +16,6 @@ use Rattle.broken_lists.specs.declared.world.BrokenStepError.TheVariants as faul
 pub record IsRunnable (l : Local) : Type 0 where
   pub small : IsSmall l
   pub pkey : l.pkey < 2 ^ 62
-
--- as many words and threads as its sizes say
-pub record IsSized (w : WorldState) : Type 0 where
-  pub within : IsWithin w.sizes
-  pub words : length w.state.words ≡ word_count w.sizes
-  pub locals : length w.state.locals ≡ w.sizes.threads
 
 -- a thread can go on: its numbers are small, and its next step names a word of the table
 pub record CanGo (T : Table) (w : WorldState) (t : ℕ) : Type 0 where

@@ -3,14 +3,13 @@
 -- correct at no moment is placed at its end.
 use Rattle.std.specs.Prelude.{ℕ, ◌<◌, Bool, List, length, Option, Some, None, slice_set, if◌then◌else◌}
 use Rattle.lset_words.specs.declared.Reply.{Reply}
-use Rattle.lset_words.specs.History.{call_numbered}
 use Rattle.lset_words.specs.Log.{Entry, Change}
 use Rattle.lset_words.specs.Log.Entry.{began, stepped}
 use Rattle.lset_words.specs.Words.{Opening}
-use Rattle.lset_history.specs.History.{MayBegin, ended_with}
+use Rattle.lset_history.specs.History.{MayBegin}
 use Rattle.lset_history.specs.Changes.{is_present, is_same, with_change}
 use Rattle.lset_replay.specs.declared.places.OpenCall.{OpenCall}
-use Rattle.lset_replay.specs.Trace.{MayStep, Trace, begun_on, changed_at, fit_of, number_of, open_call_at, place_at, settled}
+use Rattle.lset_replay.specs.Trace.{MayStep, Trace, begun_on, changed_on, ended_by, fit_of, number_of, open_call_at, place_at, settled}
 
 -- a key is put in or taken out at a moment, unless it is so then
 abbrev pub noted : (ℕ → List ℕ) → ℕ → ℕ → Bool → ℕ → List ℕ
@@ -18,12 +17,8 @@ noted changes moment key present = if is_same present (is_present changes key mo
 
 abbrev pub noted_on : ℕ → ℕ → Option Change → Trace → Trace
 noted_on moment thread None s = s
-noted_on moment thread (Some (k, present)) s = record {
-  calls = s.calls;
-  under_way = s.under_way;
-  places = slice_set s.places (number_of (open_call_at s.under_way thread)) (Some (changed_at moment));
-  changes = noted s.changes moment k.0 present;
-}
+noted_on moment thread (Some (k, present)) s =
+    record (changed_on moment thread (Some (k, present)) s) { changes = noted s.changes moment k.0 present }
 
 -- the first moment at which the reply is correct, or else the end
 abbrev pub fit_or : ℕ → Option ℕ → ℕ
@@ -31,12 +26,9 @@ fit_or end None = end
 fit_or end (Some moment) = moment
 
 abbrev pub closed_by : ℕ → ℕ → Reply → Option OpenCall → Trace → Trace
-closed_by moment thread reply o s = record {
-  calls = slice_set s.calls (number_of o) (ended_with (call_numbered s.calls (number_of o)) (moment, reply));
-  under_way = slice_set s.under_way thread None;
+closed_by moment thread reply o s = record (ended_by moment thread reply o s) {
   places = slice_set s.places (number_of o)
       (settled (place_at s.places (number_of o)) (Some (fit_or moment (fit_of s.changes o reply moment))) reply);
-  changes = s.changes;
 }
 
 abbrev pub closed_on : ℕ → ℕ → Option Reply → Trace → Trace

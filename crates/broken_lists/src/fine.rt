@@ -1,16 +1,13 @@
 //! FineList with calls that hold one lock.
 
 ghost use Rattle.std.specs.Prelude.{◌≡◌};
-ghost use Rattle.broken_tables.specs.BrokenFine.{removes_with_one_lock, gives_back_pred_first, row_of_remove, with_one_lock, through_row_14};
+ghost use Rattle.broken_tables.specs.BrokenFine.{fed_pred_first, fed_with_one_lock, row_of_remove, through_row_14, with_one_lock};
+ghost use Rattle.broken_lists.specs.BrokenSteps.{IsRunnable};
 
-use crate::machine::BrokenMachine;
-use lset_fine::{effect_of, fed_by, next_action};
-use lset_steps::rows::{begun, lock_index};
-use lset_steps::{Action, Fed, Local};
-use lset_words::{Call, Key, Kind};
-
-/// FineList without the second lock of `remove`: it holds only the lock of `pred`.
-pub struct RemoveWithOneLock;
+use lset_fine::fed_by;
+use lset_steps::reads::continued;
+use lset_steps::{Fed, Local};
+use lset_words::Call;
 
 fn row_of_remove(pc: u8) -> u8
     ensures { result ≡ row_of_remove pc }
@@ -36,34 +33,17 @@ fn with_one_lock(call: Call, local: Local) -> Local
     }
 }
 
-impl BrokenMachine for RemoveWithOneLock {
-    const KIND: Kind = Kind::Fine;
-
-    ghost table = { removes_with_one_lock };
-
-    fn begin(call: Call, local: &Local) -> Local {
-        begun(1, call, local)
-    }
-
-    fn next(local: &Local) -> Action {
-        next_action(local)
-    }
-
-    fn feed(local: &Local, seen: u64) -> Fed {
-        let fed = fed_by(local, seen);
-        Fed {
-            local: with_one_lock(local.call, fed.local),
-            answer: fed.answer,
-        }
-    }
-
-    fn effect(local: &Local, seen: u64) -> Option<(Key, bool)> {
-        effect_of(local, seen)
+/// Without the second lock of `remove`: it holds only the lock of `pred`.
+pub fn fed_with_one_lock(local: &Local, seen: u64) -> Fed
+    requires { IsRunnable local.now }
+    ensures { result ≡ fed_with_one_lock local.now seen }
+{
+    let fed = fed_by(local, seen);
+    Fed {
+        local: with_one_lock(local.call, fed.local),
+        ..fed
     }
 }
-
-/// FineList without hand-over-hand locking: a walk releases the lock of `pred` before it takes that of `curr`.
-pub struct WalkThatGivesBackPredFirst;
 
 fn through_row_14(local: Local) -> Local
     ensures { result ≡ through_row_14 local }
@@ -75,41 +55,20 @@ fn through_row_14(local: Local) -> Local
     }
 }
 
-impl BrokenMachine for WalkThatGivesBackPredFirst {
-    const KIND: Kind = Kind::Fine;
-
-    ghost table = { gives_back_pred_first };
-
-    fn begin(call: Call, local: &Local) -> Local {
-        begun(1, call, local)
+/// Without hand-over-hand locking: a walk releases the lock of `pred` before it takes that of `curr`.
+pub fn fed_pred_first(local: &Local, seen: u64) -> Fed
+    requires { IsRunnable local.now }
+    ensures { result ≡ fed_pred_first local.now seen }
+{
+    if local.pc == 14 {
+        return continued(Local { pc: 3, ..*local });
     }
-
-    fn next(local: &Local) -> Action {
-        if local.pc == 14 {
-            Action::Store(lock_index(local.pred), 0)
-        } else {
-            next_action(local)
-        }
+    let fed = fed_by(local, seen);
+    if local.pc != 6 {
+        return fed;
     }
-
-    fn feed(local: &Local, seen: u64) -> Fed {
-        match local.pc {
-            6 => {
-                let fed = fed_by(local, seen);
-                Fed {
-                    local: through_row_14(fed.local),
-                    answer: fed.answer,
-                }
-            }
-            14 => Fed {
-                local: Local { pc: 3, ..*local },
-                answer: None,
-            },
-            _ => fed_by(local, seen),
-        }
-    }
-
-    fn effect(local: &Local, seen: u64) -> Option<(Key, bool)> {
-        effect_of(local, seen)
+    Fed {
+        local: through_row_14(fed.local),
+        ..fed
     }
 }

@@ -43,12 +43,6 @@ impl From<HistoryFault> for Unkept {
     }
 }
 
-fn open_call(recorder: &Recorder, thread: u32) -> Option<OpenCall>
-    ensures { result ≡ open_call_at recorder.now.under_way.items thread }
-{
-    *recorder.under_way.get(thread as usize)?
-}
-
 /// The open call of a thread, which may change something or end.
 fn stepping(recorder: &Recorder, thread: u32, moment: u32) -> Result<OpenCall, Unkept>
     ensures open { IfOk result (λ o. open_call_at recorder.now.under_way.items thread ≡ Some o) }
@@ -58,11 +52,11 @@ fn stepping(recorder: &Recorder, thread: u32, moment: u32) -> Result<OpenCall, U
     ensures lost { IfErr result (λ _. MayStep recorder.now.history recorder.now.under_way.items recorder.now.places.items thread
         moment → ⊥) }
 {
-    let open = open_call(recorder, thread).ok_or(Unkept::Lost)?;
-    if open.number as usize >= recorder.places.len() || moment < open.begun {
-        return Err(Unkept::Lost);
+    match recorder.under_way.get(thread as usize) {
+        Some(Some(open))
+            if (open.number as usize) < recorder.places.len() && open.begun <= moment => Ok(*open),
+        _ => Err(Unkept::Lost),
     }
-    Ok(open)
 }
 
 fn begin(recorder: &mut Recorder, thread: u32, call: Call, moment: u32) -> Result<(), Unkept>

@@ -3,10 +3,9 @@
 //! whose steps are the table's. `run_broken` runs a schedule by one, and reports what it did; no order need explain that.
 #![tactic(auto)]
 
-mod coarse;
 mod fine;
+mod flaws;
 mod keeping;
-mod lazy;
 mod lists;
 mod lock_free;
 mod machine;

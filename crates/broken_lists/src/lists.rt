@@ -3,8 +3,7 @@ ghost use Rattle.lset_words.specs.declared.Kind.{Kind};
 ghost use Rattle.lset_steps.specs.Steps.{Table};
 ghost use Rattle.broken_lists.specs.BrokenLists.{kind_of, name_of, table_of};
 
-use crate::machine::BrokenMachine;
-use crate::{coarse, fine, lazy, lock_free, optimistic};
+use crate::machine::{Broken, BrokenMachine};
 use lset_words::Kind;
 
 /// A broken list, by the check that was removed from it.
@@ -137,19 +136,19 @@ pub fn on_broken<T: Task + Drop>(broken: BrokenList, task: T) -> T::Out
     ensures { T.done task (table_of broken) result }
 {
     match broken {
-        BrokenList::Lock => task.run::<coarse::CallsWithoutTheLock>(),
-        BrokenList::SecondLock => task.run::<fine::RemoveWithOneLock>(),
-        BrokenList::HandOverHand => task.run::<fine::WalkThatGivesBackPredFirst>(),
-        BrokenList::SecondWalk => task.run::<optimistic::ValidationByTheLinkAlone>(),
-        BrokenList::SameNode => task.run::<optimistic::SecondWalkByTheKeyAlone>(),
-        BrokenList::MarksInValidation => task.run::<lazy::ValidationWithoutTheMarks>(),
-        BrokenList::MarkInContains => task.run::<lazy::ContainsByTheKeyAlone>(),
-        BrokenList::MarkInCeiling => task.run::<lazy::CeilingByTheKeyAlone>(),
-        BrokenList::Mark => task.run::<lock_free::RemoveWithoutAMark>(),
-        BrokenList::MarkInAdd => task.run::<lock_free::AddThatIgnoresTheMark>(),
-        BrokenList::MarkInRemove => task.run::<lock_free::MarkOnAMarkedNode>(),
-        BrokenList::MarkAtKey => task.run::<lock_free::ContainsByTheKeyAlone>(),
-        BrokenList::NewSlot => task.run::<lock_free::SlotUsedTwice>(),
-        BrokenList::LastSlot => task.run::<lock_free::FullBeforeTheQuota>(),
+        BrokenList::Lock => task.run::<Broken<0>>(),
+        BrokenList::SecondLock => task.run::<Broken<1>>(),
+        BrokenList::HandOverHand => task.run::<Broken<2>>(),
+        BrokenList::SecondWalk => task.run::<Broken<3>>(),
+        BrokenList::SameNode => task.run::<Broken<4>>(),
+        BrokenList::MarksInValidation => task.run::<Broken<5>>(),
+        BrokenList::MarkInContains => task.run::<Broken<6>>(),
+        BrokenList::MarkInCeiling => task.run::<Broken<7>>(),
+        BrokenList::Mark => task.run::<Broken<8>>(),
+        BrokenList::MarkInAdd => task.run::<Broken<9>>(),
+        BrokenList::MarkInRemove => task.run::<Broken<10>>(),
+        BrokenList::MarkAtKey => task.run::<Broken<11>>(),
+        BrokenList::NewSlot => task.run::<Broken<12>>(),
+        BrokenList::LastSlot => task.run::<Broken<13>>(),
     }
 }

@@ -1,18 +1,17 @@
 //! What a broken list gives: the steps of its table, each as a function.
 ghost use Rattle.std.specs.Prelude.{◌≡◌};
 ghost use Rattle.lset_steps.specs.Steps.{Table};
-ghost use Rattle.broken_tables.specs.Marks.{seen_without_mark};
+ghost use Rattle.broken_lists.specs.BrokenLists.{broken_at, table_of};
 ghost use Rattle.broken_lists.specs.BrokenSteps.{IsRunnable};
 
+use crate::flaws;
+use crate::lists::{ALL, BrokenList};
 use lset_steps::{Action, Fed, Local};
-use lset_words::{Call, Key, Kind};
+use lset_words::{Call, Key};
 
 /// A step table whose steps can be made whatever run a thread's numbers come from, while they are small. Nothing is promised
 /// of its runs. `seen` is the value that was loaded or stored, or that the word held before an exchange.
 pub trait BrokenMachine {
-    /// The list from which a check was removed.
-    const KIND: Kind;
-
     ghost table: { Table };
 
     /// Returns the thread's state when it has begun the call.
@@ -35,13 +34,38 @@ pub trait BrokenMachine {
         ensures { result ≡ table.effect local.now seen };
 }
 
-/// Returns what a thread sees that overlooks the mark at one row.
-pub fn without_mark(row: u8, local: &Local, seen: u64) -> u64
-    ensures { result ≡ seen_without_mark row local.now seen }
+/// The broken list at a place of `ALL`. The compiler knows the place, so that of each match of `flaws` one arm is left.
+pub struct Broken<const PLACE: u8>;
+
+#[inline(always)]
+fn broken_at(place: u8) -> BrokenList
+    ensures { result ≡ broken_at place }
 {
-    if local.pc == row {
-        2 * (seen / 2)
-    } else {
-        seen
+    ALL.get(place as usize)
+        .copied()
+        .unwrap_or(BrokenList::LastSlot)
+}
+
+impl<const PLACE: u8> BrokenMachine for Broken<PLACE> {
+    ghost table = { table_of (broken_at PLACE) };
+
+    #[inline(always)]
+    fn begin(call: Call, local: &Local) -> Local {
+        flaws::begun(broken_at(PLACE), call, local)
+    }
+
+    #[inline(always)]
+    fn next(local: &Local) -> Action {
+        flaws::next_action(broken_at(PLACE), local)
+    }
+
+    #[inline(always)]
+    fn feed(local: &Local, seen: u64) -> Fed {
+        flaws::fed_by(broken_at(PLACE), local, seen)
+    }
+
+    #[inline(always)]
+    fn effect(local: &Local, seen: u64) -> Option<(Key, bool)> {
+        flaws::effect_of(broken_at(PLACE), local, seen)
     }
 }

@@ -77,16 +77,6 @@ fn put_key(keys: &mut BTreeSet<u32>, place: ChainKey) -> Result<(), AllocError>
     Ok(())
 }
 
-fn tree_of(alloc: Global, met: &[ChainKey]) -> Result<BTreeSet<u32>, AllocError>
-    ensures { IfOk result (λ t. t.keys ≡ put_met met.now []) }
-{
-    let mut keys = BTreeSet::new(alloc);
-    for place in met {
-        put_key(&mut keys, *place)?;
-    }
-    Ok(keys)
-}
-
 fn keys_in(alloc: Global, tree: &BTreeSet<u32>) -> Result<Vec<u32>, AllocError>
     ensures { IfOk result (λ v. v.items ≡ tree.now.keys) }
 {
@@ -98,6 +88,9 @@ fn keys_in(alloc: Global, tree: &BTreeSet<u32>) -> Result<Vec<u32>, AllocError>
 pub fn keys_of(alloc: Global, met: &[ChainKey]) -> Result<Vec<u32>, AllocError>
     ensures { IfOk result (λ v. v.items ≡ put_met met.now []) }
 {
-    let tree = tree_of(alloc, met)?;
-    keys_in(alloc, &tree)
+    let mut keys = BTreeSet::new(alloc);
+    for place in met {
+        put_key(&mut keys, *place)?;
+    }
+    keys_in(alloc, &keys)
 }

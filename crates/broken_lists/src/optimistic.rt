@@ -1,16 +1,11 @@
 //! OptimisticList with validations that are too weak.
 
 ghost use Rattle.std.specs.Prelude.{◌≡◌};
-ghost use Rattle.broken_tables.specs.BrokenOptimistic.{validates_by_the_link, arrives_by_key, past_the_walk, arrived_by_key};
+ghost use Rattle.broken_tables.specs.BrokenOptimistic.{arrived_by_key, fed_without_walk, past_the_walk};
+ghost use Rattle.broken_lists.specs.BrokenSteps.{IsRunnable};
 
-use crate::machine::BrokenMachine;
-use lset_optimistic::{effect_of, fed_by, next_action};
-use lset_steps::rows::begun;
-use lset_steps::{Action, Fed, Local};
-use lset_words::{Call, Key, Kind};
-
-/// OptimisticList without its second walk: the validation sees only that `pred` leads to `curr`.
-pub struct ValidationByTheLinkAlone;
+use lset_optimistic::fed_by;
+use lset_steps::{Fed, Local};
 
 fn past_the_walk(local: Local) -> Local
     ensures { result ≡ past_the_walk local }
@@ -22,36 +17,20 @@ fn past_the_walk(local: Local) -> Local
     }
 }
 
-impl BrokenMachine for ValidationByTheLinkAlone {
-    const KIND: Kind = Kind::Optimistic;
-
-    ghost table = { validates_by_the_link };
-
-    fn begin(call: Call, local: &Local) -> Local {
-        begun(1, call, local)
-    }
-
-    fn next(local: &Local) -> Action {
-        next_action(local)
-    }
-
-    fn feed(local: &Local, seen: u64) -> Fed {
-        let fed = fed_by(local, seen);
-        Fed {
-            local: past_the_walk(fed.local),
-            answer: fed.answer,
-        }
-    }
-
-    fn effect(local: &Local, seen: u64) -> Option<(Key, bool)> {
-        effect_of(local, seen)
+/// Without the second walk: the validation sees only that `pred` leads to `curr`.
+pub fn fed_without_walk(local: &Local, seen: u64) -> Fed
+    requires { IsRunnable local.now }
+    ensures { result ≡ fed_without_walk local.now seen }
+{
+    let fed = fed_by(local, seen);
+    Fed {
+        local: past_the_walk(fed.local),
+        ..fed
     }
 }
 
-/// OptimisticList without the comparison of nodes: the second walk ends at the key of `pred`, in whatever node.
-pub struct SecondWalkByTheKeyAlone;
-
-fn arrived_by_key(seen: u64, local: &Local) -> Local
+/// Without the comparison of nodes: the second walk ends at the key of `pred`, in whatever node.
+pub fn arrived_by_key(seen: u64, local: &Local) -> Local
     ensures { result ≡ arrived_by_key seen local.now }
 {
     if local.pkey < seen {
@@ -64,34 +43,5 @@ fn arrived_by_key(seen: u64, local: &Local) -> Local
         Local { pc: 8, ..*local }
     } else {
         Local { pc: 6, ..*local }
-    }
-}
-
-impl BrokenMachine for SecondWalkByTheKeyAlone {
-    const KIND: Kind = Kind::Optimistic;
-
-    ghost table = { arrives_by_key };
-
-    fn begin(call: Call, local: &Local) -> Local {
-        begun(1, call, local)
-    }
-
-    fn next(local: &Local) -> Action {
-        next_action(local)
-    }
-
-    fn feed(local: &Local, seen: u64) -> Fed {
-        if local.pc == 7 {
-            Fed {
-                local: arrived_by_key(seen, local),
-                answer: None,
-            }
-        } else {
-            fed_by(local, seen)
-        }
-    }
-
-    fn effect(local: &Local, seen: u64) -> Option<(Key, bool)> {
-        effect_of(local, seen)
     }
 }

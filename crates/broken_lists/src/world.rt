@@ -1,13 +1,13 @@
-ghost use Rattle.std.specs.Prelude.{◌≡◌, ◌<◌, ◌≤◌, ◌↔◌, IfOk, IsTrue, MatchOption, length, map};
+ghost use Rattle.std.specs.Prelude.{◌≡◌, ◌<◌, ◌≤◌, ◌↔◌, IfErr, IfOk, IsTrue, MatchOption, length, map};
 ghost use Rattle.std.specs.List.{range_with_len};
-ghost use Rattle.lset_steps.specs.Steps.{Enabled, idle, opening, opening_of, after, told, local_of, seen_by, seen_next, left_by};
+ghost use Rattle.lset_steps.specs.Steps.{Enabled, idle, opening, opening_of, local_of, seen_by, seen_next, left_by};
 ghost use Rattle.lset_steps.specs.Laws.{word_named};
 ghost use Rattle.lset_steps.specs.Worlds.{WorldState};
-ghost use Rattle.broken_lists.specs.BrokenSteps.{CanGo, IsRunnable, IsSized, BrokenStep};
+ghost use Rattle.broken_lists.specs.BrokenSteps.{BrokenStep, CanGo, CanMake, IsRefusedFor, IsRunnable};
 
 use crate::machine::BrokenMachine;
 use lset_steps::{Action, Event, Local, Told, opening_words};
-use lset_words::{Call, Layout, MOST_NODES, MOST_QUOTA, MOST_THREADS};
+use lset_words::{Layout, MOST_NODES, MOST_QUOTA, MOST_THREADS};
 use std::alloc::{AllocError, Global};
 use std::marker::{Model, PhantomData};
 use thiserror::Error;
@@ -32,9 +32,7 @@ pub enum BrokenStepError {
 /// The words of a broken list and the state of each thread.
 #[derive(Drop)]
 pub struct BrokenWorld<M: BrokenMachine> {
-    threads: u32,
-    quota: u32,
-    opening: u32,
+    layout: Layout,
     words: Vec<u64>,
     locals: Vec<Local>,
     machine: PhantomData<M>,
@@ -43,25 +41,17 @@ pub struct BrokenWorld<M: BrokenMachine> {
 impl<M: BrokenMachine> Model for BrokenWorld<M> {
     ghost Value = { WorldState };
 
-    ghost view = { λ w. record {
-      sizes = record { threads = w.threads; quota = w.quota; opening = w.opening };
-      state = record { words = w.words.items; locals = w.locals.items };
-    } };
+    ghost view = { λ w. record { sizes = w.layout; state = record { words = w.words.items; locals = w.locals.items } } };
 
-    ghost invariant = { λ w. IsSized (record {
-      sizes = record { threads = w.threads; quota = w.quota; opening = w.opening };
-      state = record { words = w.words.items; locals = w.locals.items };
-    }) };
+    ghost invariant = { λ w. length w.locals.items ≡ w.layout.threads };
 }
 
 fn idle_locals(alloc: Global, layout: &Layout) -> Result<Vec<Local>, AllocError>
     ensures { IfOk result (λ v. v.items ≡ map (idle layout.now.quota) (range_with_len 0 layout.now.threads)) }
 {
-    let mut locals = Vec::new(alloc);
-    for t in 0..layout.threads() {
-        locals.push(Local::idle(layout, t))?;
-    }
-    Ok(locals)
+    (0..layout.threads())
+        .map(|t| Local::idle(layout, t))
+        .collect(alloc)
 }
 
 /// Whether every number is small enough to compute with.
@@ -86,28 +76,6 @@ fn word_of(action: Action) -> u64
     }
 }
 
-/// Makes one access, and returns the value that it saw.
-fn access(words: &mut Vec<u64>, action: Action) -> u64
-    requires { word_named action < length words.old.items }
-    ensures seen { result ≡ seen_by words.old.items action }
-    ensures left { words.new.items ≡ left_by words.old.items action }
-{
-    match action {
-        Action::Load(w) => words[w as usize],
-        Action::Store(w, v) => {
-            words[w as usize] = v;
-            v
-        }
-        Action::Exchange(w, old, new) => {
-            let seen = words[w as usize];
-            if seen == old {
-                words[w as usize] = new;
-            }
-            seen
-        }
-    }
-}
-
 /// What an access will see.
 fn sight(words: &[u64], action: Action) -> u64
     requires { word_named action < length words.now }
@@ -117,6 +85,21 @@ fn sight(words: &[u64], action: Action) -> u64
         Action::Load(w) | Action::Exchange(w, _, _) => words[w as usize],
         Action::Store(_, v) => v,
     }
+}
+
+/// Makes one access, and returns the value that it saw.
+fn access(words: &mut Vec<u64>, action: Action) -> u64
+    requires { word_named action < length words.old.items }
+    ensures seen { result ≡ seen_by words.old.items action }
+    ensures left { words.new.items ≡ left_by words.old.items action }
+{
+    let seen = sight(words, action);
+    match action {
+        Action::Store(w, v) => words[w as usize] = v,
+        Action::Exchange(w, old, new) if seen == old => words[w as usize] = new,
+        Action::Load(_) | Action::Exchange(_, _, _) => {}
+    }
+    seen
 }
 
 impl<M: BrokenMachine> BrokenWorld<M> {
@@ -132,9 +115,7 @@ impl<M: BrokenMachine> BrokenWorld<M> {
         let words = opening_words(alloc, layout, keys)?;
         let locals = idle_locals(alloc, layout)?;
         Ok(BrokenWorld {
-            threads: layout.threads(),
-            quota: layout.quota(),
-            opening: layout.opening(),
+            layout: *layout,
             words,
             locals,
             machine: PhantomData,
@@ -153,11 +134,7 @@ impl<M: BrokenMachine> BrokenWorld<M> {
         ensures { MatchOption result (self.now.sizes.threads ≤ t) (λ l.
             (t < self.now.sizes.threads) × (l ≡ local_of self.now.state t)) }
     {
-        if t < self.threads {
-            Some(self.local(t))
-        } else {
-            None
-        }
+        self.locals.get(t as usize).copied()
     }
 
     /// Returns the next access of thread `t` and the value that it will see; `None` if `step` refuses it.
@@ -165,59 +142,34 @@ impl<M: BrokenMachine> BrokenWorld<M> {
         ensures { MatchOption result (Enabled self.now.state (Event.Go t) → CanGo M.table self.now t → ⊥) (λ s.
             (s.0 ≡ M.table.next (local_of self.now.state t)) × (s.1 ≡ seen_next M.table self.now.state t)) }
     {
-        if t >= self.threads {
-            return None;
+        match self.going(t) {
+            Ok((_, action)) => Some((action, sight(&self.words, action))),
+            Err(_) => None,
         }
-        let local = self.local(t);
-        if local.pc == 0 || !is_runnable(&local) {
-            return None;
+    }
+
+    /// What thread `t` holds, and its next access; or why it makes no step.
+    fn going(&self, t: u32) -> Result<(Local, Action), BrokenStepError>
+        ensures can { IfOk result (λ _. CanMake M.table self.now (Event.Go t)) }
+        ensures held { IfOk result (λ g. (g.0 ≡ local_of self.now.state t) × (g.1 ≡ M.table.next (local_of self.now.state t))) }
+        ensures refused { IfErr result (λ cause. IsRefusedFor M.table self.now (Event.Go t) cause) }
+        ensures cannot { IfErr result (λ _. Enabled self.now.state (Event.Go t) → CanGo M.table self.now t → ⊥) }
+    {
+        if t >= self.layout.threads() {
+            return Err(BrokenStepError::NoThread);
+        }
+        let local = self.locals[t as usize];
+        if local.pc == 0 {
+            return Err(BrokenStepError::Idle);
+        }
+        if !is_runnable(&local) {
+            return Err(BrokenStepError::Lost);
         }
         let action = M::next(&local);
         if word_of(action) >= self.words.len() as u64 {
-            return None;
+            return Err(BrokenStepError::Lost);
         }
-        Some((action, sight(&self.words, action)))
-    }
-
-    /// What thread `t` holds, below the number of threads.
-    fn local(&self, t: u32) -> Local
-        requires { t < self.now.sizes.threads }
-        ensures { result ≡ local_of self.now.state t }
-    {
-        self.locals[t as usize]
-    }
-
-    fn begin(&mut self, t: u32, call: Call) -> Told
-        requires { Enabled self.old.state (Event.Begin t call) }
-        ensures new { self.new ≡ record self.old { state = after M.table self.old.state (Event.Begin t call) } }
-        ensures told { result ≡ told M.table self.old.state (Event.Begin t call) }
-    {
-        let local = self.local(t);
-        self.locals[t as usize] = M::begin(call, &local);
-        Told {
-            answer: None,
-            change: None,
-        }
-    }
-
-    fn go(&mut self, t: u32, local: Local, action: Action) -> Told
-        requires call { Enabled self.old.state (Event.Go t) }
-        requires held { local ≡ local_of self.old.state t }
-        requires small { IsRunnable local }
-        requires action { action ≡ M.table.next local }
-        requires named { word_named action < length self.old.state.words }
-        ensures new { self.new ≡ record self.old { state = after M.table self.old.state (Event.Go t) } }
-        ensures told { result ≡ told M.table self.old.state (Event.Go t) }
-    {
-        let words = &mut self.words;
-        let seen = access(words, action);
-        let fed = M::feed(&local, seen);
-        let change = M::effect(&local, seen);
-        self.locals[t as usize] = fed.local;
-        Told {
-            answer: fed.answer,
-            change,
-        }
+        Ok((local, action))
     }
 
     /// Executes one event by the table, and returns the reply and the change that it made. A refused event changes nothing.
@@ -226,30 +178,26 @@ impl<M: BrokenMachine> BrokenWorld<M> {
     {
         match event {
             Event::Begin(t, call) => {
-                if t >= self.threads {
-                    return Err(BrokenStepError::NoThread);
-                }
-                if self.local(t).pc != 0 {
+                let local = self.holds(t).ok_or(BrokenStepError::NoThread)?;
+                if local.pc != 0 {
                     return Err(BrokenStepError::Busy);
                 }
-                Ok(self.begin(t, call))
+                self.locals[t as usize] = M::begin(call, &local);
+                Ok(Told {
+                    answer: None,
+                    change: None,
+                })
             }
             Event::Go(t) => {
-                if t >= self.threads {
-                    return Err(BrokenStepError::NoThread);
-                }
-                let local = self.local(t);
-                if local.pc == 0 {
-                    return Err(BrokenStepError::Idle);
-                }
-                if !is_runnable(&local) {
-                    return Err(BrokenStepError::Lost);
-                }
-                let action = M::next(&local);
-                if word_of(action) >= self.words.len() as u64 {
-                    return Err(BrokenStepError::Lost);
-                }
-                Ok(self.go(t, local, action))
+                let (local, action) = self.going(t)?;
+                let seen = access(&mut self.words, action);
+                let fed = M::feed(&local, seen);
+                let change = M::effect(&local, seen);
+                self.locals[t as usize] = fed.local;
+                Ok(Told {
+                    answer: fed.answer,
+                    change,
+                })
             }
         }
     }

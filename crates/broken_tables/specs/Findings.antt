@@ -7,6 +7,7 @@ use Rattle.lset_words.specs.Log.Entry.{stepped}
 use Rattle.lset_steps.specs.Steps.{Table, event_at, log_of}
 use Rattle.lset_steps.specs.Chain.{InChain, InContent, FitsIn}
 use Rattle.lset_steps.specs.Laws.{Lawful}
+use Rattle.lset_steps.specs.Promises.{NamedChange, RepliesFit, UnlinkedNodesStay}
 use Rattle.broken_tables.specs.Schedules.{Schedule, Runs, world_at}
 use Rattle.lset_words.specs.Words.{empty}
 
@@ -70,3 +71,16 @@ pub record ReplyNeverFits (T : Table) (s : Schedule) (moment thread : ℕ) (call
   pub unchanged : has_changed (log_in T s) thread (suc moment) ≡ false
   pub never : (k : ℕ) → begun_at (log_in T s) thread moment ≤ k → k ≤ suc moment
       → FitsIn s.quota (world_at T s k) thread call reply → ⊥
+
+-- A KEY IS LOST BEHIND A NODE that is out of the chain: the node changes, which breaks a promise, and so does the thread that puts the
+-- key in.
+pub record LosesKeyBehind (T : Table) (s : Schedule) (moment node thread key : ℕ) : Type 0 where
+  pub changes : UnlinkedNodeChanges T s moment node
+  pub loses : AddedKeyIsLost T s moment thread key
+  pub unlinked_stays : Breaks T UnlinkedNodesStay
+  pub named_change : Breaks T NamedChange
+
+-- A REPLY NEVER FITS, which breaks a promise.
+pub record AnswersUnfit (T : Table) (s : Schedule) (moment thread : ℕ) (call : Call) (reply : Reply) : Type 0 where
+  pub answers : ReplyNeverFits T s moment thread call reply
+  pub replies_fit : Breaks T RepliesFit

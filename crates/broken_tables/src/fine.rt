@@ -1,7 +1,6 @@
 //! FineList: why a walk goes hand over hand, and why a remove locks both nodes.
 
-ghost use Rattle.lset_steps.specs.Promises.{NamedChange, UnlinkedNodesStay};
-ghost use Rattle.broken_tables.specs.Findings.{AddedKeyIsLost, Breaks, UnlinkedNodeChanges};
+ghost use Rattle.broken_tables.specs.Findings.{LosesKeyBehind};
 ghost use Rattle.broken_tables.specs.BrokenFine.{
   removed_behind_a_walk,
   removed_under_a_lock,
@@ -15,10 +14,7 @@ ghost use Rattle.broken_tables.specs.BrokenFine.{
 ///
 /// `threads 2 | quota 1 | begin 0 add 3 | go 0 9 | begin 1 add 5 | go 1 10 | begin 0 remove 3 | go 0 5 | go 1 1`
 pub fn remove_with_one_lock()
-    ensures changes { UnlinkedNodeChanges removes_with_one_lock removed_under_a_lock 27 2 }
-    ensures loses { AddedKeyIsLost removes_with_one_lock removed_under_a_lock 27 1 5 }
-    ensures unlinked_stays { Breaks removes_with_one_lock UnlinkedNodesStay }
-    ensures named_change { Breaks removes_with_one_lock NamedChange }
+    ensures { LosesKeyBehind removes_with_one_lock removed_under_a_lock 27 2 1 5 }
 {}
 
 /// A walk that releases the lock of `pred` before it has that of `curr` is at a node that another thread unlinks. A key that
@@ -26,8 +22,5 @@ pub fn remove_with_one_lock()
 ///
 /// `threads 2 | quota 1 | begin 0 add 3 | go 0 9 | begin 1 add 5 | go 1 11 | begin 0 remove 3 | go 0 6 | go 1 1`
 pub fn walk_that_gives_back_pred_first()
-    ensures changes { UnlinkedNodeChanges gives_back_pred_first removed_behind_a_walk 29 2 }
-    ensures loses { AddedKeyIsLost gives_back_pred_first removed_behind_a_walk 29 1 5 }
-    ensures unlinked_stays { Breaks gives_back_pred_first UnlinkedNodesStay }
-    ensures named_change { Breaks gives_back_pred_first NamedChange }
+    ensures { LosesKeyBehind gives_back_pred_first removed_behind_a_walk 29 2 1 5 }
 {}

@@ -1,8 +1,7 @@
 //! LazyList: why a call looks at marks.
 
-ghost use Rattle.lset_steps.specs.Promises.{NamedChange, RepliesFit, UnlinkedNodesStay};
 ghost use Rattle.broken_tables.specs.Schedules.{ceiling, contains};
-ghost use Rattle.broken_tables.specs.Findings.{AddedKeyIsLost, Breaks, ReplyNeverFits, UnlinkedNodeChanges};
+ghost use Rattle.broken_tables.specs.Findings.{AnswersUnfit, LosesKeyBehind};
 ghost use Rattle.broken_tables.specs.BrokenLazy.{
   asked_after_the_mark,
   ceiling_by_key,
@@ -19,10 +18,7 @@ ghost use Rattle.lset_words.specs.declared.Reply.TheVariants.{At, True};
 ///
 /// `threads 2 | quota 1 | begin 1 add 3 | go 1 11 | begin 0 add 5 | go 0 4 | begin 1 remove 3 | go 1 9 | go 0 7`
 pub fn validation_without_the_marks()
-    ensures changes { UnlinkedNodeChanges validates_without_marks marked_before_it_is_locked 33 3 }
-    ensures loses { AddedKeyIsLost validates_without_marks marked_before_it_is_locked 33 0 5 }
-    ensures unlinked_stays { Breaks validates_without_marks UnlinkedNodesStay }
-    ensures named_change { Breaks validates_without_marks NamedChange }
+    ensures { LosesKeyBehind validates_without_marks marked_before_it_is_locked 33 3 0 5 }
 {}
 
 /// A `contains` that finds the node of its key and does not look at its mark replies `True` for a key that was removed
@@ -30,8 +26,7 @@ pub fn validation_without_the_marks()
 ///
 /// `threads 2 | quota 1 | begin 0 add 5 | go 0 11 | begin 0 remove 5 | go 0 7 | begin 1 contains 5 | go 1 3`
 pub fn contains_by_the_key_alone()
-    ensures answers { ReplyNeverFits contains_by_key asked_after_the_mark 23 1 (contains 5) True }
-    ensures replies_fit { Breaks contains_by_key RepliesFit }
+    ensures { AnswersUnfit contains_by_key asked_after_the_mark 23 1 (contains 5) True }
 {}
 
 /// A `ceiling` that stops at a node and does not look at its mark replies a key that was removed before the call began.
@@ -39,6 +34,5 @@ pub fn contains_by_the_key_alone()
 ///
 /// `threads 2 | quota 1 | begin 0 add 5 | go 0 11 | begin 0 remove 5 | go 0 7 | begin 1 ceiling 3 | go 1 3`
 pub fn ceiling_by_the_key_alone()
-    ensures answers { ReplyNeverFits ceiling_by_key sought_after_the_mark 23 1 (ceiling 3) (At (record { 0 = 5 })) }
-    ensures replies_fit { Breaks ceiling_by_key RepliesFit }
+    ensures { AnswersUnfit ceiling_by_key sought_after_the_mark 23 1 (ceiling 3) (At (record { 0 = 5 })) }
 {}

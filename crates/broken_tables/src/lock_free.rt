@@ -1,16 +1,9 @@
 //! LockFreeList: why a remove marks, why its exchange compares the mark and that of an add does too, why a `contains`
 //! looks at the mark, why a slot is used once, and why an add is not full too soon.
 
-ghost use Rattle.lset_steps.specs.Promises.{NamedChange, RepliesFit, UnlinkedNodesStay};
+ghost use Rattle.lset_steps.specs.Promises.{NamedChange, UnlinkedNodesStay};
 ghost use Rattle.broken_tables.specs.Schedules.{add, contains};
-ghost use Rattle.broken_tables.specs.Findings.{
-  AbsentKeyIsRemoved,
-  AddedKeyIsLost,
-  PublishedKeyChanges,
-  Breaks,
-  ReplyNeverFits,
-  UnlinkedNodeChanges,
-};
+ghost use Rattle.broken_tables.specs.Findings.{AbsentKeyIsRemoved, AnswersUnfit, Breaks, LosesKeyBehind, PublishedKeyChanges};
 ghost use Rattle.broken_tables.specs.BrokenLockFree.{
   added_after_a_remove,
   adds_whatever_mark,
@@ -32,10 +25,7 @@ ghost use Rattle.lset_words.specs.declared.Reply.TheVariants.{True, Full};
 ///
 /// `threads 2 | quota 1 | begin 1 add 3 | go 1 6 | begin 0 add 5 | go 0 7 | begin 1 remove 3 | go 1 5 | go 0 1`
 pub fn remove_without_a_mark()
-    ensures changes { UnlinkedNodeChanges removes_without_mark unlinked_before_the_exchange 21 3 }
-    ensures loses { AddedKeyIsLost removes_without_mark unlinked_before_the_exchange 21 0 5 }
-    ensures unlinked_stays { Breaks removes_without_mark UnlinkedNodesStay }
-    ensures named_change { Breaks removes_without_mark NamedChange }
+    ensures { LosesKeyBehind removes_without_mark unlinked_before_the_exchange 21 3 0 5 }
 {}
 
 /// An `add` whose exchange compares the next node and takes any mark links its node behind one that was marked and unlinked.
@@ -44,10 +34,7 @@ pub fn remove_without_a_mark()
 ///
 /// `threads 2 | quota 1 | begin 1 add 3 | go 1 7 | begin 0 add 5 | go 0 7 | begin 1 remove 3 | go 1 6 | go 0 2`
 pub fn add_that_ignores_the_mark()
-    ensures changes { UnlinkedNodeChanges adds_whatever_mark marked_before_the_exchange 24 3 }
-    ensures loses { AddedKeyIsLost adds_whatever_mark marked_before_the_exchange 24 0 5 }
-    ensures unlinked_stays { Breaks adds_whatever_mark UnlinkedNodesStay }
-    ensures named_change { Breaks adds_whatever_mark NamedChange }
+    ensures { LosesKeyBehind adds_whatever_mark marked_before_the_exchange 24 3 0 5 }
 {}
 
 /// A `remove` whose marking succeeds on a node that is marked already says a second time that it has removed the key: two
@@ -64,8 +51,7 @@ pub fn mark_on_a_marked_node()
 ///
 /// `threads 2 | quota 1 | begin 0 add 5 | go 0 6 | begin 0 remove 5 | go 0 5 | begin 1 contains 5 | go 1 3`
 pub fn contains_by_the_key_alone()
-    ensures answers { ReplyNeverFits contains_by_key asked_after_the_mark 16 1 (contains 5) True }
-    ensures replies_fit { Breaks contains_by_key RepliesFit }
+    ensures { AnswersUnfit contains_by_key asked_after_the_mark 16 1 (contains 5) True }
 {}
 
 /// An `add` that takes the slot of a removed node writes another key into a node that other threads may be at. In a correct
@@ -81,6 +67,5 @@ pub fn slot_used_twice()
 ///
 /// `threads 1 | quota 1 | begin 0 add 5 | go 0 3`
 pub fn full_before_the_quota()
-    ensures answers { ReplyNeverFits full_too_soon one_add 3 0 (add 5) Full }
-    ensures replies_fit { Breaks full_too_soon RepliesFit }
+    ensures { AnswersUnfit full_too_soon one_add 3 0 (add 5) Full }
 {}

@@ -1,7 +1,6 @@
 //! OptimisticList: why a call walks a second time from the head, and why it looks there for a node and not for a key.
 
-ghost use Rattle.lset_steps.specs.Promises.{NamedChange, UnlinkedNodesStay};
-ghost use Rattle.broken_tables.specs.Findings.{AddedKeyIsLost, Breaks, UnlinkedNodeChanges};
+ghost use Rattle.broken_tables.specs.Findings.{LosesKeyBehind};
 ghost use Rattle.broken_tables.specs.BrokenOptimistic.{
   arrives_by_key,
   same_key_again,
@@ -15,10 +14,7 @@ ghost use Rattle.broken_tables.specs.BrokenOptimistic.{
 ///
 /// `threads 2 | quota 1 | begin 1 add 3 | go 1 10 | begin 0 add 5 | go 0 4 | begin 1 remove 3 | go 1 9 | go 0 6`
 pub fn validation_by_the_link_alone()
-    ensures changes { UnlinkedNodeChanges validates_by_the_link unlinked_before_it_is_locked 31 3 }
-    ensures loses { AddedKeyIsLost validates_by_the_link unlinked_before_it_is_locked 31 0 5 }
-    ensures unlinked_stays { Breaks validates_by_the_link UnlinkedNodesStay }
-    ensures named_change { Breaks validates_by_the_link NamedChange }
+    ensures { LosesKeyBehind validates_by_the_link unlinked_before_it_is_locked 31 3 0 5 }
 {}
 
 /// A second walk that ends at the key of `pred` accepts another node of that key: the first one was unlinked, and the key
@@ -28,8 +24,5 @@ pub fn validation_by_the_link_alone()
 /// `threads 2 | quota 2 | begin 1 add 3 | go 1 10 | begin 0 add 5 | go 0 4 | begin 1 remove 3 | go 1 9 | begin 1 add 3 |
 /// go 1 10 | go 0 8`
 pub fn second_walk_by_the_key_alone()
-    ensures changes { UnlinkedNodeChanges arrives_by_key same_key_again 44 4 }
-    ensures loses { AddedKeyIsLost arrives_by_key same_key_again 44 0 5 }
-    ensures unlinked_stays { Breaks arrives_by_key UnlinkedNodesStay }
-    ensures named_change { Breaks arrives_by_key NamedChange }
+    ensures { LosesKeyBehind arrives_by_key same_key_again 44 4 0 5 }
 {}

@@ -9,4 +9,4 @@ lost : OtherKeyIsLost goes_without_lock two_adds 13 0 5 3
 lost = other_is_lost goes_without_lock two_adds 13 0 5 3 3 None refl refl refl refl refl refl refl
 
 pub returns : goal.returns
-returns c = record { loses = lost; named_change = by_other_key goes_without_lock two_adds 13 0 5 3 lost }
+returns c = record { loses = lost; named_change = by_other_key lost }

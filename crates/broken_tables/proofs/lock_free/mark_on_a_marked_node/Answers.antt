@@ -9,4 +9,4 @@ absent : AbsentKeyIsRemoved marks_twice two_removes 18 1 5
 absent = absent_is_removed marks_twice two_removes 18 1 5 None refl refl refl refl
 
 pub returns : goal.returns
-returns c = record { takes = absent; named_change = by_absent_key marks_twice two_removes 18 1 5 absent }
+returns c = record { takes = absent; named_change = by_absent_key absent }

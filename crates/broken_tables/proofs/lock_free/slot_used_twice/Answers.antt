@@ -9,4 +9,4 @@ changed : PublishedKeyChanges uses_one_slot added_after_a_remove 18 2
 changed = key_changes uses_one_slot added_after_a_remove 18 0 0 refl refl refl
 
 pub returns : goal.returns
-returns c = record { changes = changed; unlinked_stays = by_key uses_one_slot added_after_a_remove 18 2 changed }
+returns c = record { changes = changed; unlinked_stays = by_key changed }

@@ -1,12 +1,9 @@
-use Rattle.broken_lists.proofs.Sized.{opening_is_sized}
+use Rattle.std.proofs.Common.{◌∙◌, ap, length, List}
+use Rattle.std.proofs.lemmas.List.FromFn.{length-map-range_with_len}
+use Rattle.lset_steps.specs.declared.Local.{Local}
+use Rattle.lset_steps.specs.Steps.{idle}
 use Rattle.broken_lists.proofs.world.BrokenWorld.opened.Goals as goal
 
 pub invariant_of-result : goal.invariant_of-result
-invariant_of-result g c = rw (
-  c.threads.ensures.value,
-  c.quota.ensures.value,
-  c.opening.ensures.value,
-  c.in_ok-words.ensures.words,
-  c.in_ok-locals.ensures,
-)
-    (opening_is_sized c.args.layout.now c.args.keys.now c.requires c.threads.ensures.within)
+invariant_of-result g c = ap (λ (ls : List Local). length ls) c.in_ok-locals.ensures
+    ∙ length-map-range_with_len (idle c.args.layout.now.quota) 0 c.args.layout.now.threads

@@ -1,0 +1,109 @@
+//! The steps of the broken lists: each arm that does not name a function of the right list says what the broken one lacks.
+ghost use Rattle.std.specs.Prelude.{◌≡◌};
+ghost use Rattle.broken_tables.specs.Marks.{seen_without_mark};
+ghost use Rattle.broken_lists.specs.BrokenLists.{table_of};
+ghost use Rattle.broken_lists.specs.BrokenSteps.{IsRunnable};
+
+use crate::lists::BrokenList;
+use crate::lists::BrokenList::{
+    HandOverHand, LastSlot, Lock, Mark, MarkAtKey, MarkInAdd, MarkInCeiling, MarkInContains,
+    MarkInRemove, MarksInValidation, NewSlot, SameNode, SecondLock, SecondWalk,
+};
+use crate::{fine, lock_free, optimistic};
+use lset_steps::reads::{begun_reading, continued};
+use lset_steps::rows::{begun as begun_at, lock_index};
+use lset_steps::{Action, Fed, Local};
+use lset_words::{Call, Key};
+
+/// What a thread sees that overlooks the mark at one row.
+#[inline(always)]
+fn without_mark(row: u8, local: &Local, seen: u64) -> u64
+    ensures { result ≡ seen_without_mark row local.now seen }
+{
+    if local.pc == row {
+        2 * (seen / 2)
+    } else {
+        seen
+    }
+}
+
+/// Every broken list begins a call as the right one.
+#[inline(always)]
+pub fn begun(broken: BrokenList, call: Call, local: &Local) -> Local
+    ensures { result ≡ (table_of broken).begin call local.now }
+{
+    match broken {
+        Lock | SecondLock | HandOverHand | SecondWalk | SameNode => begun_at(1, call, local),
+        MarksInValidation
+        | MarkInContains
+        | MarkInCeiling
+        | Mark
+        | MarkInAdd
+        | MarkInRemove
+        | MarkAtKey
+        | NewSlot
+        | LastSlot => begun_reading(call, local),
+    }
+}
+
+#[inline(always)]
+pub fn next_action(broken: BrokenList, local: &Local) -> Action
+    requires { IsRunnable local.now }
+    ensures { result ≡ (table_of broken).next local.now }
+{
+    match broken {
+        Lock => lset_coarse::next_action(local),
+        HandOverHand if local.pc == 14 => Action::Store(lock_index(local.pred), 0),
+        SecondLock | HandOverHand => lset_fine::next_action(local),
+        SecondWalk | SameNode => lset_optimistic::next_action(local),
+        MarksInValidation | MarkInContains | MarkInCeiling => lset_lazy::next_action(local),
+        MarkInAdd => lock_free::next_whatever_mark(local),
+        NewSlot => lset_lock_free::next_action(&Local { used: 0, ..*local }),
+        Mark | MarkInRemove | MarkAtKey | LastSlot => lset_lock_free::next_action(local),
+    }
+}
+
+#[inline(always)]
+pub fn fed_by(broken: BrokenList, local: &Local, seen: u64) -> Fed
+    requires { IsRunnable local.now }
+    ensures { result ≡ (table_of broken).feed local.now seen }
+{
+    match broken {
+        Lock if local.pc == 1 => lset_coarse::fed_by(local, 0),
+        Lock => lset_coarse::fed_by(local, seen),
+        SecondLock => fine::fed_with_one_lock(local, seen),
+        HandOverHand => fine::fed_pred_first(local, seen),
+        SecondWalk => optimistic::fed_without_walk(local, seen),
+        SameNode if local.pc == 7 => continued(optimistic::arrived_by_key(seen, local)),
+        SameNode => lset_optimistic::fed_by(local, seen),
+        MarksInValidation => {
+            lset_lazy::fed_by(local, without_mark(6, local, without_mark(7, local, seen)))
+        }
+        MarkInContains => lset_lazy::fed_by(local, without_mark(22, local, seen)),
+        MarkInCeiling => lset_lazy::fed_by(local, without_mark(25, local, seen)),
+        Mark => lock_free::fed_without_mark(local, seen),
+        MarkInAdd => lock_free::fed_whatever_mark(local, seen),
+        MarkInRemove => lset_lock_free::fed_by(local, without_mark(9, local, seen)),
+        MarkAtKey => lset_lock_free::fed_by(local, without_mark(22, local, seen)),
+        NewSlot => lset_lock_free::fed_by(local, seen),
+        LastSlot => lock_free::fed_too_soon(local, seen),
+    }
+}
+
+#[inline(always)]
+pub fn effect_of(broken: BrokenList, local: &Local, seen: u64) -> Option<(Key, bool)>
+    requires { IsRunnable local.now }
+    ensures { result ≡ (table_of broken).effect local.now seen }
+{
+    match broken {
+        Lock => lset_coarse::effect_of(local, seen),
+        SecondLock | HandOverHand => lset_fine::effect_of(local, seen),
+        SecondWalk | SameNode => lset_optimistic::effect_of(local, seen),
+        MarksInValidation | MarkInContains | MarkInCeiling => lset_lazy::effect_of(local, seen),
+        Mark => lock_free::effect_without_mark(local, seen),
+        MarkInAdd => lock_free::effect_whatever_mark(local, seen),
+        MarkInRemove => lset_lock_free::effect_of(local, without_mark(9, local, seen)),
+        MarkAtKey => lset_lock_free::effect_of(local, without_mark(22, local, seen)),
+        NewSlot | LastSlot => lset_lock_free::effect_of(local, seen),
+    }
+}
