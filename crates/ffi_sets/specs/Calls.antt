@@ -68,7 +68,7 @@ KeepsSeat true h true h' = IsKept h h'
 KeepsSeat false h false h' = Unit {0}
 KeepsSeat full h full' h' = ⊥
 
--- The other is full; else the one is empty; else none is left, or an allocation failed.
+-- The other is full; else the one is empty; else none is left; else an allocation failed.
 abbrev pub RefusesToSplit : Bool → Held → Bool → ℕ → Type 0
 RefusesToSplit full h true n = n ≡ 15
 RefusesToSplit false h false n = n ≡ 255

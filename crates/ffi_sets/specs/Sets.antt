@@ -1,5 +1,5 @@
 -- What a seat of C holds: its list, its set, the set's number, its seats; and what is done with them.
-use Rattle.std.specs.Prelude.{Bool, true, false, ◌&&◌, nat_eq, is_some, IsSome, ◌≡◌, ◌≤◌, ◌<◌, ◌⊎◌, ◌+◌, ◌++◌, ℕ, zero, suc, List, [], ◌∷◌, Option, Some, None, drop, length, map, option_to_list}
+use Rattle.std.specs.Prelude.{Bool, true, false, ◌&&◌, nat_eq, is_some, IsSome, ◌≡◌, ◌≢◌, ◌≤◌, ◌<◌, ◌⊎◌, ◌+◌, ◌++◌, ℕ, zero, suc, List, [], ◌∷◌, Option, Some, None, drop, length, map, option_to_list}
 use Rattle.std.specs.List.{range_with_len}
 use Rattle.std.specs.Option.{option_map}
 use Rattle.std.specs.Arc.{arc_value}
@@ -125,9 +125,9 @@ abbrev pub gathers : Held → Held → Bool
 gathers h g = same_number (kind_in h) (kind_in g) && same_number (number_in h) (number_in g)
     && is_some (seat_in h) && is_some (seat_in g)
 
--- WHY NO SEAT IS SPLIT OFF: none is left, or an allocation failed.
+-- WHY NO SEAT IS SPLIT OFF: none is left; else an allocation failed.
 abbrev pub HasNoneToSplit : List SeatValue → ℕ → Type 0
-HasNoneToSplit spare n = ((n ≡ 17) × (spare ≡ [])) ⊎ (n ≡ 13)
+HasNoneToSplit spare n = ((n ≡ 17) × (spare ≡ [])) ⊎ ((n ≡ 13) × (spare ≢ []))
 
 -- the caller's duty of two seats of C, if both are full
 abbrev pub GathersAt : Bool → Held → Bool → Held → Type 0

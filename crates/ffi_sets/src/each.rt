@@ -1,5 +1,5 @@
 //! The same of whatever a seat of C holds, list by list.
-ghost use Rattle.std.specs.Prelude.{◌≡◌, ◌<◌, true, false, IsSome, IfOk, IfErr, MatchOption, MatchResult, length};
+ghost use Rattle.std.specs.Prelude.{◌≡◌, ◌≢◌, ◌<◌, true, false, [], IsSome, IfOk, IfErr, MatchBool, MatchOption, MatchResult, length};
 ghost use Rattle.ffi_sets.specs.Sets.{AreAtFront, AreGiven, Gathers, HasClosed, IsBoth, IsKept, IsOneSeat, IsOpenedAs, HasNoneToSplit, RefusesToClose};
 ghost use Rattle.ffi_sets.specs.Sets.{gathers, keys_in, seat_in, set_in, spare_in};
 ghost use Rattle.lset_live.specs.Seats.{RefusesOpening};
@@ -46,6 +46,20 @@ pub fn call_held(held: &mut Held, call: Call) -> Option<Reply>
         Held::Lazy(of) => of.call(call),
         Held::LockFree(of) => of.call(call),
         Held::Closed(_) | Held::Nothing => None,
+    }
+}
+
+/// Whether a seat can be split off.
+pub fn has_spare(held: &Held) -> bool
+    ensures { MatchBool result (spare_in held.now ≢ []) (spare_in held.now ≡ []) }
+{
+    match held {
+        Held::Coarse(of) => !of.spare.is_empty(),
+        Held::Fine(of) => !of.spare.is_empty(),
+        Held::Optimistic(of) => !of.spare.is_empty(),
+        Held::Lazy(of) => !of.spare.is_empty(),
+        Held::LockFree(of) => !of.spare.is_empty(),
+        Held::Closed(_) | Held::Nothing => false,
     }
 }
 

@@ -100,7 +100,7 @@ impl<M: Bounded> SeatOfSet<M> {
         Some(reply)
     }
 
-    /// Splits a seat off. The error is the number that says why not: none remains, or an allocation failed (the set has as
+    /// Splits a seat off. The error is the number that says why not: none remains; else an allocation failed (the set has as
     /// many owners as can be counted).
     pub fn split(&mut self, alloc: Global) -> Result<SeatOfSet<M>, u8>
         ensures set { arc_value self.new.set ≡ arc_value self.old.set }
@@ -110,11 +110,14 @@ impl<M: Bounded> SeatOfSet<M> {
             × IsOneSeat o.seat o.spare.items × AddUp self.new.seat self.new.spare.items o.seat o.spare.items self.old.seat self.old.spare.items)
             (λ n. (self.new.spare.items ≡ self.old.spare.items) × HasNoneToSplit self.old.spare.items n) }
     {
+        if self.spare.is_empty() {
+            return Err(NO_MORE);
+        }
         let Ok(set) = Arc::try_clone(&self.set) else {
             return Err(OUT_OF_MEMORY);
         };
         let Some(seat) = self.spare.pop() else {
-            return Err(NO_MORE);
+            unreachable!()
         };
         let spare = Vec::new(alloc);
         Ok(SeatOfSet {

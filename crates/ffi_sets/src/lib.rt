@@ -20,8 +20,8 @@ ghost use Rattle.ffi_sets.specs.Sets.{GathersAt};
 ghost use Rattle.std.specs.Prelude.{◌≡◌, false};
 
 use answers::{call_from_seat, fault_code, put_new, reply_code};
-use codes::{BAD_KIND, DONE, IS_SEAT, NO_GATHER, NO_SEAT, OUT_OF_MEMORY};
-use each::{call_held, close_held, gather_held, keys_held, open_held, split_held};
+use codes::{BAD_KIND, DONE, IS_SEAT, NO_GATHER, NO_MORE, NO_SEAT, OUT_OF_MEMORY};
+use each::{call_held, close_held, gather_held, has_spare, keys_held, open_held, split_held};
 use held::Held;
 use lset_words::{Call, Key, Reply};
 pub use seat::CSeat;
@@ -59,8 +59,9 @@ pub fn open_set(
 
 /// Takes one of the seats that `seat` contains out of it, into `out`, which must be empty.
 ///
-/// Returns `DONE`, or an error and changes nothing: `IS_SEAT` if `out` is not empty, `NO_SEAT` if `seat` is empty,
-/// `NO_MORE` if no seat can be split off it (so too if it is a closed set), `OUT_OF_MEMORY` if an allocation failed. Does not block.
+/// Returns `DONE`, or changes nothing and returns the first error of these: `IS_SEAT` if `out` is not empty, `NO_SEAT` if
+/// `seat` is empty, `NO_MORE` if no seat can be split off it (so too if it is a closed set), `OUT_OF_MEMORY` if an allocation
+/// failed. Does not block.
 pub fn split_seat(alloc: Global, seat: &mut CSeat, out: &mut CSeat) -> u8
     ensures { HasSplit seat.old.full seat.old.held out.old.full out.old.held result seat.new.full seat.new.held out.new.full out.new.held }
 {
@@ -71,6 +72,10 @@ pub fn split_seat(alloc: Global, seat: &mut CSeat, out: &mut CSeat) -> u8
     let Some(mut held) = take(alloc, seat) else {
         return NO_SEAT;
     };
+    if !has_spare(&held) {
+        put(seat, held);
+        return NO_MORE;
+    }
     // (the box is made first, so that no seat is lost if that fails)
     let Ok(mut made) = Box::new(alloc, Held::Nothing) else {
         put(seat, held);
