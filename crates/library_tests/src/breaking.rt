@@ -3,25 +3,13 @@
 
 ghost use Rattle.std.specs.Prelude.{⊤};
 
+use crate::prelude::*;
 use broken_lists::{ALL, BrokenList, BrokenMachine, BrokenWorld, Task, on_broken, run_broken};
-use lset_claims::{Claim, claim_of};
-use lset_coarse::CoarseList;
-use lset_fine::FineList;
-use lset_history::{History, Oracle, check_order};
-use lset_lazy::LazyList;
-use lset_lock_free::LockFreeList;
-use lset_optimistic::OptimisticList;
-use lset_replay::{Listener, TracedEvent, replay};
+use lset_replay::{Listener, TracedEvent};
 use lset_report::Report;
-use lset_schedule::{generate, read_schedule};
-use lset_steps::{Event, Machine};
+use lset_schedule::read_schedule;
 use lset_text::{call_word, kind_word};
-use lset_words::{Call, Key, Reply, layout_opening};
-use rand_core::{Rng, SeedableRng};
-use rand_pcg::Pcg32;
-use std::alloc::{AllocError, Global};
-use std::process::Abort;
-use std::test::Fail;
+use lset_words::layout_opening;
 
 const RUNS: u64 = 2_000;
 
@@ -118,51 +106,36 @@ fn judged(alloc: Global, report: &Report) -> Result<(bool, bool), Fail> {
     Ok((refused, unexplained))
 }
 
-/// Whether the order of a random run is refused, and whether it is known that none explains it; then its own is refused.
-fn run_of<R: Abort>(
-    rt: &R,
-    alloc: Global,
-    broken: BrokenList,
-    seed: u64,
-) -> Result<(bool, bool), Fail> {
+/// Whether the order of a random run is refused, and whether it is known that none explains it.
+fn run_of(alloc: Global, broken: BrokenList, seed: u64) -> Result<(bool, bool), Fail> {
     let drawing = Drawing {
         alloc,
         broken,
         seed,
     };
     let text = on_broken(broken, drawing)?;
-    let report = report_of(alloc, broken, text.as_str())?;
-    let (refused, unexplained) = judged(alloc, &report)?;
-    assert!(rt; refused || !unexplained);
-    Ok((refused, unexplained))
+    judged(alloc, &report_of(alloc, broken, text.as_str())?)
 }
 
-/// Whether some random run is refused, and whether of some it is known that no order explains it.
+/// Whether some random run is refused, and whether of some it is known that no order explains it; then its own is refused.
 fn found<R: Abort>(rt: &R, alloc: Global, broken: BrokenList) -> Result<(bool, bool), Fail> {
     let mut found = (false, false);
     for seed in 0..RUNS {
-        let (refused, unexplained) = run_of(rt, alloc, broken, seed)?;
+        let (refused, unexplained) = run_of(alloc, broken, seed)?;
+        assert!(rt; refused || !unexplained, "seed {seed}");
         found = (found.0 || refused, found.1 || unexplained);
     }
     Ok(found)
 }
 
 /// No run is known that no order explains, of the list whose `contains` looks at no mark.
-fn is_known_to_break(broken: BrokenList) -> bool {
-    broken != BrokenList::MarkInContains
-}
-
 #[test]
 fn each_broken_list_is_refused(rt: HostRuntime) -> Result<(), Fail> {
     for broken in &ALL {
         let (refused, unexplained) = found(&rt, rt.alloc(), *broken)?;
         assert!(rt; refused, "{}", broken.name());
-        assert_eq!(rt;
-            unexplained,
-            is_known_to_break(*broken),
-            "{}",
-            broken.name()
-        );
+        let is_known = *broken != BrokenList::MarkInContains;
+        assert_eq!(rt; unexplained, is_known, "{}", broken.name());
     }
     Ok(())
 }

@@ -1,10 +1,7 @@
 ghost use Rattle.std.specs.Prelude.{◌≡◌, ◌≤◌, ◌<◌, ℕ, All, OnOk, not};
 ghost use Rattle.lset_history.specs.Changes.{moments_of, is_present_now};
 
-use lset_history::Changes;
-use std::alloc::{AllocError, Global};
-use std::process::Abort;
-use std::test::Fail;
+use crate::prelude::*;
 
 /// Notes that the key 5 was put in, or taken out, after the last moment that was noted.
 fn note(changes: &mut Changes, present: bool, last: u32, at: u32) -> Result<(), AllocError>

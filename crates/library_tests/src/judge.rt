@@ -1,26 +1,9 @@
 //! The judge, and the order that is found, beside a search of all orders, on 100,000 small histories, with what its refusals say and how
 //! many calls overlap a change; on runs of the five lists; and on histories that it does not decide.
 
-use lset_coarse::CoarseList;
-use lset_fine::FineList;
-use lset_history::{History, check_order};
-use lset_judge::{
-    LAST_MOMENT, Refusal, Stream, StreamCall, StreamFault, StreamRefusal, StreamVerdict, Verdict,
-    Window, is_judged, judge, judge_cut_off, judge_without_quota, overlapped, window_of_refusal,
-};
-use lset_lazy::LazyList;
-use lset_lock_free::LockFreeList;
-use lset_optimistic::OptimisticList;
-use lset_order::{Found, find_order};
-use lset_replay::replay;
-use lset_schedule::generate;
-use lset_steps::Machine;
-use lset_words::{Call, CallRecord, Key, Reply};
-use rand_core::{Rng, SeedableRng};
-use rand_pcg::Pcg32;
-use std::alloc::{AllocError, Global};
-use std::process::Abort;
-use std::test::Fail;
+use crate::made::in_turn;
+use crate::prelude::*;
+use lset_judge::{Window, overlapped};
 
 const HISTORIES: u32 = 100_000;
 
@@ -30,13 +13,13 @@ const MOST_CALLS: usize = 7;
 
 /// The keys 0 and 1 of a set, a bit for each.
 fn keys_of(alloc: Global, set: usize) -> Result<Vec<u32>, AllocError> {
-    let mut keys = Vec::new(alloc);
-    for key in 0..2 {
-        if (set >> key) & 1 == 1 {
-            keys.push(key)?;
-        }
-    }
-    Ok(keys)
+    let keys: &[u32] = match set {
+        0 => &[],
+        1 => &[0],
+        2 => &[1],
+        _ => &[0, 1],
+    };
+    Vec::from_slice(alloc, keys)
 }
 
 /// The last moment of a small history.
@@ -66,7 +49,11 @@ fn answered(set: usize, call: Call) -> (Reply, usize) {
         Call::Remove(_) => (is_there, set & !bit),
         Call::Contains(_) | Call::Ceiling(_) => (is_there, set),
     };
-    (if is_true { Reply::True } else { Reply::False }, after)
+    (reply_of(is_true), after)
+}
+
+fn reply_of(is_true: bool) -> Reply {
+    if is_true { Reply::True } else { Reply::False }
 }
 
 /// Whether a call may be the next of an order that has placed these calls: no other that ended before it began is still to come.
@@ -94,10 +81,7 @@ fn are_ended_placed(calls: &[CallRecord], placed: usize) -> bool {
 fn reach(calls: &[CallRecord], reached: &mut [[bool; 4]; 128], placed: usize, set: usize) {
     for (number, call) in calls.iter().enumerate() {
         let (reply, after) = answered(set, call.call);
-        let wanted = match call.ended {
-            Some((_, reply)) => reply,
-            None => Reply::True,
-        };
+        let wanted = call.ended.map_or(Reply::True, |(_, reply)| reply);
         if reply == wanted && is_free(calls, placed, number) {
             reached[placed | (1usize << number)][after] = true;
         }
@@ -157,23 +141,16 @@ fn drawn_history(alloc: Global, rng: &mut Pcg32) -> Result<(History, usize, usiz
                 let (late, after) = answered(set, call);
                 let reply = early.unwrap_or(late);
                 set = if early.is_none() { after } else { set };
-                let is_wrong = is_one_of(rng, 12);
-                let other = if reply == Reply::True {
-                    Reply::False
-                } else {
-                    Reply::True
-                };
-                history.end(number, if is_wrong { other } else { reply }, at)?;
+                let is_true = (reply == Reply::True) != is_one_of(rng, 12);
+                history.end(number, reply_of(is_true), at)?;
                 open[thread as usize] = None;
             }
         }
     }
-    let left = if is_one_of(rng, 4) {
-        (rng.next_u32() % 4) as usize
-    } else {
-        set
-    };
-    Ok((history, opening, left))
+    if is_one_of(rng, 4) {
+        set = (rng.next_u32() % 4) as usize;
+    }
+    Ok((history, opening, set))
 }
 
 /// Whether each order of the calls of a window's key up to its moment leaves the key as the window has it.
@@ -185,12 +162,8 @@ fn is_forced(alloc: Global, history: &History, window: &Window) -> Result<bool, 
             before.push(*call)?;
         }
     }
-    let mut opening = 0;
-    for key in history.opening() {
-        if *key == window.key.0 {
-            opening = bit;
-        }
-    }
+    let opens = history.opening().contains(&window.key.0);
+    let opening = if opens { bit } else { 0 };
     let other = if window.there { 0 } else { bit };
     Ok(!has_order(&before, opening, other))
 }
@@ -291,10 +264,7 @@ fn is_apart(history: &History, window: &Window) -> bool {
     }
     calls.iter().all(|call| {
         let has_ended = matches!(call.ended, Some((end, _)) if end <= window.since);
-        let is_change = match call.ended {
-            Some((_, reply)) => reply == Reply::True,
-            None => true,
-        };
+        let is_change = call.ended.is_none_or(|(_, reply)| reply == Reply::True);
         let is_look = matches!(call.call, Call::Contains(_)) || !is_change;
         has_ended || is_look || call.call.key() != window.key || call.begun > window.since
     })
@@ -338,12 +308,8 @@ fn an_order_of_small_histories_is_found_if_there_is_one(rt: HostRuntime) -> Resu
         let is_explained = has_order(history.calls(), opening, left);
         let is_found = is_ordered(alloc, &history, &keys)?;
         assert!(rt; is_found == Some(is_explained), "history {number}");
-        let far = stretched(alloc, &history)?;
-        let is_found = is_ordered(alloc, &far, &keys)?;
-        assert!(rt;
-            is_found == Some(is_explained),
-            "history {number}, stretched"
-        );
+        let is_found = is_ordered(alloc, &stretched(alloc, &history)?, &keys)?;
+        assert!(rt; is_found == Some(is_explained), "{number}, stretched");
     }
     Ok(())
 }
@@ -416,19 +382,13 @@ fn the_judge_is_right_of_small_histories(rt: HostRuntime) -> Result<(), Fail> {
         let (history, opening, left) = drawn_history(alloc, &mut rng)?;
         let keys = keys_of(alloc, left)?;
         let is_explained = has_order(history.calls(), opening, left);
-        assert!(rt;
-            overlapped(alloc, &history)? == met(history.calls()),
-            "history {number}"
-        );
+        let count = overlapped(alloc, &history)?;
+        assert!(rt; count == met(history.calls()), "history {number}");
         let has_some = has_some_order(history.calls(), opening);
-        assert!(rt;
-            (judge_cut_off(alloc, &history)? == Verdict::Linearizable) == has_some,
-            "history {number}, cut off"
-        );
-        assert!(rt;
-            is_streamed(alloc, &history, &keys, is_explained, has_some)?,
-            "history {number}, as a stream"
-        );
+        let is_legal = judge_cut_off(alloc, &history)? == Verdict::Linearizable;
+        assert!(rt; is_legal == has_some, "history {number}, cut off");
+        let is_streamed = is_streamed(alloc, &history, &keys, is_explained, has_some)?;
+        assert!(rt; is_streamed, "history {number}, as a stream");
         match judge(alloc, &history, &keys)? {
             Verdict::Linearizable => {
                 assert!(rt; is_explained, "history {number}");
@@ -436,18 +396,12 @@ fn the_judge_is_right_of_small_histories(rt: HostRuntime) -> Result<(), Fail> {
             }
             Verdict::NotLinearizable(refusal) => {
                 assert!(rt; !is_explained, "history {number}");
-                assert!(rt;
-                    is_told(alloc, &history, opening, left, refusal)?,
-                    "history {number}"
-                );
-                assert!(rt;
-                    is_refused_alike(alloc, &history, &keys, refusal)?,
-                    "history {number}, as a stream"
-                );
-                assert!(rt;
-                    are_refused_alike(alloc, &history, &keys, refusal)?,
-                    "history {number}, by the other judges"
-                );
+                let is_told = is_told(alloc, &history, opening, left, refusal)?;
+                assert!(rt; is_told, "history {number}");
+                let is_alike = is_refused_alike(alloc, &history, &keys, refusal)?;
+                assert!(rt; is_alike, "history {number}, as a stream");
+                let are_alike = are_refused_alike(alloc, &history, &keys, refusal)?;
+                assert!(rt; are_alike, "history {number}, by the other judges");
                 let size = window_size(&rt, alloc, &history, &keys, refusal)?;
                 assert!(rt; size <= MOST_CALLS, "history {number}");
                 shown += size;
@@ -456,10 +410,7 @@ fn the_judge_is_right_of_small_histories(rt: HostRuntime) -> Result<(), Fail> {
         }
     }
     let without = (HISTORIES - with_order) as usize;
-    assert!(rt;
-        with_order > 30_000 && without > 30_000,
-        "{with_order} with an order"
-    );
+    assert!(rt; with_order > 30_000 && without > 30_000, "{with_order}");
     assert!(rt; shown < 4 * without, "{shown} calls shown of {without}");
     Ok(())
 }
@@ -490,19 +441,20 @@ fn runs_of_the_five_lists_are_linearizable(rt: HostRuntime) -> Result<(), Fail> 
 
 /// The history of one call of a set that opens with the key 5, and has room for no add.
 fn one_call(alloc: Global, call: Call, reply: Reply) -> Result<History, Fail> {
-    let mut history = History::opened(alloc, 1, 0, Vec::from_slice(alloc, &[5])?);
-    let number = history.begin(0, call, 1)?;
-    history.end(number, reply, 2)?;
-    Ok(history)
+    let history = History::opened(alloc, 1, 0, Vec::from_slice(alloc, &[5])?);
+    in_turn(history, &[(0, call, reply)])
+}
+
+/// No order leaves this key as it was left.
+fn lost(key: u32) -> Verdict {
+    let (key, moment) = (Key(key), None);
+    Verdict::NotLinearizable(Refusal { key, moment })
 }
 
 #[test]
 fn calls_that_the_judge_does_not_decide(rt: HostRuntime) -> Result<(), Fail> {
     let alloc = rt.alloc();
-    let lost = Verdict::NotLinearizable(Refusal {
-        key: Key(5),
-        moment: None,
-    });
+    let lost = lost(5);
     for (call, reply) in [
         (Call::Ceiling(Key(1)), Reply::At(Key(5))),
         (Call::Add(Key(6)), Reply::Full),
@@ -525,83 +477,6 @@ fn a_set_without_a_quota_takes_any_adds(rt: HostRuntime) -> Result<(), Fail> {
     let history = one_call(alloc, Call::Add(Key(6)), Reply::True)?;
     assert!(rt; judge(alloc, &history, &[5, 6])? == Verdict::Undecided);
     assert!(rt; judge_without_quota(alloc, &history, &[5, 6])? == Verdict::Linearizable);
-    let lost = Refusal {
-        key: Key(6),
-        moment: None,
-    };
-    assert!(rt; judge_without_quota(alloc, &history, &[5])? == Verdict::NotLinearizable(lost));
-    Ok(())
-}
-
-/// An `add` of key 6 by thread 9, from moment 5 on.
-fn later_add(ended: Option<(u64, Reply)>) -> StreamCall {
-    StreamCall {
-        thread: 9,
-        call: Call::Add(Key(6)),
-        begun: 5,
-        ended,
-    }
-}
-
-#[test]
-fn calls_that_cannot_come_next_in_a_stream(rt: HostRuntime) -> Result<(), Fail> {
-    let alloc = rt.alloc();
-    let mut stream = Stream::new(alloc, &[])?;
-    let first = StreamCall {
-        begun: 2,
-        thread: u32::MAX,
-        ..later_add(Some((7, Reply::True)))
-    };
-    stream.add(first)?;
-    let ended = later_add(Some((6, Reply::False)));
-    let others = [
-        (StreamCall { begun: 2, ..ended }, StreamFault::Early),
-        (
-            later_add(Some((LAST_MOMENT + 1, Reply::True))),
-            StreamFault::Early,
-        ),
-        (later_add(Some((5, Reply::True))), StreamFault::Ends),
-        (later_add(Some((6, Reply::Full))), StreamFault::NotPlain),
-        (later_add(Some((7, Reply::False))), StreamFault::Taken),
-        (
-            StreamCall {
-                begun: 7,
-                ..later_add(None)
-            },
-            StreamFault::Taken,
-        ),
-        (
-            StreamCall {
-                thread: u32::MAX,
-                ..ended
-            },
-            StreamFault::Busy,
-        ),
-    ];
-    for (call, fault) in others {
-        assert!(rt; stream.add(call) == Err(fault), "{fault}");
-    }
-    stream.add(ended)?;
-    assert!(rt; stream.close(&[6])? == StreamVerdict::Linearizable);
-    Ok(())
-}
-
-#[test]
-fn what_a_stream_says_of_calls_without_an_order(rt: HostRuntime) -> Result<(), Fail> {
-    let alloc = rt.alloc();
-    let mut stream = Stream::new(alloc, &[6])?;
-    stream.add(later_add(Some((LAST_MOMENT, Reply::True))))?;
-    let taken = StreamRefusal {
-        key: Key(6),
-        moment: Some(LAST_MOMENT),
-    };
-    assert!(rt; stream.close_cut_off()? == StreamVerdict::NotLinearizable(taken));
-    let mut stream = Stream::new(alloc, &[6])?;
-    stream.add(later_add(None))?;
-    let lost = StreamRefusal {
-        key: Key(6),
-        moment: None,
-    };
-    assert!(rt; stream.close(&[])? == StreamVerdict::NotLinearizable(lost));
+    assert!(rt; judge_without_quota(alloc, &history, &[5])? == lost(6));
     Ok(())
 }

@@ -1,28 +1,14 @@
 //! Large histories of which something is wrong, and the time that they take: a test has a minute, and a search of all pairs would take
 //! longer.
 
-use lset_claims::{Claim, claim_of};
-use lset_history::{History, OrderFault, check_order};
-use lset_judge::{Refusal, Verdict, judge, judge_cut_off, judge_without_quota, window_of_refusal};
-use lset_order::{Found, find_order};
-use lset_words::{Call, CallRecord, Key, MOST_QUOTA, MOST_THREADS, Placed, Reply};
-use std::alloc::{AllocError, Global};
-use std::process::Abort;
-use std::test::Fail;
-
-const FIVE: Key = Key(5);
+use crate::made::{FIVE, are_refused, ended, has_no_order, rising_keys};
+use crate::prelude::*;
 
 /// How often key 5 goes in and out.
 const TIMES: u32 = 100_000;
 
-/// A call with the reply true.
 fn true_call(thread: u32, call: Call, begun: u32, end: u32) -> CallRecord {
-    CallRecord {
-        thread,
-        call,
-        begun,
-        ended: Some((end, Reply::True)),
-    }
+    ended(thread, call, (begun, end), Reply::True)
 }
 
 fn history_of(alloc: Global, quota: u32, calls: Vec<CallRecord>) -> History {
@@ -37,12 +23,8 @@ fn in_and_out(alloc: Global, last: Reply) -> Result<History, AllocError> {
         calls.push(true_call(thread, Call::Add(FIVE), at + 1, at + 2))?;
         calls.push(true_call(thread, Call::Remove(FIVE), at + 3, at + 4))?;
     }
-    calls.push(CallRecord {
-        thread: 0,
-        call: Call::Contains(FIVE),
-        begun: 4 * TIMES + 1,
-        ended: Some((4 * TIMES + 2, last)),
-    })?;
+    let bar = (4 * TIMES + 1, 4 * TIMES + 2);
+    calls.push(ended(0, Call::Contains(FIVE), bar, last))?;
     Ok(history_of(alloc, MOST_QUOTA, calls))
 }
 
@@ -52,20 +34,11 @@ fn assert_last_is_shown<R: Abort>(rt: &R, alloc: Global, history: &History) -> R
         key: FIVE,
         moment: Some(4 * TIMES + 2),
     };
-    let refused = Verdict::NotLinearizable(refusal);
-    assert!(rt; judge(alloc, history, &[])? == refused);
-    assert!(rt; judge_without_quota(alloc, history, &[])? == refused);
-    assert!(rt; judge_cut_off(alloc, history)? == refused);
+    assert!(rt; are_refused(alloc, history, &[], refusal)?);
+    assert!(rt; has_no_order(alloc, history, &[], refusal)?);
     let window = window_of_refusal(alloc, history, &[], refusal)?;
-    assert!(rt;
-        window.calls.as_slice() == [2 * TIMES].as_slice(),
-        "{}",
-        window.calls.len()
-    );
-    let claim = claim_of(alloc, history, &[])?;
-    assert!(rt; matches!(claim, Claim::OfKey(told, _) if told == refusal));
-    let found = find_order(alloc, history, &[])?;
-    assert!(rt; matches!(found, Found::NoOrder(told) if told == refusal));
+    let calls = window.calls.as_slice();
+    assert!(rt; calls == [2 * TIMES].as_slice(), "{}", calls.len());
     Ok(())
 }
 
@@ -84,8 +57,7 @@ fn an_order_of_many_calls_is_wrong_at_last(rt: HostRuntime) -> Result<(), Fail> 
     let alloc = rt.alloc();
     let history = in_and_out(alloc, Reply::False)?;
     let Found::Order(mut order) = find_order(alloc, &history, &[])? else {
-        assert!(rt; false, "no order is found");
-        return Ok(());
+        return Err(Fail::new("no order is found"));
     };
     let last = 2 * TIMES;
     assert!(rt; check_order(alloc, &history, &order, &[5]) == Err(OrderFault::WrongSet));
@@ -97,10 +69,8 @@ fn an_order_of_many_calls_is_wrong_at_last(rt: HostRuntime) -> Result<(), Fail> 
         (last + 1, Reply::True, OrderFault::Unknown(last + 1)),
     ] {
         order.push(Placed { call, reply })?;
-        assert!(rt;
-            check_order(alloc, &history, &order, &[]) == Err(fault),
-            "{fault}"
-        );
+        let judged = check_order(alloc, &history, &order, &[]);
+        assert!(rt; judged == Err(fault), "{fault}");
         assert!(rt; order.pop().is_some());
     }
     Ok(())
@@ -113,7 +83,8 @@ fn the_calls_of_a_key_that_never_rests_are_shown(rt: HostRuntime) -> Result<(), 
     let alloc = rt.alloc();
     let mut calls = Vec::new(alloc);
     for number in 0..2 * TIMES {
-        let call = if number % 2 == 0 {
+        let is_add = number % 2 == 0;
+        let call = if is_add {
             Call::Add(FIVE)
         } else {
             Call::Remove(FIVE)
@@ -123,8 +94,7 @@ fn the_calls_of_a_key_that_never_rests_are_shown(rt: HostRuntime) -> Result<(), 
     calls.push(true_call(2, Call::Remove(FIVE), 4 * TIMES + 1, 4 * TIMES + 5))?;
     let history = history_of(alloc, MOST_QUOTA, calls);
     let Verdict::NotLinearizable(refusal) = judge_without_quota(alloc, &history, &[])? else {
-        assert!(rt; false, "the calls are not refused");
-        return Ok(());
+        return Err(Fail::new("the calls are not refused"));
     };
     assert!(rt; refusal.key == FIVE && refusal.moment == Some(4 * TIMES + 5));
     let window = window_of_refusal(alloc, &history, &[], refusal)?;
@@ -139,15 +109,10 @@ fn the_calls_that_find_a_key_are_left_out(rt: HostRuntime) -> Result<(), Fail> {
     let mut calls = Vec::new(alloc);
     calls.push(true_call(0, Call::Remove(FIVE), 1, u32::MAX - 1))?;
     for number in 1..=TIMES + 2 {
-        let look = true_call(1, Call::Contains(FIVE), 2 * number, 2 * number + 1);
-        calls.push(if number == TIMES + 1 {
-            CallRecord {
-                ended: Some((2 * number + 1, Reply::False)),
-                ..look
-            }
-        } else {
-            look
-        })?;
+        let is_there = number != TIMES + 1;
+        let reply = if is_there { Reply::True } else { Reply::False };
+        let bar = (2 * number, 2 * number + 1);
+        calls.push(ended(1, Call::Contains(FIVE), bar, reply))?;
     }
     let opening = Vec::from_slice(alloc, &[FIVE.0])?;
     let history = History::from_calls(2, 0, opening, calls);
@@ -157,11 +122,8 @@ fn the_calls_that_find_a_key_are_left_out(rt: HostRuntime) -> Result<(), Fail> {
     };
     assert!(rt; judge(alloc, &history, &[])? == Verdict::NotLinearizable(refusal));
     let window = window_of_refusal(alloc, &history, &[], refusal)?;
-    assert!(rt;
-        window.calls.as_slice() == [0, TIMES + 1, TIMES + 2].as_slice(),
-        "{}",
-        window.calls.len()
-    );
+    let (calls, wanted) = (window.calls.as_slice(), [0, TIMES + 1, TIMES + 2]);
+    assert!(rt; calls == wanted.as_slice(), "{}", calls.len());
     Ok(())
 }
 
@@ -171,12 +133,12 @@ const MANY_KEYS: u32 = 500_000;
 #[test]
 fn many_keys_are_put_in_and_stay(rt: HostRuntime) -> Result<(), Fail> {
     let alloc = rt.alloc();
-    let (mut calls, mut keys) = (Vec::new(alloc), Vec::new(alloc));
+    let mut calls = Vec::new(alloc);
     for key in 0..MANY_KEYS {
         let thread = key % MOST_THREADS;
         calls.push(true_call(thread, Call::Add(Key(key)), 2 * key + 1, 2 * key + 2))?;
-        keys.push(key)?;
     }
+    let mut keys = rising_keys(alloc, MANY_KEYS)?;
     let history = history_of(alloc, MOST_QUOTA, calls);
     assert!(rt; judge(alloc, &history, &keys)? == Verdict::Linearizable);
     assert!(rt; keys.pop() == Some(MANY_KEYS - 1));
@@ -188,7 +150,6 @@ fn many_keys_are_put_in_and_stay(rt: HostRuntime) -> Result<(), Fail> {
     Ok(())
 }
 
-/// The slots of a thread.
 const QUOTA: u32 = 1_000;
 
 /// Each thread uses its slots up, but for the last one a slot; then each call of many answers `full`, and at last one of the last thread.
@@ -203,17 +164,11 @@ fn the_last_of_many_fulls_is_too_soon(rt: HostRuntime) -> Result<(), Fail> {
     }
     for number in MOST_THREADS * QUOTA - 1..MANY_KEYS {
         let is_last = number == MANY_KEYS - 1;
-        calls.push(CallRecord {
-            thread: if is_last { last } else { number % last },
-            call: Call::Add(Key(MANY_KEYS)),
-            begun: 2 * number + 1,
-            ended: Some((2 * number + 2, Reply::Full)),
-        })?;
+        let thread = if is_last { last } else { number % last };
+        let bar = (2 * number + 1, 2 * number + 2);
+        calls.push(ended(thread, Call::Add(Key(MANY_KEYS)), bar, Reply::Full))?;
     }
-    let mut keys = Vec::new(alloc);
-    for key in 0..MOST_THREADS * QUOTA - 1 {
-        keys.push(key)?;
-    }
+    let keys = rising_keys(alloc, MOST_THREADS * QUOTA - 1)?;
     let claim = claim_of(alloc, &history_of(alloc, QUOTA, calls), &keys)?;
     assert!(rt; matches!(claim, Claim::OfFull(call) if call == MANY_KEYS - 1));
     Ok(())

@@ -1,18 +1,10 @@
 //! The laws that no code calls, each called once, of lists of which it is said.
+use crate::prelude::*;
 use broken_tables::{coarse, fine, lazy, lock_free, optimistic};
-use lset_history::{
-    every_call_has_a_place, fits_are_replies, logs_tell_histories, placement_is_one_order,
-    placement_linearizes,
-};
-use lset_lazy::LazyList;
+use lset_history::*;
 use lset_optimistic::laws::{optimistic_replies_fit, validated_walk};
 use lset_schedule::schedules_read_back;
-use lset_steps::OpenReads;
-use lset_steps::laws::{
-    bounded_reads, frozen_nodes, in_range, lock_uses, lock_words, no_link_is_marked,
-    seen_in_the_past, sorted_chain, true_means_change, unlinked_nodes_stay,
-    unmarked_nodes_in_chain, walk_was_in_chain,
-};
+use lset_steps::laws::*;
 use lset_text::{headers_read_back, numbers_read_back, words_read_back};
 use lset_words::{Kind, words_are_apart};
 

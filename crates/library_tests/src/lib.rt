@@ -7,8 +7,6 @@ mod breaking;
 #[cfg(test)]
 mod changes;
 #[cfg(test)]
-mod claims;
-#[cfg(test)]
 mod history;
 #[cfg(test)]
 mod judge;
@@ -19,15 +17,17 @@ mod large_refusals;
 #[cfg(test)]
 mod laws;
 #[cfg(test)]
+mod made;
+#[cfg(test)]
 mod openings;
 #[cfg(test)]
 mod parts;
 #[cfg(test)]
 mod points;
 #[cfg(test)]
-mod runs;
+mod prelude;
 #[cfg(test)]
-mod schedule;
+mod runs;
 #[cfg(test)]
 mod steps;
 #[cfg(test)]

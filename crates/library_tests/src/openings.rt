@@ -2,15 +2,10 @@
 ghost use Rattle.std.specs.Prelude.{◌≡◌, IfOk};
 
 use crate::history::{Judged, assert_judged, assert_replies};
+use crate::made::in_turn;
+use crate::prelude::*;
 use crate::worlds::{self, assert_content};
-use lset_coarse::CoarseList;
-use lset_history::{Changes, History, Oracle, OrderFault};
-use lset_lock_free::LockFreeList;
-use lset_steps::{Machine, World};
-use lset_words::{Call, Key, Placed, Reply, layout_opening};
-use std::alloc::{AllocError, Global};
-use std::process::Abort;
-use std::test::Fail;
+use lset_words::layout_opening;
 
 /// An opening key goes out as any other and comes in again in a slot; the head's first key and the last before the tail too.
 const COME_AND_GO: [(Call, Reply); 6] = [
@@ -70,12 +65,8 @@ fn vector_of(alloc: Global, keys: &[u32]) -> Result<Vec<u32>, AllocError>
     Vec::from_slice(alloc, keys)
 }
 
-/// After this history, one call that takes the key 9 out.
-fn remove_of_nine(mut history: History) -> Result<History, Fail> {
-    history.begin(0, Call::Remove(Key(9)), 1)?;
-    history.end(0, Reply::True, 2)?;
-    Ok(history)
-}
+/// A call takes the key 9 out.
+const REMOVES: (u32, Call, Reply) = (0, Call::Remove(Key(9)), Reply::True);
 
 /// That call is legal from the key 9 alone.
 #[test]
@@ -86,14 +77,14 @@ fn an_order_is_judged_from_the_opening_keys(rt: HostRuntime) -> Result<(), Fail>
         reply: Reply::True,
     }];
     let opening = vector_of(alloc, &[9, 11])?;
-    let opened = remove_of_nine(History::opened(alloc, 1, 0, opening))?;
+    let opened = in_turn(History::opened(alloc, 1, 0, opening), &[REMOVES])?;
     assert!(rt; opened.opening() == [9, 11].as_slice());
     let of_opened: [Judged; 2] = [
         (&order, &[11], Ok(())),
         (&order, &[], Err(OrderFault::WrongSet)),
     ];
     assert_judged(&rt, alloc, &opened, &of_opened);
-    let empty = remove_of_nine(History::new(alloc, 1, 0))?;
+    let empty = in_turn(History::new(alloc, 1, 0), &[REMOVES])?;
     let of_empty: [Judged; 1] = [(&order, &[], Err(OrderFault::WrongReply(0)))];
     assert_judged(&rt, alloc, &empty, &of_empty);
     Ok(())

@@ -1,62 +1,41 @@
 //! Calls with a `ceiling`, judged by the points that were given for their changes.
 
+use crate::prelude::*;
 use lset_calls::{Calls, ClashFault, read_calls};
-use lset_history::OrderFault;
 use lset_points::judge_by_points;
-use std::alloc::Global;
-use std::process::Abort;
-use std::test::Fail;
 
-const RIGHT: &str = "listset-calls 2
-list coarse
-threads 2
-quota 4
-call 0 add 5 1 3 6 true
+const HEAD: &str = "listset-calls 2\nlist coarse\nthreads 2\nquota 4\n";
+
+/// Each `ceiling` finds what is there at its end.
+const RIGHT: &str = "call 0 add 5 1 3 6 true
 call 1 ceiling 4 2 - 4 at-5
 call 1 ceiling 6 5 - 7 nothing
-key 5
-end
 ";
 
-/// The first `ceiling` finds key 5 no more at its end.
-const WRONG: &str = "listset-calls 2
-list coarse
-threads 2
-quota 4
-call 0 add 5 1 3 6 true
+/// A `ceiling` finds key 5 no more at its end.
+const WRONG: &str = "call 0 add 5 1 3 6 true
 call 1 ceiling 4 4 - 5 nothing
-key 5
-end
 ";
 
-const CLASHING: &str = "listset-calls 2
-list coarse
-threads 2
-quota 4
-call 0 add 5 1 3 6 true
+const CLASHING: &str = "call 0 add 5 1 3 6 true
 call 1 contains 5 3 - 5 true
-key 5
-end
 ";
 
-/// What is wrong first with the calls of a text, by their points.
-fn fault_of<R: Abort>(rt: &R, alloc: Global, text: &str) -> Result<Option<OrderFault>, ClashFault> {
-    let read = read_calls(alloc, text.as_bytes());
-    assert!(rt; read.is_ok());
-    match read {
-        Ok(calls) => Ok(judge_by_points(alloc, calls)?.fault),
-        Err(_) => Err(ClashFault::Memory),
+/// What is wrong first with these calls, by their points, and if they leave key 5.
+fn fault_of(alloc: Global, lines: &str) -> Result<Result<Option<OrderFault>, ClashFault>, Fail> {
+    let text = format!(in alloc; "{HEAD}{lines}key 5\nend\n")?;
+    let calls = read_calls(alloc, text.as_bytes())?;
+    match judge_by_points(alloc, calls) {
+        Ok(pointed) => Ok(Ok(pointed.fault)),
+        Err(fault) => Ok(Err(fault)),
     }
 }
 
 #[test]
 fn ceilings_are_judged_by_points(rt: HostRuntime) -> Result<(), Fail> {
-    let alloc = rt.alloc();
-    assert_eq!(rt; fault_of(&rt, alloc, RIGHT), Ok(None));
-    assert_eq!(rt;
-        fault_of(&rt, alloc, WRONG),
-        Ok(Some(OrderFault::WrongReply(1)))
-    );
-    assert_eq!(rt; fault_of(&rt, alloc, CLASHING), Err(ClashFault::History(6)));
+    let (alloc, wrong) = (rt.alloc(), Some(OrderFault::WrongReply(1)));
+    assert_eq!(rt; fault_of(alloc, RIGHT)?, Ok(None));
+    assert_eq!(rt; fault_of(alloc, WRONG)?, Ok(wrong));
+    assert_eq!(rt; fault_of(alloc, CLASHING)?, Err(ClashFault::History(6)));
     Ok(())
 }

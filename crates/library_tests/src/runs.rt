@@ -1,18 +1,8 @@
 //! Runs of the lists: events in turn, each with its answer, and calls with the number of their steps.
-use crate::worlds::{
-    Line, assert_calls, assert_content, assert_lines, assert_replies, assert_run, make, make_call,
-};
-use lset_coarse::CoarseList;
-use lset_fine::FineList;
-use lset_lazy::LazyList;
-use lset_lock_free::LockFreeList;
-use lset_optimistic::OptimisticList;
-use lset_steps::{Event, Machine, OpenReads, World};
-use lset_words::{Call, Key, Reply, layout};
-use std::process::Abort;
-use std::test::Fail;
+use crate::prelude::*;
+use crate::worlds::*;
+use lset_words::layout;
 
-/// The smallest key and the largest.
 const LEAST: Key = Key(0);
 
 const MOST: Key = Key(u32::MAX);

@@ -1,13 +1,9 @@
 //! Streams: which fault is named if a call has several, and streams of many pending calls, and of many keys.
-ghost use Rattle.std.specs.Prelude.{◌<◌, IfOk};
-ghost use Rattle.std.specs.List.Sorted.{IsStrictlyIncreasing};
 
-use lset_judge::{LAST_MOMENT, Stream, StreamCall, StreamFault, StreamVerdict};
-use lset_words::{Call, Key, Reply};
-use std::alloc::Global;
-use std::test::Fail;
+use crate::made::rising_keys;
+use crate::prelude::*;
+use lset_judge::StreamRefusal;
 
-/// An `add` of key 6.
 fn add_of_six(thread: u32, begun: u64, ended: Option<(u64, Reply)>) -> StreamCall {
     StreamCall {
         thread,
@@ -20,21 +16,14 @@ fn add_of_six(thread: u32, begun: u64, ended: Option<(u64, Reply)>) -> StreamCal
 /// Calls after one of thread 3 from moment 2 to 7, each with all the faults that come after the one that is named, as far as one call
 /// can have them.
 fn with_faults() -> [(StreamCall, StreamFault); 5] {
+    let (full, late) = (Some((7, Reply::Full)), LAST_MOMENT + 1);
+    let taken = Some((7, Reply::False));
     [
         (add_of_six(3, 2, Some((2, Reply::Full))), StreamFault::Early),
-        (
-            add_of_six(3, LAST_MOMENT + 1, Some((7, Reply::Full))),
-            StreamFault::Early,
-        ),
+        (add_of_six(3, late, full), StreamFault::Early),
         (add_of_six(3, 5, Some((5, Reply::Full))), StreamFault::Ends),
-        (
-            add_of_six(3, 5, Some((7, Reply::Full))),
-            StreamFault::NotPlain,
-        ),
-        (
-            add_of_six(3, 5, Some((7, Reply::False))),
-            StreamFault::Taken,
-        ),
+        (add_of_six(3, 5, full), StreamFault::NotPlain),
+        (add_of_six(3, 5, taken), StreamFault::Taken),
     ]
 }
 
@@ -45,6 +34,48 @@ fn the_first_fault_of_a_call_is_named(rt: HostRuntime) -> Result<(), Fail> {
     for (call, fault) in with_faults() {
         assert!(rt; stream.add(call) == Err(fault), "{fault}");
     }
+    Ok(())
+}
+
+#[test]
+fn calls_that_cannot_come_next_in_a_stream(rt: HostRuntime) -> Result<(), Fail> {
+    let mut stream = Stream::new(rt.alloc(), &[])?;
+    stream.add(add_of_six(u32::MAX, 2, Some((7, Reply::True))))?;
+    let late = Some((LAST_MOMENT + 1, Reply::True));
+    let (full, taken) = (Some((6, Reply::Full)), Some((7, Reply::False)));
+    let ended = Some((6, Reply::False));
+    let others = [
+        (add_of_six(9, 2, ended), StreamFault::Early),
+        (add_of_six(9, 5, late), StreamFault::Early),
+        (add_of_six(9, 5, Some((5, Reply::True))), StreamFault::Ends),
+        (add_of_six(9, 5, full), StreamFault::NotPlain),
+        (add_of_six(9, 5, taken), StreamFault::Taken),
+        (add_of_six(9, 7, None), StreamFault::Taken),
+        (add_of_six(u32::MAX, 5, ended), StreamFault::Busy),
+    ];
+    for (call, fault) in others {
+        assert!(rt; stream.add(call) == Err(fault), "{fault}");
+    }
+    stream.add(add_of_six(9, 5, ended))?;
+    assert!(rt; stream.close(&[6])? == StreamVerdict::Linearizable);
+    Ok(())
+}
+
+/// Key 6 has no order, by this moment.
+fn refused_by(moment: Option<u64>) -> StreamVerdict {
+    let key = Key(6);
+    StreamVerdict::NotLinearizable(StreamRefusal { key, moment })
+}
+
+#[test]
+fn what_a_stream_says_of_calls_without_an_order(rt: HostRuntime) -> Result<(), Fail> {
+    let alloc = rt.alloc();
+    let mut stream = Stream::new(alloc, &[6])?;
+    stream.add(add_of_six(9, 5, Some((LAST_MOMENT, Reply::True))))?;
+    assert!(rt; stream.close_cut_off()? == refused_by(Some(LAST_MOMENT)));
+    let mut stream = Stream::new(alloc, &[6])?;
+    stream.add(add_of_six(9, 5, None))?;
+    assert!(rt; stream.close(&[])? == refused_by(None));
     Ok(())
 }
 
@@ -101,14 +132,4 @@ fn a_stream_of_calls_of_many_keys(rt: HostRuntime) -> Result<(), Fail> {
     }
     assert!(rt; stream.close(&rising_keys(alloc, KEYS_OF_CALLS)?)? == StreamVerdict::Linearizable);
     Ok(())
-}
-
-fn rising_keys(alloc: Global, count: u32) -> Result<Vec<u32>, Fail>
-    ensures { IfOk result (λ v. IsStrictlyIncreasing v.items) }
-{
-    let mut keys = Vec::new(alloc);
-    for key in 0..count {
-        keys.push(key)?;
-    }
-    Ok(keys)
 }

@@ -1,8 +1,6 @@
 //! Events and calls on a world, and what is seen of them.
-use lset_steps::{Event, Machine, StepFault, World};
-use lset_words::{Call, Reply, layout};
-use std::process::Abort;
-use std::test::Fail;
+use crate::prelude::*;
+use lset_words::layout;
 
 /// An event, how often it is made, and the answer of the last one.
 pub type Line = (Event, u32, Option<Reply>);
@@ -89,7 +87,6 @@ pub fn assert_replies<M: Machine, R: Abort>(
     Ok(())
 }
 
-/// The keys of the set are these.
 pub fn assert_content<M: Machine, R: Abort>(
     rt: &R,
     world: &World<M>,

@@ -1,4 +1,4 @@
-use lset_words::{Call, Reply};
+use crate::prelude::*;
 
 /// How often each key below 50 was put in and taken out, and how many calls were made.
 #[derive(Drop)]

@@ -2,37 +2,15 @@
 ghost use Rattle.std.specs.Prelude.{◌≡◌};
 
 use crate::many::gathered;
-use crate::opened::last_seat;
+use crate::opened::last_of;
 use crate::pauses::Count;
-use lset_coarse::CoarseList;
-use lset_fine::FineList;
-use lset_live::{Bounded, Countless, LiveSet, Rounds, Seat, Spin, open_with};
-use lset_words::{Call, Key, Reply};
-use std::alloc::Global;
-use std::process::Abort;
+use crate::prelude::*;
+use lset_live::{Countless, Rounds};
 
-struct One;
+struct UpTo<const N: u64>;
 
-struct Two;
-
-struct Three;
-
-struct Hundred;
-
-impl Rounds for One {
-    const MOST: u64 = 1;
-}
-
-impl Rounds for Two {
-    const MOST: u64 = 2;
-}
-
-impl Rounds for Three {
-    const MOST: u64 = 3;
-}
-
-impl Rounds for Hundred {
-    const MOST: u64 = 100;
+impl<const N: u64> Rounds for UpTo<N> {
+    const MOST: u64 = N;
 }
 
 /// The keys that a set opens with. A walk to a key looks at each key below it and at the first that is not.
@@ -43,17 +21,13 @@ fn opened<M: Bounded, R: Abort>(rt: &R, alloc: Global) -> (LiveSet<M>, Seat<M>, 
     ensures { (result.1.set ≡ result.0) × (result.2.set ≡ result.0) }
 {
     let (set, mut seats) = open_with::<M>(alloc, 2, 4, &KEYS).expect(rt, "not opened");
-    let one = last_seat(rt, &set, &mut seats);
-    let zero = last_seat(rt, &set, &mut seats);
+    let one = last_of(rt, &set, &mut seats);
+    let zero = last_of(rt, &set, &mut seats);
     (set, zero, one)
 }
 
 /// The reply of a call in a set that was just opened, in so many rounds.
-fn first_reply<M: Bounded, R: Abort, N: Rounds>(
-    rt: &R,
-    alloc: Global,
-    call: Call,
-) -> Option<Reply> {
+fn reply_of<M: Bounded, R: Abort, N: Rounds>(rt: &R, alloc: Global, call: Call) -> Option<Reply> {
     let (set, zero, _one) = opened::<M, R>(rt, alloc);
     let (_zero, reply) = set.call_within::<Spin, N>(zero, call, &Spin::new())?;
     Some(reply)
@@ -62,10 +36,10 @@ fn first_reply<M: Bounded, R: Abort, N: Rounds>(
 /// The walks to 25 and to 30 have three rounds: two are too few.
 fn has_rounds<M: Bounded, R: Abort>(rt: &R, alloc: Global) {
     for call in [Call::Add(Key(25)), Call::Remove(Key(30))] {
-        assert!(rt; first_reply::<M, R, One>(rt, alloc, call).is_none());
-        assert!(rt; first_reply::<M, R, Two>(rt, alloc, call).is_none());
-        assert!(rt; first_reply::<M, R, Three>(rt, alloc, call) == Some(Reply::True));
-        assert!(rt; first_reply::<M, R, Countless>(rt, alloc, call) == Some(Reply::True));
+        assert!(rt; reply_of::<M, R, UpTo<1>>(rt, alloc, call).is_none());
+        assert!(rt; reply_of::<M, R, UpTo<2>>(rt, alloc, call).is_none());
+        assert!(rt; reply_of::<M, R, UpTo<3>>(rt, alloc, call) == Some(Reply::True));
+        assert!(rt; reply_of::<M, R, Countless>(rt, alloc, call) == Some(Reply::True));
     }
 }
 
@@ -76,14 +50,10 @@ fn a_call_has_rounds(rt: HostRuntime) {
 
 /// A walk to the first key, or to one below it, has one round.
 fn has_one_round<M: Bounded, R: Abort>(rt: &R, alloc: Global) {
-    let first = Key(10);
-    for call in [
-        Call::Add(Key(5)),
-        Call::Remove(first),
-        Call::Contains(first),
-    ] {
-        assert!(rt; first_reply::<M, R, One>(rt, alloc, call) == Some(Reply::True));
-        assert!(rt; first_reply::<M, R, Two>(rt, alloc, call) == Some(Reply::True));
+    let (remove, contains) = (Call::Remove(Key(10)), Call::Contains(Key(10)));
+    for call in [Call::Add(Key(5)), remove, contains] {
+        assert!(rt; reply_of::<M, R, UpTo<1>>(rt, alloc, call) == Some(Reply::True));
+        assert!(rt; reply_of::<M, R, UpTo<2>>(rt, alloc, call) == Some(Reply::True));
     }
 }
 
@@ -95,9 +65,9 @@ fn one_round_is_enough_for_the_first_key(rt: HostRuntime) {
 /// A ceiling, which the lists that mark make by the interpreter, and a contains.
 fn reads_in_rounds<M: Bounded, R: Abort>(rt: &R, alloc: Global) {
     let (sought, asked) = (Call::Ceiling(Key(25)), Call::Contains(Key(30)));
-    assert!(rt; first_reply::<M, R, One>(rt, alloc, sought).is_none());
-    assert!(rt; first_reply::<M, R, Hundred>(rt, alloc, sought) == Some(Reply::At(Key(30))));
-    assert!(rt; first_reply::<M, R, Hundred>(rt, alloc, asked) == Some(Reply::True));
+    assert!(rt; reply_of::<M, R, UpTo<1>>(rt, alloc, sought).is_none());
+    assert!(rt; reply_of::<M, R, UpTo<100>>(rt, alloc, sought) == Some(Reply::At(Key(30))));
+    assert!(rt; reply_of::<M, R, UpTo<100>>(rt, alloc, asked) == Some(Reply::True));
 }
 
 #[test]
@@ -109,7 +79,7 @@ fn a_read_has_rounds(rt: HostRuntime) {
 fn goes_on_with_two<M: Bounded, R: Abort>(rt: &R, alloc: Global) {
     let (set, mut zero, one) = opened::<M, R>(rt, alloc);
     set.gather(&mut zero, one);
-    let made = set.call_within::<Spin, Hundred>(zero, Call::Remove(Key(30)), &Spin::new());
+    let made = set.call_within::<Spin, UpTo<100>>(zero, Call::Remove(Key(30)), &Spin::new());
     let (both, reply) = made.expect(rt, "a seat that has taken another in gives up");
     assert!(rt; reply == Reply::True && both.held() == 2);
 }
@@ -123,7 +93,7 @@ fn a_gathered_seat_has_rounds(rt: HostRuntime) {
 fn goes_on_with_all<M: Bounded, R: Abort>(rt: &R, alloc: Global) {
     let (set, seats) = open_with::<M>(alloc, 64, 4, &KEYS).expect(rt, "not opened");
     let seat = gathered(&set, seats).expect(rt, "no seat");
-    let made = set.call_within::<Spin, Hundred>(seat, Call::Add(Key(25)), &Spin::new());
+    let made = set.call_within::<Spin, UpTo<100>>(seat, Call::Add(Key(25)), &Spin::new());
     let (all, reply) = made.expect(rt, "a seat that has taken all others in gives up");
     assert!(rt; reply == Reply::True && all.held() == 64);
 }
@@ -133,12 +103,20 @@ fn a_seat_that_holds_all_has_rounds(rt: HostRuntime) {
     at_each_list!(goes_on_with_all, rt);
 }
 
-/// A call that had too few rounds keeps its locks: another that comes to one gives up too.
-fn gives_up_at_a_lock<M: Bounded, R: Abort>(rt: &R, alloc: Global, call: Call) {
+/// A set in which a call had too few rounds and keeps its locks, and its other seat.
+fn stuck<M: Bounded, R: Abort>(rt: &R, alloc: Global) -> (LiveSet<M>, Seat<M>)
+    ensures { result.1.set ≡ result.0 }
+{
     let (set, zero, one) = opened::<M, R>(rt, alloc);
-    let stuck = set.call_within::<Spin, Two>(one, Call::Add(Key(25)), &Spin::new());
-    assert!(rt; stuck.is_none());
-    let found = set.call_within::<Spin, Hundred>(zero, call, &Spin::new());
+    let made = set.call_within::<Spin, UpTo<2>>(one, Call::Add(Key(25)), &Spin::new());
+    assert!(rt; made.is_none());
+    (set, zero)
+}
+
+/// Another call that comes to such a lock gives up too.
+fn gives_up_at_a_lock<M: Bounded, R: Abort>(rt: &R, alloc: Global, call: Call) {
+    let (set, zero) = stuck::<M, R>(rt, alloc);
+    let found = set.call_within::<Spin, UpTo<100>>(zero, call, &Spin::new());
     assert!(rt; found.is_none());
 }
 
@@ -150,26 +128,20 @@ fn a_lock_is_not_waited_for(rt: HostRuntime) {
 
 /// A call that comes to a lock that is held fails there once, and as often again as it has rounds, and gives up then.
 fn fails_at_a_lock<M: Bounded, R: Abort, N: Rounds>(rt: &R, alloc: Global, call: Call) {
-    let (set, zero, one) = opened::<M, R>(rt, alloc);
-    let stuck = set.call_within::<Spin, Two>(one, Call::Add(Key(25)), &Spin::new());
-    assert!(rt; stuck.is_none());
+    let (set, zero) = stuck::<M, R>(rt, alloc);
     let count = Count::new(0);
     let found = set.call_within::<Count, N>(zero, call, &count);
     assert!(rt; found.is_none());
-    assert!(rt;
-        count.wrong.get() == N::MOST.wrapping_add(1),
-        "{} rounds",
-        N::MOST
-    );
+    assert_eq!(rt; count.wrong.get(), N::MOST.wrapping_add(1));
 }
 
 #[test]
 fn a_lock_is_tried_as_often_as_there_are_rounds(rt: HostRuntime) {
     let first = Call::Contains(Key(10));
-    fails_at_a_lock::<CoarseList, HostRuntime, One>(&rt, rt.alloc(), first);
-    fails_at_a_lock::<CoarseList, HostRuntime, Three>(&rt, rt.alloc(), first);
-    fails_at_a_lock::<CoarseList, HostRuntime, Hundred>(&rt, rt.alloc(), first);
+    fails_at_a_lock::<CoarseList, HostRuntime, UpTo<1>>(&rt, rt.alloc(), first);
+    fails_at_a_lock::<CoarseList, HostRuntime, UpTo<3>>(&rt, rt.alloc(), first);
+    fails_at_a_lock::<CoarseList, HostRuntime, UpTo<100>>(&rt, rt.alloc(), first);
     let later = Call::Contains(Key(30));
-    fails_at_a_lock::<FineList, HostRuntime, Three>(&rt, rt.alloc(), later);
-    fails_at_a_lock::<FineList, HostRuntime, Hundred>(&rt, rt.alloc(), later);
+    fails_at_a_lock::<FineList, HostRuntime, UpTo<3>>(&rt, rt.alloc(), later);
+    fails_at_a_lock::<FineList, HostRuntime, UpTo<100>>(&rt, rt.alloc(), later);
 }

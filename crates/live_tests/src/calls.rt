@@ -1,13 +1,9 @@
+//! Calls in turn, receipts, and the numbers of sets and seats.
 ghost use Rattle.std.specs.Prelude.{◌≡◌};
 
-use crate::opened::{add, contains, two_seats};
-use lset_lazy::LazyList;
-use lset_live::{LiveSet, OpenFault, Running, RunningReads, Seat, open};
-use lset_lock_free::LockFreeList;
-use lset_words::{Key, Reply};
-use std::alloc::Global;
-use std::process::Abort;
-use std::sync::Wait;
+use crate::gathering::{ADDS, FINDS};
+use crate::opened::{close_with, make_calls, two_seats};
+use crate::prelude::*;
 
 /// Seats, a quota, and why no set is opened with them.
 const LIMITS: [(u32, u32, Option<OpenFault>); 5] = [
@@ -28,11 +24,8 @@ fn a_set_has_limits(rt: HostRuntime) {
 
 fn has_its_numbers<M: Running, R: Abort>(rt: &R, alloc: Global) {
     let (set, zero, one) = two_seats::<M, R>(rt, alloc);
-    assert!(rt; set.seats() == 2);
-    assert!(rt; set.quota() == 4);
-    assert!(rt; zero.thread() == 0);
-    assert!(rt; one.thread() == 1);
-    assert!(rt; one.held() == 1);
+    assert_eq!(rt; (set.seats(), set.quota()), (2, 4));
+    assert_eq!(rt; (zero.thread(), one.thread(), one.held()), (0, 1, 1));
 }
 
 #[test]
@@ -40,11 +33,12 @@ fn seats_are_numbered_as_threads(rt: HostRuntime) {
     at_each_list!(has_its_numbers, rt);
 }
 
-fn is_seen_by_another_seat<M: Running, R: Wait + Abort>(rt: &R, alloc: Global) {
+fn is_seen_by_another_seat<M: Running, R: Host>(rt: &R, alloc: Global) {
     let (set, mut zero, mut one) = two_seats::<M, R>(rt, alloc);
-    contains(rt, &set, &mut zero, 9, Reply::False);
-    add(rt, &set, &mut one, 9, Reply::True);
-    contains(rt, &set, &mut zero, 9, Reply::True);
+    let finds_nothing = [(Call::Contains(Key(9)), Reply::False)];
+    make_calls(rt, &set, &mut zero, &finds_nothing);
+    make_calls(rt, &set, &mut one, &ADDS);
+    make_calls(rt, &set, &mut zero, &FINDS);
 }
 
 #[test]
@@ -52,26 +46,17 @@ fn a_key_is_seen_by_a_seat_that_met_nobody(rt: HostRuntime) {
     at_each_list!(is_seen_by_another_seat, rt);
 }
 
-/// A seat takes a key out, which has this reply.
-fn remove<M: Running, R: Wait + Abort>(
-    rt: &R,
-    set: &LiveSet<M>,
-    seat: &mut Seat<M>,
-    key: u32,
-    reply: Reply,
-)
-    requires { seat.old.set ≡ set.now }
-    ensures { seat.new.set ≡ set.now }
-{
-    assert_eq!(rt; set.remove(rt, seat, Key(key)), reply, "{key}");
-}
-
-fn answers_in_turn<M: Running, R: Wait + Abort>(rt: &R, alloc: Global) {
+fn answers_in_turn<M: Running, R: Host>(rt: &R, alloc: Global) {
     let (set, mut zero, mut one) = two_seats::<M, R>(rt, alloc);
-    add(rt, &set, &mut zero, 0, Reply::True);
-    add(rt, &set, &mut one, 0, Reply::False);
-    remove(rt, &set, &mut one, 0, Reply::True);
-    remove(rt, &set, &mut zero, 0, Reply::False);
+    let (add, remove) = (Call::Add(Key(0)), Call::Remove(Key(0)));
+    make_calls(rt, &set, &mut zero, &[(add, Reply::True)]);
+    make_calls(
+        rt,
+        &set,
+        &mut one,
+        &[(add, Reply::False), (remove, Reply::True)],
+    );
+    make_calls(rt, &set, &mut zero, &[(remove, Reply::False)]);
 }
 
 #[test]
@@ -79,10 +64,10 @@ fn seats_call_in_turn(rt: HostRuntime) {
     at_each_list!(answers_in_turn, rt);
 }
 
-fn reads_now<M: RunningReads, R: Wait + Abort>(rt: &R, alloc: Global) {
+fn reads_now<M: RunningReads, R: Host>(rt: &R, alloc: Global) {
     let (set, mut zero, mut one) = two_seats::<M, R>(rt, alloc);
     assert!(rt; !set.contains_now(&mut zero, Key(9)));
-    add(rt, &set, &mut one, 9, Reply::True);
+    make_calls(rt, &set, &mut one, &ADDS);
     assert!(rt; set.contains_now(&mut zero, Key(9)));
     assert!(rt; !set.contains_now(&mut zero, Key(u32::MAX)));
 }
@@ -91,4 +76,52 @@ fn reads_now<M: RunningReads, R: Wait + Abort>(rt: &R, alloc: Global) {
 fn a_read_waits_for_nobody(rt: HostRuntime) {
     reads_now::<LazyList, HostRuntime>(&rt, rt.alloc());
     reads_now::<LockFreeList, HostRuntime>(&rt, rt.alloc());
+}
+
+/// The seat 0 takes the seat 1 in and closes the set, which has the key 9 alone.
+fn closes<M: Running, R: Host>(rt: &R, set: LiveSet<M>, mut zero: Seat<M>, one: Seat<M>)
+    requires { (zero.set ≡ set) × (one.set ≡ set) }
+{
+    assert!(rt; zero.held() == 1);
+    set.gather(&mut zero, one);
+    assert!(rt; zero.held() == 2);
+    close_with(rt, set, zero, &[9]);
+}
+
+/// Of four receipts one is dropped, one is taken by the other seat, one by its own, and one is left when the set is closed.
+fn are_passed_on<M: Running, R: Host>(rt: &R, alloc: Global) {
+    let (set, mut zero, mut one) = two_seats::<M, R>(rt, alloc);
+    make_calls(rt, &set, &mut one, &ADDS);
+    let mut receipt = set.receipt(&mut one);
+    drop(set.copied(&mut receipt));
+    let own = set.copied(&mut receipt);
+    let left = set.copied(&mut receipt);
+    set.after(&mut zero, receipt);
+    set.after(&mut one, own);
+    make_calls(rt, &set, &mut zero, &FINDS);
+    closes(rt, set, zero, one);
+    drop(left);
+}
+
+#[test]
+fn receipts_are_passed_on(rt: HostRuntime) {
+    at_each_list!(are_passed_on, rt);
+}
+
+/// A receipt of a seat that has seen less leaves a seat as it is, and one given early counts late.
+fn may_be_old<M: Running, R: Host>(rt: &R, alloc: Global) {
+    let (set, mut zero, mut one) = two_seats::<M, R>(rt, alloc);
+    let early = set.receipt(&mut zero);
+    make_calls(rt, &set, &mut one, &ADDS);
+    set.after(&mut one, early);
+    make_calls(rt, &set, &mut one, &FINDS);
+    let late = set.receipt(&mut one);
+    set.after(&mut zero, late);
+    make_calls(rt, &set, &mut zero, &FINDS);
+    closes(rt, set, zero, one);
+}
+
+#[test]
+fn a_receipt_may_be_old(rt: HostRuntime) {
+    at_each_list!(may_be_old, rt);
 }

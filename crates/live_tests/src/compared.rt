@@ -1,21 +1,13 @@
 ghost use Rattle.std.specs.Prelude.{◌≡◌};
 
-use crate::opened::last_seat;
+use crate::many::next_number;
+use crate::opened::{keys_left, last_of};
 use crate::pauses::Count;
-use lset_lazy::LazyList;
-use lset_live::{LiveSet, Running, RunningReads, Seat, open};
-use lset_lock_free::LockFreeList;
-use lset_words::{Call, Key, Reply};
-use std::alloc::Global;
-use std::process::Abort;
-use std::sync::Wait;
-use stepped_lists::Stepped;
+use crate::prelude::*;
 
 /// The call number `i` of a program over 12 keys.
 fn call_of(i: u32) -> Call {
-    let mixed = u64::from(i)
-        .wrapping_mul(6_364_136_223_846_793_005)
-        .wrapping_add(1_442_695_040_888_963_407);
+    let mixed = next_number(u64::from(i));
     let key = Key(((mixed >> 33) % 12) as u32);
     match (mixed >> 21) % 4 {
         0 => Call::Add(key),
@@ -26,7 +18,7 @@ fn call_of(i: u32) -> Call {
 }
 
 /// The replies to 400 calls on one seat, each with the number of its steps before the last.
-fn replies<M: Running, R: Wait + Abort>(
+fn replies<M: Running, R: Host>(
     rt: &R,
     alloc: Global,
     set: &LiveSet<M>,
@@ -47,26 +39,21 @@ fn replies<M: Running, R: Wait + Abort>(
 type Ran = (Vec<(Reply, u64)>, Vec<u32>);
 
 /// The program on one seat with room for so many adds: the replies with their steps, and the closing keys.
-fn ran<M: Running, R: Wait + Abort>(rt: &R, alloc: Global, quota: u32) -> Ran {
+fn ran<M: Running, R: Host>(rt: &R, alloc: Global, quota: u32) -> Ran {
     let (set, mut seats) = open::<M>(alloc, 1, quota).expect(rt, "not opened");
-    let mut seat = last_seat(rt, &set, &mut seats);
+    let mut seat = last_of(rt, &set, &mut seats);
     let told = replies(rt, alloc, &set, &mut seat);
-    let Ok(closed) = set.close(seat) else {
-        panic!(rt; "a seat is out")
-    };
-    (told, closed.keys().expect(rt, "the keys"))
+    (told, keys_left(rt, set, seat))
 }
 
-/// The list and its table alone.
-fn runs_alike<M: Running, R: Wait + Abort>(rt: &R, alloc: Global, quota: u32) {
+fn runs_alike<M: Running, R: Host>(rt: &R, alloc: Global, quota: u32) {
     let (told, keys) = ran::<M, R>(rt, alloc, quota);
-    let (told_by_steps, keys_by_steps) = ran::<Stepped<M>, R>(rt, alloc, quota);
-    assert!(rt; told == told_by_steps, "{quota}");
-    assert!(rt; keys == keys_by_steps, "{quota}");
+    let by_steps = ran::<Stepped<M>, R>(rt, alloc, quota);
+    assert!(rt; told == by_steps.0 && keys == by_steps.1, "{quota}");
 }
 
 /// With room for all adds and with room for few.
-fn runs_by_its_table<M: Running, R: Wait + Abort>(rt: &R, alloc: Global) {
+fn runs_by_its_table<M: Running, R: Host>(rt: &R, alloc: Global) {
     runs_alike::<M, R>(rt, alloc, 100);
     runs_alike::<M, R>(rt, alloc, 8);
 }
@@ -88,24 +75,23 @@ fn keys_found<M: RunningReads, R: Abort>(
 {
     let mut found = Vec::new(alloc);
     for key in 0..12u32 {
-        let is_found = set.contains_now(seat, Key(key));
-        found.push(is_found).expect(rt, "room");
+        found
+            .push(set.contains_now(seat, Key(key)))
+            .expect(rt, "room");
     }
     found
 }
 
 /// The same once the program has run.
-fn found_now<M: RunningReads, R: Wait + Abort>(rt: &R, alloc: Global) -> Vec<bool> {
+fn found_now<M: RunningReads, R: Host>(rt: &R, alloc: Global) -> Vec<bool> {
     let (set, mut seats) = open::<M>(alloc, 1, 100).expect(rt, "not opened");
-    let mut seat = last_seat(rt, &set, &mut seats);
+    let mut seat = last_of(rt, &set, &mut seats);
     let _told = replies(rt, alloc, &set, &mut seat);
     keys_found(rt, alloc, &set, &mut seat)
 }
 
-fn reads_by_its_table<M: RunningReads, R: Wait + Abort>(rt: &R, alloc: Global) {
-    let found = found_now::<M, R>(rt, alloc);
-    let found_by_steps = found_now::<Stepped<M>, R>(rt, alloc);
-    assert!(rt; found == found_by_steps);
+fn reads_by_its_table<M: RunningReads, R: Host>(rt: &R, alloc: Global) {
+    assert!(rt; found_now::<M, R>(rt, alloc) == found_now::<Stepped<M>, R>(rt, alloc));
 }
 
 #[test]

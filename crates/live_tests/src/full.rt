@@ -1,15 +1,8 @@
+//! Sets that are full: each slot is used, and each call of some goes past all keys that there may be.
 ghost use Rattle.std.specs.Prelude.{◌≡◌};
 
-use lset_coarse::CoarseList;
-use lset_fine::FineList;
-use lset_lazy::LazyList;
-use lset_live::{LiveSet, Running, Seat, open};
-use lset_lock_free::LockFreeList;
-use lset_optimistic::OptimisticList;
-use lset_words::Key;
-use std::alloc::Global;
-use std::process::Abort;
-use std::sync::Wait;
+use crate::opened::{keys_left, last_of, make_calls, rising_keys};
+use crate::prelude::*;
 
 /// A seat adds `count` keys, from `first` up, in falling order: each stands right behind the head, where no key below it is
 /// in the list.
@@ -29,7 +22,7 @@ pub fn fill<M: Running, R: Wait>(
 }
 
 /// Fills all slots of a set, seat by seat, and closes it: the keys that are left.
-fn keys_of_a_full_set<M: Running, R: Wait + Abort>(
+fn keys_of_a_full_set<M: Running, R: Host>(
     rt: &R,
     alloc: Global,
     seats: u32,
@@ -42,22 +35,15 @@ fn keys_of_a_full_set<M: Running, R: Wait + Abort>(
         fill(rt, &set, &mut seat, first, quota);
         all = Some(set.gather_onto(all, seat));
     }
-    let Ok(closed) = set.close(all.expect(rt, "no seat")) else {
-        panic!(rt; "the set is not closed")
-    };
-    closed.keys().expect(rt, "the keys")
+    keys_left(rt, set, all.expect(rt, "no seat"))
 }
 
-fn leaves_each_key<M: Running, R: Wait + Abort>(rt: &R, alloc: Global, seats: u32, quota: u32) {
+fn leaves_each_key<M: Running, R: Host>(rt: &R, alloc: Global, seats: u32, quota: u32) {
     let keys = keys_of_a_full_set::<M, R>(rt, alloc, seats, quota);
-    assert!(rt;
-        keys.len() == seats.saturating_mul(quota) as usize,
-        "{seats} {quota}"
-    );
-    assert!(rt;
-        (0..).zip(&keys).all(|(number, key)| number == *key),
-        "{seats} {quota}"
-    );
+    let slots = seats.saturating_mul(quota);
+    assert!(rt; keys.len() == slots as usize, "{seats} {quota}");
+    let are_in_turn = (0..).zip(&keys).all(|(number, key)| number == *key);
+    assert!(rt; are_in_turn, "{seats} {quota}");
 }
 
 /// A call from each seat of a set of each size.
@@ -83,4 +69,55 @@ fn a_set_is_filled(rt: HostRuntime) {
     leaves_each_key::<LockFreeList, HostRuntime>(&rt, rt.alloc(), 64, 0);
     leaves_each_key::<LockFreeList, HostRuntime>(&rt, rt.alloc(), 1, 10_000);
     leaves_each_key::<LockFreeList, HostRuntime>(&rt, rt.alloc(), 64, 16_384);
+}
+
+/// The first opening key of the set with the most keys that there may be: above all that are added.
+const FIRST: u32 = 2_000_000;
+
+/// A set that has as many keys as it may, and its seat.
+fn with_most_keys<M: Running, R: Host>(rt: &R, alloc: Global) -> (LiveSet<M>, Seat<M>)
+    ensures { result.1.set ≡ result.0 }
+{
+    let keys = rising_keys(rt, alloc, FIRST);
+    let opened = open_with::<M>(alloc, MOST_THREADS, MOST_QUOTA, &keys);
+    let (set, mut seats) = opened.expect(rt, "not opened");
+    let mut all = None;
+    for thread in (0..MOST_THREADS).rev() {
+        let mut seat = last_of(rt, &set, &mut seats);
+        let first = thread.wrapping_mul(MOST_QUOTA);
+        fill(rt, &set, &mut seat, first, MOST_QUOTA);
+        all = Some(set.gather_onto(all, seat));
+    }
+    (set, all.expect(rt, "no seat"))
+}
+
+const LAST: Key = Key(FIRST + MOST_OPENING - 1);
+
+const PAST_ALL: [(Call, Reply); 5] = [
+    (Call::Contains(LAST), Reply::True),
+    (Call::Add(Key(u32::MAX)), Reply::Full),
+    (Call::Ceiling(LAST), Reply::At(LAST)),
+    (Call::Remove(LAST), Reply::True),
+    (Call::Ceiling(LAST), Reply::Nothing),
+];
+
+fn goes_past_all<M: Running, R: Host>(rt: &R, alloc: Global) {
+    let (set, mut seat) = with_most_keys::<M, R>(rt, alloc);
+    make_calls(rt, &set, &mut seat, &PAST_ALL);
+    assert!(rt;
+        keys_left(rt, set, seat).len() == (MOST_THREADS * MOST_QUOTA + MOST_OPENING - 1) as usize
+    );
+}
+
+#[test]
+fn lists_with_locks_are_walked_to_their_end(rt: HostRuntime) {
+    goes_past_all::<CoarseList, HostRuntime>(&rt, rt.alloc());
+    goes_past_all::<FineList, HostRuntime>(&rt, rt.alloc());
+    goes_past_all::<OptimisticList, HostRuntime>(&rt, rt.alloc());
+}
+
+#[test]
+fn lists_with_marks_are_walked_to_their_end(rt: HostRuntime) {
+    goes_past_all::<LazyList, HostRuntime>(&rt, rt.alloc());
+    goes_past_all::<LockFreeList, HostRuntime>(&rt, rt.alloc());
 }

@@ -1,32 +1,28 @@
+//! Two seats that call, in turn or in two threads, and are gathered.
 ghost use Rattle.std.specs.Prelude.{◌≡◌};
 
-use crate::opened::{add, close_with, contains, two_seats};
-use lset_live::{LiveSet, Running, Seat};
-use lset_words::{Key, Reply};
-use std::alloc::Global;
-use std::process::Abort;
-use std::sync::Wait;
-use std::thread::{Threads, join};
+use crate::opened::{close_with, make_calls, reply, two_seats};
+use crate::prelude::*;
+
+/// What a seat does with the key 9.
+pub const ADDS: [(Call, Reply); 1] = [(Call::Add(Key(9)), Reply::True)];
+
+pub const FINDS: [(Call, Reply); 1] = [(Call::Contains(Key(9)), Reply::True)];
 
 /// The seat 0 takes the seat 1 in, finds 9, and closes the set, which has the key 9 alone.
-fn gathers_and_closes<M: Running, R: Wait + Abort>(
-    rt: &R,
-    set: LiveSet<M>,
-    mut zero: Seat<M>,
-    one: Seat<M>,
-)
+fn gathers_and_closes<M: Running, R: Host>(rt: &R, set: LiveSet<M>, mut zero: Seat<M>, one: Seat<M>)
     requires { (zero.set ≡ set) × (one.set ≡ set) }
 {
     set.gather(&mut zero, one);
     assert!(rt; zero.held() == 2);
-    contains(rt, &set, &mut zero, 9, Reply::True);
+    make_calls(rt, &set, &mut zero, &FINDS);
     close_with(rt, set, zero, &[9]);
 }
 
-fn goes_the_whole_way<M: Running, R: Wait + Abort>(rt: &R, alloc: Global) {
+fn goes_the_whole_way<M: Running, R: Host>(rt: &R, alloc: Global) {
     let (set, mut zero, mut one) = two_seats::<M, R>(rt, alloc);
-    add(rt, &set, &mut one, 9, Reply::True);
-    contains(rt, &set, &mut zero, 9, Reply::True);
+    make_calls(rt, &set, &mut one, &ADDS);
+    make_calls(rt, &set, &mut zero, &FINDS);
     gathers_and_closes(rt, set, zero, one);
 }
 
@@ -35,14 +31,13 @@ fn two_seats_go_the_whole_way(rt: HostRuntime) {
     at_each_list!(goes_the_whole_way, rt);
 }
 
-fn goes_on_where_it_is_not_closed<M: Running, R: Wait + Abort>(rt: &R, alloc: Global) {
+fn goes_on_where_it_is_not_closed<M: Running, R: Host>(rt: &R, alloc: Global) {
     let (set, zero, mut one) = two_seats::<M, R>(rt, alloc);
-    add(rt, &set, &mut one, 9, Reply::True);
+    make_calls(rt, &set, &mut one, &ADDS);
     let Err(out) = set.close(zero) else {
         panic!(rt; "a set is closed by one seat of two")
     };
-    assert!(rt; out.seat.held() == 1);
-    assert!(rt; out.seat.thread() == 0);
+    assert_eq!(rt; (out.seat.held(), out.seat.thread()), (1, 0));
     gathers_and_closes(rt, out.set, out.seat, one);
 }
 
@@ -51,56 +46,67 @@ fn a_set_that_is_not_closed_goes_on(rt: HostRuntime) {
     at_each_list!(goes_on_where_it_is_not_closed, rt);
 }
 
-/// A seat adds 9.
-pub fn has_added<M: Running, R: Wait>(
+/// A seat makes a call: it, and the reply.
+fn made<M: Running, R: Wait>(
     rt: &R,
     set: &LiveSet<M>,
     mut seat: Seat<M>,
+    call: Call,
 ) -> (Seat<M>, Reply)
     requires { seat.set ≡ set.now }
     ensures { result.0.set ≡ set.now }
 {
-    let reply = set.add(rt, &mut seat, Key(9));
-    (seat, reply)
+    let answer = reply(rt, set, &mut seat, call);
+    (seat, answer)
 }
 
-fn has_looked<M: Running, R: Wait>(rt: &R, set: &LiveSet<M>, mut seat: Seat<M>) -> (Seat<M>, Reply)
-    requires { seat.set ≡ set.now }
-    ensures { result.0.set ≡ set.now }
-{
-    let reply = set.contains(rt, &mut seat, Key(9));
-    (seat, reply)
-}
-
-/// One seat adds 9 in a thread, and the other looks for it in another.
-fn at_once<M: Running + Send + Sync, R: Threads + Wait + Sync>(
+/// Seat 0 makes a call in a thread, and seat 1 adds 9 in another.
+fn beside_an_add<M: Running + Send + Sync, R: Host>(
     rt: &R,
     set: &LiveSet<M>,
     zero: Seat<M>,
     one: Seat<M>,
+    call: Call,
 ) -> ((Seat<M>, Reply), (Seat<M>, Reply))
     requires { (zero.set ≡ set.now) × (one.set ≡ set.now) }
     ensures { (result.0.0.set ≡ set.now) × (result.1.0.set ≡ set.now) }
 {
     join(
         rt,
-        move || has_looked(rt, set, zero),
-        move || has_added(rt, set, one),
+        move || made(rt, set, zero, call),
+        move || made(rt, set, one, Call::Add(Key(9))),
     )
 }
 
-fn goes_the_way_in_threads<M: Running + Send + Sync, R: Threads + Wait + Abort + Sync>(
-    rt: &R,
-    alloc: Global,
-) {
+fn goes_the_way_in_threads<M: Running + Send + Sync, R: Host>(rt: &R, alloc: Global) {
     let (set, zero, one) = two_seats::<M, R>(rt, alloc);
-    let ((zero, looked), (one, added)) = at_once(rt, &set, zero, one);
-    assert!(rt; looked != Reply::Full);
-    assert!(rt; added == Reply::True);
+    let ((zero, looked), (one, added)) = beside_an_add(rt, &set, zero, one, Call::Contains(Key(9)));
+    assert!(rt; looked != Reply::Full && added == Reply::True);
     gathers_and_closes(rt, set, zero, one);
 }
 
 #[test]
 fn two_threads_go_the_whole_way(rt: HostRuntime) {
     at_each_list!(goes_the_way_in_threads, rt);
+}
+
+const OF_NINE: [(Call, Reply); 3] = [
+    (Call::Ceiling(Key(0)), Reply::At(Key(9))),
+    (Call::Ceiling(Key(9)), Reply::At(Key(9))),
+    (Call::Ceiling(Key(10)), Reply::Nothing),
+];
+
+fn finds_what_is_added<M: Running + Send + Sync, R: Host>(rt: &R, alloc: Global) {
+    let (set, zero, one) = two_seats::<M, R>(rt, alloc);
+    let call = Call::Ceiling(Key(4));
+    let ((mut zero, found), (one, added)) = beside_an_add(rt, &set, zero, one, call);
+    assert!(rt; found == Reply::Nothing || found == Reply::At(Key(9)));
+    assert!(rt; added == Reply::True);
+    set.gather(&mut zero, one);
+    make_calls(rt, &set, &mut zero, &OF_NINE);
+}
+
+#[test]
+fn a_ceiling_while_a_key_is_added(rt: HostRuntime) {
+    at_each_list!(finds_what_is_added, rt);
 }

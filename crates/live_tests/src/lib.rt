@@ -19,19 +19,11 @@ mod bounds;
 #[cfg(test)]
 mod calls;
 #[cfg(test)]
-mod ceilings;
-#[cfg(test)]
 mod compared;
 #[cfg(test)]
 mod full;
 #[cfg(test)]
 mod gathering;
-#[cfg(test)]
-mod largest;
-#[cfg(test)]
-mod largest_walks;
-#[cfg(test)]
-mod lives;
 #[cfg(test)]
 mod long_programs;
 #[cfg(test)]
@@ -39,15 +31,13 @@ mod long_waits;
 #[cfg(test)]
 mod many;
 #[cfg(test)]
-mod meeting;
-#[cfg(test)]
 mod opened;
 #[cfg(test)]
 mod pauses;
 #[cfg(test)]
-mod programs;
+mod prelude;
 #[cfg(test)]
-mod receipts;
+mod programs;
 #[cfg(test)]
 mod renewal;
 #[cfg(test)]

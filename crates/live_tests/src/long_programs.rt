@@ -1,24 +1,9 @@
 //! Programs as long as they may be, on as many seats as there may be, in any order; and the seats and numbers that a gate gets.
 ghost use Rattle.std.specs.Prelude.{◌≡◌, All};
 
-use crate::opened::last_seat;
+use crate::opened::{last_of, make_calls, rising_keys};
+use crate::prelude::*;
 use crate::programs::{are_answered, pair, worked};
-use lset_coarse::CoarseList;
-use lset_fine::FineList;
-use lset_lazy::LazyList;
-use lset_live::{LiveSet, Running, Seat, open};
-use lset_lock_free::LockFreeList;
-use lset_optimistic::OptimisticList;
-use lset_schedule::programs;
-use lset_words::{Call, Key, MOST_THREADS, Reply};
-use lset_work::{Always, Gate};
-use std::alloc::Global;
-use std::process::Abort;
-use std::sync::Wait;
-use std::sync::atomic::{AtomicBool, AtomicU64, Ordering};
-use std::thread;
-use std::thread::Threads;
-use std::time::{Clock, Duration};
 
 /// More calls than a smaller number can count, and so many that the square of them is not made in time.
 const MANY_CALLS: u32 = 400_000;
@@ -50,10 +35,8 @@ fn a_program_may_be_long(rt: HostRuntime) {
     let outcome = worked(&rt, rt.alloc(), set, seats, drawn, &gate);
     assert!(&rt; outcome.replies.len() == 1);
     assert!(&rt; outcome.replies[0].len() == MANY_CALLS as usize);
-    assert!(&rt;
-        !gate.missed.load(Ordering::SeqCst),
-        "a call has another number"
-    );
+    let is_missed = gate.missed.load(Ordering::SeqCst);
+    assert!(&rt; !is_missed, "a call has another number");
     assert!(&rt; gate.next.load(Ordering::SeqCst) == u64::from(MANY_CALLS));
 }
 
@@ -112,10 +95,8 @@ fn all_programs_are_made_at_once(rt: HostRuntime) {
     let programs = add_and_look(&rt, rt.alloc());
     let outcome = worked(&rt, rt.alloc(), set, seats, programs, &meeting);
     assert!(&rt; outcome.keys.len() == MOST_THREADS as usize);
-    assert!(&rt;
-        meeting.seats.load(Ordering::SeqCst) == u64::MAX,
-        "a seat has another number"
-    );
+    let seats = meeting.seats.load(Ordering::SeqCst);
+    assert!(&rt; seats == u64::MAX, "a seat has another number");
 }
 
 /// The seat 2, which has taken the seat 1 in, before the seat 0.
@@ -123,18 +104,15 @@ fn two_before_zero<M: Running, R: Abort>(rt: &R, alloc: Global) -> (LiveSet<M>, 
     ensures { All (λ s. s.set ≡ result.0) result.1.items }
 {
     let (set, mut seats) = open::<M>(alloc, 3, 4).expect(rt, "not opened");
-    let mut two = last_seat(rt, &set, &mut seats);
-    let one = last_seat(rt, &set, &mut seats);
-    let zero = last_seat(rt, &set, &mut seats);
+    let mut two = last_of(rt, &set, &mut seats);
+    let one = last_of(rt, &set, &mut seats);
+    let zero = last_of(rt, &set, &mut seats);
     set.gather(&mut two, one);
     let seats = vec![in alloc; two, zero].expect(rt, "room");
     (set, seats)
 }
 
-fn works_in_any_order<M: Running + Send + Sync, R: Threads + Wait + Abort + Sync>(
-    rt: &R,
-    alloc: Global,
-) {
+fn works_in_any_order<M: Running + Send + Sync, R: Host>(rt: &R, alloc: Global) {
     let (set, seats) = two_before_zero::<M, R>(rt, alloc);
     let programs = pair(rt, alloc, &[Call::Add(Key(2))], &[Call::Add(Key(1))]);
     let outcome = worked(rt, alloc, set, seats, programs, &Always);
@@ -148,40 +126,58 @@ fn seats_may_have_any_order(rt: HostRuntime) {
 }
 
 /// Each kind of call with a key, which is the only one.
-fn calls_with<M: Running, R: Wait + Abort>(rt: &R, alloc: Global, key: u32) {
+fn calls_with<M: Running, R: Host>(rt: &R, alloc: Global, key: Key) {
     let (set, mut seats) = open::<M>(alloc, 1, 1).expect(rt, "not opened");
-    let mut seat = last_seat(rt, &set, &mut seats);
-    assert_eq!(rt; set.add(rt, &mut seat, Key(key)), Reply::True, "{key}");
-    assert_eq!(rt; set.contains(rt, &mut seat, Key(key)), Reply::True, "{key}");
-    assert_eq!(rt;
-        set.ceiling(rt, &mut seat, Key(0)),
-        Reply::At(Key(key)),
-        "{key}"
-    );
-    assert_eq!(rt;
-        set.ceiling(rt, &mut seat, Key(key)),
-        Reply::At(Key(key)),
-        "{key}"
-    );
-    assert_eq!(rt; set.remove(rt, &mut seat, Key(key)), Reply::True, "{key}");
-    assert_eq!(rt;
-        set.contains(rt, &mut seat, Key(key)),
-        Reply::False,
-        "{key}"
-    );
-    assert_eq!(rt; set.add(rt, &mut seat, Key(key)), Reply::Full, "{key}");
+    let mut seat = last_of(rt, &set, &mut seats);
+    let rows = [
+        (Call::Add(key), Reply::True),
+        (Call::Contains(key), Reply::True),
+        (Call::Ceiling(Key(0)), Reply::At(key)),
+        (Call::Ceiling(key), Reply::At(key)),
+        (Call::Remove(key), Reply::True),
+        (Call::Contains(key), Reply::False),
+        (Call::Add(key), Reply::Full),
+    ];
+    make_calls(rt, &set, &mut seat, &rows);
 }
 
 /// A key of each number of bits, the least and the greatest of them.
-fn calls_with_each_size<M: Running, R: Wait + Abort>(rt: &R, alloc: Global) {
+fn calls_with_each_size<M: Running, R: Host>(rt: &R, alloc: Global) {
     for bits in 0..32u32 {
         let least = 1u32 << bits;
-        calls_with::<M, R>(rt, alloc, least);
-        calls_with::<M, R>(rt, alloc, least.wrapping_add(least.wrapping_sub(1)));
+        calls_with::<M, R>(rt, alloc, Key(least));
+        calls_with::<M, R>(rt, alloc, Key(least.wrapping_add(least.wrapping_sub(1))));
     }
 }
 
 #[test]
 fn keys_of_each_size_are_called_with(rt: HostRuntime) {
     at_each_list!(calls_with_each_size, rt);
+}
+
+/// A program for each seat: it puts a key of its own in, before all others.
+fn one_add_each<R: Abort>(rt: &R, alloc: Global) -> Vec<Vec<Call>> {
+    let mut programs = Vec::new(alloc);
+    for seat in 0..MOST_THREADS {
+        let mut program = Vec::new(alloc);
+        program.push(Call::Add(Key(seat))).expect(rt, "room");
+        programs.push(program).expect(rt, "room");
+    }
+    programs
+}
+
+#[test]
+fn all_seats_of_the_largest_set_work(rt: HostRuntime) {
+    let keys = rising_keys(&rt, rt.alloc(), 1_000);
+    let opened = open_with::<LazyList>(rt.alloc(), MOST_THREADS, MOST_QUOTA, &keys);
+    let (set, seats) = opened.expect(&rt, "not opened");
+    let programs = one_add_each(&rt, rt.alloc());
+    let outcome = worked(&rt, rt.alloc(), set, seats, programs, &Always);
+    assert!(&rt; outcome.replies.len() == MOST_THREADS as usize);
+    for replies in &outcome.replies {
+        assert!(&rt; replies.as_slice() == [Reply::True].as_slice());
+    }
+    let left = outcome.keys.as_slice();
+    assert!(&rt; left.len() == (MOST_OPENING + MOST_THREADS) as usize);
+    assert!(&rt; left[63] == 63 && left[64] == 1_000);
 }

@@ -2,24 +2,11 @@
 //! contract says how often a call tries before it gives up.
 ghost use Rattle.std.specs.Prelude.{◌≡◌};
 
-use crate::opened::{last_seat, two_seats};
+use crate::opened::{last_of, two_seats};
+use crate::prelude::*;
 use crate::waiting::comes;
-use lset_coarse::CoarseList;
-use lset_fine::FineList;
-use lset_lazy::LazyList;
-use lset_live::{Bounded, Countless, LiveSet, Running, Seat, Spin, open};
-use lset_lock_free::LockFreeList;
-use lset_optimistic::OptimisticList;
-use lset_rule::Pause;
-use lset_words::{Call, Key, Reply};
-use std::alloc::Global;
+use lset_live::Countless;
 use std::cell::Cell;
-use std::process::Abort;
-use std::sync::Wait;
-use std::sync::atomic::{AtomicBool, AtomicU64, Ordering};
-use std::thread;
-use std::thread::{Threads, join};
-use std::time::{Clock, Duration};
 
 /// Stops after the step with a number, from 0, until another thread has tried often enough.
 #[derive(Drop)]
@@ -74,7 +61,6 @@ impl<'a, P: Pause> Pause for Trying<'a, P> {
     }
 }
 
-/// Does nothing.
 #[derive(Drop)]
 struct Unpaused;
 
@@ -85,7 +71,7 @@ impl Pause for Unpaused {
 }
 
 /// A seat adds 1, and stops with a lock.
-fn holds<M: Running, R: Wait + Clock>(
+fn holds<M: Running, R: Host>(
     rt: &R,
     set: &LiveSet<M>,
     mut seat: Seat<M>,
@@ -105,7 +91,7 @@ fn holds<M: Running, R: Wait + Clock>(
 }
 
 /// Once the other has stopped, a seat adds 2: its reply, and how often it tried in vain.
-fn tries<M: Running, R: Wait + Clock, P: Pause + Drop>(
+fn tries<M: Running, R: Host, P: Pause + Drop>(
     rt: &R,
     set: &LiveSet<M>,
     mut seat: Seat<M>,
@@ -126,8 +112,7 @@ fn tries<M: Running, R: Wait + Clock, P: Pause + Drop>(
     (reply, trying.tries.get())
 }
 
-/// Both seats add, in two threads.
-fn both_add<M: Running + Send + Sync, R: Threads + Wait + Clock + Sync, P: Pause + Send + Drop>(
+fn both_add<M: Running + Send + Sync, R: Host, P: Pause + Send + Drop>(
     rt: &R,
     set: &LiveSet<M>,
     seats: (Seat<M>, Seat<M>),
@@ -148,11 +133,13 @@ fn both_add<M: Running + Send + Sync, R: Threads + Wait + Clock + Sync, P: Pause
 }
 
 /// Seat 1 has a lock, which its step `stops_at` takes, until seat 0 has tried for it so often; then both have their keys.
-fn waits_long<
-    M: Running + Send + Sync,
-    R: Threads + Wait + Clock + Abort + Sync,
-    P: Pause + Send + Drop,
->(rt: &R, alloc: Global, stops_at: u64, pause: P, most: u64) {
+fn waits_long<M: Running + Send + Sync, R: Host, P: Pause + Send + Drop>(
+    rt: &R,
+    alloc: Global,
+    stops_at: u64,
+    pause: P,
+    most: u64,
+) {
     let (set, zero, one) = two_seats::<M, R>(rt, alloc);
     let (held, waited) = both_add(rt, &set, (zero, one), stops_at, pause, most);
     assert!(rt; held == Reply::True && waited.0 == Reply::True);
@@ -229,7 +216,7 @@ impl<'a, R: Clock> Pause for Disturbed<'a, R> {
 }
 
 /// A seat adds falling keys above 5, one each time that it is asked: each comes right behind the head.
-fn changes<M: Running, R: Wait + Clock>(rt: &R, set: &LiveSet<M>, mut seat: Seat<M>, turns: &Turns)
+fn changes<M: Running, R: Host>(rt: &R, set: &LiveSet<M>, mut seat: Seat<M>, turns: &Turns)
     requires { seat.set ≡ set.now }
 {
     for number in 0..CHANGES {
@@ -265,7 +252,7 @@ fn is_disturbed<M: Bounded, R: Clock>(
 }
 
 /// Seat 1 adds 5 while seat 0 changes the set, in two threads: the reply.
-fn one_is_disturbed<M: Running + Send + Sync, R: Threads + Wait + Clock + Sync>(
+fn one_is_disturbed<M: Running + Send + Sync, R: Host>(
     rt: &R,
     set: &LiveSet<M>,
     seats: (Seat<M>, Seat<M>),
@@ -284,14 +271,10 @@ fn one_is_disturbed<M: Running + Send + Sync, R: Threads + Wait + Clock + Sync>(
 }
 
 /// A call whose link changes before it takes it, time and again, starts over each time, and comes to its end.
-fn starts_over<M: Running + Send + Sync, R: Threads + Wait + Clock + Abort + Sync>(
-    rt: &R,
-    alloc: Global,
-    steps: (u64, u64),
-) {
+fn starts_over<M: Running + Send + Sync, R: Host>(rt: &R, alloc: Global, steps: (u64, u64)) {
     let (set, mut seats) = open::<M>(alloc, 2, 2_000).expect(rt, "not opened");
-    let one = last_seat(rt, &set, &mut seats);
-    let zero = last_seat(rt, &set, &mut seats);
+    let one = last_of(rt, &set, &mut seats);
+    let zero = last_of(rt, &set, &mut seats);
     let turns = Turns {
         asked: AtomicU64::new(0),
         made: AtomicU64::new(0),

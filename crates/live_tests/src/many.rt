@@ -1,20 +1,10 @@
 ghost use Rattle.std.specs.Prelude.{◌≡◌, All, IfSome};
 
-use lset_live::{LiveSet, Running, Seat, open};
-use lset_rule::Spin;
-use lset_steps::Machine;
-use lset_words::{Call, Key, Reply};
-use std::alloc::Global;
-use std::process::Abort;
-use std::sync::Wait;
-use std::sync::atomic::{AtomicU64, Ordering};
-use std::thread;
-use std::thread::Threads;
+use crate::opened::keys_left;
+use crate::prelude::*;
 
-/// How many keys there are.
 const KEYS: usize = 24;
 
-/// How many calls each seat makes.
 const CALLS: u32 = 1000;
 
 /// The next of a row of numbers (Knuth's linear congruence).
@@ -36,25 +26,16 @@ pub fn drawn_call(number: u64) -> Call {
 
 /// Counts how often a key was put in and not taken out.
 fn note(counts: &[AtomicU64], call: Call, reply: Reply) {
-    if reply != Reply::True {
+    let Some(count) = counts.get(call.key().0 as usize) else {
         return;
-    }
-    match call {
-        Call::Add(key) => {
-            if let Some(count) = counts.get(key.0 as usize) {
-                count.fetch_add(1, Ordering::SeqCst);
-            }
-        }
-        Call::Remove(key) => {
-            if let Some(count) = counts.get(key.0 as usize) {
-                count.fetch_sub(1, Ordering::SeqCst);
-            }
-        }
-        Call::Contains(_) | Call::Ceiling(_) => {}
-    }
+    };
+    let _before = match (call, reply) {
+        (Call::Add(_), Reply::True) => count.fetch_add(1, Ordering::SeqCst),
+        (Call::Remove(_), Reply::True) => count.fetch_sub(1, Ordering::SeqCst),
+        _ => 0,
+    };
 }
 
-/// A seat makes its calls.
 fn make_calls<M: Running, R: Wait>(
     rt: &R,
     set: &LiveSet<M>,
@@ -68,13 +49,12 @@ fn make_calls<M: Running, R: Wait>(
     for _ in 0..CALLS {
         number = next_number(number);
         let call = drawn_call(number);
-        let reply = set.call(rt, seat, call, &Spin::new());
-        note(counts, call, reply);
+        note(counts, call, set.call(rt, seat, call, &Spin::new()));
     }
 }
 
 /// The seats make their calls, each in a thread.
-fn make_all_calls<M: Running + Send + Sync, R: Threads + Wait + Sync>(
+fn make_all_calls<M: Running + Send + Sync, R: Host>(
     rt: &R,
     set: &LiveSet<M>,
     counts: &[AtomicU64],
@@ -105,30 +85,18 @@ pub fn gathered<M: Machine>(set: &LiveSet<M>, mut seats: Vec<Seat<M>>) -> Option
     all
 }
 
-fn no_counts() -> [AtomicU64; KEYS] {
-    [0; KEYS].map(AtomicU64::new)
-}
-
-/// Whether each key is left exactly if it was added once more than it was removed.
-fn add_up(counts: &[AtomicU64], keys: &[u32]) -> bool {
-    (0..).zip(counts).all(|(key, count)| count.load(Ordering::SeqCst)
-        == u64::from(keys.contains(&key)))
-}
-
-fn leaves_what_was_added<M: Running + Send + Sync, R: Threads + Wait + Abort + Sync>(
-    rt: &R,
-    alloc: Global,
-) {
+/// Each key is left exactly if it was added once more than it was removed.
+fn leaves_what_was_added<M: Running + Send + Sync, R: Host>(rt: &R, alloc: Global) {
     let (set, mut seats) = open::<M>(alloc, 8, CALLS).expect(rt, "not opened");
-    let counts = no_counts();
+    let counts = [0; KEYS].map(AtomicU64::new);
     make_all_calls(rt, &set, &counts, seats.as_mut_slice());
     let all = gathered(&set, seats).expect(rt, "no seat");
     assert!(rt; all.held() == 8);
-    let Ok(closed) = set.close(all) else {
-        panic!(rt; "the set is not closed")
-    };
-    let keys = closed.keys().expect(rt, "the keys");
-    assert!(rt; add_up(&counts, &keys));
+    let keys = keys_left(rt, set, all);
+    for (key, count) in (0..).zip(&counts) {
+        let is_left = u64::from(keys.contains(&key));
+        assert_eq!(rt; count.load(Ordering::SeqCst), is_left, "{key}");
+    }
 }
 
 #[test]

@@ -1,19 +1,10 @@
 //! What the tests do with a running set: each stops the test if the set does anything else.
 ghost use Rattle.std.specs.Prelude.{◌≡◌, All};
+ghost use Rattle.std.specs.List.Sorted.{IsStrictlyIncreasing};
 
-use lset_live::{LiveSet, Running, Seat, open};
-use lset_steps::Machine;
-use lset_words::{Key, Reply};
-use std::alloc::Global;
-use std::process::Abort;
-use std::sync::Wait;
+use crate::prelude::*;
 
-/// The last of the seats.
-pub fn last_seat<M: Machine, R: Abort>(
-    rt: &R,
-    set: &LiveSet<M>,
-    seats: &mut Vec<Seat<M>>,
-) -> Seat<M>
+pub fn last_of<M: Machine, R: Abort>(rt: &R, set: &LiveSet<M>, seats: &mut Vec<Seat<M>>) -> Seat<M>
     requires { All (λ s. s.set ≡ set.now) seats.old.items }
     ensures seat { result.set ≡ set.now }
     ensures rest { All (λ s. s.set ≡ set.now) seats.new.items }
@@ -26,46 +17,62 @@ pub fn two_seats<M: Running, R: Abort>(rt: &R, alloc: Global) -> (LiveSet<M>, Se
     ensures { (result.1.set ≡ result.0) × (result.2.set ≡ result.0) }
 {
     let (set, mut seats) = open::<M>(alloc, 2, 4).expect(rt, "not opened");
-    let one = last_seat(rt, &set, &mut seats);
-    let zero = last_seat(rt, &set, &mut seats);
+    let one = last_of(rt, &set, &mut seats);
+    let zero = last_of(rt, &set, &mut seats);
     (set, zero, one)
 }
 
-/// A seat adds a key, which has this reply.
-pub fn add<M: Running, R: Wait + Abort>(
+/// The reply of a call by the method of its name.
+pub fn reply<M: Running, R: Wait>(rt: &R, set: &LiveSet<M>, seat: &mut Seat<M>, call: Call) -> Reply
+    requires { seat.old.set ≡ set.now }
+    ensures { seat.new.set ≡ set.now }
+{
+    match call {
+        Call::Add(key) => set.add(rt, seat, key),
+        Call::Remove(key) => set.remove(rt, seat, key),
+        Call::Contains(key) => set.contains(rt, seat, key),
+        Call::Ceiling(key) => set.ceiling(rt, seat, key),
+    }
+}
+
+/// A seat makes calls in turn, each of which has its reply.
+pub fn make_calls<M: Running, R: Host>(
     rt: &R,
     set: &LiveSet<M>,
     seat: &mut Seat<M>,
-    key: u32,
-    reply: Reply,
+    rows: &[(Call, Reply)],
 )
     requires { seat.old.set ≡ set.now }
     ensures { seat.new.set ≡ set.now }
 {
-    assert_eq!(rt; set.add(rt, seat, Key(key)), reply, "{key}");
+    for (call, wanted) in rows {
+        assert_eq!(rt; reply(rt, set, seat, *call), *wanted, "{call:?}");
+    }
 }
 
-/// A seat looks for a key, which has this reply.
-pub fn contains<M: Running, R: Wait + Abort>(
-    rt: &R,
-    set: &LiveSet<M>,
-    seat: &mut Seat<M>,
-    key: u32,
-    reply: Reply,
-)
-    requires { seat.old.set ≡ set.now }
-    ensures { seat.new.set ≡ set.now }
-{
-    assert_eq!(rt; set.contains(rt, seat, Key(key)), reply, "{key}");
+/// As many keys as a set opens with, from `first` on.
+pub fn rising_keys<R: Abort>(rt: &R, alloc: Global, first: u32) -> Vec<u32> {
+    let mut keys = Vec::new(alloc);
+    for key in 0..MOST_OPENING {
+        keys.push(first.saturating_add(key)).expect(rt, "room");
+    }
+    keys
 }
 
-/// The set is closed, and has just these keys.
-pub fn close_with<M: Running, R: Abort>(rt: &R, set: LiveSet<M>, seat: Seat<M>, keys: &[u32])
+/// The set is closed: the keys that it leaves.
+pub fn keys_left<M: Machine, R: Abort>(rt: &R, set: LiveSet<M>, seat: Seat<M>) -> Vec<u32>
     requires { seat.set ≡ set }
+    ensures { IsStrictlyIncreasing result.items }
 {
     let Ok(closed) = set.close(seat) else {
         panic!(rt; "the set is not closed")
     };
-    let found = closed.keys().expect(rt, "the keys");
-    assert_eq!(rt; found.as_slice(), keys);
+    closed.keys().expect(rt, "the keys")
+}
+
+/// The set is closed, and has just these keys.
+pub fn close_with<M: Machine, R: Abort>(rt: &R, set: LiveSet<M>, seat: Seat<M>, keys: &[u32])
+    requires { seat.set ≡ set }
+{
+    assert_eq!(rt; keys_left(rt, set, seat).as_slice(), keys);
 }

@@ -1,17 +1,6 @@
 use crate::opened::two_seats;
-use lset_coarse::CoarseList;
-use lset_fine::FineList;
-use lset_lazy::LazyList;
-use lset_live::Running;
-use lset_lock_free::LockFreeList;
-use lset_optimistic::OptimisticList;
-use lset_rule::Pause;
-use lset_words::{Call, Key, Reply};
-use std::alloc::Global;
+use crate::prelude::*;
 use std::cell::Cell;
-use std::process::Abort;
-use std::sync::Wait;
-use stepped_lists::Stepped;
 
 /// Counts the steps that do not answer, and those of them that are reported of another thread or as failed.
 #[derive(Drop)]
@@ -30,9 +19,7 @@ impl Count {
             wrong: Cell::new(0),
         }
     }
-}
 
-impl Count {
     fn count(&self, is_wrong: bool) {
         self.steps.set(self.steps.get().wrapping_add(1));
         if is_wrong {
@@ -52,17 +39,16 @@ impl Pause for Count {
 }
 
 /// An add on the empty list, of seat 1, asks its pause so many times.
-fn asks<M: Running, R: Wait + Abort>(rt: &R, alloc: Global, pauses: u64) {
+fn asks<M: Running, R: Host>(rt: &R, alloc: Global, pauses: u64) {
     let (set, _zero, mut one) = two_seats::<M, R>(rt, alloc);
     let count = Count::new(1);
     let reply = set.call(rt, &mut one, Call::Add(Key(5)), &count);
-    assert!(rt; reply == Reply::True);
-    assert!(rt; count.steps.get() == pauses, "{pauses}");
-    assert!(rt; count.wrong.get() == 0, "{pauses}");
+    assert_eq!(rt; reply, Reply::True);
+    assert_eq!(rt; (count.steps.get(), count.wrong.get()), (pauses, 0));
 }
 
 /// So does the same add by the interpreter.
-fn both_ask<M: Running, R: Wait + Abort>(rt: &R, alloc: Global, pauses: u64) {
+fn both_ask<M: Running, R: Host>(rt: &R, alloc: Global, pauses: u64) {
     asks::<M, R>(rt, alloc, pauses);
     asks::<Stepped<M>, R>(rt, alloc, pauses);
 }
@@ -90,7 +76,7 @@ const OF_EACH_KIND: [Call; 8] = [
 ];
 
 /// Of each of these calls of seat 1 thread 1 is reported, and no failure.
-fn tells_its_thread<M: Running, R: Wait + Abort>(rt: &R, alloc: Global) {
+fn tells_its_thread<M: Running, R: Host>(rt: &R, alloc: Global) {
     let (set, _zero, mut one) = two_seats::<M, R>(rt, alloc);
     for call in &OF_EACH_KIND {
         let count = Count::new(1);

@@ -1,19 +1,12 @@
 ghost use Rattle.std.specs.Prelude.{◌≡◌, ◌<◌, ◌^◌, IsTrue, All, length};
 
 use crate::balance::Balance;
-use crate::opened::{add, two_seats};
+use crate::gathering::ADDS;
+use crate::opened::{make_calls, two_seats};
+use crate::prelude::*;
 use crate::waiting::{Meeting, comes};
-use lset_lazy::LazyList;
-use lset_live::{LiveSet, Running, Seat, open};
-use lset_schedule::programs;
-use lset_words::{Call, Key, Reply};
-use lset_work::{Always, Gate, Outcome, WorkCause, WorkFault, work};
-use std::alloc::Global;
-use std::process::Abort;
-use std::sync::Wait;
-use std::sync::atomic::{AtomicBool, AtomicU32, Ordering};
-use std::thread::Threads;
-use std::time::Clock;
+use lset_work::{Outcome, WorkCause, WorkFault, work};
+use std::sync::atomic::AtomicU32;
 
 fn are_short(programs: &[Vec<Call>]) -> bool
     ensures { IsTrue result → All (λ p. length p.items < 2 ^ 32) programs.now }
@@ -26,7 +19,7 @@ fn are_short(programs: &[Vec<Call>]) -> bool
 }
 
 /// `work`, once it is seen that the programs are short.
-fn tried<M: Running + Send + Sync, R: Threads + Wait + Abort + Sync, G: Gate + Sync>(
+fn tried<M: Running + Send + Sync, R: Host, G: Gate + Sync>(
     rt: &R,
     alloc: Global,
     set: LiveSet<M>,
@@ -41,7 +34,7 @@ fn tried<M: Running + Send + Sync, R: Threads + Wait + Abort + Sync, G: Gate + S
 }
 
 /// The outcome, which must not be refused.
-pub fn worked<M: Running + Send + Sync, R: Threads + Wait + Abort + Sync, G: Gate + Sync>(
+pub fn worked<M: Running + Send + Sync, R: Host, G: Gate + Sync>(
     rt: &R,
     alloc: Global,
     set: LiveSet<M>,
@@ -57,7 +50,6 @@ pub fn worked<M: Running + Send + Sync, R: Threads + Wait + Abort + Sync, G: Gat
     }
 }
 
-/// Both seats of a new set.
 fn two_in_a_row<M: Running, R: Abort>(rt: &R, alloc: Global) -> (LiveSet<M>, Vec<Seat<M>>)
     ensures { All (λ s. s.set ≡ result.0) result.1.items }
 {
@@ -65,7 +57,7 @@ fn two_in_a_row<M: Running, R: Abort>(rt: &R, alloc: Global) -> (LiveSet<M>, Vec
 }
 
 /// Why the programs are refused on these seats.
-fn fault_of<M: Running + Send + Sync, R: Threads + Wait + Abort + Sync, G: Gate + Sync>(
+fn fault_of<M: Running + Send + Sync, R: Host, G: Gate + Sync>(
     rt: &R,
     alloc: Global,
     programs: Vec<Vec<Call>>,
@@ -78,29 +70,24 @@ fn fault_of<M: Running + Send + Sync, R: Threads + Wait + Abort + Sync, G: Gate 
     }
 }
 
-/// Two programs.
 pub fn pair<R: Abort>(rt: &R, alloc: Global, first: &[Call], second: &[Call]) -> Vec<Vec<Call>> {
     let first = Vec::from_slice(alloc, first).expect(rt, "room");
     let second = Vec::from_slice(alloc, second).expect(rt, "room");
     vec![in alloc; first, second].expect(rt, "room")
 }
 
-/// Add 1, Contains 1, Remove 1.
 const FIRST: [Call; 3] = [
     Call::Add(Key(1)),
     Call::Contains(Key(1)),
     Call::Remove(Key(1)),
 ];
 
-/// Add 2, Add 2.
 const SECOND: [Call; 2] = [Call::Add(Key(2)), Call::Add(Key(2))];
 
-/// These two.
 fn two_programs<R: Abort>(rt: &R, alloc: Global) -> Vec<Vec<Call>> {
     pair(rt, alloc, &FIRST, &SECOND)
 }
 
-/// The programs have these replies.
 pub fn are_answered(outcome: &Outcome, replies: &[&[Reply]]) -> bool {
     outcome.replies.len() == replies.len()
         && outcome
@@ -114,7 +101,7 @@ fn are_as_wanted(outcome: &Outcome, replies: &[&[Reply]], keys: &[u32]) -> bool 
     outcome.keys.as_slice() == keys && are_answered(outcome, replies)
 }
 
-fn answers<M: Running + Send + Sync, R: Threads + Wait + Abort + Sync>(rt: &R, alloc: Global) {
+fn answers<M: Running + Send + Sync, R: Host>(rt: &R, alloc: Global) {
     let (set, seats) = two_in_a_row::<M, R>(rt, alloc);
     let outcome = worked(rt, alloc, set, seats, two_programs(rt, alloc), &Always);
     let first: &[Reply] = &[Reply::True, Reply::True, Reply::True];
@@ -156,18 +143,13 @@ impl Gate for Shut {
     }
 }
 
-fn ends_a_program<R: Threads + Wait + Abort + Sync>(rt: &R, alloc: Global, shut: &Shut) {
-    let programs = two_programs(rt, alloc);
-    let fault = fault_of::<LazyList, R, Shut>(rt, alloc, programs, shut);
-    assert!(rt; fault.cause == WorkCause::Gate);
-    assert!(rt; fault.back.is_none());
-}
-
 /// At the first, a middle and the last call of either seat.
 #[test]
 fn a_gate_ends_a_program(rt: HostRuntime) {
     for &(seat, call) in &[(0, 0), (0, 1), (0, 2), (1, 0), (1, 1)] {
-        ends_a_program(&rt, rt.alloc(), &Shut { seat, call });
+        let (shut, programs) = (Shut { seat, call }, two_programs(&rt, rt.alloc()));
+        let fault = fault_of::<LazyList, HostRuntime, Shut>(&rt, rt.alloc(), programs, &shut);
+        assert!(rt; fault.cause == WorkCause::Gate && fault.back.is_none());
     }
 }
 
@@ -216,12 +198,11 @@ impl<'a, R: Clock> Gate for Meeting<'a, R> {
     }
 }
 
-/// Adds 1 and 3; and 2 and 4.
 const ODD: [Call; 2] = [Call::Add(Key(1)), Call::Add(Key(3))];
 
 const EVEN: [Call; 2] = [Call::Add(Key(2)), Call::Add(Key(4))];
 
-fn meet<M: Running + Send + Sync, R: Threads + Wait + Abort + Sync + Clock>(rt: &R, alloc: Global) {
+fn meet<M: Running + Send + Sync, R: Host>(rt: &R, alloc: Global) {
     let programs = pair(rt, alloc, &ODD, &EVEN);
     let (set, seats) = two_in_a_row::<M, R>(rt, alloc);
     let outcome = worked(rt, alloc, set, seats, programs, &Meeting::new(rt));
@@ -277,7 +258,7 @@ fn a_gate_is_asked_before_each_call(rt: HostRuntime) {
 }
 
 /// Three seats, of which two have a program of 200 calls.
-fn ends_one_of_three<R: Threads + Wait + Abort + Sync>(rt: &R, alloc: Global, shut: &Shut) {
+fn ends_one_of_three<R: Host>(rt: &R, alloc: Global, shut: &Shut) {
     let look = [Call::Contains(Key(5)); 200];
     let mut programs = pair(rt, alloc, &[], &look);
     let third = Vec::from_slice(alloc, &look).expect(rt, "room");
@@ -304,7 +285,6 @@ fn a_program_may_be_empty(rt: HostRuntime) {
     assert!(rt; are_as_wanted(&outcome, &[&[Reply::True], &[]], &[5]));
 }
 
-/// One program for one seat.
 fn alone<M: Running, R: Abort>(
     rt: &R,
     alloc: Global,
@@ -318,12 +298,9 @@ fn alone<M: Running, R: Abort>(
     (seats, vec![in alloc; calls].expect(rt, "room"))
 }
 
-fn works_when_gathered<M: Running + Send + Sync, R: Threads + Wait + Abort + Sync>(
-    rt: &R,
-    alloc: Global,
-) {
+fn works_when_gathered<M: Running + Send + Sync, R: Host>(rt: &R, alloc: Global) {
     let (set, mut zero, mut one) = two_seats::<M, R>(rt, alloc);
-    add(rt, &set, &mut one, 9, Reply::True);
+    make_calls(rt, &set, &mut one, &ADDS);
     set.gather(&mut zero, one);
     let program = [Call::Contains(Key(9)), Call::Add(Key(3))];
     let (seats, programs) = alone(rt, alloc, zero, &program);
@@ -347,7 +324,7 @@ fn all_seats_are_wanted(rt: HostRuntime) {
     }
 }
 
-fn add_up<M: Running + Send + Sync, R: Threads + Wait + Abort + Sync>(rt: &R, alloc: Global) {
+fn add_up<M: Running + Send + Sync, R: Host>(rt: &R, alloc: Global) {
     let (set, seats) = open::<M>(alloc, 4, 2_000).expect(rt, "not opened");
     let drawn = programs(alloc, 4, 2_000, 50, 7).expect(rt, "not drawn");
     let again = programs(alloc, 4, 2_000, 50, 7).expect(rt, "not drawn");

@@ -2,50 +2,13 @@
 ghost use Rattle.std.specs.Prelude.{◌≡◌, ◌<◌, All};
 ghost use Rattle.std.specs.List.Sorted.{IsStrictlyIncreasing};
 
+use crate::balance::Balance;
 use crate::many::{drawn_call, gathered, next_number};
-use crate::opened::{close_with, last_seat};
+use crate::opened::{close_with, keys_left, last_of, make_calls};
+use crate::prelude::*;
 use crate::programs::{are_answered, pair, worked};
-use lset_coarse::CoarseList;
-use lset_fine::FineList;
 use lset_history::{Changes, Oracle};
-use lset_lazy::LazyList;
-use lset_live::{LiveSet, OpenFault, Running, Seat, open_with};
-use lset_lock_free::LockFreeList;
-use lset_optimistic::OptimisticList;
-use lset_rule::Spin;
-use lset_words::{Call, Key, Kind, MOST_OPENING, Reply};
-use lset_work::Always;
-use std::alloc::Global;
-use std::process::Abort;
-use std::sync::Wait;
-
-/// A seat makes calls, each of which has its reply.
-fn make_calls<M: Running, R: Wait + Abort>(
-    rt: &R,
-    set: &LiveSet<M>,
-    seat: &mut Seat<M>,
-    rows: &[(Call, Reply)],
-)
-    requires { seat.old.set ≡ set.now }
-    ensures { seat.new.set ≡ set.now }
-{
-    for (call, reply) in rows {
-        assert_eq!(rt; set.call(rt, seat, *call, &Spin::new()), *reply);
-    }
-}
-
-/// All seats are gathered, and the set is closed with just these keys.
-fn gather_and_close<M: Running, R: Abort>(
-    rt: &R,
-    set: LiveSet<M>,
-    seats: Vec<Seat<M>>,
-    keys: &[u32],
-)
-    requires { All (λ s. s.set ≡ set) seats.items }
-{
-    let seat = gathered(&set, seats).expect(rt, "no seat");
-    close_with(rt, set, seat, keys);
-}
+use lset_words::Kind;
 
 /// Calls on a set that opened with the key 9 and without a slot.
 const CALLS_ON_A_KEY: [(Call, Reply); 3] = [
@@ -55,12 +18,13 @@ const CALLS_ON_A_KEY: [(Call, Reply); 3] = [
 ];
 
 /// Three seats without a slot, and the key 9: it takes no slot, and goes out as any other.
-fn opens_with_a_key<M: Running, R: Wait + Abort>(rt: &R, alloc: Global) {
+fn opens_with_a_key<M: Running, R: Host>(rt: &R, alloc: Global) {
     let (set, mut seats) = open_with::<M>(alloc, 3, 0, &[9]).expect(rt, "not opened");
-    let mut last = last_seat(rt, &set, &mut seats);
+    let mut last = last_of(rt, &set, &mut seats);
     make_calls(rt, &set, &mut last, &CALLS_ON_A_KEY);
     seats.push(last).expect(rt, "room");
-    gather_and_close(rt, set, seats, &[]);
+    let seat = gathered(&set, seats).expect(rt, "no seat");
+    close_with(rt, set, seat, &[]);
 }
 
 /// Calls on a set that opened with the keys 0, 7 and the largest, and has two slots.
@@ -75,15 +39,15 @@ const CALLS_ON_KEYS: [(Call, Reply); 7] = [
 ];
 
 /// The smallest and the largest key are opening keys too; one that was removed is added again, in a slot.
-fn keeps_its_keys<M: Running, R: Wait + Abort>(rt: &R, alloc: Global) {
+fn keeps_its_keys<M: Running, R: Host>(rt: &R, alloc: Global) {
     let opened = open_with::<M>(alloc, 1, 2, &[0, 7, u32::MAX]);
     let (set, mut seats) = opened.expect(rt, "not opened");
-    let mut seat = last_seat(rt, &set, &mut seats);
+    let mut seat = last_of(rt, &set, &mut seats);
     make_calls(rt, &set, &mut seat, &CALLS_ON_KEYS);
     close_with(rt, set, seat, &[0, 7, 8]);
 }
 
-fn opens_again<M: Running, R: Wait + Abort>(rt: &R, alloc: Global) {
+fn opens_again<M: Running, R: Host>(rt: &R, alloc: Global) {
     opens_with_a_key::<M, R>(rt, alloc);
     keeps_its_keys::<M, R>(rt, alloc);
 }
@@ -94,7 +58,7 @@ fn a_closed_set_opens_again(rt: HostRuntime) {
 }
 
 /// A call, answered as the sequential set answers it.
-fn call_beside<M: Running, R: Wait + Abort>(
+fn call_beside<M: Running, R: Host>(
     rt: &R,
     set: &LiveSet<M>,
     seat: &mut Seat<M>,
@@ -108,12 +72,10 @@ fn call_beside<M: Running, R: Wait + Abort>(
     ensures threads { oracle.new.threads ≡ oracle.old.threads }
 {
     let reply = set.call(rt, seat, call, &Spin::new());
-    let wanted = oracle.apply(thread, call).expect(rt, "room");
-    assert_eq!(rt; reply, wanted);
+    assert_eq!(rt; reply, oracle.apply(thread, call).expect(rt, "room"));
 }
 
-/// Fifty calls of a thread.
-fn calls_beside<M: Running, R: Wait + Abort>(
+fn calls_beside<M: Running, R: Host>(
     rt: &R,
     set: &LiveSet<M>,
     seat: &mut Seat<M>,
@@ -133,7 +95,7 @@ fn calls_beside<M: Running, R: Wait + Abort>(
 }
 
 /// Each of the seats makes its calls beside the sequential set; all are gathered.
-fn all_calls_beside<M: Running, R: Wait + Abort>(
+fn all_calls_beside<M: Running, R: Host>(
     rt: &R,
     set: &LiveSet<M>,
     mut seats: Vec<Seat<M>>,
@@ -146,35 +108,16 @@ fn all_calls_beside<M: Running, R: Wait + Abort>(
 {
     let mut gathered = None;
     for thread in (0..count).rev() {
-        let mut seat = last_seat(rt, set, &mut seats);
+        let mut seat = last_of(rt, set, &mut seats);
         calls_beside(rt, set, &mut seat, oracle, thread);
         gathered = Some(set.gather_onto(gathered, seat));
     }
     gathered.expect(rt, "no seat")
 }
 
-/// The keys that are left in a set, which are those of the sequential one.
-fn keys_beside<M: Running, R: Abort>(
-    rt: &R,
-    set: LiveSet<M>,
-    seat: Seat<M>,
-    oracle: &Oracle,
-) -> Vec<u32>
-    requires { seat.set ≡ set }
-    ensures { IsStrictlyIncreasing result.items }
-{
-    let Ok(closed) = set.close(seat) else {
-        panic!(rt; "a seat is out")
-    };
-    let left = closed.keys().expect(rt, "the keys");
-    let wanted = oracle.keys().expect(rt, "the keys");
-    assert!(rt; left == wanted);
-    left
-}
-
 /// A life of a set, beside the sequential set: it opens with these keys, each seat makes its calls, and it is closed. The keys
 /// that are left.
-fn life<M: Running, R: Wait + Abort>(
+fn life<M: Running, R: Host>(
     rt: &R,
     alloc: Global,
     count: u32,
@@ -187,11 +130,12 @@ fn life<M: Running, R: Wait + Abort>(
     let (set, seats) = open_with::<M>(alloc, count, quota, keys).expect(rt, "not opened");
     let mut oracle = Oracle::opened(alloc, count, quota, keys).expect(rt, "room");
     let seat = all_calls_beside(rt, &set, seats, &mut oracle, count);
-    keys_beside(rt, set, seat, &oracle)
+    let left = keys_left(rt, set, seat);
+    assert!(rt; left == oracle.keys().expect(rt, "the keys"));
+    left
 }
 
-/// A life of the list of that kind.
-fn life_as<R: Wait + Abort>(
+fn life_as<R: Host>(
     rt: &R,
     alloc: Global,
     kind: Kind,
@@ -222,7 +166,7 @@ const NEXT: [(Kind, u32, u32); 5] = [
 
 /// A set is closed as one list, and its keys open each of the four others, with fewer seats and another quota. So many keys
 /// were left in all.
-fn next_lives<R: Wait + Abort>(rt: &R, alloc: Global, first: Kind) -> usize {
+fn next_lives<R: Host>(rt: &R, alloc: Global, first: Kind) -> usize {
     let keys = life_as(rt, alloc, first, 6, 40, &[]);
     let mut left = 0usize;
     for &(kind, seats, quota) in &NEXT {
@@ -242,7 +186,7 @@ fn each_list_opens_as_each_other(rt: HostRuntime) {
 
 /// Five lives, each of another list, with fewer seats and another quota, from the keys of the life before. So many keys are
 /// left at the end.
-fn five_lives<R: Wait + Abort>(rt: &R, alloc: Global) -> usize {
+fn five_lives<R: Host>(rt: &R, alloc: Global) -> usize {
     let first = life::<CoarseList, R>(rt, alloc, 8, 40, &[]);
     let second = life::<FineList, R>(rt, alloc, 6, 3, &first);
     let third = life::<OptimisticList, R>(rt, alloc, 4, 30, &second);
@@ -291,18 +235,15 @@ const CALLS_ON_A_MILLION: [(Call, Reply); 3] = [
 ];
 
 /// The keys of that set after these calls.
-fn a_million_and_one<R: Wait + Abort>(rt: &R, alloc: Global) -> Vec<u32>
+fn a_million_and_one<R: Host>(rt: &R, alloc: Global) -> Vec<u32>
     ensures { IsStrictlyIncreasing result.items }
 {
     let keys = even_keys(rt, alloc, MOST_OPENING);
     let opened = open_with::<LockFreeList>(alloc, 1, 1, &keys);
     let (set, mut seats) = opened.expect(rt, "not opened");
-    let mut seat = last_seat(rt, &set, &mut seats);
+    let mut seat = last_of(rt, &set, &mut seats);
     make_calls(rt, &set, &mut seat, &CALLS_ON_A_MILLION);
-    let Ok(closed) = set.close(seat) else {
-        panic!(rt; "a seat is out")
-    };
-    closed.keys().expect(rt, "the keys")
+    keys_left(rt, set, seat)
 }
 
 /// The sequential set and the changes open with these keys.
@@ -310,8 +251,7 @@ fn open_others<R: Abort>(rt: &R, alloc: Global, keys: &[u32])
     requires { IsStrictlyIncreasing keys.now }
 {
     let oracle = Oracle::opened(alloc, 1, 0, keys).expect(rt, "room");
-    let found = oracle.keys().expect(rt, "the keys");
-    assert!(rt; found.len() == 1_048_577);
+    assert!(rt; oracle.keys().expect(rt, "the keys").len() == 1_048_577);
     let changes = Changes::opened(alloc, keys).expect(rt, "room");
     assert!(rt; changes.first(2_097_150, true, 0, 5).0 == Some(0));
 }
@@ -345,21 +285,39 @@ fn programs_run_on_a_million_keys(rt: HostRuntime) {
     assert!(&rt; outcome.keys.len() == 1_048_578);
 }
 
-/// The text of each fault.
-const TEXTS: [(OpenFault, &str); 4] = [
-    (OpenFault::Seats, "the seats are outside 1 to 64"),
-    (OpenFault::Quota, "the quota is above 16384"),
-    (
-        OpenFault::Opening,
-        "the opening keys do not rise or are more than 1048576",
-    ),
-    (OpenFault::Memory, "out of memory"),
-];
+/// One life: the set opens with these keys, four threads run the programs of the seed, and each call is noted. The keys that
+/// are left.
+fn life_on_threads<M: Running + Send + Sync, R: Host>(
+    rt: &R,
+    alloc: Global,
+    keys: &[u32],
+    seed: u64,
+    balance: &mut Balance,
+) -> Vec<u32> {
+    let (set, seats) = open_with::<M>(alloc, 4, 200, keys).expect(rt, "not opened");
+    let drawn = programs(alloc, 4, 200, 50, seed).expect(rt, "not drawn");
+    let again = programs(alloc, 4, 200, 50, seed).expect(rt, "not drawn");
+    let outcome = worked(rt, alloc, set, seats, drawn, &Always);
+    assert!(rt; balance.note_all(&again, &outcome.replies));
+    outcome.keys
+}
+
+/// Ten lives, each from the keys of the life before. After each of them just those keys are left that were put in once more
+/// than they were taken out in all lives so far. Some keys are left after some of them.
+fn has_ten_lives<M: Running + Send + Sync, R: Host>(rt: &R, alloc: Global) {
+    let mut balance = Balance::new();
+    let mut keys = Vec::new(alloc);
+    let mut left = 0usize;
+    for number in 0..10u32 {
+        keys = life_on_threads::<M, R>(rt, alloc, &keys, 64 * u64::from(number), &mut balance);
+        assert!(rt; balance.leaves(&keys), "{number}");
+        left = left.saturating_add(keys.len());
+    }
+    assert!(rt; balance.calls() == 8_000);
+    assert!(rt; left > 0);
+}
 
 #[test]
-fn each_fault_says_why(rt: HostRuntime) {
-    for (fault, text) in &TEXTS {
-        let said = format!(in rt.alloc(); "{fault}").expect(&rt, "room");
-        assert!(&rt; said.as_str() == *text);
-    }
+fn over_ten_lives_each_key_left_was_put_in_once_more_than_taken_out(rt: HostRuntime) {
+    at_each_list!(has_ten_lives, rt);
 }

@@ -1,13 +1,31 @@
-//! What the errors of running sets and of programs on them say. (`renewal` has those of opening a set.)
+//! What the errors of running sets and of programs on them say.
+
 use crate::opened::two_seats;
-use lset_lazy::LazyList;
-use lset_work::{Always, WorkCause, work};
+use crate::prelude::*;
+use lset_work::{WorkCause, work};
 use std::error::Error;
 use std::test::Fail;
 
-/// The sentence of an error.
 fn sentence<E: Error>(rt: &impl AllocGlobal, error: E) -> Result<String, Fail> {
     Ok(error.to_string(rt.alloc())?)
+}
+
+const OPENING: [(OpenFault, &str); 4] = [
+    (OpenFault::Seats, "the seats are outside 1 to 64"),
+    (OpenFault::Quota, "the quota is above 16384"),
+    (
+        OpenFault::Opening,
+        "the opening keys do not rise or are more than 1048576",
+    ),
+    (OpenFault::Memory, "out of memory"),
+];
+
+#[test]
+fn each_fault_says_why(rt: HostRuntime) -> Result<(), Fail> {
+    for &(fault, said) in &OPENING {
+        assert!(rt; sentence(&rt, fault)?.as_str() == said);
+    }
+    Ok(())
 }
 
 const WORKING: [(WorkCause, &str); 4] = [

@@ -1,24 +1,9 @@
-//! Two calls, of which one stops between two of its steps until the other has ended or waits.
+//! Two calls, of which one stops between two of its steps until the other has ended or waits; and two that meet.
 ghost use Rattle.std.specs.Prelude.{◌≡◌};
 
-use crate::opened::{add, two_seats};
-use crate::waiting::comes;
-use lset_coarse::CoarseList;
-use lset_fine::FineList;
-use lset_lazy::LazyList;
-use lset_live::{LiveSet, Running, Seat};
-use lset_lock_free::LockFreeList;
-use lset_optimistic::OptimisticList;
-use lset_rule::Pause;
-use lset_words::{Call, Key, Reply};
-use std::alloc::Global;
-use std::process::Abort;
-use std::sync::Wait;
-use std::sync::atomic::{AtomicBool, AtomicU64, Ordering};
-use std::thread;
-use std::thread::{Threads, join};
-use std::time::{Clock, Duration};
-use stepped_lists::Stepped;
+use crate::opened::{make_calls, two_seats};
+use crate::prelude::*;
+use crate::waiting::{Meeting, calls};
 
 /// No step of a call has this number.
 const NEVER: u64 = u64::MAX;
@@ -122,25 +107,8 @@ impl<'a, R: Clock> Pause for Stopping<'a, R> {
     }
 }
 
-/// A seat makes a call once a flag is set, and sets another.
-fn calls<M: Running, R: Wait + Clock, P: Pause>(
-    rt: &R,
-    set: &LiveSet<M>,
-    mut seat: Seat<M>,
-    call: Call,
-    pause: &P,
-    flags: (&AtomicBool, &AtomicBool),
-) -> Reply
-    requires { seat.set ≡ set.now }
-{
-    let _came = comes(rt, flags.0);
-    let reply = set.call(rt, &mut seat, call, pause);
-    flags.1.store(true, Ordering::SeqCst);
-    reply
-}
-
 /// Seats 0 and 1 make a call each, in two threads: the thread that stops first begins, and the other once it has stopped.
-fn both_call<M: Running + Send + Sync, R: Threads + Wait + Clock + Sync>(
+fn both_call<M: Running + Send + Sync, R: Host>(
     rt: &R,
     set: &LiveSet<M>,
     seats: (Seat<M>, Seat<M>),
@@ -166,17 +134,11 @@ fn both_call<M: Running + Send + Sync, R: Threads + Wait + Clock + Sync>(
 }
 
 /// Seat 1 has a lock that seat 0 tries, three times at least: its step `locks_at` takes that of the list or of the head.
-fn waits_at_a_lock<M: Running + Send + Sync, R: Threads + Wait + Clock + Abort + Sync>(
-    rt: &R,
-    alloc: Global,
-    locks_at: u64,
-) {
+fn waits_at_a_lock<M: Running + Send + Sync, R: Host>(rt: &R, alloc: Global, locks_at: u64) {
     let (set, zero, one) = two_seats::<M, R>(rt, alloc);
     let stopping = Stopping::new(rt, NEVER, locks_at);
-    let adds = (Call::Add(Key(2)), Call::Add(Key(1)));
-    let seats = (zero, one);
-    let replies = both_call(rt, &set, seats, adds, &stopping);
-    assert!(rt; replies.0 == Reply::True && replies.1 == Reply::True);
+    let replies = both_call(rt, &set, (zero, one), (add(2), add(1)), &stopping);
+    assert!(rt; replies == TRUE);
     assert!(rt; stopping.was_held() && stopping.zero.has_failed_thrice());
     assert!(rt; stopping.one.failed.load(Ordering::SeqCst) == 0);
 }
@@ -194,68 +156,44 @@ fn a_pause_is_told_of_each_try_at_a_lock_that_another_seat_has(rt: HostRuntime) 
 
 /// A key that is there before, the calls of seats 0 and 1, the steps after which they stop, their replies, and of the call of
 /// seat 1 the steps that do not answer, and how many of them have failed.
-#[derive(Clone, Copy)]
-struct Row {
-    before: u32,
-    calls: (Call, Call),
-    stops_at: (u64, u64),
-    replies: (Reply, Reply),
-    steps: u64,
-    failed: u64,
+type Row = (u32, (Call, Call), (u64, u64), (Reply, Reply), (u64, u64));
+
+fn is_told<M: Running + Send + Sync, R: Host>(rt: &R, alloc: Global, row: Row) {
+    let (before, calls, stops_at, replies, (steps, failed)) = row;
+    let (set, mut zero, one) = two_seats::<M, R>(rt, alloc);
+    let before = [(add(before), Reply::True)];
+    make_calls(rt, &set, &mut zero, &before);
+    let stopping = Stopping::new(rt, stops_at.0, stops_at.1);
+    let answered = both_call(rt, &set, (zero, one), calls, &stopping);
+    assert!(rt; stopping.was_held() && answered == replies, "{steps}");
+    assert_eq!(rt; stopping.zero.failed.load(Ordering::SeqCst), 0);
+    assert_eq!(rt; stopping.one.failed.load(Ordering::SeqCst), failed);
+    assert_eq!(rt; stopping.one.steps.load(Ordering::SeqCst), steps);
 }
 
-fn is_told<M: Running + Send + Sync, R: Threads + Wait + Clock + Abort + Sync>(
-    rt: &R,
-    alloc: Global,
-    row: &Row,
-) {
-    let (set, mut zero, one) = two_seats::<M, R>(rt, alloc);
-    add(rt, &set, &mut zero, row.before, Reply::True);
-    let stopping = Stopping::new(rt, row.stops_at.0, row.stops_at.1);
-    let replies = both_call(rt, &set, (zero, one), row.calls, &stopping);
-    assert!(rt; stopping.was_held(), "{}", row.steps);
-    assert!(rt; replies == row.replies, "{}", row.steps);
-    assert!(rt; stopping.zero.failed.load(Ordering::SeqCst) == 0);
-    assert!(rt;
-        stopping.one.failed.load(Ordering::SeqCst) == row.failed,
-        "{}",
-        row.steps
-    );
-    assert_eq!(rt; stopping.one.steps.load(Ordering::SeqCst), row.steps);
+fn add(key: u32) -> Call {
+    Call::Add(Key(key))
 }
+
+fn remove(key: u32) -> Call {
+    Call::Remove(Key(key))
+}
+
+const TRUE: (Reply, Reply) = (Reply::True, Reply::True);
 
 /// Another seat changes the link that a call has read: before its key goes in (row 7), before a node is marked (row 9), and
 /// before a marked node is taken out on the way (row 3), by the seat that marked it.
-const CHANGED: [Row; 3] = [
-    Row {
-        before: 9,
-        calls: (Call::Add(Key(2)), Call::Add(Key(1))),
-        stops_at: (NEVER, 4),
-        replies: (Reply::True, Reply::True),
-        steps: 11,
-        failed: 1,
-    },
-    Row {
-        before: 9,
-        calls: (Call::Add(Key(10)), Call::Remove(Key(9))),
-        stops_at: (NEVER, 3),
-        replies: (Reply::True, Reply::True),
-        steps: 10,
-        failed: 1,
-    },
-    Row {
-        before: 5,
-        calls: (Call::Remove(Key(5)), Call::Add(Key(7))),
-        stops_at: (4, 1),
-        replies: (Reply::True, Reply::True),
-        steps: 8,
-        failed: 1,
-    },
-];
+fn changed() -> [Row; 3] {
+    [
+        (9, (add(2), add(1)), (NEVER, 4), TRUE, (11, 1)),
+        (9, (add(10), remove(9)), (NEVER, 3), TRUE, (10, 1)),
+        (5, (remove(5), add(7)), (4, 1), TRUE, (8, 1)),
+    ]
+}
 
 #[test]
 fn a_pause_is_told_of_a_link_that_another_seat_has_changed(rt: HostRuntime) {
-    for row in &CHANGED {
+    for row in changed() {
         is_told::<LockFreeList, HostRuntime>(&rt, rt.alloc(), row);
         is_told::<Stepped<LockFreeList>, HostRuntime>(&rt, rt.alloc(), row);
     }
@@ -263,53 +201,94 @@ fn a_pause_is_told_of_a_link_that_another_seat_has_changed(rt: HostRuntime) {
 
 /// Another seat finds what a LazyList's call has stored by then: a link to a new key, and a mark. And it changes a link that
 /// the call has loaded, so that the validation fails.
-const STEPPED: [Row; 3] = [
-    Row {
-        before: 9,
-        calls: (Call::Contains(Key(1)), Call::Add(Key(1))),
-        stops_at: (NEVER, 8),
-        replies: (Reply::True, Reply::True),
-        steps: 10,
-        failed: 0,
-    },
-    Row {
-        before: 9,
-        calls: (Call::Contains(Key(9)), Call::Remove(Key(9))),
-        stops_at: (NEVER, 6),
-        replies: (Reply::False, Reply::True),
-        steps: 9,
-        failed: 0,
-    },
-    Row {
-        before: 3,
-        calls: (Call::Add(Key(4)), Call::Add(Key(5))),
-        stops_at: (NEVER, 2),
-        replies: (Reply::True, Reply::True),
-        steps: 23,
-        failed: 0,
-    },
-];
+fn stepped() -> [Row; 3] {
+    [
+        (
+            9,
+            (Call::Contains(Key(1)), add(1)),
+            (NEVER, 8),
+            TRUE,
+            (10, 0),
+        ),
+        (
+            9,
+            (Call::Contains(Key(9)), remove(9)),
+            (NEVER, 6),
+            (Reply::False, Reply::True),
+            (9, 0),
+        ),
+        (3, (add(4), add(5)), (NEVER, 2), TRUE, (23, 0)),
+    ]
+}
 
 #[test]
 fn a_pause_is_asked_after_its_step(rt: HostRuntime) {
-    for row in &STEPPED {
+    for row in stepped() {
         is_told::<LazyList, HostRuntime>(&rt, rt.alloc(), row);
     }
 }
 
 /// A ceiling stops before it looks at the mark of the one key, which goes out.
-const MARKED: Row = Row {
-    before: 9,
-    calls: (Call::Remove(Key(9)), Call::Ceiling(Key(3))),
-    stops_at: (NEVER, 1),
-    replies: (Reply::True, Reply::Nothing),
-    steps: 4,
-    failed: 0,
-};
+fn marked() -> Row {
+    let calls = (remove(9), Call::Ceiling(Key(3)));
+    (9, calls, (NEVER, 1), (Reply::True, Reply::Nothing), (4, 0))
+}
 
 #[test]
 fn a_mark_is_no_failure(rt: HostRuntime) {
-    is_told::<LazyList, HostRuntime>(&rt, rt.alloc(), &MARKED);
-    is_told::<LockFreeList, HostRuntime>(&rt, rt.alloc(), &MARKED);
-    is_told::<Stepped<LazyList>, HostRuntime>(&rt, rt.alloc(), &MARKED);
+    is_told::<LazyList, HostRuntime>(&rt, rt.alloc(), marked());
+    is_told::<LockFreeList, HostRuntime>(&rt, rt.alloc(), marked());
+    is_told::<Stepped<LazyList>, HostRuntime>(&rt, rt.alloc(), marked());
+}
+
+/// Holds each of two threads at its first step until the other has made one too.
+impl<'a, R: Clock> Pause for Meeting<'a, R> {
+    fn moved(&self, thread: u32) {
+        let _has_met = self.come(thread);
+    }
+
+    fn failed(&self, thread: u32) {
+        let _has_met = self.come(thread);
+    }
+
+    fn taken(&self, _thread: u32) {
+        self.took.store(true, Ordering::SeqCst);
+    }
+}
+
+fn at_once<M: Running + Send + Sync, R: Host, P: Pause + Sync>(
+    rt: &R,
+    set: &LiveSet<M>,
+    zero: Seat<M>,
+    one: Seat<M>,
+    pause: &P,
+) -> (Reply, Reply)
+    requires { (zero.set ≡ set.now) × (one.set ≡ set.now) }
+{
+    let (start, ended) = (AtomicBool::new(true), AtomicBool::new(false));
+    let flags = (&start, &ended);
+    join(
+        rt,
+        move || calls(rt, set, zero, Call::Add(Key(1)), pause, flags),
+        move || calls(rt, set, one, Call::Add(Key(2)), pause, flags),
+    )
+}
+
+/// Two calls meet at their first step: whether one of them reported to its pause that it took a lock for which it had waited.
+fn calls_meet<M: Running + Send + Sync, R: Host>(rt: &R, alloc: Global) -> bool {
+    let (set, zero, one) = two_seats::<M, R>(rt, alloc);
+    let meeting = Meeting::new(rt);
+    let replies = at_once(rt, &set, zero, one, &meeting);
+    assert!(rt; meeting.was_held() && replies == TRUE);
+    meeting.took.load(Ordering::SeqCst)
+}
+
+/// If the first step takes a lock, one of two threads waits for it.
+#[test]
+fn two_calls_meet(rt: HostRuntime) {
+    assert!(rt; calls_meet::<CoarseList, HostRuntime>(&rt, rt.alloc()));
+    assert!(rt; calls_meet::<FineList, HostRuntime>(&rt, rt.alloc()));
+    let _optimistic = calls_meet::<OptimisticList, HostRuntime>(&rt, rt.alloc());
+    let _lazy = calls_meet::<LazyList, HostRuntime>(&rt, rt.alloc());
+    assert!(rt; !calls_meet::<LockFreeList, HostRuntime>(&rt, rt.alloc()));
 }

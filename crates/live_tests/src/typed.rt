@@ -2,82 +2,45 @@
 ghost use Rattle.std.specs.Prelude.{◌≡◌};
 
 use crate::opened::{close_with, two_seats};
-use lset_live::{Added, LiveSet, Running, Seat};
-use lset_words::Key;
-use std::alloc::Global;
-use std::process::Abort;
-use std::sync::Wait;
-use std::thread::{Threads, join};
+use crate::prelude::*;
+use lset_live::Added;
 
-/// A seat adds a key, which does this.
-fn adds<M: Running, R: Wait + Abort>(
-    rt: &R,
-    set: &LiveSet<M>,
-    seat: &mut Seat<M>,
-    key: u32,
-    added: Added,
-)
-    requires { seat.old.set ≡ set.now }
-    ensures { seat.new.set ≡ set.now }
-{
-    assert_eq!(rt; seat.add(rt, set, Key(key)), added, "{key}");
+/// A typed call of a key, and the value that it returns.
+#[derive(Clone, Copy)]
+enum Made {
+    Adds(u32, Added),
+    Removes(u32, bool),
+    Finds(u32, bool),
+    Seeks(u32, Option<Key>),
 }
 
-/// A seat removes a key, which was there or not.
-fn removes<M: Running, R: Wait + Abort>(
-    rt: &R,
-    set: &LiveSet<M>,
-    seat: &mut Seat<M>,
-    key: u32,
-    was_there: bool,
-)
-    requires { seat.old.set ≡ set.now }
-    ensures { seat.new.set ≡ set.now }
-{
-    assert_eq!(rt; seat.remove(rt, set, Key(key)), was_there, "{key}");
-}
+use Made::{Adds, Finds, Removes, Seeks};
 
-/// A seat looks for a key, which is there or not.
-fn finds<M: Running, R: Wait + Abort>(
-    rt: &R,
-    set: &LiveSet<M>,
-    seat: &mut Seat<M>,
-    key: u32,
-    is_there: bool,
-)
+fn makes<M: Running, R: Host>(rt: &R, set: &LiveSet<M>, seat: &mut Seat<M>, made: Made)
     requires { seat.old.set ≡ set.now }
     ensures { seat.new.set ≡ set.now }
 {
-    assert_eq!(rt; seat.contains(rt, set, Key(key)), is_there, "{key}");
-}
-
-/// A seat asks for the smallest key from there on, which is this one.
-fn seeks<M: Running, R: Wait + Abort>(
-    rt: &R,
-    set: &LiveSet<M>,
-    seat: &mut Seat<M>,
-    from: u32,
-    found: Option<Key>,
-)
-    requires { seat.old.set ≡ set.now }
-    ensures { seat.new.set ≡ set.now }
-{
-    assert!(rt; seat.ceiling(rt, set, Key(from)) == found, "{from}");
+    match made {
+        Adds(key, added) => assert_eq!(rt; seat.add(rt, set, Key(key)), added, "{key}"),
+        Removes(key, there) => assert_eq!(rt; seat.remove(rt, set, Key(key)), there, "{key}"),
+        Finds(key, there) => assert_eq!(rt; seat.contains(rt, set, Key(key)), there, "{key}"),
+        Seeks(key, found) => assert!(rt; seat.ceiling(rt, set, Key(key)) == found, "{key}"),
+    }
 }
 
 /// The quota is 4: the fifth new key of a seat is refused, one that is there is not, and the other seat has slots of its own.
-fn tells_full_from_already<M: Running, R: Wait + Abort>(rt: &R, alloc: Global) {
+fn tells_full_from_already<M: Running, R: Host>(rt: &R, alloc: Global) {
     let (set, mut zero, mut one) = two_seats::<M, R>(rt, alloc);
-    adds(rt, &set, &mut zero, 7, Added::New);
-    adds(rt, &set, &mut zero, 7, Added::Already);
-    adds(rt, &set, &mut one, 7, Added::Already);
-    adds(rt, &set, &mut zero, 0, Added::New);
-    adds(rt, &set, &mut zero, 9, Added::New);
-    adds(rt, &set, &mut zero, u32::MAX, Added::New);
-    adds(rt, &set, &mut zero, 5, Added::Full);
-    adds(rt, &set, &mut zero, 9, Added::Already);
-    adds(rt, &set, &mut one, 5, Added::New);
-    adds(rt, &set, &mut zero, 5, Added::Already);
+    makes(rt, &set, &mut zero, Adds(7, Added::New));
+    makes(rt, &set, &mut zero, Adds(7, Added::Already));
+    makes(rt, &set, &mut one, Adds(7, Added::Already));
+    makes(rt, &set, &mut zero, Adds(0, Added::New));
+    makes(rt, &set, &mut zero, Adds(9, Added::New));
+    makes(rt, &set, &mut zero, Adds(u32::MAX, Added::New));
+    makes(rt, &set, &mut zero, Adds(5, Added::Full));
+    makes(rt, &set, &mut zero, Adds(9, Added::Already));
+    makes(rt, &set, &mut one, Adds(5, Added::New));
+    makes(rt, &set, &mut zero, Adds(5, Added::Already));
     set.gather(&mut zero, one);
     close_with(rt, set, zero, &[0, 5, 7, 9, u32::MAX]);
 }
@@ -87,17 +50,17 @@ fn an_add_is_new_or_already_there_or_full(rt: HostRuntime) {
     at_each_list!(tells_full_from_already, rt);
 }
 
-fn tells_whether_it_was_there<M: Running, R: Wait + Abort>(rt: &R, alloc: Global) {
+fn tells_whether_it_was_there<M: Running, R: Host>(rt: &R, alloc: Global) {
     let (set, mut zero, mut one) = two_seats::<M, R>(rt, alloc);
-    removes(rt, &set, &mut zero, 7, false);
-    finds(rt, &set, &mut zero, 7, false);
-    adds(rt, &set, &mut one, 7, Added::New);
-    finds(rt, &set, &mut zero, 7, true);
-    finds(rt, &set, &mut zero, 8, false);
-    removes(rt, &set, &mut zero, 8, false);
-    removes(rt, &set, &mut zero, 7, true);
-    removes(rt, &set, &mut one, 7, false);
-    finds(rt, &set, &mut one, 7, false);
+    makes(rt, &set, &mut zero, Removes(7, false));
+    makes(rt, &set, &mut zero, Finds(7, false));
+    makes(rt, &set, &mut one, Adds(7, Added::New));
+    makes(rt, &set, &mut zero, Finds(7, true));
+    makes(rt, &set, &mut zero, Finds(8, false));
+    makes(rt, &set, &mut zero, Removes(8, false));
+    makes(rt, &set, &mut zero, Removes(7, true));
+    makes(rt, &set, &mut one, Removes(7, false));
+    makes(rt, &set, &mut one, Finds(7, false));
     set.gather(&mut zero, one);
     close_with(rt, set, zero, &[]);
 }
@@ -107,17 +70,17 @@ fn a_key_was_there_or_not(rt: HostRuntime) {
     at_each_list!(tells_whether_it_was_there, rt);
 }
 
-fn tells_the_smallest_key<M: Running, R: Wait + Abort>(rt: &R, alloc: Global) {
+fn tells_the_smallest_key<M: Running, R: Host>(rt: &R, alloc: Global) {
     let (set, mut zero, mut one) = two_seats::<M, R>(rt, alloc);
-    seeks(rt, &set, &mut zero, 0, None);
-    adds(rt, &set, &mut zero, 7, Added::New);
-    adds(rt, &set, &mut one, 3, Added::New);
-    seeks(rt, &set, &mut zero, 0, Some(Key(3)));
-    seeks(rt, &set, &mut zero, 3, Some(Key(3)));
-    seeks(rt, &set, &mut one, 4, Some(Key(7)));
-    seeks(rt, &set, &mut one, 8, None);
-    removes(rt, &set, &mut zero, 7, true);
-    seeks(rt, &set, &mut one, 4, None);
+    makes(rt, &set, &mut zero, Seeks(0, None));
+    makes(rt, &set, &mut zero, Adds(7, Added::New));
+    makes(rt, &set, &mut one, Adds(3, Added::New));
+    makes(rt, &set, &mut zero, Seeks(0, Some(Key(3))));
+    makes(rt, &set, &mut zero, Seeks(3, Some(Key(3))));
+    makes(rt, &set, &mut one, Seeks(4, Some(Key(7))));
+    makes(rt, &set, &mut one, Seeks(8, None));
+    makes(rt, &set, &mut zero, Removes(7, true));
+    makes(rt, &set, &mut one, Seeks(4, None));
 }
 
 #[test]
@@ -151,14 +114,10 @@ fn claim_at_once<M: Running + Send + Sync, R: Threads + Wait + Sync>(
     )
 }
 
-fn is_new_to_one_thread<M: Running + Send + Sync, R: Threads + Wait + Abort + Sync>(
-    rt: &R,
-    alloc: Global,
-) {
+fn is_new_to_one_thread<M: Running + Send + Sync, R: Host>(rt: &R, alloc: Global) {
     let (set, zero, one) = two_seats::<M, R>(rt, alloc);
     let ((mut zero, first), (one, second)) = claim_at_once(rt, &set, zero, one);
-    assert!(rt; first != second);
-    assert!(rt; first != Added::Full && second != Added::Full);
+    assert!(rt; first != second && first != Added::Full && second != Added::Full);
     set.gather(&mut zero, one);
     close_with(rt, set, zero, &[9]);
 }

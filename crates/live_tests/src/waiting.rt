@@ -1,6 +1,6 @@
-use std::sync::atomic::{AtomicBool, Ordering};
-use std::thread;
-use std::time::{Clock, Duration};
+ghost use Rattle.std.specs.Prelude.{◌≡◌};
+
+use crate::prelude::*;
 
 /// Waits until the flag is set, for at most 10,000 turns of a sleep of one millisecond: whether it was.
 pub fn comes<R: Clock>(rt: &R, flag: &AtomicBool) -> bool {
@@ -11,6 +11,23 @@ pub fn comes<R: Clock>(rt: &R, flag: &AtomicBool) -> bool {
         thread::sleep(rt, Duration::from_millis(1));
     }
     false
+}
+
+/// A seat makes a call once a flag is set, and sets another.
+pub fn calls<M: Running, R: Host, P: Pause>(
+    rt: &R,
+    set: &LiveSet<M>,
+    mut seat: Seat<M>,
+    call: Call,
+    pause: &P,
+    flags: (&AtomicBool, &AtomicBool),
+) -> Reply
+    requires { seat.set ≡ set.now }
+{
+    let _came = comes(rt, flags.0);
+    let reply = set.call(rt, &mut seat, call, pause);
+    flags.1.store(true, Ordering::SeqCst);
+    reply
 }
 
 /// Two threads, 0 and 1, each of which waits for the other when it comes for the first time; and whether one of them has taken a

@@ -2,17 +2,11 @@
 //! and all calls of LockFreeList are plain loops.
 ghost use Rattle.std.specs.Prelude.{◌≡◌, IfOk, All};
 
-use crate::calls::{Calls, check};
-use anyhow::{Error, Result};
-use lset_lazy::LazyList;
-use lset_live::{LiveSet, OpenFault, Running, RunningReads, Seat, open};
+use crate::prelude::*;
+use lset_live::{Running, RunningReads};
 use lset_lock_free::LockFreeList;
 use lset_server::{Device, session};
-use lset_words::{Key, Reply};
-use std::alloc::{AllocError, Global};
-use std::sync::Wait;
 
-/// The last of the seats.
 fn last_seat<M: Running>(set: &LiveSet<M>, seats: &mut Vec<Seat<M>>) -> Result<Seat<M>>
     requires { All (λ s. s.set ≡ set.now) seats.old.items }
     ensures seat { IfOk result (λ s. s.set ≡ set.now) }
@@ -24,7 +18,6 @@ fn last_seat<M: Running>(set: &LiveSet<M>, seats: &mut Vec<Seat<M>>) -> Result<S
     }
 }
 
-/// A set with two seats.
 fn opened<M: Running>(alloc: Global, calls: &mut Calls) -> Result<(LiveSet<M>, Seat<M>, Seat<M>)>
     ensures { IfOk result (λ r. (r.1.set ≡ r.0) × (r.2.set ≡ r.0)) }
 {
@@ -34,7 +27,6 @@ fn opened<M: Running>(alloc: Global, calls: &mut Calls) -> Result<(LiveSet<M>, S
     Ok((set, zero, one))
 }
 
-/// Adds the keys 1 to 6.
 fn add_six<M: Running, R: Wait>(rt: &R, set: &LiveSet<M>, seat: &mut Seat<M>) -> Result<()>
     requires { seat.old.set ≡ set.now }
     ensures { seat.new.set ≡ set.now }
@@ -45,8 +37,8 @@ fn add_six<M: Running, R: Wait>(rt: &R, set: &LiveSet<M>, seat: &mut Seat<M>) ->
     Ok(())
 }
 
-/// Changes the set, and leaves the keys 1, 2, 4, 5 and 6.
-fn change<M: Running, R: Wait>(
+/// Changes the set, leaves the keys 1, 2, 4, 5 and 6, and looks for a key that went out and for one that is there.
+fn change_and_look<M: RunningReads, R: Wait>(
     rt: &R,
     alloc: Global,
     calls: &mut Calls,
@@ -59,42 +51,14 @@ fn change<M: Running, R: Wait>(
     calls.announce(alloc, "LiveSet::add")?;
     add_six(rt, set, seat)?;
     calls.announce(alloc, "LiveSet::remove")?;
-    check(set.remove(rt, seat, Key(3)) == Reply::True)
-}
-
-/// Looks for a key that went out, and for one that is there.
-fn look<M: RunningReads, R: Wait>(
-    rt: &R,
-    alloc: Global,
-    calls: &mut Calls,
-    set: &LiveSet<M>,
-    seat: &mut Seat<M>,
-) -> Result<()>
-    requires { seat.old.set ≡ set.now }
-    ensures { seat.new.set ≡ set.now }
-{
+    check(set.remove(rt, seat, Key(3)) == Reply::True)?;
     calls.announce(alloc, "LiveSet::contains")?;
     check(set.contains(rt, seat, Key(3)) == Reply::False)?;
     calls.announce(alloc, "LiveSet::contains_now")?;
     check(set.contains_now(seat, Key(4)))
 }
 
-/// A session over bytes in memory, with an answer of each kind but `FULL`: they are written to the room that is given.
-fn hold_session<M: Running, R: Wait>(
-    rt: &R,
-    set: &LiveSet<M>,
-    seat: &mut Seat<M>,
-    written: &mut Vec<u8>,
-) -> Result<()>
-    requires { seat.old.set ≡ set.now }
-    ensures { seat.new.set ≡ set.now }
-{
-    let lines = b"ADD 7\nADD 7\nCONTAINS 7\nMOVE 7\nREMOVE 7\nQUIT\n".as_slice();
-    let mut reader = Device::new(lines);
-    let ended = session(rt, &mut reader, &mut Device::new(written), set, seat);
-    check(ended.calls == 4)
-}
-
+/// A session over bytes in memory, with an answer of each kind but `FULL`.
 fn answer_session<M: Running, R: Wait>(
     rt: &R,
     alloc: Global,
@@ -112,24 +76,11 @@ fn answer_session<M: Running, R: Wait>(
         Vec::with_capacity(alloc, 64)
     )?;
     calls.announce(alloc, "session")?;
-    hold_session(rt, set, seat, &mut written)?;
+    let lines = b"ADD 7\nADD 7\nCONTAINS 7\nMOVE 7\nREMOVE 7\nQUIT\n".as_slice();
+    let mut reader = Device::new(lines);
+    let ended = session(rt, &mut reader, &mut Device::new(&mut written), set, seat);
+    check(ended.calls == 4)?;
     check(written.as_slice() == b"TRUE\nFALSE\nTRUE\nBAD\nTRUE\nBYE\n".as_slice())
-}
-
-/// Closes a set, which has just these keys.
-fn close_with<M: Running>(
-    set: LiveSet<M>,
-    calls: &mut Calls,
-    seat: Seat<M>,
-    wanted: &[u32],
-) -> Result<()>
-    requires { seat.set ≡ set }
-{
-    let Ok(closed) = set.close(seat) else {
-        return Err(Error::msg("a seat is out"));
-    };
-    let keys = answer!(calls, "Closed::keys", AllocError, closed.keys())?;
-    check(keys.as_slice() == wanted)
 }
 
 /// Both seats meet, and the set is closed.
@@ -145,14 +96,17 @@ fn gather_and_close<M: Running>(
     calls.announce(alloc, "LiveSet::gather")?;
     set.gather(&mut zero, one);
     calls.announce(alloc, "LiveSet::close")?;
-    close_with(set, calls, zero, &[1, 2, 4, 5, 6])
+    let Ok(closed) = set.close(zero) else {
+        return Err(Error::msg("a seat is out"));
+    };
+    let keys = answer!(calls, "Closed::keys", AllocError, closed.keys())?;
+    check(keys.as_slice() == [1, 2, 4, 5, 6].as_slice())
 }
 
 /// Opens a set, makes calls from both seats, and closes it.
 fn running_set<M: RunningReads, R: Wait>(rt: &R, alloc: Global, calls: &mut Calls) -> Result<()> {
     let (set, mut zero, mut one) = opened::<M>(alloc, calls)?;
-    change(rt, alloc, calls, &set, &mut zero)?;
-    look(rt, alloc, calls, &set, &mut zero)?;
+    change_and_look(rt, alloc, calls, &set, &mut zero)?;
     answer_session(rt, alloc, calls, &set, &mut one)?;
     gather_and_close(alloc, calls, set, zero, one)
 }

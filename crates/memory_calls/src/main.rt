@@ -20,6 +20,7 @@ macro_rules! answer {
 mod calls;
 mod groups;
 mod live;
+mod prelude;
 mod sets;
 mod threads;
 

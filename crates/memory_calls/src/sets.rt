@@ -1,12 +1,10 @@
 ghost use Rattle.std.specs.Prelude.{◌<◌};
 
-use crate::calls::{Calls, check};
-use anyhow::Result;
+use crate::prelude::*;
 use lset_coarse::CoarseList;
 use lset_history::{History, HistoryFault, Oracle};
 use lset_steps::{Event, StepFault, World};
-use lset_words::{Call, CallRecord, Key, Reply, layout};
-use std::alloc::{AllocError, Global};
+use lset_words::{CallRecord, layout};
 
 /// Adds a key, at most 5: the add of that takes 15 steps, and what comes after the end of a call is refused as `Idle`.
 fn add(world: &mut World<CoarseList>, key: u32) -> Result<(), StepFault> {

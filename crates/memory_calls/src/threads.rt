@@ -2,19 +2,11 @@
 //! in one order.
 ghost use Rattle.std.specs.Prelude.{◌≡◌, ◌<◌, ◌^◌, IfOk, IfSome, IsTrue, All, length};
 
-use crate::calls::{Calls, check};
-use anyhow::{Error, Result};
-use lset_lazy::LazyList;
-use lset_live::{LiveSet, OpenFault, Seat, open};
+use crate::prelude::*;
 use lset_server::{ServeCause, Served, serve};
-use lset_words::{Call, Key, Reply};
 use lset_work::{Always, Outcome, WorkCause, WorkFault, work};
-use std::alloc::{AllocError, Global};
 use std::io::{self, Read, Write};
-use std::net::{Net, Shutdown, TcpListener, TcpStream};
-use std::sync::Wait;
-use std::thread::Threads;
-use std::time::Clock;
+use std::net::Shutdown;
 
 /// A set that was just opened, and its seats.
 fn opened(alloc: Global, seats: u32) -> Result<(LiveSet<LazyList>, Vec<Seat<LazyList>>), OpenFault>
@@ -99,7 +91,7 @@ fn is_as_wanted(outcome: &Outcome) -> bool {
 }
 
 /// The programs once more, on the set and the seats that there are to go on with.
-fn work_again<R: Threads + Wait + Sync>(
+fn work_again<R: Host>(
     rt: &R,
     alloc: Global,
     set: LiveSet<LazyList>,
@@ -114,11 +106,7 @@ fn work_again<R: Threads + Wait + Sync>(
 }
 
 /// Two programs on two threads. If they were refused they are run again.
-pub fn programs_on_threads<R: Threads + Wait + Sync>(
-    rt: &R,
-    alloc: Global,
-    calls: &mut Calls,
-) -> Result<()> {
+pub fn programs_on_threads<R: Host>(rt: &R, alloc: Global, calls: &mut Calls) -> Result<()> {
     let programs = answer!(calls, "Vec::push", AllocError, two_programs(alloc))?;
     let (set, seats) = open_seats(alloc, calls, 2)?;
     calls.name = "work";
@@ -153,18 +141,8 @@ fn is_served(served: &Served, stream: &mut TcpStream) -> Result<()> {
     check(served.keys.as_slice() == [3, 7].as_slice())
 }
 
-/// Notes how `serve` was refused.
-fn note_refusal(calls: &mut Calls, cause: ServeCause) -> Result<()> {
-    calls.name = match cause {
-        ServeCause::Memory => "serve (Memory)",
-        ServeCause::Spawn => "serve (Spawn)",
-        _ => return Err(Error::msg("another fault")),
-    };
-    check(calls.may_be_refused())
-}
-
 /// A server, and a client to which it holds a session; why it does not.
-fn serve_client<R: Net<Listener = TcpListener, Stream = TcpStream> + Threads + Wait + Clock + Sync>(
+fn serve_client<R: NetHost>(
     rt: &R,
     alloc: Global,
     set: LiveSet<LazyList>,
@@ -183,15 +161,18 @@ fn serve_client<R: Net<Listener = TcpListener, Stream = TcpStream> + Threads + W
 }
 
 /// A session with one client. If it was refused, another server has another client.
-pub fn a_session<
-    R: Net<Listener = TcpListener, Stream = TcpStream> + Threads + Wait + Clock + Sync,
->(rt: &R, alloc: Global, calls: &mut Calls) -> Result<()> {
+pub fn a_session<R: NetHost>(rt: &R, alloc: Global, calls: &mut Calls) -> Result<()> {
     let (set, seats) = open_seats(alloc, calls, 1)?;
     calls.name = "serve";
     let Some(cause) = serve_client(rt, alloc, set, seats)? else {
         return Ok(());
     };
-    note_refusal(calls, cause)?;
+    calls.name = match cause {
+        ServeCause::Memory => "serve (Memory)",
+        ServeCause::Spawn => "serve (Spawn)",
+        _ => return Err(Error::msg("another fault")),
+    };
+    check(calls.may_be_refused())?;
     let (set, seats) = opened(alloc, 1)?;
     check(serve_client(rt, alloc, set, seats)?.is_none())
 }

@@ -1,13 +1,11 @@
 //! Sessions whose answers wait.
 use crate::failing::{FailingReader, FailingWriter};
 use crate::opened::{
-    ANSWERS, CEILINGS, LINES, held, held_buffered, one_seat, stopped_at, was_held,
+    ANSWERS, CEILINGS, LINES, end, held, held_buffered, one_seat, stopped_at, was_held,
 };
-use lset_server::{Device, EndReason, Ended, Sink, Source, buffered_session};
-use std::alloc::Global;
+use crate::prelude::*;
+use lset_server::Sink;
 use std::cell::Cell;
-use std::process::Abort;
-use std::sync::Wait;
 
 /// How many bytes of answers were written, and whether each read came after all of them.
 #[derive(Drop)]
@@ -74,14 +72,12 @@ fn answers_leave_before_each_read(rt: HostRuntime) {
         seen: &seen,
     };
     let ended = buffered_session(&rt, asking, Counting { seen: &seen }, &set, &mut seat);
-    let (why, calls) = (EndReason::End, 0);
-    assert!(&rt; ended == Ended { why, calls });
-    assert!(&rt; seen.in_time.get());
-    assert!(&rt; seen.written.get() == 12);
+    assert!(&rt; ended == end(EndReason::End, 0));
+    assert!(&rt; seen.in_time.get() && seen.written.get() == 12);
 }
 
 /// The text is answered as without waiting, and the session ends so too.
-fn is_answered_alike<R: Wait + Abort>(rt: &R, alloc: Global, text: &[u8]) {
+fn is_answered_alike<R: Host>(rt: &R, alloc: Global, text: &[u8]) {
     let (plain, ended) = held(rt, alloc, &mut Device::new(text));
     let session = held_buffered(rt, alloc, Device::new(text));
     was_held(rt, &session, &plain, ended);
@@ -123,13 +119,12 @@ fn answers_that_have_room_in_part_leave_whole(rt: HostRuntime) {
 }
 
 /// All lines come in one read, and of their answers the write with this number fails: all calls are made.
-fn write_fails<R: Wait + Abort>(rt: &R, alloc: Global, at: u64) {
+fn write_fails<R: Host>(rt: &R, alloc: Global, at: u64) {
     let (set, mut seat) = one_seat(rt, alloc);
     let mut writer = FailingWriter::new(alloc, at);
     let (lines, answers) = (Device::new(LINES), Device::new(&mut writer));
     let ended = buffered_session(rt, lines, answers, &set, &mut seat);
-    let (why, calls) = (EndReason::WriteFault, 4);
-    assert!(rt; ended == Ended { why, calls }, "{at}");
+    assert!(rt; ended == end(EndReason::WriteFault, 4), "{at}");
     stopped_at(rt, &writer, ANSWERS, at);
 }
 
@@ -141,15 +136,14 @@ fn a_write_of_answers_that_fails_is_the_last(rt: HostRuntime) {
 }
 
 /// Each read gives one byte, and the write with this number fails: no read follows.
-fn write_fails_between<R: Wait + Abort>(rt: &R, alloc: Global, at: u64, reads: u64, calls: u64) {
+fn write_fails_between<R: Host>(rt: &R, alloc: Global, at: u64, reads: u64, calls: u64) {
     let (set, mut seat) = one_seat(rt, alloc);
     let mut reader = FailingReader::new(LINES, 0);
     let mut writer = FailingWriter::new(alloc, at);
     let (lines, answers) = (Device::new(&mut reader), Device::new(&mut writer));
     let ended = buffered_session(rt, lines, answers, &set, &mut seat);
-    let why = EndReason::WriteFault;
-    assert!(rt; ended == Ended { why, calls }, "{at}");
-    assert!(rt; reader.reads() == reads, "{at}");
+    assert!(rt; ended == end(EndReason::WriteFault, calls), "{at}");
+    assert!(rt; reader.reads == reads, "{at}");
     stopped_at(rt, &writer, ANSWERS, at);
 }
 

@@ -1,8 +1,5 @@
-use std::io::{Read, Write};
-use std::net::{Net, TcpListener, TcpStream};
+use crate::prelude::*;
 use std::sync::atomic::{AtomicU64, Ordering};
-use std::thread;
-use std::time::{Clock, Duration};
 
 /// Sends the text, and reads that many bytes, which are to be the answers.
 fn is_answered(stream: &mut TcpStream, text: &[u8], answers: &[u8]) -> bool {
@@ -14,12 +11,7 @@ fn is_answered(stream: &mut TcpStream, text: &[u8], answers: &[u8]) -> bool {
 }
 
 /// Sends the text and reads its answers, and then the end.
-pub fn asks<R: Net<Listener = TcpListener, Stream = TcpStream>>(
-    rt: &R,
-    port: u16,
-    text: &[u8],
-    answers: &[u8],
-) -> bool {
+pub fn asks<R: NetHost>(rt: &R, port: u16, text: &[u8], answers: &[u8]) -> bool {
     let Ok(mut stream) = TcpStream::connect(rt, ("127.0.0.1", port)) else {
         return false;
     };
@@ -38,30 +30,17 @@ fn both_come<R: Clock>(rt: &R, met: &AtomicU64) -> bool {
 }
 
 /// Sends a line, reads its answer, waits until the other client has done so too, and says good-bye.
-pub fn meets<R: Net<Listener = TcpListener, Stream = TcpStream> + Clock>(
-    rt: &R,
-    port: u16,
-    line: &[u8],
-    met: &AtomicU64,
-) -> bool {
+pub fn meets<R: NetHost>(rt: &R, port: u16, line: &[u8], met: &AtomicU64) -> bool {
     let Ok(mut stream) = TcpStream::connect(rt, ("127.0.0.1", port)) else {
         return false;
     };
-    if !is_answered(&mut stream, line, b"TRUE\n") {
-        return false;
-    }
-    met.fetch_add(1, Ordering::SeqCst);
-    both_come(rt, met) && is_answered(&mut stream, b"QUIT\n", b"BYE\n")
+    let has_asked = is_answered(&mut stream, line, b"TRUE\n");
+    met.fetch_add(u64::from(has_asked), Ordering::SeqCst);
+    has_asked && both_come(rt, met) && is_answered(&mut stream, b"QUIT\n", b"BYE\n")
 }
 
 /// Sends the text and goes away.
-pub fn leaves<R: Net<Listener = TcpListener, Stream = TcpStream>>(
-    rt: &R,
-    port: u16,
-    text: &[u8],
-) -> bool {
-    match TcpStream::connect(rt, ("127.0.0.1", port)) {
-        Ok(mut stream) => stream.write_all(text).is_ok(),
-        Err(_) => false,
-    }
+pub fn leaves<R: NetHost>(rt: &R, port: u16, text: &[u8]) -> bool {
+    let stream = TcpStream::connect(rt, ("127.0.0.1", port));
+    stream.is_ok_and(|mut stream| stream.write_all(text).is_ok())
 }

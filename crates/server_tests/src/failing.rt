@@ -1,32 +1,26 @@
 //! A reader and a writer of the standard library that fail once and then go on.
 
-use std::alloc::Global;
-use std::io;
-use std::io::{ErrorKind, Read, Write};
+use crate::prelude::*;
+use std::io::ErrorKind;
 
 /// Gives the bytes of a text one by one. Its read with the number `fails_at`, counted from 1, fails, and
 /// the reads after it go on.
 #[derive(Drop)]
 pub struct FailingReader<'a> {
     text: &'a [u8],
-    reads: u64,
+    /// How many reads were asked for, the failing one included.
+    pub reads: u64,
     fails_at: u64,
 }
 
 impl<'a> FailingReader<'a> {
-    /// A reader of `text`, of which no byte was read. `fails_at` is the number of the read that fails, counted from 1; none
-    /// fails if it is 0.
+    /// A reader of which no byte was read. If `fails_at` is 0 no read fails.
     pub fn new(text: &'a [u8], fails_at: u64) -> FailingReader<'a> {
         FailingReader {
             text,
             reads: 0,
             fails_at,
         }
-    }
-
-    /// How many reads were asked for, the failing one included.
-    pub fn reads(&self) -> u64 {
-        self.reads
     }
 }
 
@@ -49,30 +43,21 @@ impl Read for FailingReader<'_> {
 /// after it go on.
 #[derive(Drop)]
 pub struct FailingWriter {
-    text: Vec<u8>,
-    writes: u64,
+    /// The bytes that were taken.
+    pub text: Vec<u8>,
+    /// How many writes were asked for, the failing one included.
+    pub writes: u64,
     fails_at: u64,
 }
 
 impl FailingWriter {
-    /// A writer that has taken no byte. `fails_at` is the number of the write that fails, counted from 1; none fails where it
-    /// is 0. A write also fails where memory for its byte is refused.
+    /// A writer that has taken no byte. If `fails_at` is 0 no write fails, but for want of memory for its byte.
     pub fn new(alloc: Global, fails_at: u64) -> FailingWriter {
         FailingWriter {
             text: Vec::new(alloc),
             writes: 0,
             fails_at,
         }
-    }
-
-    /// The bytes that were taken.
-    pub fn text(&self) -> &[u8] {
-        &self.text
-    }
-
-    /// How many writes were asked for, the failing one included.
-    pub fn writes(&self) -> u64 {
-        self.writes
     }
 }
 
@@ -85,9 +70,7 @@ impl Write for FailingWriter {
         if text.is_empty() {
             return Ok(0);
         }
-        if self.text.push(text[0]).is_err() {
-            return Err(io::Error::from(ErrorKind::OutOfMemory));
-        }
+        self.text.push(text[0])?;
         Ok(1)
     }
 

@@ -1,37 +1,21 @@
 use crate::failing::{FailingReader, FailingWriter};
 use crate::opened::{
-    ANSWERS, CEILINGS, LINES, held, held_buffered, one_seat, stopped_at, was_held,
+    ANSWERS, CEILINGS, LINES, end, held, held_buffered, one_seat, stopped_at, was_held,
 };
-use lset_server::{Device, EndReason, Ended, session};
-use std::alloc::Global;
-use std::process::Abort;
-use std::sync::Wait;
+use crate::prelude::*;
 
 /// Of the answers to these lines the write with this number fails.
-fn write_fails<R: Wait + Abort>(
-    rt: &R,
-    alloc: Global,
-    lines: &[u8],
-    answers: &[u8],
-    at: u64,
-    calls: u64,
-) {
+fn write_fails<R: Host>(rt: &R, alloc: Global, lines: &[u8], answers: &[u8], at: u64, calls: u64) {
     let (set, mut seat) = one_seat(rt, alloc);
     let mut writer = FailingWriter::new(alloc, at);
-    let ended = session(
-        rt,
-        &mut Device::new(lines),
-        &mut Device::new(&mut writer),
-        &set,
-        &mut seat,
-    );
-    let why = EndReason::WriteFault;
-    assert!(rt; ended == Ended { why, calls }, "{at}");
+    let (mut lines, mut taker) = (Device::new(lines), Device::new(&mut writer));
+    let ended = session(rt, &mut lines, &mut taker, &set, &mut seat);
+    assert!(rt; ended == end(EndReason::WriteFault, calls), "{at}");
     stopped_at(rt, &writer, answers, at);
 }
 
 /// So do all writes of these rows in turn: the first and the last of some, and the calls before each of them.
-fn writes_fail<R: Wait + Abort>(
+fn writes_fail<R: Host>(
     rt: &R,
     alloc: Global,
     lines: &[u8],
@@ -60,49 +44,24 @@ fn a_ceiling_is_written_up_to_the_write_that_fails(rt: HostRuntime) {
     writes_fail(&rt, rt.alloc(), lines, answers, &rows);
 }
 
-/// The read with this number fails.
-fn read_fails<R: Wait + Abort>(
-    rt: &R,
-    alloc: Global,
-    lines: &[u8],
-    at: u64,
-    answers: &[u8],
-    calls: u64,
-) {
-    let why = EndReason::ReadFault;
+/// The read with this number fails, also if answers wait: they have been written before.
+fn read_fails<R: Host>(rt: &R, alloc: Global, lines: &[u8], at: u64, answers: &[u8], calls: u64) {
+    let ended = end(EndReason::ReadFault, calls);
     let mut reader = FailingReader::new(lines, at);
     let session = held(rt, alloc, &mut Device::new(&mut reader));
-    was_held(rt, &session, answers, Ended { why, calls });
-    assert!(rt; reader.reads() == at, "{at}");
-}
-
-/// With answers that wait: they have been written before.
-fn read_fails_buffered<R: Wait + Abort>(
-    rt: &R,
-    alloc: Global,
-    lines: &[u8],
-    at: u64,
-    answers: &[u8],
-    calls: u64,
-) {
-    let why = EndReason::ReadFault;
+    was_held(rt, &session, answers, ended);
+    assert!(rt; reader.reads == at, "{at}");
     let mut reader = FailingReader::new(lines, at);
     let session = held_buffered(rt, alloc, Device::new(&mut reader));
-    was_held(rt, &session, answers, Ended { why, calls });
-    assert!(rt; reader.reads() == at, "{at}");
+    was_held(rt, &session, answers, ended);
+    assert!(rt; reader.reads == at, "{at}, answers wait");
 }
 
 /// So do all reads of these rows in turn: the first and the last of some, the answers before each of them, and the calls.
-fn reads_fail<R: Wait + Abort>(
-    rt: &R,
-    alloc: Global,
-    lines: &[u8],
-    rows: &[(u64, u64, &[u8], u64)],
-) {
+fn reads_fail<R: Host>(rt: &R, alloc: Global, lines: &[u8], rows: &[(u64, u64, &[u8], u64)]) {
     for &(from, to, answers, calls) in rows {
         for at in from..=to {
             read_fails(rt, alloc, lines, at, answers, calls);
-            read_fails_buffered(rt, alloc, lines, at, answers, calls);
         }
     }
 }

@@ -16,6 +16,8 @@ mod opened;
 #[cfg(test)]
 mod pieces;
 #[cfg(test)]
+mod prelude;
+#[cfg(test)]
 mod serving;
 #[cfg(test)]
 mod sessions;

@@ -1,19 +1,10 @@
 use crate::failing::FailingReader;
-use crate::opened::{held, held_buffered, was_held};
-use lset_server::{Device, EndReason, Ended, Source};
-use std::alloc::Global;
-use std::process::Abort;
-use std::sync::Wait;
+use crate::opened::{end, held, held_buffered, was_held};
+use crate::prelude::*;
 
 /// These bytes are answered so, also if each read returns one byte.
-fn is_answered<R: Wait + Abort>(
-    rt: &R,
-    alloc: Global,
-    line: &[u8],
-    answers: &[u8],
-    why: EndReason,
-) {
-    let ended = Ended { why, calls: 0 };
+fn is_answered<R: Host>(rt: &R, alloc: Global, line: &[u8], answers: &[u8], why: EndReason) {
+    let ended = end(why, 0);
     let session = held(rt, alloc, &mut Device::new(line));
     was_held(rt, &session, answers, ended);
     let mut reader = FailingReader::new(line, 0);
@@ -72,7 +63,7 @@ impl Source for Lines {
 
 /// So many empty lines and then these bytes: `BAD` to each of the lines, and then these answers, also of a session whose
 /// answers wait.
-fn is_answered_after<R: Wait + Abort>(
+fn is_answered_after<R: Host>(
     rt: &R,
     alloc: Global,
     empty: u32,
@@ -87,11 +78,6 @@ fn is_answered_after<R: Wait + Abort>(
     assert!(rt; written.len() as u64 == 4 * u64::from(empty) + answers.len() as u64);
     assert!(rt; written.starts_with(b"BAD\nBAD\n"));
     assert!(rt; written.ends_with(answers));
-}
-
-/// The end of a session that made so many calls.
-fn end(why: EndReason, calls: u64) -> Ended {
-    Ended { why, calls }
 }
 
 #[test]

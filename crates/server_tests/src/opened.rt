@@ -1,12 +1,9 @@
 ghost use Rattle.std.specs.Prelude.{◌≡◌, All, false};
 
 use crate::failing::FailingWriter;
+use crate::prelude::*;
 use lset_lazy::LazyList;
 use lset_live::{LiveSet, Seat, open};
-use lset_server::{Device, Ended, Source, buffered_session, session};
-use std::alloc::Global;
-use std::process::Abort;
-use std::sync::Wait;
 
 /// The list on which the tests hold sessions.
 pub type Set = LiveSet<LazyList>;
@@ -28,7 +25,6 @@ pub fn opened<R: Abort>(rt: &R, alloc: Global, seats: u32) -> (Set, Vec<Seat<Laz
     open::<LazyList>(alloc, seats, 4).expect(rt, "not opened")
 }
 
-/// The last of the seats.
 pub fn last_seat<R: Abort>(rt: &R, set: &Set, seats: &mut Vec<Seat<LazyList>>) -> Seat<LazyList>
     requires { All (λ s. s.set ≡ set.now) seats.old.items }
     ensures seat { result.set ≡ set.now }
@@ -37,7 +33,6 @@ pub fn last_seat<R: Abort>(rt: &R, set: &Set, seats: &mut Vec<Seat<LazyList>>) -
     seats.pop().expect(rt, "no seat is left")
 }
 
-/// A set with one seat.
 pub fn one_seat<R: Abort>(rt: &R, alloc: Global) -> (Set, Seat<LazyList>)
     ensures { result.1.set ≡ result.0 }
 {
@@ -47,7 +42,7 @@ pub fn one_seat<R: Abort>(rt: &R, alloc: Global) -> (Set, Seat<LazyList>)
 }
 
 /// What a session on a fresh set writes, and how it ends.
-pub fn held<R: Wait + Abort, I: Source>(rt: &R, alloc: Global, reader: &mut I) -> (Vec<u8>, Ended)
+pub fn held<R: Host, I: Source>(rt: &R, alloc: Global, reader: &mut I) -> (Vec<u8>, Ended)
     requires { I.has_failed reader.old ≡ false }
 {
     let (set, mut seat) = one_seat(rt, alloc);
@@ -57,17 +52,18 @@ pub fn held<R: Wait + Abort, I: Source>(rt: &R, alloc: Global, reader: &mut I) -
 }
 
 /// A session whose answers wait.
-pub fn held_buffered<R: Wait + Abort, I: Source + Drop>(
-    rt: &R,
-    alloc: Global,
-    reader: I,
-) -> (Vec<u8>, Ended)
-    requires { I.has_failed reader ≡ false }
+pub fn held_buffered<R: Host, I: Source + Drop>(rt: &R, alloc: Global, lines: I) -> (Vec<u8>, Ended)
+    requires { I.has_failed lines ≡ false }
 {
     let (set, mut seat) = one_seat(rt, alloc);
     let mut written = Vec::new(alloc);
-    let ended = buffered_session(rt, reader, Device::new(&mut written), &set, &mut seat);
+    let ended = buffered_session(rt, lines, Device::new(&mut written), &set, &mut seat);
     (written, ended)
+}
+
+/// A session that ended for this reason, after so many calls.
+pub fn end(why: EndReason, calls: u64) -> Ended {
+    Ended { why, calls }
 }
 
 /// A session wrote these answers, and ended so.
@@ -78,7 +74,7 @@ pub fn was_held<R: Abort>(rt: &R, session: &(Vec<u8>, Ended), answers: &[u8], en
 
 /// Of these answers the writer took all up to the write with this number, which failed and was the last.
 pub fn stopped_at<R: Abort>(rt: &R, writer: &FailingWriter, answers: &[u8], at: u64) {
-    assert!(rt; writer.text().len() as u64 + 1 == at, "{at}");
-    assert!(rt; answers.starts_with(writer.text()), "{at}");
-    assert!(rt; writer.writes() == at, "{at}");
+    assert!(rt; writer.text.len() as u64 + 1 == at, "{at}");
+    assert!(rt; answers.starts_with(&writer.text), "{at}");
+    assert!(rt; writer.writes == at, "{at}");
 }

@@ -1,12 +1,7 @@
 //! How many reads and writes a session makes: with devices that give and take all they can, not one for each byte. No contract counts
 //! them.
-use crate::opened::one_seat;
-use lset_server::{Device, EndReason, Ended, buffered_session, session};
-use std::alloc::Global;
-use std::io;
-use std::io::{Read, Write};
-use std::process::Abort;
-use std::sync::Wait;
+use crate::opened::{end, one_seat};
+use crate::prelude::*;
 
 /// Gives as many bytes at once as there is room for, and counts the reads.
 #[derive(Drop)]
@@ -32,15 +27,6 @@ struct GreedyWriter {
     writes: u64,
 }
 
-impl GreedyWriter {
-    fn new() -> GreedyWriter {
-        GreedyWriter {
-            bytes: 0,
-            writes: 0,
-        }
-    }
-}
-
 impl Write for GreedyWriter {
     fn write(&mut self, text: &[u8]) -> io::Result<usize> {
         self.writes = self.writes.saturating_add(1);
@@ -56,7 +42,6 @@ impl Write for GreedyWriter {
 /// How many lines there are, each of which is `CONTAINS 7`, and is answered by `FALSE`.
 const LINES: u64 = 6_000;
 
-/// These lines.
 fn many_lines<R: Abort>(rt: &R, alloc: Global) -> Vec<u8> {
     let mut text = Vec::new(alloc);
     for _ in 0..LINES {
@@ -65,52 +50,31 @@ fn many_lines<R: Abort>(rt: &R, alloc: Global) -> Vec<u8> {
     text
 }
 
-/// Few reads gave all lines, and all answers were written, in at most so many writes.
-fn are_few<R: Abort>(rt: &R, reader: &GenerousReader<'_>, writer: &GreedyWriter, most: u64) {
-    assert!(rt;
-        reader.text.is_empty() && reader.reads <= 100,
-        "{} reads",
-        reader.reads
-    );
+/// A session makes one write for each answer; if answers wait, many of them leave in one write.
+fn makes_few<R: Host>(rt: &R, alloc: Global, text: &[u8], waits: bool) {
+    let (set, mut seat) = one_seat(rt, alloc);
+    let mut reader = GenerousReader { text, reads: 0 };
+    let mut writer = GreedyWriter {
+        bytes: 0,
+        writes: 0,
+    };
+    let (mut lines, mut answers) = (Device::new(&mut reader), Device::new(&mut writer));
+    let ended = if waits {
+        buffered_session(rt, lines, answers, &set, &mut seat)
+    } else {
+        session(rt, &mut lines, &mut answers, &set, &mut seat)
+    };
+    assert!(rt; ended == end(EndReason::End, LINES));
+    assert!(rt; reader.text.is_empty());
+    assert!(rt; reader.reads <= 100, "{} reads", reader.reads);
     assert!(rt; writer.bytes == 6 * LINES, "{} bytes", writer.bytes);
+    let most = if waits { 100 } else { LINES };
     assert!(rt; writer.writes <= most, "{} writes", writer.writes);
-}
-
-const ENDED: Ended = Ended {
-    why: EndReason::End,
-    calls: LINES,
-};
-
-/// A session makes one write for each answer.
-fn writes_each_answer<R: Wait + Abort>(rt: &R, alloc: Global, text: &[u8]) {
-    let (set, mut seat) = one_seat(rt, alloc);
-    let mut reader = GenerousReader { text, reads: 0 };
-    let mut writer = GreedyWriter::new();
-    let ended = session(
-        rt,
-        &mut Device::new(&mut reader),
-        &mut Device::new(&mut writer),
-        &set,
-        &mut seat,
-    );
-    assert!(rt; ended == ENDED);
-    are_few(rt, &reader, &writer, LINES);
-}
-
-/// If answers wait, many of them leave in one write.
-fn writes_many_answers<R: Wait + Abort>(rt: &R, alloc: Global, text: &[u8]) {
-    let (set, mut seat) = one_seat(rt, alloc);
-    let mut reader = GenerousReader { text, reads: 0 };
-    let mut writer = GreedyWriter::new();
-    let (lines, answers) = (Device::new(&mut reader), Device::new(&mut writer));
-    let ended = buffered_session(rt, lines, answers, &set, &mut seat);
-    assert!(rt; ended == ENDED);
-    are_few(rt, &reader, &writer, 100);
 }
 
 #[test]
 fn a_session_makes_few_reads_and_writes(rt: HostRuntime) {
     let text = many_lines(&rt, rt.alloc());
-    writes_each_answer(&rt, rt.alloc(), &text);
-    writes_many_answers(&rt, rt.alloc(), &text);
+    makes_few(&rt, rt.alloc(), &text, false);
+    makes_few(&rt, rt.alloc(), &text, true);
 }

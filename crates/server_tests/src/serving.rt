@@ -2,24 +2,22 @@ ghost use Rattle.std.specs.Prelude.{◌≡◌, All};
 
 use crate::clients::{asks, leaves, meets};
 use crate::opened::{ANSWERS, CEILINGS, FOUND, LINES, opened};
+use crate::prelude::*;
 use lset_server::{ServeCause, Served, serve};
-use std::alloc::Global;
-use std::net::{Net, TcpListener, TcpStream};
-use std::process::Abort;
-use std::sync::Wait;
 use std::sync::atomic::AtomicU64;
-use std::thread::{Threads, join};
-use std::time::Clock;
 
-fn listening<R: Net<Listener = TcpListener, Stream = TcpStream> + Abort>(rt: &R) -> TcpListener {
+fn listening<R: NetHost>(rt: &R) -> TcpListener {
     TcpListener::bind(rt, "127.0.0.1:0").expect(rt, "no port")
 }
 
 /// What a server with so many seats makes of so many sessions, while clients ask at its port, and find what they want.
-fn served_while<
-    R: Net<Listener = TcpListener, Stream = TcpStream> + Threads + Wait + Clock + Abort + Sync,
-    F: FnOnce(u16) -> bool + Send,
->(rt: &R, alloc: Global, seats: u32, sessions: u32, ask: F) -> Served
+fn served_while<R: NetHost, F: FnOnce(u16) -> bool + Send>(
+    rt: &R,
+    alloc: Global,
+    seats: u32,
+    sessions: u32,
+    ask: F,
+) -> Served
     requires { F.IsAlwaysCallable ask }
 {
     let listener = listening(rt);
@@ -40,9 +38,8 @@ fn served_while<
 }
 
 fn made<R: Abort>(rt: &R, served: &Served, sessions: u64, calls: u64, keys: &[u32]) {
-    assert!(rt; served.sessions == sessions);
-    assert!(rt; served.calls == calls);
-    assert!(rt; served.keys.as_slice() == keys);
+    assert_eq!(rt; (served.sessions, served.calls), (sessions, calls));
+    assert_eq!(rt; served.keys.as_slice(), keys);
 }
 
 #[test]
@@ -65,8 +62,7 @@ fn all_seats_are_wanted(rt: HostRuntime) {
     let Err(fault) = serve(&rt, rt.alloc(), listening(&rt), set, seats, 1) else {
         panic!(rt; "a seat is missing")
     };
-    assert!(rt; fault.cause == ServeCause::Seats);
-    assert!(rt; fault.back.is_some());
+    assert!(rt; fault.cause == ServeCause::Seats && fault.back.is_some());
 }
 
 #[test]

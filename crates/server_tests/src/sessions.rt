@@ -1,19 +1,16 @@
 use crate::failing::FailingReader;
-use crate::opened::{ANSWERS, CEILINGS, FOUND, LINES, held, last_seat, opened, was_held};
-use lset_server::{Device, EndReason, Ended, Request, read_request, session};
-use lset_words::{Call, Key, Reply};
-use std::alloc::Global;
-use std::process::Abort;
-use std::sync::Wait;
+use crate::opened::{ANSWERS, CEILINGS, FOUND, LINES, end, held, last_seat, opened, was_held};
+use crate::prelude::*;
+use lset_server::{Request, read_request};
 
 /// A text, its answers, and how the session ends.
 type Row = (&'static [u8], &'static [u8], EndReason, u64);
 
 /// The texts are answered so, each on a set of its own.
-fn are_answered<R: Wait + Abort>(rt: &R, alloc: Global, rows: &[Row]) {
+fn are_answered<R: Host>(rt: &R, alloc: Global, rows: &[Row]) {
     for &(text, answers, why, calls) in rows {
         let session = held(rt, alloc, &mut Device::new(text));
-        was_held(rt, &session, answers, Ended { why, calls });
+        was_held(rt, &session, answers, end(why, calls));
     }
 }
 
@@ -95,9 +92,8 @@ fn other_lines_are_bad(rt: HostRuntime) {
 fn pieces_have_no_part_in_it(rt: HostRuntime) {
     let mut reader = FailingReader::new(LINES, 0);
     let session = held(&rt, rt.alloc(), &mut Device::new(&mut reader));
-    let (why, calls) = (EndReason::Quit, 4);
-    was_held(&rt, &session, ANSWERS, Ended { why, calls });
-    assert!(rt; reader.reads() == 44);
+    was_held(&rt, &session, ANSWERS, end(EndReason::Quit, 4));
+    assert!(rt; reader.reads == 44);
 }
 
 #[test]
@@ -108,13 +104,14 @@ fn a_gathered_seat_is_asked(rt: HostRuntime) {
     assert!(rt; set.add(&rt, &mut one, Key(9)) == Reply::True);
     set.gather(&mut zero, one);
     let mut written = Vec::new(rt.alloc());
+    let mut lines = Device::new(b"CONTAINS 9\nQUIT\n".as_slice());
     let ended = session(
         &rt,
-        &mut Device::new(b"CONTAINS 9\nQUIT\n".as_slice()),
+        &mut lines,
         &mut Device::new(&mut written),
         &set,
         &mut zero,
     );
-    let (why, calls) = (EndReason::Quit, 1);
-    was_held(&rt, &(written, ended), b"TRUE\nBYE\n", Ended { why, calls });
+    let wanted = end(EndReason::Quit, 1);
+    was_held(&rt, &(written, ended), b"TRUE\nBYE\n", wanted);
 }

@@ -1,10 +1,8 @@
 //! Inputs that come byte by byte, as from a recorder that is slow, and an output that takes its text so: tens of thousands of reads, or of
 //! writes.
 use crate::devices::{Plan, WHOLE, Writer};
-use std::alloc::{AllocError, Global};
+use crate::prelude::*;
 use std::io::{self, Read};
-use std::process::Abort;
-use std::test::Fail;
 use tool_base::{Answer, deliver, tool_check};
 use tool_judge::tool_judge;
 
@@ -16,12 +14,6 @@ const CALLS: u32 = 4_000;
 struct Drops {
     text: String,
     next: usize,
-}
-
-impl Drops {
-    fn new(text: String) -> Drops {
-        Drops { text, next: 0 }
-    }
 }
 
 impl Read for Drops {
@@ -49,26 +41,22 @@ fn text_of(alloc: Global, head: &str, between: &str, after: &str) -> Result<Stri
 }
 
 /// What `judge` writes of a text that comes byte by byte begins so.
-fn assert_judged<R: Abort>(rt: &R, alloc: Global, text: String) -> Result<(), Fail> {
-    let mut input = Drops::new(text);
-    let mut output = Vec::new(alloc);
-    let mut faults = Vec::new(alloc);
+fn assert_judged<R: Abort>(rt: &R, alloc: Global, text: String) {
+    let mut input = Drops { text, next: 0 };
+    let (mut output, mut faults) = (Vec::new(alloc), Vec::new(alloc));
     let status = tool_judge(alloc, &mut input, &mut output, &mut faults);
     assert!(rt; status == 0 && faults.is_empty());
     assert!(rt; output.starts_with(b"ok 4000 calls\n".as_slice()));
-    Ok(())
 }
 
 #[test]
 fn recorded_calls_come_byte_by_byte(rt: HostRuntime) -> Result<(), Fail> {
     let alloc = rt.alloc();
     let head = "listset-calls 2\nlist lazy\nthreads 1\nquota 0\n";
-    assert_judged(&rt, alloc, text_of(alloc, head, " -", " false")?)?;
-    assert_judged(
-        &rt,
-        alloc,
-        text_of(alloc, "listset-calls 3\n", "", " false")?,
-    )
+    assert_judged(&rt, alloc, text_of(alloc, head, " -", " false")?);
+    let text = text_of(alloc, "listset-calls 3\n", "", " false")?;
+    assert_judged(&rt, alloc, text);
+    Ok(())
 }
 
 /// A report without its order, so that the first call is missing.
@@ -82,9 +70,8 @@ fn a_report_comes_byte_by_byte(rt: HostRuntime) -> Result<(), Fail> {
         writeln!(&mut text, "call {number} 0 contains 5 {begun} {end} false")?;
     }
     writeln!(&mut text, "end")?;
-    let mut input = Drops::new(text);
-    let mut output = Vec::new(alloc);
-    let mut faults = Vec::new(alloc);
+    let mut input = Drops { text, next: 0 };
+    let (mut output, mut faults) = (Vec::new(alloc), Vec::new(alloc));
     let status = tool_check(alloc, &mut input, &mut output, &mut faults);
     assert!(rt; status == 1 && faults.is_empty());
     assert!(rt; output.as_slice() == b"refused Missing 0\n".as_slice());

@@ -1,15 +1,8 @@
 //! Each read and each write of each run of the tools, in turn.
-use crate::devices::{Failure, Plan, WHOLE};
+use crate::devices::{Failure, Plan, WHOLE, Way, planned};
+use crate::prelude::*;
 use crate::row_texts::{CANNOT_READ, CANNOT_WRITE};
 use crate::rows::{Row, Run, example_rows, first_row, ran, row_of, rows};
-use std::alloc::Global;
-use std::process::Abort;
-use std::sync::Wait;
-use std::test::Fail;
-use std::thread::Threads;
-
-/// How a device fails, and how many bytes it moves at a call.
-type Way = (Failure, usize);
 
 const READS: [Way; 6] = [
     (Failure::Interrupted, 1),
@@ -28,14 +21,6 @@ const WRITES: [Way; 3] = [
 
 /// More calls than a run makes on one of its devices.
 const MOST_CALLS: usize = 10_000;
-
-fn planned((failure, most): Way, fails_at: usize) -> Plan {
-    Plan {
-        most,
-        fails_at,
-        failure,
-    }
-}
 
 #[derive(Clone, Copy)]
 enum Device {
@@ -69,14 +54,12 @@ impl Device {
         match self {
             Device::Input => run.status == 1 && run.told(CANNOT_READ),
             Device::Output => {
-                run.status == 1
-                    && run.output.stopped_within(row.output)
-                    && run.faults.taken.as_slice() == CANNOT_WRITE.as_bytes()
+                let is_told = run.faults.taken.as_slice() == CANNOT_WRITE.as_bytes();
+                run.status == 1 && run.output.stopped_within(row.output) && is_told
             }
             Device::Faults => {
-                run.status == row.status
-                    && run.faults.stopped_within(row.faults)
-                    && run.output.calls == 0
+                let is_met = run.faults.stopped_within(row.faults);
+                run.status == row.status && is_met && run.output.calls == 0
             }
         }
     }
@@ -84,7 +67,7 @@ impl Device {
 
 /// How many runs of a row there are in which the device fails, at each of its calls in turn, until a run ends without a
 /// failure.
-fn each_call_fails<R: Threads + Wait + Sync + Abort>(
+fn each_call_fails<R: Host>(
     rt: &R,
     alloc: Global,
     row: Row,
@@ -103,104 +86,80 @@ fn each_call_fails<R: Threads + Wait + Sync + Abort>(
 }
 
 /// How many runs of all rows there are.
-fn each_row_fails<R: Threads + Wait + Sync + Abort>(
-    rt: &R,
-    alloc: Global,
-    device: Device,
-    way: Way,
-) -> Result<usize, Fail> {
-    let [example, broken] = example_rows();
-    let of_example = each_call_fails(rt, alloc, example, device, way)?;
-    let mut runs = each_call_fails(rt, alloc, broken, device, way)?.saturating_add(of_example);
-    for row in rows() {
+fn each_row_fails<R: Host>(rt: &R, alloc: Global, device: Device, way: Way) -> Result<usize, Fail> {
+    let (examples, mut runs) = (example_rows(), 0usize);
+    for row in examples.iter().chain(rows()) {
         runs = runs.saturating_add(each_call_fails(rt, alloc, row_of(row), device, way)?);
     }
     Ok(runs)
 }
 
-/// How many runs there are in all ways.
-fn each_way_fails<R: Threads + Wait + Sync + Abort>(
+/// So many runs there are in all ways.
+fn each_way_fails<R: Host>(
     rt: &R,
     alloc: Global,
     device: Device,
     ways: &[Way],
-) -> Result<usize, Fail> {
+    wanted: usize,
+) -> Result<(), Fail> {
     let mut runs = 0usize;
     for way in ways {
         runs = runs.saturating_add(each_row_fails(rt, alloc, device, *way)?);
     }
-    Ok(runs)
+    assert_eq!(rt; runs, wanted);
+    Ok(())
 }
 
 #[test]
 fn each_read_fails_in_turn(rt: HostRuntime) -> Result<(), Fail> {
-    assert!(rt; each_way_fails(&rt, rt.alloc(), Device::Input, &READS)? == 5_398);
-    Ok(())
+    each_way_fails(&rt, rt.alloc(), Device::Input, &READS, 5_398)
 }
 
 #[test]
 fn each_write_on_the_output_fails_in_turn(rt: HostRuntime) -> Result<(), Fail> {
-    assert!(rt; each_way_fails(&rt, rt.alloc(), Device::Output, &WRITES)? == 9_278);
-    Ok(())
+    each_way_fails(&rt, rt.alloc(), Device::Output, &WRITES, 9_278)
 }
 
 #[test]
 fn each_write_of_a_line_fails_in_turn(rt: HostRuntime) -> Result<(), Fail> {
-    assert!(rt; each_way_fails(&rt, rt.alloc(), Device::Faults, &WRITES)? == 288);
-    Ok(())
+    each_way_fails(&rt, rt.alloc(), Device::Faults, &WRITES, 288)
 }
 
 /// How the two devices fail that fail in one run.
 const BOTH: Way = (Failure::Interrupted, 1);
 
-/// This read of the row fails, and beside it each write of the line about it.
-fn both_fail_at_read<R: Threads + Wait + Sync + Abort>(
-    rt: &R,
-    alloc: Global,
-    row: Row,
-    read: usize,
-) -> Result<(), Fail> {
-    for write in 0..CANNOT_READ.len() {
-        let plans = [planned(BOTH, read), WHOLE, planned(BOTH, write)];
-        let run = ran(rt, alloc, row, plans)?;
-        assert!(rt; run.status == 1 && run.faults.stopped_within(CANNOT_READ));
-        assert!(rt; run.input.calls == read.saturating_add(1) && run.output.calls == 0);
+/// This call of the device fails in a run of the first row, and beside it each write of the line about it.
+fn both_fail<R: Host>(rt: &R, alloc: Global, device: Device, call: usize) -> Result<(), Fail> {
+    let row = first_row();
+    let (is_read, line) = match device {
+        Device::Input => (true, CANNOT_READ),
+        _ => (false, CANNOT_WRITE),
+    };
+    for write in 0..line.len() {
+        let [input, output, _] = device.plans(planned(BOTH, call));
+        let run = ran(rt, alloc, row, [input, output, planned(BOTH, write)])?;
+        assert!(rt; run.status == 1 && run.faults.stopped_within(line));
+        if is_read {
+            assert!(rt; run.input.calls == call.saturating_add(1) && run.output.calls == 0);
+        } else {
+            assert!(rt; run.output.stopped_within(row.output));
+        }
     }
     Ok(())
 }
 
-/// Each read of the first row.
 #[test]
 fn a_read_and_the_line_about_it_fail(rt: HostRuntime) -> Result<(), Fail> {
-    let row = first_row();
-    for read in 0..row.input.len().saturating_add(1) {
-        both_fail_at_read(&rt, rt.alloc(), row, read)?;
+    for read in 0..first_row().input.len().saturating_add(1) {
+        both_fail(&rt, rt.alloc(), Device::Input, read)?;
     }
     Ok(())
 }
 
-/// This write on the output of the row fails, and beside it each write of the line about it.
-fn both_fail_at_write<R: Threads + Wait + Sync + Abort>(
-    rt: &R,
-    alloc: Global,
-    row: Row,
-    call: usize,
-) -> Result<(), Fail> {
-    for write in 0..CANNOT_WRITE.len() {
-        let plans = [WHOLE, planned(BOTH, call), planned(BOTH, write)];
-        let run = ran(rt, alloc, row, plans)?;
-        assert!(rt; run.status == 1 && run.output.stopped_within(row.output));
-        assert!(rt; run.faults.stopped_within(CANNOT_WRITE));
-    }
-    Ok(())
-}
-
-/// Each write on the output of the first row.
 #[test]
 fn a_write_and_the_line_about_it_fail(rt: HostRuntime) -> Result<(), Fail> {
-    let row = first_row();
-    for call in 0..row.output.len() {
-        both_fail_at_write(&rt, rt.alloc(), row, call)?;
+    for call in 0..first_row().output.len() {
+        both_fail(&rt, rt.alloc(), Device::Output, call)?;
     }
     Ok(())
 }

@@ -3,8 +3,6 @@
 #![tactic(auto)]
 
 #[cfg(test)]
-mod commands;
-#[cfg(test)]
 mod devices;
 #[cfg(test)]
 mod drops;
@@ -16,6 +14,8 @@ mod failures;
 mod opening_keys;
 #[cfg(test)]
 mod pictures;
+#[cfg(test)]
+mod prelude;
 #[cfg(test)]
 mod programs;
 #[cfg(test)]

@@ -1,14 +1,8 @@
 //! Inputs that fail, of keys with which a server's set is to open.
-use crate::devices::{Failure, NEVER, Plan, Reader};
+use crate::devices::{Failure, NEVER, Reader, planned};
+use crate::prelude::*;
 use crate::row_texts::CANNOT_READ;
 use crate::rows::texts_of;
-use std::alloc::{AllocError, Global};
-use std::net::{Net, TcpListener, TcpStream};
-use std::process::Abort;
-use std::sync::Wait;
-use std::test::Fail;
-use std::thread::Threads;
-use std::time::Clock;
 use tool_serve::tool_serve_with;
 
 /// What a server printed that left one key.
@@ -29,21 +23,10 @@ struct Run {
     faults: Vec<u8>,
 }
 
-fn ran<R: Net<Listener = TcpListener, Stream = TcpStream> + Threads + Wait + Clock + Sync>(
-    rt: &R,
-    alloc: Global,
-    seats: &str,
-    fails_at: usize,
-) -> Result<Run, AllocError> {
+fn ran<R: NetHost>(rt: &R, alloc: Global, seats: &str, fails_at: usize) -> Result<Run, AllocError> {
     let values = texts_of(alloc, &["lazy", seats, "4", "0", "0"])?;
-    let plan = Plan {
-        most: 7,
-        fails_at,
-        failure: Failure::Interrupted,
-    };
-    let mut input = Reader::new(PRINTED, plan);
-    let mut output = Vec::new(alloc);
-    let mut faults = Vec::new(alloc);
+    let mut input = Reader::new(PRINTED, planned((Failure::Interrupted, 7), fails_at));
+    let (mut output, mut faults) = (Vec::new(alloc), Vec::new(alloc));
     let status = tool_serve_with(rt, alloc, &values, &mut input, &mut output, &mut faults);
     Ok(Run {
         status,
@@ -53,31 +36,19 @@ fn ran<R: Net<Listener = TcpListener, Stream = TcpStream> + Threads + Wait + Clo
     })
 }
 
-/// A run in which no read failed.
-fn assert_unharmed<R: Abort>(rt: &R, run: &Run, fails_at: usize) {
-    assert!(rt; run.output.ends_with(LEFT.as_bytes()));
-    assert!(rt; run.faults.is_empty());
-    assert!(rt; fails_at.saturating_mul(7) > PRINTED.len());
-}
-
-/// A run in which this read failed: nothing is written on the output.
-fn assert_stopped<R: Abort>(rt: &R, run: &Run, fails_at: usize) {
-    assert!(rt; run.status == 1);
-    assert!(rt; run.calls == fails_at.saturating_add(1));
-    assert!(rt; run.output.is_empty());
-    assert!(rt; run.faults.as_slice() == CANNOT_READ.as_bytes());
-}
-
-/// Each read in turn, until a run ends without a failure.
+/// Each read in turn, until a run ends without a failure; before that nothing is written on the output.
 #[test]
 fn each_read_of_the_keys_fails_in_turn(rt: HostRuntime) -> Result<(), Fail> {
     for fails_at in 0..MOST_CALLS {
         let run = ran(&rt, rt.alloc(), "1", fails_at)?;
         if run.status == 0 {
-            assert_unharmed(&rt, &run, fails_at);
+            assert!(rt; run.output.ends_with(LEFT.as_bytes()) && run.faults.is_empty());
+            assert!(rt; fails_at.saturating_mul(7) > PRINTED.len());
             return Ok(());
         }
-        assert_stopped(&rt, &run, fails_at);
+        assert!(rt; run.status == 1 && run.calls == fails_at.saturating_add(1));
+        assert!(rt; run.output.is_empty());
+        assert!(rt; run.faults.as_slice() == CANNOT_READ.as_bytes());
     }
     Err(Fail::new("no run ends without a failure"))
 }

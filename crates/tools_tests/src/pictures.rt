@@ -1,17 +1,10 @@
 //! Pictures that no schedule and no report has: calls that end where a list's do not, points where they do not stand, and refusals
 //! of other orders.
+use crate::prelude::*;
+use crate::rows::ALL;
 use lset_report::{Report, read_report};
 use lset_words::{Point, Reply};
-use std::alloc::Global;
-use std::process::Abort;
-use std::test::Fail;
 use tool_drawing::{Picture, Refusal, Window, write_picture};
-
-/// Every moment.
-const ALL: Window = Window {
-    from: 1,
-    to: 4_294_967_295,
-};
 
 /// The width of no row.
 const WIDE: u32 = 4_294_967_295;
@@ -137,25 +130,12 @@ const WINDOWS: [(u32, &str); 2] = [
     (10, "moment    12\nthread 0  true]\nset       {9}\n"),
 ];
 
-/// The text of a picture in this window has these rows.
-fn assert_rows<R: Abort>(
-    rt: &R,
-    alloc: Global,
-    picture: &Picture,
-    window: Window,
-    rows: &str,
-) -> Result<(), Fail> {
-    let written = write_picture(alloc, picture, window, WIDE)?;
-    assert!(rt; std::str::from_utf8(&written)?.contains(rows), "{rows}");
-    Ok(())
-}
-
 #[test]
 fn a_window_begins_with_the_set_at_its_first_moment(rt: HostRuntime) -> Result<(), Fail> {
     let picture = opened(rt.alloc())?;
     for &(from, rows) in &WINDOWS {
-        let window = Window { from, to: 12 };
-        assert_rows(&rt, rt.alloc(), &picture, window, rows)?;
+        let written = write_picture(rt.alloc(), &picture, Window { from, to: 12 }, WIDE)?;
+        assert!(rt; std::str::from_utf8(&written)?.contains(rows), "{rows}");
     }
     Ok(())
 }

@@ -1,24 +1,28 @@
-use crate::devices::{Failure, Plan, Writer};
+//! The command line: a help that is not written, and a want of memory.
+use crate::devices::{Failure, Writer, planned};
+use crate::prelude::*;
 use crate::row_texts::CANNOT_WRITE;
+use lset_command::is_out_of_memory;
 use lset_dispatch::run_words;
 
 #[test]
 fn a_help_that_is_not_written_is_a_failing_write(rt: HostRuntime) {
-    let plan = Plan {
-        most: 1,
-        fails_at: 3,
-        failure: Failure::Interrupted,
-    };
-    let mut output = Writer::new(rt.alloc(), plan);
-    let mut faults = Vec::new(rt.alloc());
+    let alloc = rt.alloc();
+    let mut output = Writer::new(alloc, planned((Failure::Interrupted, 1), 3));
+    let (mut input, mut faults) = ("".as_bytes(), Vec::new(alloc));
     let status = run_words(
         &rt,
-        rt.alloc(),
+        alloc,
         &["--help"],
-        &mut "".as_bytes(),
+        &mut input,
         &mut output,
         &mut faults,
     );
     assert!(rt; status == 1 && output.calls == 4);
     assert!(rt; faults.as_slice() == CANNOT_WRITE.as_bytes());
+}
+
+#[test]
+fn want_of_memory_is_told_from_mistakes(rt: HostRuntime) {
+    assert!(rt; is_out_of_memory(&clap::Error::from(AllocError)));
 }

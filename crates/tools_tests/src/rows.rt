@@ -1,13 +1,7 @@
 //! Runs of the tools, on devices that fail as planned.
 use crate::devices::{Plan, Reader, Writer};
-use crate::row_texts::{
-    BOTH, BOTH_PICTURE, BOTH_SAID, CEILING, CEILING_REPORT, DRAWN, FEW, FEW_SAID, IDLE,
-    IDLE_PICTURE, IDLE_TRACE, LEFT_OUT, LONG, NO_TITLE, OUTCOME, PICTURE, REFUSED_PICTURE, REPORT,
-    SCHEDULE, SHEET, TRACE,
-};
-use std::alloc::{AllocError, Global};
-use std::sync::Wait;
-use std::thread::Threads;
+use crate::prelude::*;
+use crate::row_texts::*;
 use tool_base::{tool_check, tool_gen, tool_replay};
 use tool_drawing::Window;
 use tool_examples::{Example, tool_example};
@@ -17,7 +11,7 @@ use tool_show::{Form, tool_show};
 use tool_trace::tool_trace;
 
 /// Every moment.
-const ALL: Window = Window {
+pub const ALL: Window = Window {
     from: 1,
     to: 4_294_967_295,
 };
@@ -55,7 +49,7 @@ pub struct Row {
 }
 
 /// A tool, its input, its status, what it writes to the output, and the line about an error.
-type Told = (Tool, &'static str, u8, &'static str, &'static str);
+pub type Told = (Tool, &'static str, u8, &'static str, &'static str);
 
 const FIRST: Told = (Tool::Replay, SCHEDULE, 0, REPORT, "");
 
@@ -108,12 +102,12 @@ pub fn rows() -> &'static [Told] {
 }
 
 /// An example, and a broken report.
-pub fn example_rows() -> [Row; 2] {
+pub fn example_rows() -> [Told; 2] {
     let broken = Example::StalePred.broken_report_text().unwrap_or("");
     let full = Example::Full.schedule_text();
     [
-        row_of(&(Tool::Example("full"), "", 0, full, "")),
-        row_of(&(Tool::Broken("stale-pred"), "", 0, broken, "")),
+        (Tool::Example("full"), "", 0, full, ""),
+        (Tool::Broken("stale-pred"), "", 0, broken, ""),
     ]
 }
 
@@ -149,12 +143,7 @@ pub fn texts_of(alloc: Global, words: &[&str]) -> Result<Vec<String>, AllocError
 }
 
 /// Runs the tool of a row on devices of these plans: of its input, its output and `faults`.
-pub fn ran<R: Threads + Wait + Sync>(
-    rt: &R,
-    alloc: Global,
-    row: Row,
-    plans: [Plan; 3],
-) -> Result<Run, AllocError> {
+pub fn ran<R: Host>(rt: &R, alloc: Global, row: Row, plans: [Plan; 3]) -> Result<Run, AllocError> {
     let [input, output, faults] = plans;
     let mut input = Reader::new(row.input, input);
     let mut output = Writer::new(alloc, output);

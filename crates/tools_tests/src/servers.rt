@@ -1,15 +1,10 @@
 //! A server whose output fails. Its port is another in each run, so its first line is compared but for the port's digits.
-use crate::devices::{Failure, Plan, WHOLE, Writer};
+use crate::devices::{Failure, Plan, WHOLE, Way, Writer, planned};
+use crate::prelude::*;
 use crate::row_texts::CANNOT_WRITE;
 use crate::rows::texts_of;
-use std::alloc::{AllocError, Global};
 use std::io::{self, Read, Write};
-use std::net::{Net, Shutdown, TcpListener, TcpStream};
-use std::process::Abort;
-use std::sync::Wait;
-use std::test::Fail;
-use std::thread::Threads;
-use std::time::Clock;
+use std::net::Shutdown;
 use tool_serve::tool_serve;
 
 const LISTENING: &str = "listening 127.0.0.1:";
@@ -24,7 +19,7 @@ const ONE_SESSION: &str = "sessions 1\ncalls 1\nkey 7\n";
 const MOST_CALLS: usize = 100;
 
 /// How the output fails, and how many bytes it takes at a call.
-const WAYS: [(Failure, usize); 3] = [
+const WAYS: [Way; 3] = [
     (Failure::Interrupted, 1),
     (Failure::BrokenPipe, 3),
     (Failure::Nothing, 7),
@@ -60,17 +55,6 @@ struct Door<'r, R> {
     is_open: bool,
 }
 
-impl<'r, R> Door<'r, R> {
-    fn new(rt: &'r R, alloc: Global, plan: Plan) -> Door<'r, R> {
-        Door {
-            rt,
-            writer: Writer::new(alloc, plan),
-            client: None,
-            is_open: false,
-        }
-    }
-}
-
 impl<R: Net<Listener = TcpListener, Stream = TcpStream>> Write for Door<'_, R> {
     fn write(&mut self, buf: &[u8]) -> io::Result<usize> {
         self.writer.write(buf)
@@ -92,10 +76,9 @@ fn is_answered(client: Option<TcpStream>) -> bool {
         return false;
     };
     let mut answers = [0u8; 9];
-    let mut more = [0u8; 1];
     stream.read_exact(&mut answers).is_ok()
         && answers.as_slice() == b"TRUE\nBYE\n".as_slice()
-        && matches!(stream.read(&mut more), Ok(0))
+        && matches!(stream.read(&mut [0u8; 1]), Ok(0))
 }
 
 /// Whether the client, if there was one, got no byte.
@@ -103,11 +86,7 @@ fn is_turned_away(client: Option<TcpStream>) -> bool {
     let Some(mut stream) = client else {
         return true;
     };
-    let mut answers = [0u8; 9];
-    match stream.read(&mut answers) {
-        Ok(count) => count == 0,
-        Err(_) => true,
-    }
+    matches!(stream.read(&mut [0u8; 9]), Ok(0) | Err(_))
 }
 
 /// The rest of a text after its first digits, and how many those are.
@@ -137,84 +116,60 @@ fn is_whole(bytes: &[u8], after: &str) -> Option<bool> {
 
 /// What a server did with its devices.
 #[derive(Drop)]
-struct Run {
+struct Run<'r, R> {
     status: u8,
-    output: Writer,
+    door: Door<'r, R>,
     faults: Writer,
-    client: Option<TcpStream>,
-    is_open: bool,
 }
 
 /// Runs the tool on the values of KIND, PORT and SESSIONS, on devices of these plans: of its output and of `faults`.
-fn ran<R: Net<Listener = TcpListener, Stream = TcpStream> + Threads + Wait + Clock + Sync>(
-    rt: &R,
+fn ran<'r, R: NetHost>(
+    rt: &'r R,
     alloc: Global,
     [kind, port, sessions]: [&str; 3],
     [output, faults]: [Plan; 2],
-) -> Result<Run, AllocError> {
+) -> Result<Run<'r, R>, AllocError> {
     let values = texts_of(alloc, &[kind, "1", "4", port, sessions])?;
-    let mut door = Door::new(rt, alloc, output);
+    let mut door = Door {
+        rt,
+        writer: Writer::new(alloc, output),
+        client: None,
+        is_open: false,
+    };
     let mut faults = Writer::new(alloc, faults);
     let status = tool_serve(rt, alloc, &values, &mut door, &mut faults);
-    let Door {
-        rt: _,
-        writer,
-        client,
-        is_open,
-    } = door;
     Ok(Run {
         status,
-        output: writer,
+        door,
         faults,
-        client,
-        is_open,
     })
 }
 
-/// A run of one session whose output did not fail.
-fn assert_served<R: Abort>(rt: &R, run: Run, plan: Plan) {
-    assert!(rt; is_whole(&run.output.taken, ONE_SESSION) == Some(true));
-    assert!(rt; run.faults.taken.is_empty() && run.output.calls <= plan.fails_at);
-    assert!(rt; is_answered(run.client));
-}
-
-/// One whose output failed.
-fn assert_harmed<R: Abort>(rt: &R, run: Run, plan: Plan) {
-    assert!(rt; run.status == 1 && run.faults.taken.as_slice() == CANNOT_WRITE.as_bytes());
-    assert!(rt; is_front(&run.output.taken, ONE_SESSION) == Some(true));
-    assert!(rt; run.output.calls == plan.fails_at.saturating_add(1));
-    if run.is_open {
-        assert!(rt; is_answered(run.client));
-    } else {
-        assert!(rt; is_turned_away(run.client));
-    }
-}
-
 /// A server of one session whose output fails as planned, and whether it did.
-fn output_fails<
-    R: Net<Listener = TcpListener, Stream = TcpStream> + Threads + Wait + Clock + Sync + Abort,
->(rt: &R, alloc: Global, plan: Plan) -> Result<bool, Fail> {
+fn output_fails<R: NetHost>(rt: &R, alloc: Global, plan: Plan) -> Result<bool, Fail> {
     let run = ran(rt, alloc, ["lazy", "0", "1"], [plan, WHOLE])?;
-    let is_harmed = run.status != 0;
-    if is_harmed {
-        assert_harmed(rt, run, plan);
-    } else {
-        assert_served(rt, run, plan);
+    let calls = run.door.writer.calls;
+    if run.status == 0 {
+        assert!(rt; is_whole(&run.door.writer.taken, ONE_SESSION) == Some(true));
+        assert!(rt; run.faults.taken.is_empty() && calls <= plan.fails_at);
+        assert!(rt; is_answered(run.door.client));
+        return Ok(false);
     }
-    Ok(is_harmed)
+    assert!(rt; run.status == 1 && run.faults.taken.as_slice() == CANNOT_WRITE.as_bytes());
+    assert!(rt; is_front(&run.door.writer.taken, ONE_SESSION) == Some(true));
+    assert!(rt; calls == plan.fails_at.saturating_add(1));
+    if run.door.is_open {
+        assert!(rt; is_answered(run.door.client));
+    } else {
+        assert!(rt; is_turned_away(run.door.client));
+    }
+    Ok(true)
 }
 
 /// How many runs there are in which the output fails, at each of its calls in turn, until a run ends without a failure.
-fn each_call_fails<
-    R: Net<Listener = TcpListener, Stream = TcpStream> + Threads + Wait + Clock + Sync + Abort,
->(rt: &R, alloc: Global, (failure, most): (Failure, usize)) -> Result<usize, Fail> {
+fn each_call_fails<R: NetHost>(rt: &R, alloc: Global, way: Way) -> Result<usize, Fail> {
     for fails_at in 0..MOST_CALLS {
-        let plan = Plan {
-            most,
-            fails_at,
-            failure,
-        };
-        if !output_fails(rt, alloc, plan)? {
+        if !output_fails(rt, alloc, planned(way, fails_at))? {
             return Ok(fails_at);
         }
     }
@@ -234,24 +189,22 @@ fn each_call_on_the_output_fails_in_turn(rt: HostRuntime) -> Result<(), Fail> {
 
 /// A server of no session whose output fails as planned, and beside it each write of the line about it; and whether the
 /// output did.
-fn both_fail<
-    R: Net<Listener = TcpListener, Stream = TcpStream> + Threads + Wait + Clock + Sync + Abort,
->(rt: &R, alloc: Global, plan: Plan) -> Result<bool, Fail> {
+fn both_fail<R: NetHost>(rt: &R, alloc: Global, plan: Plan) -> Result<bool, Fail> {
     for write in 0..CANNOT_WRITE.len() {
         let faults = Plan {
             fails_at: write,
             ..plan
         };
         let run = ran(rt, alloc, ["lazy", "0", "0"], [plan, faults])?;
-        assert!(rt; is_turned_away(run.client));
+        assert!(rt; is_turned_away(run.door.client));
         if run.status == 0 {
-            assert!(rt; is_whole(&run.output.taken, NO_SESSION) == Some(true));
-            assert!(rt; run.output.calls <= plan.fails_at);
+            assert!(rt; is_whole(&run.door.writer.taken, NO_SESSION) == Some(true));
+            assert!(rt; run.door.writer.calls <= plan.fails_at);
             return Ok(false);
         }
         assert!(rt; run.status == 1 && run.faults.stopped_within(CANNOT_WRITE));
-        assert!(rt; is_front(&run.output.taken, NO_SESSION) == Some(true));
-        assert!(rt; run.output.calls == plan.fails_at.saturating_add(1));
+        assert!(rt; is_front(&run.door.writer.taken, NO_SESSION) == Some(true));
+        assert!(rt; run.door.writer.calls == plan.fails_at.saturating_add(1));
     }
     Ok(true)
 }
@@ -260,12 +213,7 @@ fn both_fail<
 #[test]
 fn a_call_and_the_line_about_it_fail(rt: HostRuntime) -> Result<(), Fail> {
     for fails_at in 0..MOST_CALLS {
-        let plan = Plan {
-            most: 1,
-            fails_at,
-            failure: Failure::Interrupted,
-        };
-        if !both_fail(&rt, rt.alloc(), plan)? {
+        if !both_fail(&rt, rt.alloc(), planned(WAYS[0], fails_at))? {
             assert!(rt; fails_at > LISTENING.len());
             return Ok(());
         }
@@ -274,17 +222,16 @@ fn a_call_and_the_line_about_it_fail(rt: HostRuntime) -> Result<(), Fail> {
 }
 
 /// A server that does not begin, and the write with a number of the line about it fails: the status stays.
-fn line_fails<
-    R: Net<Listener = TcpListener, Stream = TcpStream> + Threads + Wait + Clock + Sync + Abort,
->(rt: &R, alloc: Global, [kind, port]: [&str; 2], (status, line): (u8, &str)) -> Result<(), Fail> {
+fn line_fails<R: NetHost>(
+    rt: &R,
+    alloc: Global,
+    [kind, port]: [&str; 2],
+    (status, line): (u8, &str),
+) -> Result<(), Fail> {
     for write in 0..=line.len() {
-        let faults = Plan {
-            most: 1,
-            fails_at: write,
-            failure: Failure::BrokenPipe,
-        };
+        let faults = planned((Failure::BrokenPipe, 1), write);
         let run = ran(rt, alloc, [kind, port, "1"], [WHOLE, faults])?;
-        assert!(rt; run.status == status && run.output.calls == 0);
+        assert!(rt; run.status == status && run.door.writer.calls == 0);
         if write < line.len() {
             assert!(rt; run.faults.stopped_within(line));
         } else {

@@ -1,0 +1,21 @@
+//! What the groups of calls use, and what they ask of the runtime.
+pub use crate::calls::{Calls, check};
+pub use anyhow::{Error, Result};
+pub use lset_lazy::LazyList;
+pub use lset_live::{LiveSet, OpenFault, Seat, open};
+pub use lset_words::{Call, Key, Reply};
+pub use std::alloc::{AllocError, Global};
+pub use std::net::{Net, TcpListener, TcpStream};
+pub use std::sync::Wait;
+pub use std::thread::Threads;
+pub use std::time::Clock;
+
+/// Has a clock and threads, and may wait.
+pub trait Host: Clock + Sync + Threads + Wait {}
+
+impl<R: Clock + Sync + Threads + Wait> Host for R {}
+
+/// Has the loopback too.
+pub trait NetHost: Host + Net<Listener = TcpListener, Stream = TcpStream> {}
+
+impl<R: Host + Net<Listener = TcpListener, Stream = TcpStream>> NetHost for R {}

@@ -1,0 +1,18 @@
+//! What most of the tests use, and what they ask of the runtime.
+pub use std::alloc::{AllocError, Global};
+pub use std::net::{Net, TcpListener, TcpStream};
+pub use std::process::Abort;
+pub use std::sync::Wait;
+pub use std::test::Fail;
+pub use std::thread::Threads;
+pub use std::time::Clock;
+
+/// May fail a test, wait, and start threads.
+pub trait Host: Abort + Sync + Threads + Wait {}
+
+impl<R: Abort + Sync + Threads + Wait> Host for R {}
+
+/// Has the loopback and a clock too.
+pub trait NetHost: Clock + Host + Net<Listener = TcpListener, Stream = TcpStream> {}
+
+impl<R: Clock + Host + Net<Listener = TcpListener, Stream = TcpStream>> NetHost for R {}
