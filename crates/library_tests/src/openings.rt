@@ -4,7 +4,7 @@ ghost use Rattle.std.specs.Prelude.{◌≡◌, IfOk};
 use crate::history::{Judged, assert_judged, assert_replies};
 use crate::made::in_turn;
 use crate::prelude::*;
-use crate::worlds::{self, assert_content};
+use crate::worlds::{self, assert_set};
 use lset_words::layout_opening;
 
 /// An opening key goes out as any other and comes in again in a slot; the head's first key and the last before the tail too.
@@ -20,9 +20,9 @@ const COME_AND_GO: [(Call, Reply); 6] = [
 fn keys_come_and_go<M: Machine, R: Abort + AllocGlobal>(rt: &R) -> Result<(), Fail> {
     let layout = layout_opening(1, 1, 3)?;
     let mut world = World::<M>::opened(rt.alloc(), layout, &[0, 7, u32::MAX])?;
-    assert_content(rt, &world, &[0, 7, u32::MAX])?;
+    assert_set(rt, &world, &[0, 7, u32::MAX])?;
     worlds::assert_replies(rt, &mut world, &COME_AND_GO)?;
-    assert_content(rt, &world, &[0, 7])
+    assert_set(rt, &world, &[0, 7])
 }
 
 #[test]

@@ -24,7 +24,7 @@ fn assert_ends<M: Machine, R: Abort + AllocGlobal>(
     ];
     let mut world = World::<M>::new(rt.alloc(), layout(1, 2)?)?;
     assert_calls(rt, &mut world, &calls)?;
-    assert_content(rt, &world, &[])
+    assert_set(rt, &world, &[])
 }
 
 #[test]
@@ -147,10 +147,10 @@ fn a_marked_node_is_no_part_of_the_set(rt: HostRuntime) -> Result<(), Fail> {
     assert_calls(&rt, &mut world, &[(ADD, Reply::True, 11)])?;
     world.step(Event::Begin(0, REMOVE))?;
     make(&mut world, Event::Go(0), 6)?;
-    assert_content(&rt, &world, &[5])?;
+    assert_set(&rt, &world, &[5])?;
     assert_eq!(rt; world.step(Event::Go(0))?.change, Some((Key(5), false)));
     assert!(rt; world.busy(0));
-    assert_content(&rt, &world, &[])?;
+    assert_set(&rt, &world, &[])?;
     // the link of the head leads to the node yet
     assert_eq!(rt; world.word(4), 4);
     Ok(())
@@ -217,7 +217,7 @@ fn an_add_behind_a_marked_node_walks_again(rt: HostRuntime) -> Result<(), Fail> 
     assert_run::<LazyList, HostRuntime>(&rt, 2, 2, &LAZY_MARK, &[5])?;
     let mut world = World::<LockFreeList>::new(rt.alloc(), layout(2, 2)?)?;
     assert_lines(&rt, &mut world, &LOCK_FREE_MARK)?;
-    assert_content(&rt, &world, &[5])?;
+    assert_set(&rt, &world, &[5])?;
     // the head leads to thread 0's first slot, node 2
     assert_eq!(rt; world.word(4), 4);
     Ok(())

@@ -1,6 +1,6 @@
 //! Runs step by step: what each step does, and the words of the locks after it.
 use crate::prelude::*;
-use crate::worlds::{assert_content, make};
+use crate::worlds::{assert_set, make};
 use lset_steps::Told;
 use lset_words::layout;
 
@@ -20,7 +20,7 @@ fn an_add_changes_the_set_one_step_before_its_answer(rt: HostRuntime) -> Result<
     }
     let told = world.step(Event::Go(0))?;
     assert_eq!(rt; (told.answer, told.change), (None, Some((Key(5), true))));
-    assert_content(&rt, &world, &[5])?;
+    assert_set(&rt, &world, &[5])?;
     let told = world.step(Event::Go(0))?;
     assert_eq!(rt; (told.answer, told.change), (Some(Reply::True), None));
     Ok(())
@@ -39,7 +39,7 @@ fn a_refused_event_changes_nothing(rt: HostRuntime) -> Result<(), Fail> {
     assert!(rt; world.step(ADD).err() == Some(StepFault::Busy));
     assert!(rt; world.busy(0));
     assert_eq!(rt; world.word(0), 1);
-    assert_content(&rt, &world, &[])
+    assert_set(&rt, &world, &[])
 }
 
 /// The lock words of the head and of the tail.

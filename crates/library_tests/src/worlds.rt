@@ -55,7 +55,7 @@ pub fn assert_run<M: Machine, R: Abort + AllocGlobal>(
 ) -> Result<(), Fail> {
     let mut world = World::<M>::new(rt.alloc(), layout(threads, quota)?)?;
     assert_lines(rt, &mut world, lines)?;
-    assert_content(rt, &world, keys)
+    assert_set(rt, &world, keys)
 }
 
 /// Makes the calls of thread 0 in turn: each has its reply after this many steps.
@@ -87,11 +87,7 @@ pub fn assert_replies<M: Machine, R: Abort>(
     Ok(())
 }
 
-pub fn assert_content<M: Machine, R: Abort>(
-    rt: &R,
-    world: &World<M>,
-    keys: &[u32],
-) -> Result<(), Fail> {
-    assert_eq!(rt; world.content()?.as_slice(), keys);
+pub fn assert_set<M: Machine, R: Abort>(rt: &R, world: &World<M>, set: &[u32]) -> Result<(), Fail> {
+    assert_eq!(rt; world.content()?.as_slice(), set);
     Ok(())
 }

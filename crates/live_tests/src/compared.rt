@@ -1,3 +1,4 @@
+//! The loops of each list beside the interpreter on its table: replies, steps and keys.
 ghost use Rattle.std.specs.Prelude.{◌≡◌};
 
 use crate::many::next_number;

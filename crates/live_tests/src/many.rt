@@ -1,3 +1,4 @@
+//! A thousand calls of each of eight seats, in threads, counted key by key.
 ghost use Rattle.std.specs.Prelude.{◌≡◌, All, IfSome};
 
 use crate::opened::keys_left;

@@ -1,3 +1,4 @@
+//! How often a call asks its pause, and of which thread it tells.
 use crate::opened::two_seats;
 use crate::prelude::*;
 use std::cell::Cell;

@@ -1,3 +1,4 @@
+//! Programs on threads, and the gates that they pass.
 ghost use Rattle.std.specs.Prelude.{◌≡◌, ◌<◌, ◌^◌, IsTrue, All, length};
 
 use crate::balance::Balance;
@@ -76,16 +77,10 @@ pub fn pair<R: Abort>(rt: &R, alloc: Global, first: &[Call], second: &[Call]) ->
     vec![in alloc; first, second].expect(rt, "room")
 }
 
-const FIRST: [Call; 3] = [
-    Call::Add(Key(1)),
-    Call::Contains(Key(1)),
-    Call::Remove(Key(1)),
-];
-
-const SECOND: [Call; 2] = [Call::Add(Key(2)), Call::Add(Key(2))];
-
 fn two_programs<R: Abort>(rt: &R, alloc: Global) -> Vec<Vec<Call>> {
-    pair(rt, alloc, &FIRST, &SECOND)
+    let (key, add_2) = (Key(1), Call::Add(Key(2)));
+    let first = [Call::Add(key), Call::Contains(key), Call::Remove(key)];
+    pair(rt, alloc, &first, &[add_2, add_2])
 }
 
 pub fn are_answered(outcome: &Outcome, replies: &[&[Reply]]) -> bool {
@@ -198,12 +193,10 @@ impl<'a, R: Clock> Gate for Meeting<'a, R> {
     }
 }
 
-const ODD: [Call; 2] = [Call::Add(Key(1)), Call::Add(Key(3))];
-
-const EVEN: [Call; 2] = [Call::Add(Key(2)), Call::Add(Key(4))];
-
 fn meet<M: Running + Send + Sync, R: Host>(rt: &R, alloc: Global) {
-    let programs = pair(rt, alloc, &ODD, &EVEN);
+    let odd = [Call::Add(Key(1)), Call::Add(Key(3))];
+    let even = [Call::Add(Key(2)), Call::Add(Key(4))];
+    let programs = pair(rt, alloc, &odd, &even);
     let (set, seats) = two_in_a_row::<M, R>(rt, alloc);
     let outcome = worked(rt, alloc, set, seats, programs, &Meeting::new(rt));
     let both: &[Reply] = &[Reply::True, Reply::True];

@@ -1,3 +1,4 @@
+//! Sessions of which one read or one write fails, each in turn.
 use crate::failing::{FailingReader, FailingWriter};
 use crate::opened::{
     ANSWERS, CEILINGS, LINES, end, held, held_buffered, one_seat, stopped_at, was_held,

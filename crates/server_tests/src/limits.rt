@@ -1,3 +1,4 @@
+//! The longest line of a session, and the most lines.
 use crate::failing::FailingReader;
 use crate::opened::{end, held, held_buffered, was_held};
 use crate::prelude::*;

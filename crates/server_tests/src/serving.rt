@@ -1,3 +1,4 @@
+//! Servers on the loopback, and their clients.
 ghost use Rattle.std.specs.Prelude.{◌≡◌, All};
 
 use crate::clients::{asks, leaves, meets};

@@ -1,3 +1,4 @@
+//! Sessions on sets of their own: lines and their answers.
 use crate::failing::FailingReader;
 use crate::opened::{ANSWERS, CEILINGS, FOUND, LINES, end, held, last_seat, opened, was_held};
 use crate::prelude::*;
