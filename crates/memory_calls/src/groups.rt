@@ -2,7 +2,11 @@
 use crate::prelude::*;
 use crate::{live, sets, threads};
 
-pub fn make_calls<R: NetHost>(rt: &R, alloc: Global, calls: &mut Calls) -> Result<()> {
+pub fn make_calls<R: Host + Net<Listener = TcpListener, Stream = TcpStream>>(
+    rt: &R,
+    alloc: Global,
+    calls: &mut Calls,
+) -> Result<()> {
     sets::worlds(alloc, calls)?;
     if calls.refused.is_none() {
         sets::oracles(alloc, calls)?;

@@ -14,8 +14,3 @@ pub use std::time::Clock;
 pub trait Host: Clock + Sync + Threads + Wait {}
 
 impl<R: Clock + Sync + Threads + Wait> Host for R {}
-
-/// Has the loopback too.
-pub trait NetHost: Host + Net<Listener = TcpListener, Stream = TcpStream> {}
-
-impl<R: Host + Net<Listener = TcpListener, Stream = TcpStream>> NetHost for R {}

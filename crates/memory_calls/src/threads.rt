@@ -142,7 +142,7 @@ fn is_served(served: &Served, stream: &mut TcpStream) -> Result<()> {
 }
 
 /// A server, and a client to which it holds a session; why it does not.
-fn serve_client<R: NetHost>(
+fn serve_client<R: Host + Net<Listener = TcpListener, Stream = TcpStream>>(
     rt: &R,
     alloc: Global,
     set: LiveSet<LazyList>,
@@ -161,7 +161,11 @@ fn serve_client<R: NetHost>(
 }
 
 /// A session with one client. If it was refused, another server has another client.
-pub fn a_session<R: NetHost>(rt: &R, alloc: Global, calls: &mut Calls) -> Result<()> {
+pub fn a_session<R: Host + Net<Listener = TcpListener, Stream = TcpStream>>(
+    rt: &R,
+    alloc: Global,
+    calls: &mut Calls,
+) -> Result<()> {
     let (set, seats) = open_seats(alloc, calls, 1)?;
     calls.name = "serve";
     let Some(cause) = serve_client(rt, alloc, set, seats)? else {

@@ -11,7 +11,12 @@ fn is_answered(stream: &mut TcpStream, text: &[u8], answers: &[u8]) -> bool {
 }
 
 /// Sends the text and reads its answers, and then the end.
-pub fn asks<R: NetHost>(rt: &R, port: u16, text: &[u8], answers: &[u8]) -> bool {
+pub fn asks<R: Host + Net<Listener = TcpListener, Stream = TcpStream>>(
+    rt: &R,
+    port: u16,
+    text: &[u8],
+    answers: &[u8],
+) -> bool {
     let Ok(mut stream) = TcpStream::connect(rt, ("127.0.0.1", port)) else {
         return false;
     };
@@ -30,7 +35,12 @@ fn both_come<R: Clock>(rt: &R, met: &AtomicU64) -> bool {
 }
 
 /// Sends a line, reads its answer, waits until the other client has done so too, and says good-bye.
-pub fn meets<R: NetHost>(rt: &R, port: u16, line: &[u8], met: &AtomicU64) -> bool {
+pub fn meets<R: Host + Net<Listener = TcpListener, Stream = TcpStream>>(
+    rt: &R,
+    port: u16,
+    line: &[u8],
+    met: &AtomicU64,
+) -> bool {
     let Ok(mut stream) = TcpStream::connect(rt, ("127.0.0.1", port)) else {
         return false;
     };
@@ -40,7 +50,11 @@ pub fn meets<R: NetHost>(rt: &R, port: u16, line: &[u8], met: &AtomicU64) -> boo
 }
 
 /// Sends the text and goes away.
-pub fn leaves<R: NetHost>(rt: &R, port: u16, text: &[u8]) -> bool {
+pub fn leaves<R: Host + Net<Listener = TcpListener, Stream = TcpStream>>(
+    rt: &R,
+    port: u16,
+    text: &[u8],
+) -> bool {
     let stream = TcpStream::connect(rt, ("127.0.0.1", port));
     stream.is_ok_and(|mut stream| stream.write_all(text).is_ok())
 }

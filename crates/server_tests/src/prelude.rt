@@ -13,8 +13,3 @@ pub use std::time::{Clock, Duration};
 pub trait Host: Abort + Clock + Sync + Threads + Wait {}
 
 impl<R: Abort + Clock + Sync + Threads + Wait> Host for R {}
-
-/// Has the loopback too.
-pub trait NetHost: Host + Net<Listener = TcpListener, Stream = TcpStream> {}
-
-impl<R: Host + Net<Listener = TcpListener, Stream = TcpStream>> NetHost for R {}

@@ -7,18 +7,15 @@ use crate::prelude::*;
 use lset_server::{ServeCause, Served, serve};
 use std::sync::atomic::AtomicU64;
 
-fn listening<R: NetHost>(rt: &R) -> TcpListener {
+fn listening<R: Host + Net<Listener = TcpListener, Stream = TcpStream>>(rt: &R) -> TcpListener {
     TcpListener::bind(rt, "127.0.0.1:0").expect(rt, "no port")
 }
 
 /// What a server with so many seats makes of so many sessions, while clients ask at its port, and find what they want.
-fn served_while<R: NetHost, F: FnOnce(u16) -> bool + Send>(
-    rt: &R,
-    alloc: Global,
-    seats: u32,
-    sessions: u32,
-    ask: F,
-) -> Served
+fn served_while<
+    R: Host + Net<Listener = TcpListener, Stream = TcpStream>,
+    F: FnOnce(u16) -> bool + Send,
+>(rt: &R, alloc: Global, seats: u32, sessions: u32, ask: F) -> Served
     requires { F.IsAlwaysCallable ask }
 {
     let listener = listening(rt);
