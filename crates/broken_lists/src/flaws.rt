@@ -1,4 +1,5 @@
 //! The steps of the broken lists: each arm that does not name a function of the right list says what the broken one lacks.
+//! `PLACE` gives each list a copy of a function, in which the compiler knows `broken`, so that one arm is left.
 ghost use Rattle.std.specs.Prelude.{◌≡◌};
 ghost use Rattle.broken_tables.specs.Marks.{seen_without_mark};
 ghost use Rattle.broken_lists.specs.BrokenLists.{table_of};
@@ -47,7 +48,7 @@ pub fn begun(broken: BrokenList, call: Call, local: &Local) -> Local
 }
 
 #[inline(always)]
-pub fn next_action(broken: BrokenList, local: &Local) -> Action
+pub fn next_action<const PLACE: u8>(broken: BrokenList, local: &Local) -> Action
     requires { IsRunnable local.now }
     ensures { result ≡ (table_of broken).next local.now }
 {
@@ -64,7 +65,7 @@ pub fn next_action(broken: BrokenList, local: &Local) -> Action
 }
 
 #[inline(always)]
-pub fn fed_by(broken: BrokenList, local: &Local, seen: u64) -> Fed
+pub fn fed_by<const PLACE: u8>(broken: BrokenList, local: &Local, seen: u64) -> Fed
     requires { IsRunnable local.now }
     ensures { result ≡ (table_of broken).feed local.now seen }
 {
@@ -91,7 +92,11 @@ pub fn fed_by(broken: BrokenList, local: &Local, seen: u64) -> Fed
 }
 
 #[inline(always)]
-pub fn effect_of(broken: BrokenList, local: &Local, seen: u64) -> Option<(Key, bool)>
+pub fn effect_of<const PLACE: u8>(
+    broken: BrokenList,
+    local: &Local,
+    seen: u64,
+) -> Option<(Key, bool)>
     requires { IsRunnable local.now }
     ensures { result ≡ (table_of broken).effect local.now seen }
 {

@@ -34,7 +34,7 @@ pub trait BrokenMachine {
         ensures { result ≡ table.effect local.now seen };
 }
 
-/// The broken list at a place of `ALL`. The compiler knows the place, so that of each match of `flaws` one arm is left.
+/// The broken list at a place of `ALL`.
 pub struct Broken<const PLACE: u8>;
 
 #[inline(always)]
@@ -56,16 +56,16 @@ impl<const PLACE: u8> BrokenMachine for Broken<PLACE> {
 
     #[inline(always)]
     fn next(local: &Local) -> Action {
-        flaws::next_action(broken_at(PLACE), local)
+        flaws::next_action::<PLACE>(broken_at(PLACE), local)
     }
 
     #[inline(always)]
     fn feed(local: &Local, seen: u64) -> Fed {
-        flaws::fed_by(broken_at(PLACE), local, seen)
+        flaws::fed_by::<PLACE>(broken_at(PLACE), local, seen)
     }
 
     #[inline(always)]
     fn effect(local: &Local, seen: u64) -> Option<(Key, bool)> {
-        flaws::effect_of(broken_at(PLACE), local, seen)
+        flaws::effect_of::<PLACE>(broken_at(PLACE), local, seen)
     }
 }

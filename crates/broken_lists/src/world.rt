@@ -77,6 +77,7 @@ fn word_of(action: Action) -> u64
 }
 
 /// What an access will see.
+#[inline(always)]
 fn sight(words: &[u64], action: Action) -> u64
     requires { word_named action < length words.now }
     ensures { result ≡ seen_by words.now action }
@@ -88,6 +89,7 @@ fn sight(words: &[u64], action: Action) -> u64
 }
 
 /// Makes one access, and returns the value that it saw.
+#[inline(always)]
 fn access(words: &mut Vec<u64>, action: Action) -> u64
     requires { word_named action < length words.old.items }
     ensures seen { result ≡ seen_by words.old.items action }
@@ -134,7 +136,11 @@ impl<M: BrokenMachine> BrokenWorld<M> {
         ensures { MatchOption result (self.now.sizes.threads ≤ t) (λ l.
             (t < self.now.sizes.threads) × (l ≡ local_of self.now.state t)) }
     {
-        self.locals.get(t as usize).copied()
+        if t < self.layout.threads() {
+            Some(self.locals[t as usize])
+        } else {
+            None
+        }
     }
 
     /// Returns the next access of thread `t` and the value that it will see; `None` if `step` refuses it.
@@ -149,6 +155,7 @@ impl<M: BrokenMachine> BrokenWorld<M> {
     }
 
     /// What thread `t` holds, and its next access; or why it makes no step.
+    #[inline(always)]
     fn going(&self, t: u32) -> Result<(Local, Action), BrokenStepError>
         ensures can { IfOk result (λ _. CanMake M.table self.now (Event.Go t)) }
         ensures held { IfOk result (λ g. (g.0 ≡ local_of self.now.state t) × (g.1 ≡ M.table.next (local_of self.now.state t))) }
