@@ -17,12 +17,10 @@ use Rattle.lset_calls.specs.Placing.{present_at, same_count, HasBar, adds_before
 use Rattle.lset_calls.specs.Reports.{is_there, contents, StandsGiven}
 use Rattle.lset_calls.specs.Turns.{turn_at, no_turn, turn_moment, turn_moment_or_none, TurnsApart, AreTurns}
 use Rattle.lset_calls.proofs.Noted.{HasNoted, none_noted, differ_turned, changes_apart_by_turns, pairs_mapped, same_there, present_upto_end}
+use Rattle.lset_calls.proofs.Passes.{last_or_before}
 use Rattle.lset_calls.proofs.Permuted.{pairs_permuted}
 use Rattle.lset_calls.proofs.Standings.{AreKeysOf, same_keys}
 use Rattle.lset_calls.proofs.TurnLaws.{made_of, same_calls, each_turn, turn_of_each}
-
-last_or_before : (i k : ℕ) → i < k + 1 → (i ≡ k) ⊎ (i < k)
-last_or_before i k l = grind arith
 
 -- a place that is written, and the others
 place_here : (places : List (Option ℕ)) (n : ℕ) (place : Option ℕ) → n < length places → place_at (slice_set places n place) n ≡ place
@@ -40,8 +38,8 @@ module _ (keys : List ℕ) (quota : ℕ) (calls : List TimedCall) (ts : List Tur
   made_at : (i : ℕ) → i < length ts → get_or made i no_call ≡ (get_or ts i no_turn).made
   made_at i l = get_or-map made_of ts i no_turn no_call l
 
-  rising : IsNonDecreasingBy turn_moment_or_none made
-  rising i j d a b =
+  pub made_rising : IsNonDecreasingBy turn_moment_or_none made
+  made_rising i j d a b =
       let long : length made ≡ length ts = length-map ts made_of in
       let q : j < length ts = omega arith in
       let p : i < length ts = omega arith in
@@ -57,27 +55,21 @@ module _ (keys : List ℕ) (quota : ℕ) (calls : List TimedCall) (ts : List Tur
       → AllPairs (λ (x y : TimedCall). ChangeApart (traced x) (traced y)) xs
   changes_apart xs h i j d a b = changes_apart_by_turns (get_or xs i d) (get_or xs j d) (h i j d a b)
 
-  made_counted : All (λ (x : TimedCall). IfSome (traced x).changed (λ at. 0 < at)) made
-  made_counted = All-permutation (λ (x : TimedCall). IfSome (traced x).changed (λ at. 0 < at)) calls made
+  pub made_changes_apart : AllPairs (λ (x y : TimedCall). ChangeApart (traced x) (traced y)) made
+  made_changes_apart = changes_apart made made_apart
+
+  pub made_is_counted : All (λ (x : TimedCall). IfSome (traced x).changed (λ at. 0 < at)) made
+  made_is_counted = All-permutation (λ (x : TimedCall). IfSome (traced x).changed (λ at. 0 < at)) calls made
       (same_calls calls ts are) counted
 
   there_too : (m j : ℕ) → is_there keys (map traced made) m j ≡ is_there keys (map traced calls) m j
   there_too m j = sym (same_there keys (map traced calls) (map traced made)
       (pairs_mapped traced ChangeApart calls no_call (changes_apart calls apart))
-      (pairs_mapped traced ChangeApart made no_call (changes_apart made made_apart))
+      (pairs_mapped traced ChangeApart made no_call made_changes_apart)
       (IsPermutation-map traced calls made (same_calls calls ts are)) m j)
 
   pub begins : (changes : ℕ → List ℕ) → ((j : ℕ) → changes j ≡ opened_moments keys j) → HasNoted keys made 0 changes
-  begins changes is = none_noted keys made rising (changes_apart made made_apart) made_counted changes is
-
-  pub made_rising : IsNonDecreasingBy turn_moment_or_none made
-  made_rising = rising
-
-  pub made_changes_apart : AllPairs (λ (x y : TimedCall). ChangeApart (traced x) (traced y)) made
-  made_changes_apart = changes_apart made made_apart
-
-  pub made_is_counted : All (λ (x : TimedCall). IfSome (traced x).changed (λ at. 0 < at)) made
-  made_is_counted = made_counted
+  begins changes is = none_noted keys made made_rising made_changes_apart made_is_counted changes is
 
   pub known : (k : ℕ) (d : Turn) → k < length ts → (get_or ts k d).number < length calls
   known k d l = (each_turn calls ts are k d l).known
@@ -97,7 +89,7 @@ module _ (keys : List ℕ) (quota : ℕ) (calls : List TimedCall) (ts : List Tur
     are_keys (Some c) ended e f = tt
     are_keys None None e f = tt
     are_keys None (Some end) e f = λ m j u.
-        present_upto_end keys made rising made_apart k
+        present_upto_end keys made made_rising made_apart k
         (let long : length made ≡ length ts = length-map ts made_of in let q : k < length made = omega arith in q)
         changes noted end
         (ap (λ (x : TimedCall). (traced x).changed) (made_at k l) ∙ e) (ap (λ (x : TimedCall). x.ended) (made_at k l) ∙ f) m j u

@@ -10,7 +10,7 @@ pub mod InTurn
 pub mod Noted
 pub mod Counted
 pub mod Standings
-pub mod Ranks
+pub mod Stood
 pub mod Passes
 pub mod TurnLaws
 pub mod InPlaces

@@ -16,7 +16,7 @@ use Rattle.lset_calls.specs.Clashes.{call_at, no_call, puts_in, is_add_of, Ended
 use Rattle.lset_calls.specs.Moments.{moment_at, no_moment, SomePairBelow, NoPairBelow, IsApartBelow, IsSameMoment, IsBeginning}
 use Rattle.lset_calls.specs.Moments.{Overlaps, IsFirstPair, IsOpenLine}
 
-last_or_before : (i k : ℕ) → i < k + 1 → (i ≡ k) ⊎ (i < k)
+pub last_or_before : (i k : ℕ) → i < k + 1 → (i ≡ k) ⊎ (i < k)
 last_or_before i k l = grind arith
 
 -- ---- no two of the first k moments, of lines below `first`, stand against each other

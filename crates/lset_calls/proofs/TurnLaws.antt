@@ -9,6 +9,7 @@ use Rattle.lset_calls.specs.declared.turns.Turn.{Turn}
 use Rattle.lset_calls.specs.declared.value.TimedCall.{TimedCall}
 use Rattle.lset_calls.specs.Clashes.{no_call}
 use Rattle.lset_calls.specs.Turns.{turn_at, no_turn, AreTurns}
+use Rattle.lset_calls.proofs.Passes.{last_or_before}
 
 -- one turn more
 pub numbered_more : (calls : List TimedCall) (ts : List Turn) (k : ℕ) (t : Turn) → length ts ≡ k
@@ -18,9 +19,6 @@ numbered_more calls ts k t long h e i l = elim (last_or_before i k l) [
   | inl s ↦ ap (λ z. get_or (ts ++ t ∷ []) z no_turn) s ∙ get_or_push ts t no_turn k long ∙ e ∙ sym (ap (turn_at calls) s)
   | inr g ↦ get_or_append_left ts (t ∷ []) no_turn i (omega arith) ∙ h i g
 ]
-  where
-    last_or_before : (i k : ℕ) → i < k + 1 → (i ≡ k) ⊎ (i < k)
-    last_or_before i k l = grind arith
 
 abbrev pub made_of : Turn → TimedCall
 made_of t = t.made

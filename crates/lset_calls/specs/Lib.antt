@@ -7,7 +7,6 @@ pub mod Moments
 pub mod Noting
 pub mod Placing
 pub mod Turns
-pub mod Order
 pub mod Versions
 pub mod Reports
 pub mod Sorted

@@ -6,7 +6,7 @@ use Rattle.lset_words.specs.declared.Call.TheVariants.{Add, Remove, Contains, Ce
 use Rattle.lset_words.specs.declared.Reply.{Reply}
 use Rattle.lset_words.specs.declared.Reply.TheVariants.{True, False, Full, At, Nothing}
 use Rattle.lset_words.specs.Account.{Contents, Counts}
-use Rattle.lset_words.specs.Placement.{place_at}
+use Rattle.lset_words.specs.Placement.{Standing, place_at}
 use Rattle.lset_history.specs.Changes.{is_present}
 use Rattle.lset_calls.specs.declared.value.TimedCall.{TimedCall}
 use Rattle.lset_calls.specs.Calls.{traced}
@@ -55,3 +55,6 @@ StandsAmong keys quota calls places i =
 pub record ArePlaced (keys : List ℕ) (quota : ℕ) (calls : List TimedCall) (places : List (Option ℕ)) : Type 0 where
   pub one_each : length places ≡ length calls
   pub stands : (i : ℕ) → i < length calls → StandsAmong keys quota calls places i
+
+abbrev pub stands_of : ℕ → TimedCall → ℕ → Standing
+stands_of number x moment = record { number = number; traced = traced x; moment = moment }

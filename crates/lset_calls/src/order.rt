@@ -1,19 +1,14 @@
 ghost use Rattle.std.specs.Prelude.{◌≡◌, ℕ, ◌≤◌, length, map, IfOk, IfSome, All};
 ghost use Rattle.lset_words.specs.Placement.{by_moments, placed_of, reply_by, standing};
+ghost use Rattle.lset_report.specs.Order.{pointed_of};
 ghost use Rattle.lset_report.specs.declared.report.TheConstants.{MOST_CALLS};
 ghost use Rattle.lset_calls.specs.Calls.{traced};
-ghost use Rattle.lset_calls.specs.Order.{ranked_of, stands_of, ranked_all};
+ghost use Rattle.lset_calls.specs.Placing.{stands_of};
 
 use crate::TimedCall;
-use lset_words::{Placed, Reply};
+use lset_report::{Pointed, order_of, sort_by_points};
+use lset_words::{Placed, Point, Reply};
 use std::alloc::{AllocError, Global};
-
-/// A call that stands, and its rank: the lesser the earlier.
-#[derive(Clone, Copy)]
-pub struct Ranked {
-    pub rank: u64,
-    pub placed: Placed,
-}
 
 /// The reply of a call where it stands.
 fn reply_at(made: TimedCall) -> Reply
@@ -25,48 +20,39 @@ fn reply_at(made: TimedCall) -> Reply
     }
 }
 
-impl Ranked {
-    fn new(number: u32, made: TimedCall, moment: u32) -> Ranked
-        ensures { result ≡ ranked_of (stands_of number made moment) }
-    {
-        let after_the_change = if made.changed().is_some() { 0 } else { 1 };
-        Ranked {
-            rank: 2 * u64::from(moment) + after_the_change,
-            placed: Placed {
-                call: number,
-                reply: reply_at(made),
-            },
-        }
+/// A call where it stands.
+fn pointed_call(number: u32, made: TimedCall, moment: u32) -> Pointed
+    ensures { result ≡ pointed_of (stands_of number made moment) }
+{
+    Pointed {
+        point: Point {
+            moment,
+            change: made.changed().is_some(),
+        },
+        placed: Placed {
+            call: number,
+            reply: reply_at(made),
+        },
     }
 }
 
 /// The calls that stand, by their numbers.
-fn ranked_calls(
+fn pointed_calls(
     alloc: Global,
     calls: &[TimedCall],
     places: &[Option<u32>],
-) -> Result<Vec<Ranked>, AllocError>
+) -> Result<Vec<Pointed>, AllocError>
     requires few { length calls.now ≤ MOST_CALLS }
     requires one_each { length places.now ≡ length calls.now }
-    ensures { IfOk result (λ v. v.items ≡ ranked_all (standing 0 (map traced calls.now) places.now)) }
+    ensures { IfOk result (λ v. v.items ≡ map pointed_of (standing 0 (map traced calls.now) places.now)) }
 {
-    let mut ranked = Vec::with_capacity(alloc, calls.len())?;
+    let mut pointed = Vec::with_capacity(alloc, calls.len())?;
     for (number, made) in calls.iter().enumerate() {
         if let Some(moment) = places[number] {
-            ranked.push(Ranked::new(number as u32, *made, moment))?;
+            pointed.push(pointed_call(number as u32, *made, moment))?;
         }
     }
-    Ok(ranked)
-}
-
-fn without_ranks(alloc: Global, ranked: &[Ranked]) -> Result<Vec<Placed>, AllocError>
-    ensures { IfOk result (λ v. v.items ≡ map (λ x. x.placed) ranked.now) }
-{
-    let mut order = Vec::with_capacity(alloc, ranked.len())?;
-    for next in ranked {
-        order.push(next.placed)?;
-    }
-    Ok(order)
+    Ok(pointed)
 }
 
 /// The order of calls by their places: moment after moment, and at one moment the change first, then the others by their
@@ -81,7 +67,7 @@ pub fn in_order(
     ensures { IfOk result (λ v. (last : ℕ) → All (λ p. IfSome p (λ m. m ≤ last)) places.now
         → v.items ≡ map placed_of (by_moments last (standing 0 (map traced calls.now) places.now))) }
 {
-    let mut ranked = ranked_calls(alloc, calls, places)?;
-    ranked.sort_by_key(|next| next.rank)?;
-    without_ranks(alloc, &ranked)
+    let mut pointed = pointed_calls(alloc, calls, places)?;
+    sort_by_points(&mut pointed)?;
+    order_of(alloc, &pointed)
 }

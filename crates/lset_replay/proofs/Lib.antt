@@ -1,6 +1,5 @@
 pub mod EventLists
 pub mod Ranks
-pub mod RankedPoints
 pub mod Pointed
 pub mod ChainsKept
 pub mod Telling

@@ -3,3 +3,4 @@ pub mod ReportPieces
 pub mod ReportLoops
 pub mod ReportLines
 pub mod ReportTexts
+pub mod Orders

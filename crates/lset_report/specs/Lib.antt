@@ -1,4 +1,5 @@
 pub mod Report
+pub mod Order
 pub mod Texts
 pub mod ReportReading
 pub mod ReportCalls

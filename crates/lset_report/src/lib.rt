@@ -3,12 +3,14 @@
 //! Nothing here knows how a list is run.
 #![tactic(auto)]
 
+mod order;
 mod reading;
 mod report;
 mod report_fault;
 mod title;
 mod writing;
 
+pub use order::{Pointed, order_of, points_of, sort_by_points};
 pub use reading::{read_report, reports_read_back};
 pub use report::{MOST_CALLS, MOST_KEYS, MOST_KEYS_OPENED, MOST_PLACES, Report};
 pub use report_fault::{ReportCause, ReportFault};

@@ -1,12 +1,12 @@
 use Rattle.std.proofs.Common.{◌≡◌, ℕ, ◌≤◌, List, Option, map, sym, subst, Vec, Global}
 use Rattle.std.specs.Prelude.{IfSome, All}
+use Rattle.std.proofs.lemmas.Result.{IfOk-weaker}
 use Rattle.lset_words.specs.declared.history.Placed.{Placed}
 use Rattle.lset_words.specs.Log.{TracedCall}
 use Rattle.lset_words.specs.Placement.{standing, placed_of, by_moments}
 use Rattle.lset_calls.specs.Calls.{view, traced}
 use Rattle.lset_calls.specs.Placing.{ArePlaced}
 use Rattle.lset_calls.specs.Reports.{contents, counts, IsUpTo, IsPlacedUpTo}
-use Rattle.lset_calls.proofs.Ranks.{if_ok}
 use Rattle.lset_calls.proofs.Reported.{few, bars, counted, apart_turns, placed}
 use Rattle.lset_calls.proofs.report.order_of.Goals as goal
 
@@ -35,7 +35,7 @@ returns c =
     subst (λ (ks : List ℕ). ArePlaced ks c.args.calls.now.quota xs places) c.deref.ensures.value
     (subst (λ (ps : List (Option ℕ)). ArePlaced c.deref.result.now c.args.calls.now.quota xs ps) (sym c.deref-2.ensures.value)
     c.in_ok-places.ensures) in
-    if_ok c.in_order.result
+    IfOk-weaker c.in_order.result
     (λ (v : Vec Placed Global). (last : ℕ) → All (λ (p : Option ℕ). IfSome p (λ m. m ≤ last)) places
     → v.items ≡ map placed_of (by_moments last (standing 0 calls places)))
     (λ (v : Vec Placed Global). (last : ℕ) → All (IsUpTo last) calls

@@ -35,36 +35,29 @@ loop-index-init g c = record {
 pub overflow_add-moment : goal.overflow_add-moment
 overflow_add-moment g c =
     let few : c.loop-done.moment < MOST_EVENTS =
-    few_behind c.args.first c.args.lines.now c.loop-done.moment MOST_EVENTS c.event_of-times.result.0 c.requires.few
-    (comes_next c.args.first c.args.lines.now c.loop-index.index c.loop-done._done c.loop-done.moment c.event_of-times.result.1
-    c.event_of-times.result.0 c.loop-index-test.true c.event_of-times.ensures c.loop-done-test.true
-    c.loop-done.invariant.count) in
+    few_behind c.args.first c.args.lines.now _ MOST_EVENTS _ c.requires.few
+    (comes_next _ _ _ _ _ _ _ c.loop-index-test.true c.event_of-times.ensures c.loop-done-test.true c.loop-done.invariant.count) in
     omega arith
 
 pub make-requires : goal.make-requires
 make-requires g c =
-    come_to g.R.Runner.has_made c.args.runner.now c.loop-done.runner c.args.first c.args.lines.now c.loop-index.index
-    c.loop-done._done c.loop-done.moment c.event_of-times.result.1 c.event_of-times.result.0 c.requires.few
-    c.loop-index-test.true c.event_of-times.ensures c.loop-done-test.true c.loop-done.invariant.count c.loop-done.invariant.made
+    come_to g.R.Runner.has_made c.args.runner.now _ _ _ _ _ _ _ _ c.requires.few c.loop-index-test.true c.event_of-times.ensures
+    c.loop-done-test.true c.loop-done.invariant.count c.loop-done.invariant.made
 
 pub returns-in-Err : goal.returns-in-Err
 returns-in-Err g c = record {
   made = c.loop-done.moment;
   heard = c.loop-done.invariant.heard;
   ends = rw c.in-Err.is at (c.in_ok-made.ensures
-      (come_to g.R.Runner.has_made c.args.runner.now c.loop-done.runner c.args.first c.args.lines.now c.loop-index.index
-      c.loop-done._done c.loop-done.moment c.event_of-times.result.1 c.event_of-times.result.0 c.requires.few
-      c.loop-index-test.true c.event_of-times.ensures c.loop-done-test.true c.loop-done.invariant.count
-      c.loop-done.invariant.made));
+      (come_to g.R.Runner.has_made c.args.runner.now _ _ _ _ _ _ _ _ c.requires.few c.loop-index-test.true c.event_of-times.ensures
+      c.loop-done-test.true c.loop-done.invariant.count c.loop-done.invariant.made));
 }
 
 pub loop-done-preserved : goal.loop-done-preserved
 loop-done-preserved g c =
     let told = rw c.in-Ok.is at (c.in_ok-made.ensures
-    (come_to g.R.Runner.has_made c.args.runner.now c.loop-done.runner c.args.first c.args.lines.now c.loop-index.index
-    c.loop-done._done c.loop-done.moment c.event_of-times.result.1 c.event_of-times.result.0 c.requires.few
-    c.loop-index-test.true c.event_of-times.ensures c.loop-done-test.true c.loop-done.invariant.count
-    c.loop-done.invariant.made)) in
+    (come_to g.R.Runner.has_made c.args.runner.now _ _ _ _ _ _ _ _ c.requires.few c.loop-index-test.true c.event_of-times.ensures
+    c.loop-done-test.true c.loop-done.invariant.count c.loop-done.invariant.made)) in
     let heard = c.loop-done.invariant.heard in
     let count = heard.count in
     record {
@@ -78,8 +71,7 @@ loop-done-preserved g c =
 
 pub loop-index-preserved : goal.loop-index-preserved
 loop-index-preserved g c = record {
-  count = line_done c.args.first c.args.lines.now c.loop-index.index c.loop-done._done c.loop-done.moment
-      c.event_of-times.result.1 c.event_of-times.result.0 c.loop-index-test.true c.event_of-times.ensures c.loop-done-test.false
+  count = line_done _ _ _ _ _ _ _ c.loop-index-test.true c.event_of-times.ensures c.loop-done-test.false
       c.loop-done.auto._done-end c.loop-done.invariant.count;
   made = c.loop-done.invariant.made;
   heard = c.loop-done.invariant.heard;

@@ -28,16 +28,11 @@ few_events n ls lines e few = subst (λ z. z ≤ MOST_EVENTS) (sym (length_of_ev
 pub in_order-requires-clause-few : goal.in_order-requires-clause-few
 in_order-requires-clause-few g c =
     let places : length c.follow_upto.new.recorder.places.items ≤ c.in_ok-reach.reach.events =
-    few_places g.M.Machine.table (tells_keys g.M.Machine.table c.has_account.ensures c.listed_content.ensures)
-    c.in_ok-world.recorder.history.opening (events_from c.first_event_line.result c.deref.result.now) c.in_ok-reach.reach.events
-    c.follow_upto.new.world c.follow_upto.new.recorder c.in_ok-reach.ensures.followed in
+    few_places g.M.Machine.table (tells_keys _ c.has_account.ensures c.listed_content.ensures) _ _ _ _ _ c.in_ok-reach.ensures.followed in
     let within : c.in_ok-reach.reach.events ≤ length (events_from c.first_event_line.result c.deref.result.now) =
-    ends_within g.M.Machine.table c.in_ok-world.recorder.history.opening
-    (events_from c.first_event_line.result c.deref.result.now)
-    c.in_ok-reach.reach.events c.in_ok-reach.reach.refused c.in_ok-reach.ensures.ends in
+    ends_within _ _ _ _ _ c.in_ok-reach.ensures.ends in
     let few : length (events_from c.first_event_line.result c.deref.result.now) ≤ MOST_EVENTS =
-    few_events c.first_event_line.result c.deref.result.now c.args.schedule.now.lines.items c.deref.ensures.value c.requires.few
-    in
+    few_events _ _ _ c.deref.ensures.value c.requires.few in
     let same : length c.deref-2.result.now ≡ length c.follow_upto.new.recorder.places.items =
     ap (λ (xs : List (Option Linearized)). length xs) c.deref-2.ensures.value in
     omega arith
@@ -45,32 +40,22 @@ in_order-requires-clause-few g c =
 pub in_order-requires-clause-inside : goal.in_order-requires-clause-inside
 in_order-requires-clause-inside g c =
     let within : c.in_ok-reach.reach.events ≤ length (events_from c.first_event_line.result c.deref.result.now) =
-    ends_within g.M.Machine.table c.in_ok-world.recorder.history.opening
-    (events_from c.first_event_line.result c.deref.result.now)
-    c.in_ok-reach.reach.events c.in_ok-reach.reach.refused c.in_ok-reach.ensures.ends in
+    ends_within _ _ _ _ _ c.in_ok-reach.ensures.ends in
     let few : length (events_from c.first_event_line.result c.deref.result.now) ≤ MOST_EVENTS =
-    few_events c.first_event_line.result c.deref.result.now c.args.schedule.now.lines.items c.deref.ensures.value c.requires.few
-    in
+    few_events _ _ _ c.deref.ensures.value c.requires.few in
     stand_upto_later c.in_ok-reach.reach.events MOST_EVENTS c.deref-2.result.now
     (subst (λ xs. StandUpTo c.in_ok-reach.reach.events xs) (sym c.deref-2.ensures.value)
-    (places_upto g.M.Machine.table (tells_keys g.M.Machine.table c.has_account.ensures c.listed_content.ensures)
-    c.in_ok-world.recorder.history.opening (events_from c.first_event_line.result c.deref.result.now) c.in_ok-reach.reach.events
-    c.follow_upto.new.world c.follow_upto.new.recorder c.in_ok-reach.ensures.followed))
+    (places_upto g.M.Machine.table (tells_keys _ c.has_account.ensures c.listed_content.ensures) _ _ _ _ _ c.in_ok-reach.ensures.followed))
     (omega arith)
 
 pub returns-clause-front : goal.returns-clause-front
 returns-clause-front g c =
-    front_is g.M.Machine.table (tells_keys g.M.Machine.table c.has_account.ensures c.listed_content.ensures)
-    (view c.args.schedule.now) c.in_ok-world.recorder.history.opening (events_from c.first_event_line.result c.deref.result.now)
-    c.in_ok-reach.reach.events c.in_ok-reach.reach.refused c.follow_upto.new.world c.follow_upto.new.recorder
-    c.in_ok-ordered.ordered.order.items c.in_ok-ordered.ordered.points.items c.in_ok-keys.keys.items
-    c.in_ok-reach.ensures c.in_ok-world.ensures.opening
+    front_is g.M.Machine.table (tells_keys _ c.has_account.ensures c.listed_content.ensures)
+    (view c.args.schedule.now) _ _ _ _ _ _ _ _ _ c.in_ok-reach.ensures c.in_ok-world.ensures.opening
     (same_events c.first_event_line.result _ c.deref.result.now _ c.first_event_line.ensures c.deref.ensures.value)
     (c.in_ok-ordered.ensures.order c.in_ok-reach.reach.events
     (subst (λ xs. StandUpTo c.in_ok-reach.reach.events xs) (sym c.deref-2.ensures.value)
-    (places_upto g.M.Machine.table (tells_keys g.M.Machine.table c.has_account.ensures c.listed_content.ensures)
-    c.in_ok-world.recorder.history.opening (events_from c.first_event_line.result c.deref.result.now) c.in_ok-reach.reach.events
-    c.follow_upto.new.world c.follow_upto.new.recorder c.in_ok-reach.ensures.followed))
+    (places_upto g.M.Machine.table (tells_keys _ c.has_account.ensures c.listed_content.ensures) _ _ _ _ _ c.in_ok-reach.ensures.followed))
     ∙ ap (λ xs. blocks_upto xs c.in_ok-reach.reach.events) c.deref-2.ensures.value)
     (subst (λ ps. ArePointsAt ps c.in_ok-ordered.ordered.order.items c.in_ok-ordered.ordered.points.items)
     c.deref-2.ensures.value c.in_ok-ordered.ensures.points)

@@ -1,6 +1,0 @@
-use Rattle.std.proofs.Common.{◌≡◌, ◌++◌, drop}
-use Rattle.lset_replay.proofs.RankedPoints.{points_in}
-use Rattle.lset_replay.proofs.order.points_of.Given as goal
-
-abbrev pub invariant-loop-next : goal.invariant-loop-next
-invariant-loop-next l = l.points.items ++ points_in (drop l.next-index l.ranked) ≡ points_in l.ranked

@@ -1,0 +1,53 @@
+ghost use Rattle.std.specs.Prelude.{◌≡◌, map, IfOk, OnOk};
+ghost use Rattle.lset_report.specs.Order.{rank_of, placed_in, points_in, AreByPoints};
+
+use lset_words::{Placed, Point};
+use std::alloc::{AllocError, Global};
+
+/// A place of an order, and the linearization point of its call.
+#[derive(Clone, Copy)]
+pub struct Pointed {
+    pub point: Point,
+    pub placed: Placed,
+}
+
+impl Pointed {
+    /// The lesser the earlier.
+    fn rank(&self) -> u64
+        ensures { result ≡ rank_of self.now }
+    {
+        let after_the_change = if self.point.change { 0 } else { 1 };
+        2 * u64::from(self.point.moment) + after_the_change
+    }
+}
+
+/// Sorts places by their points: by moment, and at one moment the change first, then the others as they stood. Allocates; if
+/// that fails, returns `AllocError`, and nothing is said of their order.
+pub fn sort_by_points(places: &mut Vec<Pointed>) -> Result<(), AllocError>
+    ensures { OnOk result (AreByPoints places.old.items places.new.items) }
+{
+    places.sort_by_key(|next| next.rank())?;
+    Ok(())
+}
+
+/// Returns the order that has these places. Allocates; `AllocError` if that fails.
+pub fn order_of(alloc: Global, places: &[Pointed]) -> Result<Vec<Placed>, AllocError>
+    ensures { IfOk result (λ v. v.items ≡ placed_in places.now) }
+{
+    let mut order = Vec::with_capacity(alloc, places.len())?;
+    for next in places {
+        order.push(next.placed)?;
+    }
+    Ok(order)
+}
+
+/// Returns the points of these places. Allocates; `AllocError` if that fails.
+pub fn points_of(alloc: Global, places: &[Pointed]) -> Result<Vec<Point>, AllocError>
+    ensures { IfOk result (λ v. v.items ≡ points_in places.now) }
+{
+    let mut points = Vec::with_capacity(alloc, places.len())?;
+    for next in places {
+        points.push(next.point)?;
+    }
+    Ok(points)
+}
