@@ -1,7 +1,7 @@
 -- A call that answered full has as many adds of its thread before it as the quota: with fewer no order explains it.
 use Rattle.std.proofs.Common.{◌≡◌, ◌≢◌, ℕ, zero, suc, ◌+◌, ◌<◌, ◌≤◌, List, [], ◌∷◌, true, inl, inr, refl, sym, ap, subst, ◌∙◌, arith}
 use Rattle.std.proofs.Common.{length, get_or, take, add-one}
-use Rattle.std.specs.Prelude.{◌==◌, ◌&&◌, nat_lt, Bool, false, Option, Some, None, IfSome, IsSomeAnd, if◌then◌else◌, cond, set}
+use Rattle.std.specs.Prelude.{◌==◌, ◌&&◌, nat_lt, Bool, false, Option, Some, None, IfSome, IsSomeAnd, MatchOption, if◌then◌else◌, cond, set}
 use Rattle.std.proofs.lemmas.Bool.{cases_Bool, cases_order}
 use Rattle.std.proofs.lemmas.Bool.Decides.{nat_tests}
 use Rattle.std.proofs.lemmas.List.{get_or-replicate, get_or-set_other, get_or_default}
@@ -21,7 +21,7 @@ use Rattle.lset_history.specs.Faults.{place_at, placed_call, set_left_by}
 use Rattle.lset_history.proofs.Histories.{Follows, calls_of, pairs_of}
 use Rattle.lset_history.proofs.Places.{left_more, legal_at}
 use Rattle.lset_judge.specs.Verdict.{IsUnexplained, is_true, is_true_or_open, may_add, adds_of}
-use Rattle.lset_claims.specs.Claims.{IsTooSoon}
+use Rattle.lset_claims.specs.Claims.{IsTooSoon, IsFirstTooSoon}
 use Rattle.lset_claims.proofs.Replies.{replied}
 
 -- ---- one call, and the count of a thread
@@ -166,7 +166,7 @@ full_end : (o : Option (ℕ × Reply)) → IsSomeAnd o (λ (e : ℕ × Reply). e
 full_end None h = absurd h
 full_end (Some e) h = (e.0, ap (λ (r : Reply). let z : ℕ × Reply = (e.0, r) in Some z) h)
 
-pub too_soon : (h : HistoryValue) (number : ℕ) → IsHistory h.opening.threads h.calls → IsTooSoon h number → (keys : List ℕ) → IsUnexplained h keys
+pub too_soon : (h : HistoryValue) (number : ℕ) → IsHistory h.opening.threads h.calls → IsTooSoon h.opening.quota h.calls number → (keys : List ℕ) → IsUnexplained h keys
 too_soon h number history soon keys order e =
     let l = e.linearizes in
     let x : CallRecord = call_numbered h.calls number in
@@ -188,3 +188,35 @@ too_soon h number history soon keys order e =
     omega (arith, a, number_there)) in
     let less = soon.few in
     omega (arith, count, few, less)
+
+-- ---- the search for the first such call
+
+module _ (quota : ℕ) (calls : List CallRecord) (n : ℕ) (d : CallRecord) (low : n < length calls) (count : ℕ)
+    (is : count ≡ adds_of (get_or calls n d).thread (take n calls)) where
+  there : get_or calls n d ≡ call_numbered calls n
+  there = get_or_default calls n d no_call low
+
+  counted_there : count ≡ adds_of (call_numbered calls n).thread (take n calls)
+  counted_there = is ∙ ap (λ (y : CallRecord). adds_of y.thread (take n calls)) there
+
+  abbrev AnswersFull : CallRecord → Type 0
+  AnswersFull y = IsSomeAnd y.ended (λ (e : ℕ × Reply). e.1 ≡ Full)
+
+  pub is_soon : AnswersFull (get_or calls n d) × (count < quota) → IsTooSoon quota calls n
+  is_soon now = record {
+    known = low;
+    full = subst AnswersFull there now.0;
+    few = let less = now.1 in let same = counted_there in omega (arith, less, same);
+  }
+
+  pub soon_is : IsTooSoon quota calls n → AnswersFull (get_or calls n d) × (count < quota)
+  soon_is soon = (subst AnswersFull (sym there) soon.full, let less = soon.few in let same = counted_there in omega (arith, less, same))
+
+-- what the search finds
+abbrev pub Found : ℕ → List CallRecord → Option ℕ → Type 0
+Found quota calls found = MatchOption found ((number : ℕ) → IsTooSoon quota calls number → ⊥) (IsFirstTooSoon quota calls)
+
+pub found_refutes : (h : HistoryValue) (found : Option ℕ) → IsHistory h.opening.threads h.calls → Found h.opening.quota h.calls found
+    → IfSome found (λ (number : ℕ). (keys : List ℕ) → IsUnexplained h keys)
+found_refutes h None history f = tt
+found_refutes h (Some number) history f = too_soon h number history f.soon

@@ -1,3 +1,4 @@
 pub mod Replies
 pub mod Seen
 mod Counted
+mod OneClaim

@@ -1,6 +1,6 @@
 -- An order that explains a history explains it with each ceiling that answered a key as a contains that found it.
 use Rattle.std.proofs.Common.{◌≡◌, ◌≢◌, ℕ, zero, suc, ◌<◌, List, [], ◌∷◌, true, inl, inr, refl, sym, ap, subst, ◌∙◌, arith, length, get_or, map}
-use Rattle.std.specs.Prelude.{All, AllPairs, Contains, Option, Some, None, IfSome, IsSomeAnd, nat_lt}
+use Rattle.std.specs.Prelude.{All, AllPairs, Contains, Option, Some, None, IfSome, IsSomeAnd, nat_lt, false}
 use Rattle.std.proofs.lemmas.Bool.{cases_Bool}
 use Rattle.std.proofs.lemmas.List.{get_or-map, length-map}
 use Rattle.std.proofs.lemmas.List.Elements.{All-map, All-head, All-tail}
@@ -21,6 +21,7 @@ use Rattle.lset_history.proofs.Keys.{has_true, has_from}
 use Rattle.lset_history.proofs.Lists.{get_or_mapped}
 use Rattle.lset_judge.specs.declared.window.Window.{Window}
 use Rattle.lset_judge.specs.declared.verdict.Refusal.{Refusal}
+use Rattle.lset_judge.specs.Events.{rule_explains}
 use Rattle.lset_judge.specs.Verdict.{IsUnexplained, IsRefused, IsPlain, IsJudged, is_plain}
 use Rattle.lset_judge.specs.Window.{alone, calls_numbered, ShowsNone, IsWindowOf}
 use Rattle.lset_claims.specs.Claims.{HaveNoOrder, IsOfKey}
@@ -235,12 +236,13 @@ shown_looks h w shows = record {
 -- ---- what is known of a history by its looks
 
 pub of_key : (h g : HistoryValue) (keys : List ℕ) (refusal : Refusal) (w : Window) → g ≡ looks_in h → IsUnexplained g keys
-    → IsRefused g keys refusal → IsWindowOf g keys refusal w → IsOfKey h keys refusal w
-of_key h g keys refusal w is none refused window =
+    → rule_explains g keys refusal.key.0 ≡ false → IsRefused g keys refusal → IsWindowOf g keys refusal w → IsOfKey h keys refusal w
+of_key h g keys refusal w is none fails refused window =
     let shows : ShowsNone (looks_in h) w =
     subst (λ (z : HistoryValue). ShowsNone z w) is (window.shows g.opening.quota) in
     record {
       unexplained = unexplained h keys (subst (λ (z : HistoryValue). IsUnexplained z keys) is none);
+      fails = subst (λ (z : HistoryValue). rule_explains z keys refusal.key.0 ≡ false) is fails;
       refused = subst (λ (z : HistoryValue). IsRefused z keys refusal) is refused;
       window_is = subst (λ (z : HistoryValue). IsWindowOf z keys refusal w) is window;
       shows = shown_looks h w shows;

@@ -8,19 +8,21 @@ use lset_history::History;
 use lset_judge::{Refusal, Window, first_refused, is_judged, window_of_refusal};
 use std::alloc::{AllocError, Global};
 
-/// What is known of all orders of a history.
+/// What is known of all orders of a history. Each answer is given only if none of those above it is right.
 #[derive(Debug, Drop)]
 pub enum Claim {
-    /// Some order explains the calls, from the opening keys, and leaves the keys.
-    Explained,
+    /// No order explains the calls and leaves the keys: these do not rise, as those of a set do.
+    OfKeys,
     /// None does: the calls of a key have no order. The window has calls that alone have none, mostly a few. Some of these may be a
     /// `ceiling` that answered the key.
     OfKey(Refusal, Window),
-    /// None does: the call with this number answered `full`, and its thread had made fewer `add`s than its quota before.
+    /// Some order explains the calls, from the opening keys, and leaves the keys. The judge decides the history.
+    Explained,
+    /// None does: the call with this number answered `full`, and its thread had made fewer `add`s than its quota before. It is the
+    /// first such call.
     OfFull(u32),
-    /// None does: the keys left do not rise, as those of a set do.
-    OfKeys,
-    /// Not known. The history has a `ceiling` or a `full`, or a thread whose `add`s are more than its quota.
+    /// Not known. The history has a `ceiling` or a `full`, or a thread whose `add`s are more than its quota; no key has calls without
+    /// an order by the rule of the judge, and no call answered `full` too soon.
     Unknown,
 }
 
@@ -28,6 +30,9 @@ pub enum Claim {
 /// that the judge decides (`lset_judge::is_judged`) the result is `Explained` exactly if some order does, and neither that
 /// nor `Unknown` exactly if none does. Of any other it says that none does only if none does, and else `Unknown`. A
 /// `ceiling` that replied a key counts as a `contains` that found it.
+///
+/// It looks at the keys first, then at the calls of each key, then whether the judge decides the history, and last at each `full`; the
+/// first of these that tells is the answer. So an `Unknown` says that none does.
 ///
 /// It takes n log n steps for n calls, and makes a copy of them. Allocates; `AllocError` if that fails. (Linearizability is
 /// Herlihy and Wing's.)

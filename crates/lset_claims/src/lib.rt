@@ -5,9 +5,17 @@
 //! the quota.
 #![tactic(auto)]
 
+ghost use Rattle.lset_claims.specs.Apart.{OneClaimIsRight};
+
 mod claim;
 mod looks;
 mod quota;
 mod rising;
 
 pub use claim::{Claim, claim_of};
+
+/// Of the five answers of `claim_of` one is right of a history and the keys left, and no other. If it is that a call answered `full` too
+/// soon, that call is determined too; of a key there may be more than one refusal and window that are right.
+pub fn one_claim_is_right()
+    ensures { OneClaimIsRight }
+{}

@@ -233,3 +233,8 @@ some_fails h keys (Some r) m = m
 pub none_fails : (h : HistoryValue) (keys : List ℕ) (found : Option Refusal) → MatchOption found (RulePasses h keys) (Refuses h keys)
     → found ≡ None → RulePasses h keys
 none_fails h keys found m e = subst (λ o. MatchOption o (RulePasses h keys) (Refuses h keys)) e m
+
+pub rule_fails : (h : HistoryValue) (keys : List ℕ) (found : Option Refusal) → IfSome found (Refuses h keys)
+    → IfSome found (λ (r : Refusal). rule_explains h keys r.key.0 ≡ false)
+rule_fails h keys None f = tt
+rule_fails h keys (Some r) f = f.rule

@@ -214,6 +214,7 @@ pub fn first_refused(
     ensures passed_at_all { IfOk result (λ refused. refused ≡ None
         → (quota : ℕ) → IsJudged (with_quota quota history.now) → IsExplained (with_quota quota history.now) keys.now) }
     ensures ruled { IfOk result (λ refused. refused ≡ None → RulePasses history.now keys.now) }
+    ensures fails { IfOk result (λ refused. IfSome refused (λ refusal. rule_explains history.now keys.now refusal.key.0 ≡ false)) }
 {
     first_failure(alloc, history, Some(keys))
 }
