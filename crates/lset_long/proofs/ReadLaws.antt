@@ -1,11 +1,13 @@
 -- How a text goes on from byte to byte and from line to line.
 use Rattle.std.proofs.Common.{◌≡◌, ◌≢◌, ℕ, zero, suc, ◌+◌, ◌<◌, inl, inr, Bool, true, false, eqb, List, [], ◌∷◌, ◌++◌, length, refl, sym, ap, subst, ◌∙◌}
 use Rattle.std.proofs.Common.{append_assoc, append-nil, arith, length-append, Result, Ok, Err, take, drop, get_or, take-append-drop, add-one, cond}
-use Rattle.std.specs.Prelude.{IfOk, IfErr}
+use Rattle.std.specs.Prelude.{◌==◌, IfOk, IfErr, Option, Some, None}
 use Rattle.std.proofs.Math.Seq.{take-suc}
 use Rattle.std.proofs.lemmas.Bool.{ne_eqb, lt-ltb}
 use Rattle.std.proofs.lemmas.List.Elements.{All-cons, All-nil}
+use Rattle.std.proofs.lemmas.List.Sums.{sum_by-append, sum_by-cons, count_by_more_yes}
 use Rattle.std.proofs.lemmas.List.Splits.{slice_split_none, slice_split_at}
+use Rattle.lset_words.proofs.Numbers.{equal_test, unequal_test}
 use Rattle.lset_text.specs.Parts.{cut_at, Lacks}
 use Rattle.lset_text.specs.Kinds.{line_in}
 use Rattle.lset_text.specs.declared.words.Version.TheVariants.{One}
@@ -17,8 +19,8 @@ use Rattle.lset_long.specs.declared.lines.TheConstants.{LONGEST_LINE}
 use Rattle.lset_long.specs.declared.reader.LongReader.{LongReader}
 use Rattle.lset_long.specs.declared.judging.LongAnswer.{LongAnswer}
 use Rattle.lset_long.specs.Texts.{LongValue}
-use Rattle.lset_long.specs.Reading.{SoFar, IsTaken, IsRefused, Reads, Says, ending, fault, kinds, causes}
-use Rattle.lset_long.specs.Kept.{IsAnswered, IsJudging, IsHeld, IsRead, IsRefusedAt}
+use Rattle.lset_long.specs.Reading.{SoFar, IsTaken, IsRefused, Reads, Says, ending, fault, first_line, kinds, causes}
+use Rattle.lset_long.specs.Kept.{IsAnswered, IsJudging, IsHeld, IsLineOf, IsRead, IsRefusedAt, newlines}
 
 -- ---- one whole line
 
@@ -41,12 +43,41 @@ too_long s line many =
     let test = lt-ltb LONGEST_LINE (length line) many in
     inl (ap (λ (b : Bool). cond b (Err wrong.Line) (line_in One causes (kinds s.section) line)) test)
 
+-- ---- newlines
+
+newlines_and : (bytes more : List ℕ) → newlines (bytes ++ more) ≡ newlines bytes + newlines more
+newlines_and bytes more = sum_by-append (λ (b : ℕ). cond (b == 10) 1 0) bytes more
+
+no_newline : (b : ℕ) → b ≢ 10 → newlines (b ∷ []) ≡ 0
+no_newline b other =
+    let test : (b == 10) ≡ false = unequal_test b 10 other in
+    let one = sum_by-cons (λ (x : ℕ). cond (x == 10) 1 0) b [] in
+    let here : ◌≡◌ {A = ℕ} (cond (b == 10) 1 0) 0 = rw test refl in
+    let none : newlines [] ≡ 0 = refl in
+    omega (arith, one, here, none)
+
+-- a newline of a piece ends a line of it
+pub line_of_piece : (bytes piece : List ℕ) (i line : ℕ) → i < length piece → get_or piece i 0 ≡ 10
+    → line ≡ first_line + newlines (bytes ++ take i piece) → IsLineOf bytes piece line
+line_of_piece bytes piece i line low is at =
+    let before = newlines_and bytes (take i piece) in
+    let all = newlines_and bytes piece in
+    let parts = newlines_and (take (i + 1) piece) (drop (i + 1) piece) in
+    let whole = ap newlines (take-append-drop (i + 1) piece) in
+    let more = count_by_more_yes (λ (b : ℕ). b == 10) piece i 0 low (equal_test (get_or piece i 0) 10 is) in
+    (omega (arith, at, before), omega (arith, at, before, all, parts, whole, more))
+
+pub at_newline : {X : Type 0} (res : Result X LongFault) (b n : ℕ) → b ≡ 10 → IfErr res (λ e. e.line ≡ n)
+    → IfErr res (λ e. (b ≡ 10) × (e.line ≡ n))
+at_newline (Ok x) b n is line = tt
+at_newline (Err e) b n is line = (is, line)
+
 -- ---- the bytes so far
 
 -- one byte more of a line
 pub held_more : (bytes : List ℕ) (byte : ℕ) (r q : LongReader) → byte ≢ 10 → (is : IsRead bytes r) → q.judging ≡ r.judging
-    → IsHeld (is.held ++ byte ∷ []) q.line.items q.is_long → IsRead (bytes ++ byte ∷ []) q
-held_more bytes byte r q other is same line = record {
+    → q.failed ≡ r.failed → IsHeld (is.held ++ byte ∷ []) q.line.items q.is_long → IsRead (bytes ++ byte ∷ []) q
+held_more bytes byte r q other is same sound line = record {
   told = is.told;
   judging = subst (IsJudging is.told) (sym same) is.judging;
   held = is.held ++ byte ∷ [];
@@ -58,6 +89,13 @@ held_more bytes byte r q other is same line = record {
       (is.goes (byte ∷ more) read
       (subst (λ (t : List ℕ). Reads r.judging.number is.told (cut_at 10 t) read) (append_assoc is.held (byte ∷ []) more)
       (subst (λ (n : ℕ). Reads n is.told (cut_at 10 ((is.held ++ byte ∷ []) ++ more)) read) (ap (λ j. j.number) same) h)));
+  counted =
+      let and = newlines_and bytes (byte ∷ []) in
+      let no = no_newline byte other in
+      let number = ap (λ j. j.number) same in
+      let was = is.counted in
+      omega (arith, and, no, number, was);
+  sound = sound ∙ is.sound;
 }
 
 module _ (bytes : List ℕ) (r : LongReader) (is : IsRead bytes r) where
@@ -70,8 +108,9 @@ module _ (bytes : List ℕ) (r : LongReader) (is : IsRead bytes r) where
 
   -- a line that is taken
   pub line_taken : (q : LongReader) (t : SoFar) → IsTaken is.told is.held t → IsJudging t q.judging
-      → q.judging.number ≡ r.judging.number + 1 → q.line.items ≡ [] → q.is_long ≡ false → IsRead (bytes ++ 10 ∷ []) q
-  line_taken q t taken judging next none short = record {
+      → q.judging.number ≡ r.judging.number + 1 → q.line.items ≡ [] → q.is_long ≡ false → q.failed ≡ r.failed
+      → IsRead (bytes ++ 10 ∷ []) q
+  line_taken q t taken judging next none short sound = record {
     told = t;
     judging = judging;
     held = [];
@@ -80,6 +119,12 @@ module _ (bytes : List ℕ) (r : LongReader) (is : IsRead bytes r) where
     goes = λ more read h. goes_by more read
         (reads_more r.judging.number is.told t is.held (cut_at 10 more) read (some_part 10 more) taken
         (subst (λ (n : ℕ). Reads n t (cut_at 10 more) read) next h));
+    counted =
+        let and = newlines_and bytes (10 ∷ []) in
+        let one : newlines (10 ∷ []) ≡ 1 = refl in
+        let was = is.counted in
+        omega (arith, and, one, next, was);
+    sound = sound ∙ is.sound;
   }
 
   -- and one that is refused
@@ -139,6 +184,11 @@ module _ (r : LongReader) where
   not_finished (Err e) short none said = λ other bytes is.
       at_end bytes r is (Err e) (sym (said other is.told is.judging) ∙ ap (ending r.judging.number is.told) (nothing_held bytes is short none))
 
+  pub line_of_end : (res : Result LongAnswer LongFault) → IfErr res (λ e. e.line ≡ r.judging.number)
+      → IfErr res (λ e. (bytes : List ℕ) → IsRead bytes r → e.line ≡ first_line + newlines bytes)
+  line_of_end (Ok answer) line = tt
+  line_of_end (Err e) line = λ bytes is. line ∙ is.counted
+
 -- ---- the bytes of a piece
 
 pub piece_more : (bytes piece : List ℕ) (i : ℕ) → i < length piece
@@ -156,3 +206,12 @@ refused_rest bytes piece i e refused other more =
     regrouped more = sym (append_assoc (bytes ++ take i piece) (drop i piece) more)
         ∙ ap (λ t. t ++ more) (append_assoc bytes (take i piece) (drop i piece))
         ∙ ap (λ t. (bytes ++ t) ++ more) (take-append-drop i piece)
+
+-- ---- after a fault
+
+pub none_failed : (failed : Option LongFault) (e : LongFault) → failed ≡ None → failed ≡ Some e → ⊥
+none_failed failed e none some = cc
+
+pub one_failed : {X : Type 0} (failed : Option LongFault) (e f : LongFault) → failed ≡ Some e → failed ≡ Some f
+    → ◌≡◌ {A = Result X LongFault} (Err e) (Err f)
+one_failed failed e f one other = cc

@@ -1,7 +1,7 @@
-ghost use Rattle.std.specs.Prelude.{◌≡◌, ◌≢◌, ◌++◌, ◌∷◌, [], Ok, Err, IfOk, IfErr, OnOk, List, ℕ};
-ghost use Rattle.lset_long.specs.Reading.{LongTextsAreRead, Says, fault};
+ghost use Rattle.std.specs.Prelude.{◌≡◌, ◌≢◌, ◌+◌, ◌++◌, ◌∷◌, [], Ok, Err, IfOk, IfErr, OnOk, List, ℕ};
+ghost use Rattle.lset_long.specs.Reading.{LongTextsAreRead, Says, fault, first_line};
 ghost use Rattle.lset_long.specs.Texts.{LongValue};
-ghost use Rattle.lset_long.specs.Kept.{IsAnswered, IsRead, IsRefusedAt};
+ghost use Rattle.lset_long.specs.Kept.{HasFailed, IsAnswered, IsLineOf, IsRead, IsRefusedAt, newlines};
 
 use crate::fault::{LongCause, LongFault};
 use crate::judging::LongAnswer;
@@ -19,6 +19,8 @@ pub struct LongReader {
     line: ArrayVec<u8, LONGEST_LINE>,
     // (the line has more bytes than that)
     is_long: bool,
+    // (what `feed` returned, once it was an error)
+    failed: Option<LongFault>,
 }
 
 impl LongReader {
@@ -30,6 +32,7 @@ impl LongReader {
             judging: Judging::new(alloc),
             line: ArrayVec::new(),
             is_long: false,
+            failed: None,
         }
     }
 
@@ -43,6 +46,7 @@ impl LongReader {
     fn line_in(&mut self) -> Result<(), LongFault>
         ensures taken { OnOk result ((bytes : List ℕ) → IsRead bytes self.old → IsRead (bytes ++ 10 ∷ []) self.new) }
         ensures refused { IfErr result (λ fault. (bytes : List ℕ) → IsRead bytes self.old → IsRefusedAt (bytes ++ 10 ∷ []) fault) }
+        ensures line { IfErr result (λ fault. fault.line ≡ self.old.judging.number) }
     {
         if self.is_long {
             return Err(self.fault(LongCause::Line));
@@ -60,6 +64,7 @@ impl LongReader {
     fn byte_in(&mut self, byte: u8) -> Result<(), LongFault>
         ensures taken { OnOk result ((bytes : List ℕ) → IsRead bytes self.old → IsRead (bytes ++ byte ∷ []) self.new) }
         ensures refused { IfErr result (λ fault. (bytes : List ℕ) → IsRead bytes self.old → IsRefusedAt (bytes ++ byte ∷ []) fault) }
+        ensures line { IfErr result (λ fault. (byte ≡ 10) × (fault.line ≡ self.old.judging.number)) }
     {
         if byte == b'\n' {
             return self.line_in();
@@ -73,15 +78,11 @@ impl LongReader {
         }
     }
 
-    /// Takes the next bytes of the text, and judges the calls whose lines have ended with them. Allocates; does not block.
-    ///
-    /// # Errors
-    ///
-    /// The first fault of the text, whatever comes after these bytes; `LongCause::Memory` if an allocation fails. After an error the reader
-    /// is of no more use.
-    pub fn feed(&mut self, piece: &[u8]) -> Result<(), LongFault>
+    /// Takes the next bytes, if those before had no fault.
+    fn bytes_in(&mut self, piece: &[u8]) -> Result<(), LongFault>
         ensures taken { OnOk result ((bytes : List ℕ) → IsRead bytes self.old → IsRead (bytes ++ piece.now) self.new) }
         ensures refused { IfErr result (λ fault. (bytes : List ℕ) → IsRead bytes self.old → IsRefusedAt (bytes ++ piece.now) fault) }
+        ensures line { IfErr result (λ fault. (bytes : List ℕ) → IsRead bytes self.old → IsLineOf bytes piece.now fault.line) }
     {
         for byte in piece {
             if let Err(fault) = self.byte_in(*byte) {
@@ -91,22 +92,63 @@ impl LongReader {
         Ok(())
     }
 
-    /// Returns whether some order explains the calls of the text, which ends here, and leaves its keys; or, of a recording that was cut off,
-    /// whether one does with some keys left. Allocates; does not block.
+    /// Takes the next bytes of the text, and judges the calls whose lines have ended with them. Allocates; does not block.
     ///
     /// # Errors
     ///
-    /// The fault of the text, if it may not end here; `LongCause::Memory` if an allocation fails.
-    pub fn finish(self) -> Result<LongAnswer, LongFault>
+    /// The first fault of the text, whatever comes after these bytes; `LongCause::Memory` if an allocation fails. Its line is one whose
+    /// newline is in the piece. After an error each further call of `feed`, and `finish`, return that error.
+    pub fn feed(&mut self, piece: &[u8]) -> Result<(), LongFault>
+        ensures taken { OnOk result ((bytes : List ℕ) → IsRead bytes self.old → IsRead (bytes ++ piece.now) self.new) }
+        ensures refused { IfErr result (λ fault. (bytes : List ℕ) → IsRead bytes self.old → IsRefusedAt (bytes ++ piece.now) fault) }
+        ensures line { IfErr result (λ fault. (bytes : List ℕ) → IsRead bytes self.old → IsLineOf bytes piece.now fault.line) }
+        ensures failed { IfErr result (HasFailed self.new) }
+        ensures still { (fault : LongFault) → HasFailed self.old fault → result ≡ Err fault }
+    {
+        if let Some(fault) = self.failed {
+            return Err(fault);
+        }
+        match self.bytes_in(piece) {
+            Ok(()) => Ok(()),
+            Err(fault) => {
+                self.failed = Some(fault);
+                Err(fault)
+            }
+        }
+    }
+
+    /// What is said of the text, if it ends here and had no fault before.
+    fn end(self) -> Result<LongAnswer, LongFault>
         ensures said { IfOk result (λ answer. (bytes : List ℕ) → IsRead bytes self
             → (c : LongValue) × Says bytes (Ok c) × IsAnswered c answer) }
         ensures refused { IfErr result (λ fault. fault.cause ≢ LongCause.Memory → (bytes : List ℕ) → IsRead bytes self
             → Says bytes (Err fault)) }
+        ensures line { IfErr result (λ fault. (bytes : List ℕ) → IsRead bytes self → fault.line ≡ first_line + newlines bytes) }
     {
         if self.is_long || !self.line.as_slice().is_empty() {
             return Err(self.fault(LongCause::NotEnded));
         }
         self.judging.finish()
+    }
+
+    /// Returns whether some order explains the calls of the text, which ends here, and leaves its keys; or, of a recording that was cut off,
+    /// whether one does with some keys left. Allocates; does not block.
+    ///
+    /// # Errors
+    ///
+    /// The fault of the text, if it may not end here; `LongCause::Memory` if an allocation fails; the error of `feed`, if it returned one.
+    pub fn finish(self) -> Result<LongAnswer, LongFault>
+        ensures said { IfOk result (λ answer. (bytes : List ℕ) → IsRead bytes self
+            → (c : LongValue) × Says bytes (Ok c) × IsAnswered c answer) }
+        ensures refused { IfErr result (λ fault. fault.cause ≢ LongCause.Memory → (bytes : List ℕ) → IsRead bytes self
+            → Says bytes (Err fault)) }
+        ensures line { IfErr result (λ fault. (bytes : List ℕ) → IsRead bytes self → fault.line ≡ first_line + newlines bytes) }
+        ensures still { (fault : LongFault) → HasFailed self fault → result ≡ Err fault }
+    {
+        match self.failed {
+            Some(fault) => Err(fault),
+            None => self.end(),
+        }
     }
 }
 

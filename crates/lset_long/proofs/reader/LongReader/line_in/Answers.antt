@@ -1,4 +1,4 @@
-use Rattle.std.proofs.Common.{◌≡◌, ◌++◌, ◌∷◌, [], Err, sym, ap, subst, ◌∙◌}
+use Rattle.std.proofs.Common.{◌≡◌, ◌++◌, ◌∷◌, [], Err, refl, sym, ap, subst, ◌∙◌}
 use Rattle.lset_long.specs.declared.fault.LongFault.{LongFault}
 use Rattle.lset_long.specs.declared.fault.LongCause.TheVariants as wrong
 use Rattle.lset_long.specs.Reading.{IsTaken, IsRefused, Says, fault}
@@ -19,7 +19,7 @@ returns-in-Ok-clause-taken c = λ bytes is.
     let held : is.held ≡ r.line.items = subst (IsHeld is.held r.line.items) c.if-self.false is.line in
     let line : c.as_slice.result.now ≡ is.held = c.as_slice.ensures.value ∙ sym held in
     let t = c.in-Ok.ensures.taken is.told is.judging in
-    line_taken bytes r is _ t.0 (subst (λ l. IsTaken is.told l t.0) line t.1) t.2 t.3 c.clear.ensures c.if-self.false
+    line_taken bytes r is _ t.0 (subst (λ l. IsTaken is.told l t.0) line t.1) t.2 t.3 c.clear.ensures c.if-self.false refl
 
 pub returns-in-Err-clause-refused : goal.returns-in-Err-clause-refused
 returns-in-Err-clause-refused c = λ bytes is other more.
@@ -32,3 +32,9 @@ returns-in-Err-clause-refused c = λ bytes is other more.
     let refused = c.in-Err.ensures.refused (λ memory. other (ap (λ (e : LongFault). e.cause) named ∙ memory)) is.told is.judging in
     subst (λ (e : LongFault). Says ((bytes ++ 10 ∷ []) ++ more) (Err e)) (sym named)
     (line_refused bytes r is cause (subst (λ l. IsRefused is.told l cause) line refused) more)
+
+pub returns-then-self-clause-line : goal.returns-then-self-clause-line
+returns-then-self-clause-line c = ap (λ (e : LongFault). e.line) c.fault.ensures
+
+pub returns-in-Err-clause-line : goal.returns-in-Err-clause-line
+returns-in-Err-clause-line c = ap (λ (e : LongFault). e.line) c.fault-in-Err.ensures ∙ c.in-Err.ensures.same
