@@ -97,9 +97,9 @@ IsClash c (clash.Quota line) =
 IsClash c clash.CutOff = ⊥
 IsClash c clash.Memory = Unit {0}
 
--- the same if the keys left are asked for, which are not known of a recording that was cut off
+-- If the keys left are asked for, a recording that was cut off is refused as such, whatever its calls are and before memory is asked for.
 abbrev pub IsRefusal : CallsValue → ClashFault → Type 0
-IsRefusal c fault = IsClash c fault ⊎ ((fault ≡ clash.CutOff) × (c.cut_off ≡ true))
+IsRefusal c fault = ((c.cut_off ≡ true) × (fault ≡ clash.CutOff)) ⊎ ((c.cut_off ≡ false) × IsClash c fault)
 
 -- ---- WHETHER THE POINTS ARE GIVEN, or which call is the first that changed the set and has none
 abbrev pub PointsAreGiven : CallsValue → Result (Unit {0}) CallsFault → Type 0

@@ -89,7 +89,7 @@ pub enum ClashFault {
     /// With this `add` its thread has made more adds that changed the set than the quota.
     #[error("line {0}: Quota")]
     Quota(u64),
-    /// The recording was cut off, and the keys left are asked for.
+    /// The recording was cut off, and the keys left are asked for. Then nothing is said of its calls.
     #[error("the recording was cut off")]
     CutOff,
     /// There was no memory for the report.

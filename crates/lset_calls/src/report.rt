@@ -105,21 +105,22 @@ pub fn history_of(alloc: Global, calls: Calls) -> Result<History, ClashFault>
     Ok(history)
 }
 
-/// The history of calls, as of `history_of`, and the keys that were left. `ClashFault::CutOff` is the error of a recording that was cut
-/// off, whose keys left are not known; the other errors are those of `history_of`.
+/// The history of calls, as of `history_of`, and the keys that were left. `ClashFault::CutOff` is the only error of a recording that was
+/// cut off, whose keys left are not known; the errors of any other are those of `history_of`.
 pub fn recording_of(alloc: Global, calls: Calls) -> Result<Recording, ClashFault>
     requires { AreCalls (view calls) }
     // What is told is the history of the calls, none of which is refused.
     ensures told { IfOk result (λ r. IsHistoryOf (view calls) r.history) }
     ensures keys { IfOk result (λ r. r.keys.items ≡ (view calls).keys) }
     ensures whole { OnOk result ((view calls).cut_off ≡ false) }
-    // Else the first line that is refused, and why, or that the keys are not known, or want of memory.
+    // Else that the keys are not known; or, if they are, the first line that is refused, and why, or want of memory.
     ensures refused { IfErr result (IsRefusal (view calls)) }
 {
     if calls.cut_off {
-        return Err(ClashFault::CutOff);
+        Err(ClashFault::CutOff)
+    } else {
+        recorded(alloc, calls)
     }
-    recorded(alloc, calls)
 }
 
 /// The report of calls: their history, an order of them, and the keys of the text.
@@ -129,14 +130,14 @@ pub fn recording_of(alloc: Global, calls: Calls) -> Result<Recording, ClashFault
 /// make, and at its end where there is none. Whether that order explains the calls is for `check_order`. (Herlihy and
 /// Wing's linearization points.)
 ///
-/// `ClashFault::History` and `ClashFault::Quota` report the first line whose call cannot stand beside those of the lines above, and
-/// `ClashFault::CutOff` that the recording was cut off, so that the keys left are not known. With n calls it takes about `n log n` steps,
-/// as it sorts their moments and searches no order.
+/// `ClashFault::CutOff` is the only error of a recording that was cut off, whose keys left are not known. Of any other,
+/// `ClashFault::History` and `ClashFault::Quota` report the first line whose call cannot stand beside those of the lines above; if a line
+/// has both faults, it is `History`. With n calls it takes about `n log n` steps, as it sorts their moments and searches no order.
 pub fn report_of(alloc: Global, calls: Calls) -> Result<Report, ClashFault>
     requires { AreCalls (view calls) }
     // What is told is the report of the calls, none of which is refused.
     ensures told { IfOk result (λ r. IsReportOfCalls (view calls) (report.view r)) }
-    // Else the first line that is refused, and why, or that the keys are not known, or want of memory.
+    // Else that the keys are not known; or, if they are, the first line that is refused, and why, or want of memory.
     ensures refused { IfErr result (IsRefusal (view calls)) }
 {
     if calls.cut_off {
