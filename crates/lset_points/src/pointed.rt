@@ -37,8 +37,8 @@ fn fault_of(alloc: Global, made: &Report) -> Result<Option<OrderFault>, ClashFau
 ///
 /// # Errors
 ///
-/// That of `report_of`: the first line whose call conflicts with a line above, or that an allocation failed. With n calls it
-/// takes about n log n steps, and the memory of their report.
+/// That of `report_of`: that the recording was cut off; or else the first line whose call conflicts with a line above, or that an
+/// allocation failed. With n calls it takes about n log n steps, and the memory of their report.
 pub fn judge_by_points(alloc: Global, calls: Calls) -> Result<Pointed, ClashFault>
     requires { AreCalls (view calls) }
     ensures told { IfOk result (λ p. IsReportOfCalls (view calls) (report.view p.report)) }
