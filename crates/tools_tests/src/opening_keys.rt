@@ -23,7 +23,12 @@ struct Run {
     faults: Vec<u8>,
 }
 
-fn ran<R: NetHost>(rt: &R, alloc: Global, seats: &str, fails_at: usize) -> Result<Run, AllocError> {
+fn ran<R: Host + Net<Listener = TcpListener, Stream = TcpStream>>(
+    rt: &R,
+    alloc: Global,
+    seats: &str,
+    fails_at: usize,
+) -> Result<Run, AllocError> {
     let values = texts_of(alloc, &["lazy", seats, "4", "0", "0"])?;
     let mut input = Reader::new(PRINTED, planned((Failure::Interrupted, 7), fails_at));
     let (mut output, mut faults) = (Vec::new(alloc), Vec::new(alloc));

@@ -7,12 +7,7 @@ pub use std::test::Fail;
 pub use std::thread::Threads;
 pub use std::time::Clock;
 
-/// May fail a test, wait, and start threads.
-pub trait Host: Abort + Sync + Threads + Wait {}
+/// May fail a test, wait, sleep, and start threads.
+pub trait Host: Abort + Clock + Sync + Threads + Wait {}
 
-impl<R: Abort + Sync + Threads + Wait> Host for R {}
-
-/// Has the loopback and a clock too.
-pub trait NetHost: Clock + Host + Net<Listener = TcpListener, Stream = TcpStream> {}
-
-impl<R: Clock + Host + Net<Listener = TcpListener, Stream = TcpStream>> NetHost for R {}
+impl<R: Abort + Clock + Sync + Threads + Wait> Host for R {}

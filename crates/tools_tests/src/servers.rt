@@ -123,7 +123,7 @@ struct Run<'r, R> {
 }
 
 /// Runs the tool on the values of KIND, PORT and SESSIONS, on devices of these plans: of its output and of `faults`.
-fn ran<'r, R: NetHost>(
+fn ran<'r, R: Host + Net<Listener = TcpListener, Stream = TcpStream>>(
     rt: &'r R,
     alloc: Global,
     [kind, port, sessions]: [&str; 3],
@@ -146,7 +146,11 @@ fn ran<'r, R: NetHost>(
 }
 
 /// A server of one session whose output fails as planned, and whether it did.
-fn output_fails<R: NetHost>(rt: &R, alloc: Global, plan: Plan) -> Result<bool, Fail> {
+fn output_fails<R: Host + Net<Listener = TcpListener, Stream = TcpStream>>(
+    rt: &R,
+    alloc: Global,
+    plan: Plan,
+) -> Result<bool, Fail> {
     let run = ran(rt, alloc, ["lazy", "0", "1"], [plan, WHOLE])?;
     let calls = run.door.writer.calls;
     if run.status == 0 {
@@ -167,7 +171,11 @@ fn output_fails<R: NetHost>(rt: &R, alloc: Global, plan: Plan) -> Result<bool, F
 }
 
 /// How many runs there are in which the output fails, at each of its calls in turn, until a run ends without a failure.
-fn each_call_fails<R: NetHost>(rt: &R, alloc: Global, way: Way) -> Result<usize, Fail> {
+fn each_call_fails<R: Host + Net<Listener = TcpListener, Stream = TcpStream>>(
+    rt: &R,
+    alloc: Global,
+    way: Way,
+) -> Result<usize, Fail> {
     for fails_at in 0..MOST_CALLS {
         if !output_fails(rt, alloc, planned(way, fails_at))? {
             return Ok(fails_at);
@@ -189,7 +197,11 @@ fn each_call_on_the_output_fails_in_turn(rt: HostRuntime) -> Result<(), Fail> {
 
 /// A server of no session whose output fails as planned, and beside it each write of the line about it; and whether the
 /// output did.
-fn both_fail<R: NetHost>(rt: &R, alloc: Global, plan: Plan) -> Result<bool, Fail> {
+fn both_fail<R: Host + Net<Listener = TcpListener, Stream = TcpStream>>(
+    rt: &R,
+    alloc: Global,
+    plan: Plan,
+) -> Result<bool, Fail> {
     for write in 0..CANNOT_WRITE.len() {
         let faults = Plan {
             fails_at: write,
@@ -222,7 +234,7 @@ fn a_call_and_the_line_about_it_fail(rt: HostRuntime) -> Result<(), Fail> {
 }
 
 /// A server that does not begin, and the write with a number of the line about it fails: the status stays.
-fn line_fails<R: NetHost>(
+fn line_fails<R: Host + Net<Listener = TcpListener, Stream = TcpStream>>(
     rt: &R,
     alloc: Global,
     [kind, port]: [&str; 2],
