@@ -20,18 +20,26 @@ struct Three;
 struct Hundred;
 
 impl Rounds for One {
+    ghost MOST = { 1 };
+
     const MOST: u64 = 1;
 }
 
 impl Rounds for Two {
+    ghost MOST = { 2 };
+
     const MOST: u64 = 2;
 }
 
 impl Rounds for Three {
+    ghost MOST = { 3 };
+
     const MOST: u64 = 3;
 }
 
 impl Rounds for Hundred {
+    ghost MOST = { 100 };
+
     const MOST: u64 = 100;
 }
 

@@ -1,7 +1,11 @@
-use Rattle.lset_live.proofs.Explained.{has_answered}
+use Rattle.lset_live.proofs.Explained.{gave_up, has_answered}
 use Rattle.lset_live.proofs.set.LiveSet.call_within.Goals as goal
 
 pub returns : goal.returns
 returns g c = has_answered g.M.Machine.table g.met.M.Machine.lawful c.runs_are_linearizable.ensures c.args.call
     c.seat.inside.place c.in_ok-slots.reply c.make_within.new.place c.in_ok-slots.ensures.place c.in_ok-slots.ensures.made _ _
     c.seat.view_is c.requires
+
+pub returns-in_err-slots : goal.returns-in_err-slots
+returns-in_err-slots g c = gave_up g.M.Machine.table c.args.call _ c.seat.inside.place c.make_within.new.place
+    c.in_err-slots.ensures _ _ c.seat.view_is c.requires
