@@ -83,7 +83,7 @@ WITHOUT_GROWTH = {
     "LiveSet::gather", "LiveSet::close", "session",
 }
 BLOCKS = WITHOUT_GROWTH | {"Oracle::keys"}
-BACK, NOTHING_BACK = "work (Memory, all comes back)", "work (Memory)"
+BACK = "work (Memory, all comes back)"
 
 
 def refuser(folder):
@@ -143,9 +143,9 @@ def passed_over(calls):
 
 
 def look_at_work(calls):
-    """`work` gives set and seats back, but where the growth that is refused is that of the keys, its last."""
-    worked = [name for name in calls if name in (BACK, NOTHING_BACK)]
-    if len(worked) < 2 or worked != [BACK] * (len(worked) - 1) + [NOTHING_BACK]:
+    """`work` gives set and seats back at each growth that is refused, also at that of the keys."""
+    worked = [name for name in calls if name.startswith("work (Memory")]
+    if len(worked) < 2 or worked != [BACK] * len(worked):
         raise Wrong(f"the growths of work, in turn: {', '.join(worked)}")
 
 

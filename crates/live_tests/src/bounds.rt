@@ -10,6 +10,8 @@ use lset_live::{Countless, Rounds};
 struct UpTo<const N: u64>;
 
 impl<const N: u64> Rounds for UpTo<N> {
+    ghost MOST = { N };
+
     const MOST: u64 = N;
 }
 

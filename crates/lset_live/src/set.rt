@@ -1,5 +1,5 @@
 //! A running set and its calls.
-ghost use Rattle.std.specs.Prelude.{◌≡◌, ◌≢◌, ◌+◌, ◌<◌, ◌≤◌, ℕ, List, [], ◌∷◌, length, IfOk, IfErr, IfSome};
+ghost use Rattle.std.specs.Prelude.{◌≡◌, ◌≢◌, ◌+◌, ◌<◌, ◌≤◌, ℕ, List, [], ◌∷◌, length, vec_capacity, IfOk, IfErr, MatchOption};
 ghost use Rattle.lset_words.specs.Words.{word_count, sizes};
 ghost use Rattle.lset_words.specs.declared.Call.TheVariants.{Add, Remove, Contains, Ceiling};
 ghost use Rattle.lset_words.specs.declared.TheConstants.{MOST_QUOTA, MOST_THREADS};
@@ -9,7 +9,7 @@ ghost use Rattle.lset_rule.specs.Seats.{IsOf};
 ghost use Rattle.lset_rule.specs.Runs.{StartsWith};
 ghost use Rattle.lset_rule.specs.Rule.{left_view, right_view};
 ghost use Rattle.lset_live.specs.Closes.{HasKeys, most_keys};
-ghost use Rattle.lset_live.specs.Explained.{IsOneLegalOrder, IsOneOrderInTime, HasAnswered};
+ghost use Rattle.lset_live.specs.Explained.{GaveUp, IsOneLegalOrder, IsOneOrderInTime, HasAnswered};
 ghost use Rattle.lset_words.specs.Records.{gathered};
 ghost use Rattle.lset_live.specs.Seats.{is_true, reply_of};
 
@@ -160,9 +160,9 @@ impl<M: Bounded> LiveSet<M> {
     /// Makes the call from the seat, which is one of this set, with no handle to wait by: each of its loops makes at most
     /// `N::MOST` rounds. The answer is the seat and the reply, and of both is so what `call` says.
     ///
-    /// `None` where a loop has made all its rounds, as at a lock that is held. The call is still under way then, with the
-    /// locks that it has. Its seat could make no other and is gone, so the set is not closed any more. With [`Countless`]
-    /// rounds no run comes to it.
+    /// `None` where a loop has made all its rounds, as at a lock that is held: the thread has made at least `N::MOST` steps of
+    /// the call, which is still under way, with the locks that it has. Its seat could make no other and is gone, so the set is
+    /// not closed any more. With [`Countless`] rounds no run comes to it.
     pub fn call_within<P: Pause, N: Rounds>(
         &self,
         seat: Seat<M>,
@@ -170,7 +170,7 @@ impl<M: Bounded> LiveSet<M> {
         pause: &P,
     ) -> Option<(Seat<M>, Reply)>
         requires { seat.set ≡ self.now }
-        ensures { IfSome result (λ r. HasAnswered M.table self.now seat call r.1 r.0) }
+        ensures { MatchOption result (GaveUp M.table self.now seat call N.MOST) (λ r. HasAnswered M.table self.now seat call r.1 r.0) }
     {
         runs_are_linearizable::<M>();
         let Seat {
@@ -269,6 +269,23 @@ impl<M: Machine> LiveSet<M> {
             unreachable!()
         };
         closed.keys()
+    }
+
+    /// The same in a vector that is empty and has room for `most_keys`. Does not allocate, and does not fail.
+    pub fn keys_left_in(self, seat: Seat<M>, room: Vec<u32>) -> Vec<u32>
+        requires seat { seat.set ≡ self }
+        requires all { seat.held ≡ self.shape.threads }
+        requires room { (room.items ≡ []) × (most_keys (sizes self.shape) ≤ vec_capacity room) }
+        ensures order { IsOneLegalOrder self.shape (seat.past ∷ []) result.items }
+        ensures in_time { IsOneOrderInTime M.table self.shape seat.events (seat.past ∷ []) result.items }
+    {
+        let Ok(closed) = self.close(seat) else {
+            unreachable!()
+        };
+        let Ok(keys) = closed.keys_in(room) else {
+            unreachable!()
+        };
+        keys
     }
 
     pub(crate) fn split_off(&self, place: &mut TableSeat) -> TableSeat

@@ -17,9 +17,9 @@ use Rattle.lset_steps.specs.BoundedReads.{BoundedReads, most_reads}
 use Rattle.lset_rule.specs.declared.slots.OwnSlots.{OwnSlots}
 use Rattle.lset_rule.specs.OwnSlots.{resting}
 use Rattle.lset_rule.specs.Seats.{TableSeat}
-use Rattle.lset_rule.specs.Calls.{Goes}
+use Rattle.lset_rule.specs.Calls.{Goes, steps_of}
 use Rattle.lset_rule.proofs.Calls.{Comes}
-use Rattle.lset_rule.proofs.Ending.{steps_of, not_yet, one_more}
+use Rattle.lset_rule.proofs.Ending.{not_yet, one_more}
 use Rattle.lset_loops.specs.Begun.{Begun}
 use Rattle.lset_loops.specs.Calling.{Holds, first, row}
 use Rattle.lset_loops.proofs.Calling.{no_rest}

@@ -1,11 +1,11 @@
 //! LazyList: a node is marked before it is taken out, so a walk takes no lock, and a call looks at its two nodes once it has
 //! locked them.
 ghost use Rattle.lset_steps.specs.ReadRows.{first_row};
-ghost use Rattle.std.specs.Prelude.{◌≡◌, IfSome};
+ghost use Rattle.std.specs.Prelude.{◌≡◌, ◌≤◌, MatchOption};
 ghost use Rattle.lset_lazy.specs.Lazy.{lazy};
-ghost use Rattle.lset_rule.specs.Seats.{HasCalled, MayCall};
+ghost use Rattle.lset_rule.specs.Seats.{HasCalled, HasGivenUp, MayCall};
 ghost use Rattle.lset_loops.specs.Begun.{IsCall};
-ghost use Rattle.lset_loops.specs.Calling.{HasAnswered, MayBegin};
+ghost use Rattle.lset_loops.specs.Calling.{GivesUp, HasAnswered, MayBegin, steps_in};
 ghost use Rattle.lset_loops.specs.Lazy.{AreNeighbours, AtKey, HasLocked, HasValidated, Leaves, StopsAt};
 
 use crate::caller::{Caller, Node, Origin};
@@ -23,12 +23,13 @@ fn walk<O: Origin, P: Pause, N: Rounds>(
     first: Node,
 ) -> Option<Found>
     requires { AtKey O.begun caller.now.slots 0 first.number place.old }
-    ensures { IfSome result (λ f. StopsAt O.begun caller.now.slots f place.new) }
+    ensures { MatchOption result (GivesUp lazy O.begun N.MOST place.new)
+        (λ f. StopsAt O.begun caller.now.slots f place.new × (steps_in place.old ≤ steps_in place.new)) }
 {
     let key = caller.key;
     let mut pred = Node::head();
     let mut curr = first;
-    for _ in 0..N::MOST {
+    for round in 0..N::MOST {
         let word = caller.load_key(place, curr); // row 2
         if word >= key {
             return Some(Found { pred, curr, word });
@@ -47,7 +48,7 @@ fn validate<O: Origin, P: Pause>(
     found: Found,
 ) -> Option<Node>
     requires { HasLocked O.begun caller.now.slots found place.old }
-    ensures { HasValidated O.begun caller.now.slots found result place.new }
+    ensures { HasValidated O.begun caller.now.slots found result place.new × (steps_in place.old ≤ steps_in place.new) }
 {
     let before = caller.load_link(place, found.pred); // row 6
     if before != 2 * found.curr.number {
@@ -94,7 +95,7 @@ fn make<O: Origin, P: Pause, N: Rounds>(
     requires begins { MayBegin lazy O.begun slots place.old }
     requires call { IsCall O.begun call table.now.table_id table.now.key }
     requires walks { first_row O.begun.call ≡ 1 }
-    ensures { IfSome result (λ r. HasAnswered lazy O.begun r place.new) }
+    ensures { MatchOption result (GivesUp lazy O.begun N.MOST place.new) (λ r. HasAnswered lazy O.begun r place.new) }
 {
     let caller = Caller::<'_, LazyList, O, P> {
         table,
@@ -105,7 +106,7 @@ fn make<O: Origin, P: Pause, N: Rounds>(
         origin: PhantomData,
     };
     let mut link = caller.begin_at_head(place); // row 1
-    for _ in 0..N::MOST {
+    for round in 0..N::MOST {
         let found = walk::<O, P, N>(&caller, place, Node::behind(link))?;
         caller.lock::<N>(place, found.pred)?; // row 4
         caller.lock::<N>(place, found.curr)?; // row 5
@@ -128,7 +129,7 @@ fn make<O: Origin, P: Pause, N: Rounds>(
 
 /// Makes a whole `add` or `remove` on a LazyList: it walks to its place without a lock, locks the two nodes there, looks
 /// whether they are still neighbours in the list, and acts, or gives them back and starts over. (Herlihy and Shavit's lazy
-/// list, after Heller and others.) `None` where a loop of it has made `N::MOST` rounds.
+/// list, after Heller and others.) `None` where a loop of it has made `N::MOST` rounds, and so at least as many steps.
 pub fn lazy_change_within<P: Pause, N: Rounds>(
     table: &Words<LazyList>,
     place: &mut TableSeat,
@@ -138,7 +139,7 @@ pub fn lazy_change_within<P: Pause, N: Rounds>(
 ) -> Option<(OwnSlots, Reply)>
     requires may { MayCall lazy table.now.table_id table.now.key slots place.old }
     requires changes { first_row call ≡ 1 }
-    ensures { IfSome result (λ r. HasCalled lazy call place.old r place.new) }
+    ensures { MatchOption result (HasGivenUp lazy call N.MOST place.old place.new) (λ r. HasCalled lazy call place.old r place.new) }
 {
     make::<Brand, P, N>(table, place, slots, call, pause)
 }

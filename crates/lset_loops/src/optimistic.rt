@@ -1,9 +1,9 @@
 //! OptimisticList: a walk without locks, two node locks, and a second walk that validates.
-ghost use Rattle.std.specs.Prelude.{IfSome};
+ghost use Rattle.std.specs.Prelude.{◌≤◌, MatchOption};
 ghost use Rattle.lset_optimistic.specs.Optimistic.{optimistic};
-ghost use Rattle.lset_rule.specs.Seats.{HasCalled, MayCall};
+ghost use Rattle.lset_rule.specs.Seats.{HasCalled, HasGivenUp, MayCall};
 ghost use Rattle.lset_loops.specs.Begun.{IsCall};
-ghost use Rattle.lset_loops.specs.Calling.{HasAnswered, MayBegin};
+ghost use Rattle.lset_loops.specs.Calling.{GivesUp, HasAnswered, MayBegin, steps_in};
 ghost use Rattle.lset_loops.specs.Optimistic.{AreNeighbours, AtKey, HasLocked, HasReached, HasValidated, Leaves, StopsAt};
 
 use crate::caller::{Caller, Node, Origin};
@@ -28,13 +28,14 @@ fn walk<O: Origin, P: Pause, N: Rounds>(
     first: Node,
 ) -> Option<Stopped>
     requires { AtKey O.begun caller.now.slots 0 first.number 0 place.old }
-    ensures { IfSome result (λ f. StopsAt O.begun caller.now.slots f place.new) }
+    ensures { MatchOption result (GivesUp optimistic O.begun N.MOST place.new)
+        (λ f. StopsAt O.begun caller.now.slots f place.new × (steps_in place.old ≤ steps_in place.new)) }
 {
     let key = caller.key;
     let mut pred = Node::head();
     let mut before = 0;
     let mut curr = first;
-    for _ in 0..N::MOST {
+    for round in 0..N::MOST {
         let word = caller.load_key(place, curr); // row 2
         if word >= key {
             let found = Found { pred, curr, word };
@@ -57,7 +58,8 @@ fn reaches<O: Origin, P: Pause, N: Rounds>(
     stopped: Stopped,
 ) -> Option<bool>
     requires { HasLocked O.begun caller.now.slots stopped place.old }
-    ensures { IfSome result (λ r. HasReached O.begun caller.now.slots stopped.found r place.new) }
+    ensures { MatchOption result (GivesUp optimistic O.begun N.MOST place.new)
+        (λ r. HasReached O.begun caller.now.slots stopped.found r place.new × (steps_in place.old ≤ steps_in place.new)) }
 {
     let pred = stopped.found.pred.number;
     let before = stopped.before;
@@ -65,7 +67,7 @@ fn reaches<O: Origin, P: Pause, N: Rounds>(
         return Some(true);
     }
     let mut node = Node::head();
-    for _ in 0..N::MOST {
+    for round in 0..N::MOST {
         let link = caller.load_link(place, node); // row 6
         node = Node::behind(link);
         let word = caller.load_key(place, node); // row 7
@@ -86,7 +88,8 @@ fn validate<O: Origin, P: Pause, N: Rounds>(
     stopped: Stopped,
 ) -> Option<bool>
     requires { HasLocked O.begun caller.now.slots stopped place.old }
-    ensures { IfSome result (λ r. HasValidated O.begun caller.now.slots stopped.found r place.new) }
+    ensures { MatchOption result (GivesUp optimistic O.begun N.MOST place.new)
+        (λ r. HasValidated O.begun caller.now.slots stopped.found r place.new × (steps_in place.old ≤ steps_in place.new)) }
 {
     let found = stopped.found;
     if !reaches::<O, P, N>(caller, place, stopped)? {
@@ -131,7 +134,7 @@ fn make<O: Origin, P: Pause, N: Rounds>(
 ) -> Option<(OwnSlots, Reply)>
     requires begins { MayBegin optimistic O.begun slots place.old }
     requires call { IsCall O.begun call table.now.table_id table.now.key }
-    ensures { IfSome result (λ r. HasAnswered optimistic O.begun r place.new) }
+    ensures { MatchOption result (GivesUp optimistic O.begun N.MOST place.new) (λ r. HasAnswered optimistic O.begun r place.new) }
 {
     let caller = Caller::<'_, OptimisticList, O, P> {
         table,
@@ -142,7 +145,7 @@ fn make<O: Origin, P: Pause, N: Rounds>(
         origin: PhantomData,
     };
     let mut link = caller.begin_at_head(place); // row 1
-    for _ in 0..N::MOST {
+    for round in 0..N::MOST {
         let stopped = walk::<O, P, N>(&caller, place, Node::behind(link))?;
         let found = stopped.found;
         caller.lock::<N>(place, found.pred)?; // row 4
@@ -162,7 +165,7 @@ fn make<O: Origin, P: Pause, N: Rounds>(
 
 /// Makes a whole call: it walks to its key without a lock, locks the two nodes there, looks by a second walk whether they
 /// are still neighbours in the list, and acts, or gives them back and starts over. (Herlihy and Shavit's optimistic list.)
-/// `None` where a loop of it has made `N::MOST` rounds.
+/// `None` where a loop of it has made `N::MOST` rounds, and so at least as many steps.
 pub fn optimistic_within<P: Pause, N: Rounds>(
     table: &Words<OptimisticList>,
     place: &mut TableSeat,
@@ -171,7 +174,7 @@ pub fn optimistic_within<P: Pause, N: Rounds>(
     pause: &P,
 ) -> Option<(OwnSlots, Reply)>
     requires { MayCall optimistic table.now.table_id table.now.key slots place.old }
-    ensures { IfSome result (λ r. HasCalled optimistic call place.old r place.new) }
+    ensures { MatchOption result (HasGivenUp optimistic call N.MOST place.old place.new) (λ r. HasCalled optimistic call place.old r place.new) }
 {
     make::<Brand, P, N>(table, place, slots, call, pause)
 }

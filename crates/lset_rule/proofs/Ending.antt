@@ -16,15 +16,10 @@ use Rattle.lset_rule.specs.declared.view.PendingCall.{PendingCall}
 use Rattle.lset_rule.specs.declared.view.View.{View}
 use Rattle.lset_rule.specs.Runs.{Here, under_after, under_next, under_at, end_of, log_by}
 use Rattle.lset_rule.proofs.Calls.{Comes, is_mid, mid_open}
-use Rattle.lset_rule.specs.Calls.{Goes}
+use Rattle.lset_rule.specs.Calls.{Goes, steps_of}
 use Rattle.lset_rule.proofs.Stepped.{Tied}
 use Rattle.lset_rule.proofs.Keeps.{stands_at, own_tied}
 use Rattle.lset_words.specs.Words.{Opening, sizes}
-
--- how many steps the call under way has made
-abbrev pub steps_of : Option PendingCall → ℕ
-steps_of None = 0
-steps_of (Some u) = u.steps
 
 -- the steps that are left for a call, of at most `bound`; none once it has answered
 abbrev pub steps_left : Option Reply → ℕ → ℕ → ℕ

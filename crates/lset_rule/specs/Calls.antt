@@ -57,6 +57,11 @@ onward m st me n me' = Goes m me.0 n me'.0 × (me'.1 ≡ me.1)
 abbrev pub starting : Table → Call → Step (Unit {0}) → Me (Unit {0}) View → ℕ → Me (Unit {0}) View → Type 0
 starting m c st me n me' = Starts m c me.0 n me'.0 × (me'.1 ≡ me.1)
 
+-- how many steps the call under way has made
+abbrev pub steps_of : Option PendingCall → ℕ
+steps_of None = 0
+steps_of (Some u) = u.steps
+
 -- all but the registers, the call under way, the record and the events seen
 abbrev pub Same : View → View → Type 0
 Same v w = (w.spent ≡ v.spent) × (w.shape ≡ v.shape) × (w.thread ≡ v.thread) × (w.others ≡ v.others)

@@ -1,7 +1,7 @@
 //! Whole calls on the shared words, made step by step as the machine's table says.
-ghost use Rattle.std.specs.Prelude.{IfSome};
+ghost use Rattle.std.specs.Prelude.{MatchOption};
 ghost use Rattle.lset_words.specs.declared.Call.TheVariants.{Contains};
-ghost use Rattle.lset_rule.specs.Seats.{HasCalled, MayCall};
+ghost use Rattle.lset_rule.specs.Seats.{HasCalled, HasGivenUp, MayCall};
 
 use crate::pause::Pause;
 use crate::rounds::Rounds;
@@ -33,8 +33,8 @@ macro_rules! ends_or_pauses {
 /// `pause` is asked after each step that does not answer.
 ///
 /// An answer is the slots as this call leaves them, and the reply: of a call of the machine, begun after all that the place
-/// had seen, by which the record of the place grew. After `None` the call is still under way, with the locks that it has,
-/// and the place makes no other.
+/// had seen, by which the record of the place grew. After `None` the call has made at least `N::MOST` steps and is still under
+/// way, with the locks that it has, and the place makes no other.
 pub fn interpret_within<M: Machine, P: Pause, N: Rounds>(
     table: &Words<M>,
     place: &mut TableSeat,
@@ -43,7 +43,7 @@ pub fn interpret_within<M: Machine, P: Pause, N: Rounds>(
     pause: &P,
 ) -> Option<(OwnSlots, Reply)>
     requires { MayCall M.table table.now.table_id table.now.key slots place.old }
-    ensures { IfSome result (λ r. HasCalled M.table call place.old r place.new) }
+    ensures { MatchOption result (HasGivenUp M.table call N.MOST place.old place.new) (λ r. HasCalled M.table call place.old r place.new) }
 {
     let begun = M::begin(call, &slots.resting());
     let action = M::next(&begun);
@@ -54,7 +54,7 @@ pub fn interpret_within<M: Machine, P: Pause, N: Rounds>(
     };
     // Four steps in a round: within a round the compiler leads from the code of a row straight to that of the next one, and
     // at its end to a search for the row.
-    for _ in 0..N::MOST {
+    for round in 0..N::MOST {
         ends_or_pauses!(last, pause);
         let second = one_step::<M, 1>(table, place, &last.fed.local);
         ends_or_pauses!(second, pause);
@@ -64,7 +64,8 @@ pub fn interpret_within<M: Machine, P: Pause, N: Rounds>(
         ends_or_pauses!(fourth, pause);
         last = one_step::<M, 4>(table, place, &fourth.fed.local);
     }
-    None
+    let reply = last.fed.answer?;
+    Some((OwnSlots::of(&last.fed.local), reply))
 }
 
 /// Makes a whole `contains` of `key`, step by step, that waits for nobody and returns: for the lists whose walk meets each

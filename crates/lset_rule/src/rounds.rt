@@ -1,13 +1,15 @@
 //! How many rounds a loop of a call makes: at most a number, or as many as it takes.
-ghost use Rattle.std.specs.Prelude.{◌≡◌, Some};
+ghost use Rattle.std.specs.Prelude.{◌≡◌, ℕ, Some};
 
 use crate::slots::OwnSlots;
 use lset_words::Reply;
 use std::sync::Wait;
 
-/// A bound on the rounds of each loop of a call: one that has made them all gives up. No contract says that it does not give up
-/// sooner; tests do (`live_tests`).
+/// A bound on the rounds of each loop of a call: one that has made them all gives up. It does not give up before its thread has
+/// made as many steps as that (`HasGivenUp`).
 pub trait Rounds {
+    ghost MOST: { ℕ };
+
     /// How many rounds a loop makes at most.
     const MOST: u64;
 }
@@ -16,6 +18,8 @@ pub trait Rounds {
 pub struct Countless;
 
 impl Rounds for Countless {
+    ghost MOST = { 18446744073709551615 };
+
     const MOST: u64 = u64::MAX;
 }
 

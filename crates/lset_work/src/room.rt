@@ -44,15 +44,21 @@ fn with_room(alloc: Global, programs: Vec<Vec<Call>>) -> Option<Vec<Program>>
     Some(all)
 }
 
-/// Reserves all lists. `None` where memory is refused.
-pub fn reserved<M: Running, G: Gate>(alloc: Global, programs: Vec<Vec<Call>>) -> Option<Room<M, G>>
+/// Reserves all lists that the threads fill, and one for the keys that are left, at most `keys`. `None` where memory is refused.
+pub fn reserved<M: Running, G: Gate>(
+    alloc: Global,
+    programs: Vec<Vec<Call>>,
+    keys: usize,
+) -> Option<(Room<M, G>, Vec<u32>)>
     requires { All (λ p. length p.items < 2 ^ 32) programs.items }
-    ensures { IfSome result (λ r. map (λ p. p.calls) r.programs.items ≡ programs.items) }
+    ensures programs { IfSome result (λ r. map (λ p. p.calls) r.0.programs.items ≡ programs.items) }
+    ensures keys { IfSome result (λ r. (r.1.items ≡ []) × (keys ≤ vec_capacity r.1)) }
 {
     let many = programs.len();
-    Some(Room {
+    let room = Room {
         programs: with_room(alloc, programs)?,
         workers: Vec::with_capacity(alloc, many).ok()?,
         replies: Vec::with_capacity(alloc, many).ok()?,
-    })
+    };
+    Some((room, Vec::with_capacity(alloc, keys).ok()?))
 }

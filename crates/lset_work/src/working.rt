@@ -84,14 +84,14 @@ fn run_all<R: Threads + Wait + Sync, M: Running + Send + Sync, G: Gate + Sync>(
 /// call, and leaves the keys. No program has more than 4,294,967,295 calls. It waits for its threads, which wait for the
 /// locks of the set and as long as the gate does.
 ///
-/// The cause of a `WorkFault` is the first of these:
+/// The cause of a `WorkFault` is one of these:
 ///
 /// - `Programs`: the programs are not as many as the seats, or the seats do not hold all seats of the set. Nothing was
 ///   called, and set and seats come back.
 /// - `Spawn`: the system refused a thread. Those that were started run to their ends.
 /// - `Gate`: the gate answered false. That worker stops, the others run to their ends.
-/// - `Memory`: it was refused before the first thread started, and then set and seats come back, or for the keys at the
-///   end.
+/// - `Memory`: it was refused before the first thread started, and set and seats come back. All memory, that for the keys too,
+///   is taken by then.
 ///
 /// No clause says when a thread is refused, or when a gate that may answer false does.
 pub fn work<R: Threads + Wait + Sync, M: Running + Send + Sync, G: Gate + Sync>(
@@ -124,7 +124,7 @@ pub fn work<R: Threads + Wait + Sync, M: Running + Send + Sync, G: Gate + Sync>(
             back: Some((set, seats)),
         });
     }
-    let Some(room) = reserved::<M, G>(alloc, programs) else {
+    let Some((room, keys)) = reserved::<M, G>(alloc, programs, set.most_keys()) else {
         return Err(WorkFault {
             cause: WorkCause::Memory,
             back: Some((set, seats)),
@@ -136,11 +136,6 @@ pub fn work<R: Threads + Wait + Sync, M: Running + Send + Sync, G: Gate + Sync>(
     };
     let Gathered { seat, replies } = gathered;
     let Some(seat) = seat else { unreachable!() };
-    match set.keys_left(seat) {
-        Ok(keys) => Ok(Outcome { replies, keys }),
-        Err(_) => Err(WorkFault {
-            cause: WorkCause::Memory,
-            back: None,
-        }),
-    }
+    let keys = set.keys_left_in(seat, keys);
+    Ok(Outcome { replies, keys })
 }

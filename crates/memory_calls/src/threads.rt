@@ -68,7 +68,6 @@ fn after_refusal(
     let WorkFault { cause, back } = fault;
     calls.name = match (cause, back.is_some()) {
         (WorkCause::Memory, true) => "work (Memory, all comes back)",
-        (WorkCause::Memory, false) => "work (Memory)",
         (WorkCause::Spawn, false) => "work (Spawn)",
         _ => return Err(Error::msg("another fault")),
     };

@@ -20,7 +20,7 @@ put_in-requires g c = let at = moved c.requires.1 (c.in-PutIn.ensures.deed targe
 
 pub returns-in-PutIn : goal.returns-in-PutIn
 returns-in-PutIn g c = let at = moved c.requires.1 (c.in-PutIn.ensures.deed targets _ c.args.caller.now.is_call.0 refl refl) in
-    (_, _, _, to_slots c.one_more.ensures (c.put_in.ensures _ at))
+    (_, _, _, to_slots c.one_more.ensures (c.put_in.ensures.leads _ at))
 
 pub load_link-link-requires : goal.load_link-link-requires
 load_link-link-requires g c =
@@ -32,7 +32,7 @@ store_link-requires g c = let at = moved c.requires.1 (c.in-TakeOut.ensures.deed
     in
     record {
       held = _;
-      holds = c.load_link-link.ensures _ at;
+      holds = c.load_link-link.ensures.leads _ at;
       acts = ap (λ n. Store (link_index c.args.found.pred.number) (2 * n)) c.behind.ensures;
       goes_on = λ n. refl;
     }
@@ -40,7 +40,7 @@ store_link-requires g c = let at = moved c.requires.1 (c.in-TakeOut.ensures.deed
 pub returns-in-TakeOut : goal.returns-in-TakeOut
 returns-in-TakeOut g c =
     let at = moved c.requires.1 (c.in-TakeOut.ensures.deed targets _ c.args.caller.now.is_call.0 refl refl) in
-    (_, _, _, c.store_link.ensures _ (c.load_link-link.ensures _ at))
+    (_, _, _, c.store_link.ensures.leads _ (c.load_link-link.ensures.leads _ at))
 
 pub returns-in-Answer : goal.returns-in-Answer
 returns-in-Answer g c =

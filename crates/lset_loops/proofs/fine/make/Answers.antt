@@ -2,10 +2,10 @@ use Rattle.std.proofs.Common.{refl}
 use Rattle.lset_loops.proofs.fine.make.Goals as goal
 
 pub returns : goal.returns
-returns g c = (_, c.unlock_last.ensures _ (c.unlock.ensures _ c.act-answer.ensures.1) _ refl, refl)
+returns g c = (_, c.unlock_last.ensures _ (c.unlock.ensures.leads _ c.act-answer.ensures.1) _ refl, refl)
 
 pub unlock_last-requires : goal.unlock_last-requires
-unlock_last-requires g c = record { held = _; holds = c.unlock.ensures _ c.act-answer.ensures.1; acts = refl }
+unlock_last-requires g c = record { held = _; holds = c.unlock.ensures.leads _ c.act-answer.ensures.1; acts = refl }
 
 pub walk-requires : goal.walk-requires
 walk-requires g c = (_, c.in_ok-begin_locked.ensures)

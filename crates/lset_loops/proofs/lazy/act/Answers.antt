@@ -21,7 +21,7 @@ put_in-requires g c = let at = moved c.requires.1 (c.in-PutIn.ensures.deed targe
 pub returns-in-PutIn : goal.returns-in-PutIn
 returns-in-PutIn g c =
     let at = moved c.requires.1 (c.in-PutIn.ensures.deed targets _ c.args.caller.now.is_call.0 refl refl) in
-    (_, to_slots c.one_more.ensures (c.put_in.ensures _ at))
+    (_, to_slots c.one_more.ensures (c.put_in.ensures.leads _ at))
 
 pub store_mark-requires : goal.store_mark-requires
 store_mark-requires g c =
@@ -31,12 +31,12 @@ store_mark-requires g c =
 pub store_link-requires : goal.store_link-requires
 store_link-requires g c =
     let at = moved c.requires.1 (c.in-TakeOut.ensures.deed targets _ c.args.caller.now.is_call.0 refl refl) in
-    record { held = _; holds = c.store_mark.ensures _ at; acts = refl; goes_on = λ n. refl }
+    record { held = _; holds = c.store_mark.ensures.leads _ at; acts = refl; goes_on = λ n. refl }
 
 pub returns-in-TakeOut : goal.returns-in-TakeOut
 returns-in-TakeOut g c =
     let at = moved c.requires.1 (c.in-TakeOut.ensures.deed targets _ c.args.caller.now.is_call.0 refl refl) in
-    (_, c.store_link.ensures _ (c.store_mark.ensures _ at))
+    (_, c.store_link.ensures.leads _ (c.store_mark.ensures.leads _ at))
 
 pub returns-in-Answer : goal.returns-in-Answer
 returns-in-Answer g c =

@@ -1,6 +1,7 @@
-use Rattle.std.proofs.Common.{◌/◌}
+use Rattle.std.proofs.Common.{◌/◌, ◌≤◌}
 use Rattle.lset_loops.specs.Lazy.{AtKey}
+use Rattle.lset_loops.specs.Calling.{steps_in}
 use Rattle.lset_loops.proofs.lazy.make.Given as goal
 
-abbrev pub invariant-loop : goal.invariant-loop
-invariant-loop g l = AtKey g.O.Origin.begun l.fn.slots 0 (l.link / 2) l.place
+abbrev pub invariant-loop-round : goal.invariant-loop-round
+invariant-loop-round g l = AtKey g.O.Origin.begun l.fn.slots 0 (l.link / 2) l.place × (l.round ≤ steps_in l.place)

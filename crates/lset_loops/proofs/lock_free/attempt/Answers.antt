@@ -1,4 +1,4 @@
-use Rattle.std.proofs.Common.{◌*◌, refl, ap}
+use Rattle.std.proofs.Common.{◌*◌, refl, ap, arith}
 use Rattle.lset_words.specs.Words.{key_index, link_index}
 use Rattle.lset_words.proofs.Numbers.{if_same, if_other}
 use Rattle.lset_steps.specs.declared.Action.TheVariants.{Store, Exchange}
@@ -25,7 +25,7 @@ exchange_link-requires g c =
     let at = c.requires.1 _ (ap decision_of (c.in-PutIn.ensures.deed targets _ c.args.caller.now.is_call.0 refl refl)) in
     record {
       held = _;
-      holds = c.fill_slot-node.ensures.stored _ at;
+      holds = c.fill_slot-node.ensures.stored.leads _ at;
       acts = ap (λ n. Exchange (link_index c.args.found.pred.number) (2 * c.args.found.curr.number) (2 * n))
           c.fill_slot-node.ensures.node;
     }
@@ -33,15 +33,19 @@ exchange_link-requires g c =
 pub returns-then-not-exchange_link : goal.returns-then-not-exchange_link
 returns-then-not-exchange_link g c =
     let at = c.requires.1 _ (ap decision_of (c.in-PutIn.ensures.deed targets _ c.args.caller.now.is_call.0 refl refl)) in
-    let lost = rw c.if-not-exchange_link.true at c.exchange_link.ensures in
-    (_, _, _, lost.2 _ (c.fill_slot-node.ensures.stored _ at) _ (if_other lost.0 (2 * c.args.found.curr.number) lost.1 _ _))
+    let lost = rw c.if-not-exchange_link.true at c.exchange_link.ensures.told in
+    let on = lost.2 _ (c.fill_slot-node.ensures.stored.leads _ at) _ (if_other lost.0 (2 * c.args.found.curr.number) lost.1 _ _) in
+    let more = c.exchange_link.ensures.grows _ on in (
+      (_, _, _, on),
+      λ k made. let least = made _ at in omega (arith, least, c.fill_slot-node.ensures.stored.grows, more),
+    )
 
 pub returns-else-not-exchange_link : goal.returns-else-not-exchange_link
 returns-else-not-exchange_link g c =
     let at = c.requires.1 _ (ap decision_of (c.in-PutIn.ensures.deed targets _ c.args.caller.now.is_call.0 refl refl)) in
-    let made = rw c.if-not-exchange_link.false at c.exchange_link.ensures in (
+    let made = rw c.if-not-exchange_link.false at c.exchange_link.ensures.told in (
       _,
-      made _ (c.fill_slot-node.ensures.stored _ at) _
+      made _ (c.fill_slot-node.ensures.stored.leads _ at) _
           (if_same (2 * c.args.found.curr.number) (2 * c.args.found.curr.number) refl _ _),
       c.one_more.ensures,
     )
@@ -54,26 +58,26 @@ load_link-requires g c =
 pub exchange_mark-requires : goal.exchange_mark-requires
 exchange_mark-requires g c =
     let at = c.requires.1 _ (ap decision_of (c.in-TakeOut.ensures.deed targets _ c.args.caller.now.is_call.0 refl refl)) in
-    record { held = _; holds = to_succ c.behind-succ.ensures (c.load_link.ensures _ at); acts = refl }
+    record { held = _; holds = to_succ c.behind-succ.ensures (c.load_link.ensures.leads _ at); acts = refl }
 
 pub returns-then-not-exchange_mark : goal.returns-then-not-exchange_mark
 returns-then-not-exchange_mark g c =
     let at = c.requires.1 _ (ap decision_of (c.in-TakeOut.ensures.deed targets _ c.args.caller.now.is_call.0 refl refl)) in
-    let lost = rw c.if-not-exchange_mark.true at c.exchange_mark.ensures in (
-      _,
-      _,
-      _,
-      lost.2 _ (to_succ c.behind-succ.ensures (c.load_link.ensures _ at)) _
-          (if_other lost.0 (2 * c.behind-succ.result.number) lost.1 _ _),
+    let lost = rw c.if-not-exchange_mark.true at c.exchange_mark.ensures.told in
+    let on = lost.2 _ (to_succ c.behind-succ.ensures (c.load_link.ensures.leads _ at)) _
+    (if_other lost.0 (2 * c.behind-succ.result.number) lost.1 _ _) in
+    let more = c.exchange_mark.ensures.grows _ on in (
+      (_, _, _, on),
+      λ k made. let least = made _ at in omega (arith, least, c.load_link.ensures.grows, more),
     )
 
 pub exchange_link_last-requires : goal.exchange_link_last-requires
 exchange_link_last-requires g c =
     let at = c.requires.1 _ (ap decision_of (c.in-TakeOut.ensures.deed targets _ c.args.caller.now.is_call.0 refl refl)) in
-    let made = rw c.if-not-exchange_mark.false at c.exchange_mark.ensures in
+    let made = rw c.if-not-exchange_mark.false at c.exchange_mark.ensures.told in
     record {
       held = _;
-      holds = made _ (to_succ c.behind-succ.ensures (c.load_link.ensures _ at)) _
+      holds = made _ (to_succ c.behind-succ.ensures (c.load_link.ensures.leads _ at)) _
           (if_same (2 * c.behind-succ.result.number) (2 * c.behind-succ.result.number) refl _ _);
       acts = refl;
     }
@@ -81,10 +85,10 @@ exchange_link_last-requires g c =
 pub returns-else-not-exchange_mark : goal.returns-else-not-exchange_mark
 returns-else-not-exchange_mark g c =
     let at = c.requires.1 _ (ap decision_of (c.in-TakeOut.ensures.deed targets _ c.args.caller.now.is_call.0 refl refl)) in
-    let made = rw c.if-not-exchange_mark.false at c.exchange_mark.ensures in (
+    let made = rw c.if-not-exchange_mark.false at c.exchange_mark.ensures.told in (
       _,
       c.exchange_link_last.ensures _
-          (made _ (to_succ c.behind-succ.ensures (c.load_link.ensures _ at)) _
+          (made _ (to_succ c.behind-succ.ensures (c.load_link.ensures.leads _ at)) _
           (if_same (2 * c.behind-succ.result.number) (2 * c.behind-succ.result.number) refl _ _)) _ refl,
       refl,
     )

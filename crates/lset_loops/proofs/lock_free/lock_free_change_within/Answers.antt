@@ -1,5 +1,5 @@
 use Rattle.lset_lock_free.specs.LockFree.{lock_free}
-use Rattle.lset_loops.proofs.Calling.{may_begin, is_call, called_if}
+use Rattle.lset_loops.proofs.Calling.{may_begin, is_call, ended}
 use Rattle.lset_loops.proofs.lock_free.lock_free_change_within.Goals as goal
 
 pub make-requires-clause-begins : goal.make-requires-clause-begins
@@ -9,4 +9,4 @@ pub make-requires-clause-call : goal.make-requires-clause-call
 make-requires-clause-call g c = is_call _ c.requires.may
 
 pub returns : goal.returns
-returns g c = called_if lock_free c.args.call c.args.place.now c.make.new.place c.make.result c.make.ensures
+returns g c = ended lock_free c.args.call _ c.args.place.now c.make.new.place c.make.result c.make.ensures

@@ -1,7 +1,7 @@
 use Rattle.std.proofs.Common.{◌-◌}
 use Rattle.lset_words.specs.Words.{sizes}
 use Rattle.lset_steps.specs.BoundedReads.{most_reads}
-use Rattle.lset_rule.proofs.Ending.{steps_of}
+use Rattle.lset_rule.specs.Calls.{steps_of}
 use Rattle.lset_loops.specs.Calling.{Holds}
 use Rattle.lset_loops.proofs.Reading.{reading}
 use Rattle.lset_loops.proofs.reads.make.Given as goal

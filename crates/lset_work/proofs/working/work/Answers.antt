@@ -20,22 +20,22 @@ returns-in-Err-clause-refused g c =
 pub returns-in-Err-clause-gate : goal.returns-in-Err-clause-gate
 returns-in-Err-clause-gate g c = shut_gate _ _ c.in-Err.ensures
 
-pub returns-in-Ok-keys_left-clause-outcome : goal.returns-in-Ok-keys_left-clause-outcome
-returns-in-Ok-keys_left-clause-outcome g c =
+pub returns-clause-outcome : goal.returns-clause-outcome
+returns-clause-outcome g c =
     let starts = map (λ s. s.past) c.args.seats.items in
     let replies = map (λ v. v.items) c.in-Ok.gathered.replies.items in
-    let programs = starts_map (λ p. p.calls) (λ v. v.items) c.in-Some.room.programs.items c.args.programs.items c.in-Some.ensures
+    let programs = starts_map (λ p. p.calls) (λ v. v.items) c.in-Some.room.programs.items c.args.programs.items c.in-Some.ensures.programs
     in
     let told = sym (ap (option_map (λ s. s.past)) c.in-Some-seat.is) ∙ c.in-Ok.ensures.gathers
     ∙ ap (λ ps. gather_onto None (worked starts ps replies)) programs in
     gathered_explains c.args.set.shape c.in-Some-seat.seat.past (worked starts (map (λ p. p.items) c.args.programs.items) replies)
-    c.in-Ok-keys_left.keys.items told c.in-Ok-keys_left.ensures.order
+    c.keys_left_in-keys.result.items told c.keys_left_in-keys.ensures.order
 
-pub returns-in-Ok-keys_left-clause-in_time : goal.returns-in-Ok-keys_left-clause-in_time
-returns-in-Ok-keys_left-clause-in_time g c =
+pub returns-clause-in_time : goal.returns-clause-in_time
+returns-clause-in_time g c =
     let starts = map (λ s. s.past) c.args.seats.items in
     let replies = map (λ v. v.items) c.in-Ok.gathered.replies.items in
-    let programs = starts_map (λ p. p.calls) (λ v. v.items) c.in-Some.room.programs.items c.args.programs.items c.in-Some.ensures
+    let programs = starts_map (λ p. p.calls) (λ v. v.items) c.in-Some.room.programs.items c.args.programs.items c.in-Some.ensures.programs
     in
     let told = sym (ap (option_map (λ s. s.past)) c.in-Some-seat.is) ∙ c.in-Ok.ensures.gathers
     ∙ ap (λ ps. gather_onto None (worked starts ps replies)) programs in
@@ -43,13 +43,13 @@ returns-in-Ok-keys_left-clause-in_time g c =
       events = c.in-Some-seat.seat.events;
       begins = subst (λ o. All (HasSeenAll o) c.args.seats.items) c.in-Some-seat.is c.in-Ok.ensures.begins;
       order = gathered_in_time _ c.args.set.shape c.in-Some-seat.seat.events c.in-Some-seat.seat.past
-          (worked starts (map (λ p. p.items) c.args.programs.items) replies) c.in-Ok-keys_left.keys.items told
-          c.in-Ok-keys_left.ensures.in_time;
+          (worked starts (map (λ p. p.items) c.args.programs.items) replies) c.keys_left_in-keys.result.items told
+          c.keys_left_in-keys.ensures.in_time;
     }
 
-pub returns-in-Ok-keys_left-clause-replies : goal.returns-in-Ok-keys_left-clause-replies
-returns-in-Ok-keys_left-clause-replies g c =
-    let programs = starts_map (λ p. p.calls) (λ v. v.items) c.in-Some.room.programs.items c.args.programs.items c.in-Some.ensures
+pub returns-clause-replies : goal.returns-clause-replies
+returns-clause-replies g c =
+    let programs = starts_map (λ p. p.calls) (λ v. v.items) c.in-Some.room.programs.items c.args.programs.items c.in-Some.ensures.programs
     in
     starts_map (λ v. v.items) (λ l. length l) c.in-Ok.gathered.replies.items _ refl ∙ c.in-Ok.ensures.counted
     ∙ ap (map (λ l. length l)) programs

@@ -26,7 +26,7 @@ wait_for-requires g c = record {
 }
 
 pub returns-in_ok-wait_for : goal.returns-in_ok-wait_for
-returns-in_ok-wait_for g c = c.in_ok-wait_for.ensures _
+returns-in_ok-wait_for g c = c.in_ok-wait_for.ensures.leads _
     (first_tried g.M.Machine.table g.met.M.Machine.lawful g.O.Origin.begun c.args.self.now.slots c.args.place.now
     c.exchange_first-seen.result c.exchange_first-seen.new.place c.args.self.now.call c.args.self.now.is_call.0
     c.requires.begins c.exchange_first-seen.ensures.place c.exchange_first-seen.ensures.starts c.requires.again

@@ -26,7 +26,13 @@ pub store_link-requires : goal.store_link-requires
 store_link-requires g c = let h = c.requires in
     record {
       held = _;
-      holds = c.store_key.ensures h.held h.holds;
+      holds = c.store_key.ensures.leads h.held h.holds;
       acts = ap (λ n. Store (link_index n) (2 * c.args.next.number)) c.slot_node.ensures ∙ h.stores.2.0;
       goes_on = h.stores.2.1;
     }
+
+pub returns-clause-stored : goal.returns-clause-stored
+returns-clause-stored g c = record {
+  leads = λ l h. c.store_link.ensures.leads _ (c.store_key.ensures.leads l h);
+  grows = omega (arith, c.store_key.ensures.grows, c.store_link.ensures.grows);
+}

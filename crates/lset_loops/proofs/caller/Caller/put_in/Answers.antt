@@ -1,6 +1,7 @@
-use Rattle.std.proofs.Common.{◌*◌, ap, ◌∙◌}
+use Rattle.std.proofs.Common.{◌*◌, ap, ◌∙◌, subst, arith}
 use Rattle.lset_words.specs.Words.{link_index}
 use Rattle.lset_steps.specs.declared.Action.TheVariants.{Store}
+use Rattle.lset_loops.specs.Calling.{Holds, feeds, slot_stores}
 use Rattle.lset_loops.proofs.caller.Caller.put_in.Goals as goal
 
 pub fill_slot-node-requires : goal.fill_slot-node-requires
@@ -11,7 +12,17 @@ pub store_link-requires : goal.store_link-requires
 store_link-requires g c = let h = c.requires in
     record {
       held = _;
-      holds = c.fill_slot-node.ensures.stored h.held h.holds;
+      holds = c.fill_slot-node.ensures.stored.leads h.held h.holds;
       acts = ap (λ n. Store (link_index c.args.found.pred.number) (2 * n)) c.fill_slot-node.ensures.node ∙ h.stores.2.2.0;
       goes_on = h.stores.2.2.1;
+    }
+
+pub returns : goal.returns
+returns g c =
+    let T = g.M.Machine.table in
+    let filled = slot_stores c.args.self.now.slots c.args.self.now.key c.args.found.curr.number in
+    record {
+      leads = λ l h. subst (λ n. Holds T g.O.Origin.begun (T.feed (feeds T l filled) (2 * n)).local c.store_link.new.place)
+          c.fill_slot-node.ensures.node (c.store_link.ensures.leads _ (c.fill_slot-node.ensures.stored.leads l h));
+      grows = omega (arith, c.fill_slot-node.ensures.stored.grows, c.store_link.ensures.grows);
     }
