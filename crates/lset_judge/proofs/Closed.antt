@@ -15,11 +15,11 @@ use Rattle.lset_history.specs.History.{HistoryValue, latest_moment, moment_of}
 use Rattle.lset_judge.specs.declared.stream.Failed.{Failed}
 use Rattle.lset_judge.specs.declared.stream.Pending.{Pending}
 use Rattle.lset_judge.specs.declared.stream.Stream.{Stream}
-use Rattle.lset_judge.specs.Rule.{State, leaves, same, options, nearest, turned_by, turned_if, settled, open_changes, found, entered, ruled}
+use Rattle.lset_judge.specs.Rule.{State, leaves, same, options, nearest, turned_by, turned_if, settled, open_changes, found, entered, ruled, state_after}
 use Rattle.lset_judge.specs.Events.{event_at, rule_explains, RulePasses}
 use Rattle.lset_judge.specs.Marks.{keys_left, FailsBy}
 use Rattle.lset_judge.specs.Leaving.{has_any, may_be_left}
-use Rattle.lset_judge.specs.Stream.{stream_history, state_after, behind_all, state_for, pending_of, verdict_of_key, IsStreamOf}
+use Rattle.lset_judge.specs.Stream.{stream_history, behind_all, state_for, pending_of, verdict_of_key, IsStreamOf}
 use Rattle.lset_judge.specs.Stream.{IsStreamVerdict}
 use Rattle.lset_judge.specs.Verdict.{IsExplained, IsUnexplained, IsRefusedBy, with_quota, may_add}
 use Rattle.lset_judge.proofs.After.{judged_after, failed_by}

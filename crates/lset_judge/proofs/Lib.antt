@@ -30,6 +30,7 @@ pub mod CutOff
 pub mod Whole
 pub mod Overlapping
 pub mod After
+pub mod Failing
 pub mod Streamed
 pub mod Begun
 pub mod Closed

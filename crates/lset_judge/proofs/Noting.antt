@@ -1,10 +1,9 @@
 -- The rule needs only the events of a key, each with its moment.
 use Rattle.std.proofs.Common.{◌≡◌, ℕ, zero, suc, ◌+◌, ◌<◌, ◌≤◌, ◌⊎◌, List, [], ◌∷◌, ◌++◌, Bool, true, false, inl, inr, refl, sym, ap, ◌∙◌, arith, subst}
 use Rattle.std.proofs.Common.{length, get_or, take, drop, map}
-use Rattle.std.specs.Prelude.{Option, Some, None, is_some, is_none, if◌then◌else◌, All, AllPairs, ◌-◌}
+use Rattle.std.specs.Prelude.{Option, Some, None, is_some, is_none, if◌then◌else◌, All, AllPairs}
 use Rattle.std.proofs.lemmas.Bool.{cases_order}
-use Rattle.std.proofs.lemmas.List.{get_or-take, length-take-le, get_or_default, map_more, drop_more}
-use Rattle.lset_words.proofs.Numbers.{below_or_not}
+use Rattle.std.proofs.lemmas.List.{map_more, drop_more}
 use Rattle.lset_words.specs.SequentialSet.{has_key}
 use Rattle.lset_history.specs.History.{HistoryValue, latest_moment}
 use Rattle.lset_judge.specs.Rule.{Event, leaves, idle, State, found, entered, ruled, settled, open_changes, opened, same}
@@ -15,7 +14,7 @@ use Rattle.lset_judge.proofs.Leading.{at_once}
 use Rattle.lset_judge.proofs.Ruled.{ruled_none}
 
 -- These are, in turn, all events from one moment to another at which something of the key happens.
-abbrev AreNoted : (ℕ → Event) → ℕ → ℕ → List Noted → Type 0
+abbrev pub AreNoted : (ℕ → Event) → ℕ → ℕ → List Noted → Type 0
 AreNoted ev m last [] = (j : ℕ) → m ≤ j → j < last → ev (suc j) ≡ idle
 AreNoted ev m last (x ∷ xs) = (m ≤ x.0) × (x.0 < last) × ((j : ℕ) → m ≤ j → j < x.0 → ev (suc j) ≡ idle) × (ev (suc x.0) ≡ x.1)
     × AreNoted ev (suc x.0) last xs
@@ -80,7 +79,7 @@ module _ (ev : ℕ → Event) (left : Bool) (last : ℕ) where
 rises : (x : Noted) (xs : List Noted) → AllPairs (λ (a b : Noted). a.0 < b.0) (x ∷ xs) → (i : ℕ) (d : Noted) → i < length xs → x.0 < (get_or xs i d).0
 rises x xs r i d l = r 0 (suc i) d (omega arith) (omega (arith, l))
 
-notes_are : (ev : ℕ → Event) (last m : ℕ) (xs : List Noted) → AllPairs (λ (x y : Noted). x.0 < y.0) xs
+pub notes_are : (ev : ℕ → Event) (last m : ℕ) (xs : List Noted) → AllPairs (λ (x y : Noted). x.0 < y.0) xs
     → All (λ (x : Noted). (m ≤ x.0) × (x.0 < last) × (ev (suc x.0) ≡ x.1)) xs
     → ((j : ℕ) → m ≤ j → j < last → (ev (suc j) ≡ idle) ⊎ ((i : ℕ) × (i < length xs) × ((d : Noted) → (get_or xs i d).0 ≡ j)))
     → AreNoted ev m last xs
@@ -121,94 +120,6 @@ notes_judge h keys k xs t =
     let ev : ℕ → Event = event_at last k h.calls in
     ap is_some (noted ev left last last 0 (opened (has_key k h.opening.keys)) xs (omega arith)
     (notes_are ev last 0 xs t.rising (λ i d l. let a = t.right i d l in (omega arith, a.0, a.1)) (λ j _ below. t.all j below)))
-
--- ---- the first notes of a key, up to a moment, and what comes after them
-
-module _ (ev : ℕ → Event) (left : Bool) (stop rest : ℕ) where
-  abbrev after : List Event
-  after = events_on ev left rest stop
-
-  onward : (o : Option State) (m : ℕ) (vs : List Event) (xs : List Noted)
-      → ((s : State) → ruled m (Some s) vs ≡ ruled stop (ruled_on (Some s) xs) after) → ruled m o vs ≡ ruled stop (ruled_on o xs) after
-  onward None m vs xs h = ruled_none m vs ∙ sym (ap (λ o. ruled stop o after) (on_none xs) ∙ ruled_none stop after)
-  onward (Some s) m vs xs h = h s
-
-  first_noted : (n t m : ℕ) (s : State) (xs : List Noted) → m + n ≡ stop → t ≡ n + rest → AreNoted ev m stop xs
-      → ruled m (Some s) (events_on ev left t m) ≡ ruled stop (ruled_on (Some s) xs) after
-  first_noted zero t m s [] e l a =
-      let at : m ≡ stop = omega (arith, e) in let long : t ≡ rest = omega (arith, l) in
-      ap (λ j. ruled m (Some s) (events_on ev left j m)) long ∙ ap (λ j. ruled j (Some s) (events_on ev left rest j)) at
-  first_noted zero t m s (x ∷ xs) e l a = let low = a.0 in let high = a.1 in absurd (omega (arith, e, low, high))
-  first_noted (suc n) zero m s xs e l a = absurd (omega (arith, l))
-  first_noted (suc n) (suc t) m s [] e l a =
-      let none : ev (suc m) ≡ idle = a m (omega arith) (omega (arith, e)) in
-      ap (λ v. ruled m (Some s) (v ∷ events_on ev left t (suc m))) none
-      ∙ idle_skipped m s (events_on ev left t (suc m))
-      ∙ first_noted n t (suc m) s [] (omega (arith, e)) (omega (arith, l)) (λ j low high. a j (omega (arith, low)) high)
-  first_noted (suc n) (suc t) m s (x ∷ xs) e l a = elim (cases_order m x.0) [
-    | inl same ↦ (
-        let here : ev (suc m) ≡ x.1 = ap (λ j. ev (suc j)) same ∙ a.3 in
-        let later_are : AreNoted ev (suc m) stop xs = subst (λ j. AreNoted ev (suc j) stop xs) (sym same) a.4 in
-        ap (λ v. ruled m (Some s) (v ∷ events_on ev left t (suc m))) here
-        ∙ onward (entered x.1 (found m x.1 s)) (suc m) (events_on ev left t (suc m)) xs
-        (λ u. first_noted n t (suc m) u xs (omega (arith, e)) (omega (arith, l)) later_are)
-        ∙ ap (λ j. ruled stop (ruled_on (entered x.1 (found j x.1 s)) xs) after) same)
-    | inr (inl less) ↦ (
-        let none : ev (suc m) ≡ idle = a.2 m (omega arith) less in
-        ap (λ v. ruled m (Some s) (v ∷ events_on ev left t (suc m))) none
-        ∙ idle_skipped m s (events_on ev left t (suc m))
-        ∙ first_noted n t (suc m) s (x ∷ xs) (omega (arith, e)) (omega (arith, l))
-        (omega (arith, less), a.1, λ j low high. a.2 j (omega (arith, low)) high, a.3, a.4))
-    | inr (inr more) ↦ (let low = a.0 in absurd (omega (arith, low, more)))
-  ]
-
--- WHERE THE RULE FAILS on the first notes of a key, it fails whatever happens after the last of them.
-module _ (ev : ℕ → Event) (last : ℕ) (xs : List Noted) (tell : NotesTell ev last xs) (i : ℕ) (inside : i < length xs) (m : ℕ)
-    (at : (d : Noted) → suc (get_or xs i d).0 ≡ m) where
-  abbrev first : List Noted
-  first = take (i + 1) xs
-
-  first_long : length first ≡ i + 1
-  first_long = length-take-le (i + 1) xs (omega (arith, inside))
-
-  in_first : (j : ℕ) (d : Noted) → j < length first → get_or first j d ≡ get_or xs j d
-  in_first j d low = let long = first_long in get_or-take (i + 1) xs j d (omega (arith, long, low))
-
-  up_to : (j : ℕ) (d : Noted) → j < length first → suc (get_or xs j d).0 ≤ m
-  up_to j d low = let long = first_long in let here = at d in elim (below_or_not j i) [
-    | inl less ↦ (let up = tell.rising j i d less inside in omega (arith, up, here))
-    | inr high ↦ (let e : j ≡ i = omega (arith, high, low, long) in
-        let f = ap (λ n. (get_or xs n d).0) e in omega (arith, f, here))
-  ]
-
-  pub fails_by : (s : State) → ruled_on (Some s) first ≡ None → (other : ℕ → Event) (left : Bool) → ((j : ℕ) → j ≤ m → other j ≡ ev j)
-      → ruled 0 (Some s) (events_on other left last 0) ≡ None
-  fails_by s none other left same =
-      let d : Noted = (0, idle) in
-      let here = at d in let most = (tell.right i d inside).0 in
-      let noted : AreNoted other 0 m first = notes_are other m 0 first
-      (λ a b c low high. let long = first_long in
-      let up = tell.rising a b c low (omega (arith, high, long, inside)) in
-      let p = ap (λ (x : Noted). x.0) (in_first a c (omega (arith, low, high))) in
-      let q = ap (λ (x : Noted). x.0) (in_first b c high) in omega (arith, up, p, q))
-      (λ a c low. let up = up_to a c low in let long = first_long in
-      let own = tell.right a c (omega (arith, low, long, inside)) in
-      subst (λ (x : Noted). (0 ≤ x.0) × (x.0 < m) × (other (suc x.0) ≡ x.1)) (sym (in_first a c low))
-      (omega arith, omega (arith, up), same (suc (get_or xs a c).0) up ∙ own.1))
-      (λ j from below. elim (tell.all j (omega (arith, below, here, most))) [
-        | inl e ↦ inl (same (suc j) (omega (arith, below)) ∙ e)
-        | inr f ↦ (let low = f.1 in let there = f.2 d in let long = first_long in elim (below_or_not i f.0) [
-          | inl past ↦ absurd (let up = tell.rising i f.0 d past low in omega (arith, up, there, here, below))
-          | inr high ↦ inr (
-            f.0,
-            omega (arith, high, long),
-            λ c. ap (λ (x : Noted). x.0)
-                (in_first f.0 c (omega (arith, high, long)) ∙ get_or_default xs f.0 c d low) ∙ there,
-          )
-        ])
-      ]) in
-      first_noted other left m (last - m) m last 0 s first (omega arith) (omega (arith, here, most)) noted
-      ∙ ap (λ o. ruled m o (events_on other left (last - m) m)) none ∙ ruled_none m (events_on other left (last - m) m)
 
 -- ---- one list of notes after another
 
@@ -259,6 +170,9 @@ module _ (there there' : Bool) (s t : State) (xs xs' : List Noted) (failed : Opt
   fails_there m ys at =
       let none : ruled_on (Some (opened there')) xs' ≡ None = from_opened ∙ ap (λ o. if is_none o then Some t else None) at in
       sym (ap is_some (on_both (Some (opened there')) xs' ys ∙ ap (λ o. ruled_on o ys) none ∙ on_none ys))
+
+  pub goes_through : failed ≡ None → is_some (ruled_on (Some (opened there')) xs') ≡ true
+  goes_through none = ap is_some (from_opened ∙ ap (λ o. if is_none o then Some t else None) none)
 
   pub goes_on : (b : Bool) (ys : List Noted) → failed ≡ None → b ≡ is_some (ruled_on (Some t) ys)
       → b ≡ is_some (ruled_on (Some (opened there')) (xs' ++ ys))

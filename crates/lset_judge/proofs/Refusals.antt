@@ -14,9 +14,10 @@ use Rattle.lset_history.specs.History.{HistoryValue, latest_moment}
 use Rattle.lset_judge.specs.declared.marks.Mark.{Mark}
 use Rattle.lset_judge.specs.declared.verdict.Refusal.{Refusal}
 use Rattle.lset_judge.specs.Rule.{same, opened}
-use Rattle.lset_judge.specs.Events.{rule_explains, RulePasses}
-use Rattle.lset_judge.specs.Marks.{AreMarks, has_mark, no_mark, IsRunEnd, IsOneOf, ruled_on, noted_at, left_notes, keys_left, FailsAt, FailsBy, Refuses}
-use Rattle.lset_judge.proofs.Runs.{IsRunOf, run_at, run_judges, run_fails, unmarked}
+use Rattle.lset_judge.specs.Events.{rule_explains, RulePasses, HasFailed, HoldsUntil}
+use Rattle.lset_judge.specs.Marks.{AreMarks, has_mark, no_mark, IsRunEnd, IsOneOf, ruled_on, noted_at, left_notes, keys_left, FailsAt, Refuses, refused_at, IsNoLater}
+use Rattle.lset_judge.proofs.Failing.{fails_by, run_holds, holds_less}
+use Rattle.lset_judge.proofs.Runs.{IsRunOf, run_at, run_judges, unmarked}
 use Rattle.lset_judge.proofs.Leaving.{run_tells, passes_with}
 
 -- ---- marks by keys
@@ -66,6 +67,15 @@ module _ (calls : List CallRecord) (marks : List Mark) (are : AreMarks calls mar
           ];
     }
 
+-- what holds of the keys of all marks holds of each key that has one
+pub each_marked : (P : ℕ → Type 0) (marks : List Mark) → ((i : ℕ) → i < length marks → P (get_or marks i no_mark).key)
+    → (k : ℕ) → has_mark k marks ≡ true → P k
+each_marked P marks each k has =
+    let any = Any-from_list_any (λ (m : Mark). m.key == k) marks has in
+    let here : get_or marks any.0 no_mark ≡ any.1 = get_or_default marks any.0 no_mark any.1 any.2 ∙ any.3 in
+    let own : (get_or marks any.0 no_mark).key ≡ k = ap (λ (m : Mark). m.key) here ∙ same_number _ _ any.4 in
+    subst P own (each any.0 any.2)
+
 -- ---- refusals
 
 module _ (h : HistoryValue) (keys : List ℕ) where
@@ -73,11 +83,11 @@ module _ (h : HistoryValue) (keys : List ℕ) where
   Fails r = Refuses h keys r
 
   pub found_tells : (k : ℕ) (found : Option Refusal) → is_none found ≡ rule_explains h keys k → IfSome found (λ (r : Refusal). r.key.0 ≡ k)
-      → IfSome found (λ (r : Refusal). IfSome r.moment (FailsBy h k)) → MatchOption found (rule_explains h keys k ≡ true) Fails
+      → IfSome found (λ (r : Refusal). IfSome r.moment (HasFailed h k)) → MatchOption found (rule_explains h keys k ≡ true) Fails
   found_tells k None e s f = sym e
   found_tells k (Some r) e s f = record {
     rule = ap (rule_explains h keys) s ∙ sym e;
-    by = subst (λ j. IfSome r.moment (FailsBy h j)) (sym s) f;
+    by = subst (λ j. IfSome r.moment (HasFailed h j)) (sym s) f;
   }
 
   -- what holds of the moments of refusals
@@ -99,15 +109,6 @@ module _ (h : HistoryValue) (keys : List ℕ) where
   pub weaker : (A B : Type 0) (a : Option Refusal) → (A → B) → MatchOption a A Fails → MatchOption a B Fails
   weaker A B None f m = f m
   weaker A B (Some r) f m = m
-
-  -- what holds of the keys of all marks holds of each key that has one
-  pub each_marked : (marks : List Mark) → ((i : ℕ) → i < length marks → rule_explains h keys (get_or marks i no_mark).key ≡ true)
-      → (k : ℕ) → has_mark k marks ≡ true → rule_explains h keys k ≡ true
-  each_marked marks each k has =
-      let any = Any-from_list_any (λ (m : Mark). m.key == k) marks has in
-      let here : get_or marks any.0 no_mark ≡ any.1 = get_or_default marks any.0 no_mark any.1 any.2 ∙ any.3 in
-      let own : (get_or marks any.0 no_mark).key ≡ k = ap (λ (m : Mark). m.key) here ∙ same_number _ _ any.4 in
-      subst (λ j. rule_explains h keys j ≡ true) own (each any.0 any.2)
 
   module _ (history : IsHistory h.opening.threads h.calls) (marks : List Mark) (are : AreMarks h.calls marks) where
     pub not_left : (k : ℕ) → has_mark k marks ≡ false → has_key k keys ≢ has_key k h.opening.keys → rule_explains h keys k ≡ false
@@ -153,8 +154,8 @@ module _ (h : HistoryValue) (keys : List ℕ) where
           let by_rule = run_tells h k (map (noted_at (latest_moment h.calls) h.calls) (slice_range marks start end))
           (λ ks. run_judges h ks history marks are k start end of_key) left in
           let ms : List Mark = slice_range marks start end in
-          let fails : IfSome found (λ (r : Refusal). IfSome r.moment (FailsBy h k)) =
-          each_by found (λ m f. run_fails h keys history marks are k start end of_key m
+          let fails : IfSome found (λ (r : Refusal). IfSome r.moment (HasFailed h k)) =
+          each_by found (λ m f. fails_by h keys history marks are k start end of_key m
           (subst (λ n. FailsAt (opened (has_key k h.opening.keys)) n h.calls ms m) is f))
           (subst (λ j. IfSome found (λ (r : Refusal). IfSome r.moment (FailsAt (opened (has_key j h.opening.keys)) latest h.calls ms))) here at) in
           let same = λ (j n : ℕ). is_some (ruled_on (Some (opened (has_key j h.opening.keys)))
@@ -170,6 +171,34 @@ module _ (h : HistoryValue) (keys : List ℕ) where
           ])
           (one_of_both ((i : ℕ) → i < start → rule_explains h keys (get_or marks i no_mark).key ≡ true) (rule_explains h keys k ≡ true)
           first found result one before now)
+
+      -- and until when the rule holds on their keys
+      pub holds_so_far : (latest : ℕ) → latest ≡ latest_moment h.calls → (first found result : Option Refusal)
+          → IsNoLater (refused_at result) (refused_at first) × IsNoLater (refused_at result) (refused_at found)
+          → ((i : ℕ) → i < start → HoldsUntil h (get_or marks i no_mark).key (refused_at first))
+          → (refused_at found ≡ None
+          → is_some (ruled_on (Some (opened (has_key (get_or (slice_range marks start end) 0 no_mark).key h.opening.keys)))
+          (map (noted_at latest h.calls) (slice_range marks start end))) ≡ true)
+          → IfSome found (λ (r : Refusal). IfSome r.moment
+          (FailsAt (opened (has_key (get_or (slice_range marks start end) 0 no_mark).key h.opening.keys)) latest h.calls (slice_range marks start end)))
+          → (i : ℕ) → i < end → HoldsUntil h (get_or marks i no_mark).key (refused_at result)
+      holds_so_far latest is first found result less before through at i low =
+          let k : ℕ = (get_or marks start no_mark).key in
+          let ms : List Mark = slice_range marks start end in
+          let zero : start + 0 ≡ start = omega arith in
+          let some = run.some in
+          let here : (get_or ms 0 no_mark).key ≡ k =
+          ap (λ (m : Mark). m.key) (run_at marks start end 0 no_mark (omega (arith, some)) ∙ ap (λ n. get_or marks n no_mark) zero) in
+          let goes = λ (j n : ℕ). is_some (ruled_on (Some (opened (has_key j h.opening.keys))) (map (noted_at n h.calls) ms)) in
+          let now = run_holds h keys history marks are k start end (is_run h.calls marks are start end run apart) found
+          (λ none. sym (ap (λ j. goes j latest) here ∙ ap (goes k) is) ∙ through none)
+          (subst (λ n. IfSome found (λ (r : Refusal). IfSome r.moment (FailsAt (opened (has_key k h.opening.keys)) n h.calls ms))) is
+          (subst (λ j. IfSome found (λ (r : Refusal). IfSome r.moment (FailsAt (opened (has_key j h.opening.keys)) latest h.calls ms))) here at)) in
+          elim (below_or_not i start) [
+            | inl early ↦ holds_less h (get_or marks i no_mark).key (refused_at result) (refused_at first) less.0 (before i early)
+            | inr from ↦ subst (λ j. HoldsUntil h j (refused_at result)) (sym (run.own i from low))
+                (holds_less h k (refused_at result) (refused_at found) less.1 now)
+          ]
 
 -- keys that are among the one or the other keys alone have a mark
 pub alike_unmarked : (opening keys : List ℕ) (marks : List Mark)
@@ -191,12 +220,16 @@ Unmarked opening keys marks found = MatchOption found
     ((k : ℕ) → has_mark k marks ≡ false → has_key k keys ≡ has_key k opening)
     (λ (r : Refusal). (has_mark r.key.0 marks ≡ false) × (has_key r.key.0 keys ≢ has_key r.key.0 opening) × (r.moment ≡ None))
 
+pub no_moment : (opening keys : List ℕ) (marks : List Mark) (found : Option Refusal) → Unmarked opening keys marks found → refused_at found ≡ None
+no_moment opening keys marks None u = refl
+no_moment opening keys marks (Some r) u = u.2
+
 module _ (h : HistoryValue) (keys : List ℕ) (history : IsHistory h.opening.threads h.calls) (marks : List Mark) (are : AreMarks h.calls marks) where
   pub found_refuses : (found : Option Refusal) → Unmarked h.opening.keys keys marks found → IfSome found (Refuses h keys)
   found_refuses None u = tt
   found_refuses (Some r) u = record {
     rule = not_left h keys history marks are r.key.0 u.0 u.1;
-    by = subst (λ o. IfSome o (FailsBy h r.key.0)) (sym u.2) tt;
+    by = subst (λ o. IfSome o (HasFailed h r.key.0)) (sym u.2) tt;
   }
 
   pub none_passes : (marked found : Option Refusal) → marked ≡ None → found ≡ None

@@ -15,9 +15,10 @@ use Rattle.lset_history.specs.History.{HistoryValue, latest_moment}
 use Rattle.lset_history.proofs.Histories.{calls_of}
 use Rattle.lset_judge.specs.declared.verdict.Refusal.{Refusal}
 use Rattle.lset_judge.specs.Rule.{Event, idle, opened, ruled}
-use Rattle.lset_judge.specs.Events.{ends_at, event_at, events_on, rule_explains}
+use Rattle.lset_judge.specs.Events.{ends_at, event_at, events_on, rule_explains, HasFailed}
 use Rattle.lset_judge.specs.Marks.{FailsBy, Refuses}
 use Rattle.lset_judge.specs.Verdict.{IsUnexplained, with_quota, calls_by, of_key, IsRefusedBy, IsRefused}
+use Rattle.lset_judge.proofs.After.{failed_by}
 use Rattle.lset_judge.proofs.Chosen.{by_history}
 use Rattle.lset_judge.proofs.Deciding.{unexplained}
 use Rattle.lset_judge.proofs.InMoments.{InMoments, in_moments, event_later, event_idle}
@@ -129,9 +130,9 @@ module _ (h : HistoryValue) (told : IsHistory h.opening.threads h.calls) (k M : 
 pub refused : (h : HistoryValue) (keys : List ℕ) → IsHistory h.opening.threads h.calls → (r : Refusal) → Refuses h keys r → IsRefused h keys r
 refused h keys told r fails = at r.key.0 r.moment fails.rule fails.by
   where
-    at : (k : ℕ) (o : Option ℕ) → rule_explains h keys k ≡ false → IfSome o (FailsBy h k) → IsRefusedBy h keys k o
+    at : (k : ℕ) (o : Option ℕ) → rule_explains h keys k ≡ false → IfSome o (HasFailed h k) → IsRefusedBy h keys k o
     at k None rule by = refused_left h told k (latest_moment h.calls) keys refl rule
-    at k (Some m) rule by = refused_by h told k m by
+    at k (Some m) rule by = refused_by h told k m (failed_by h told (latest_moment h.calls) (omega arith) k m by)
 
 pub unexplained_by : (h : HistoryValue) (keys : List ℕ) → IsHistory h.opening.threads h.calls → (r : Refusal) → Refuses h keys r
     → (quota : ℕ) → IsUnexplained (with_quota quota h) keys

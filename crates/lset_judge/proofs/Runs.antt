@@ -1,8 +1,8 @@
 -- The rule on the marks of one key judges the key.
 use Rattle.std.proofs.Common.{◌≡◌, ℕ, suc, ◌+◌, ◌-◌, ◌<◌, ◌≤◌, ◌⊎◌, List, [], ◌∷◌, ◌++◌, Bool, true, false, inl, inr, refl, sym, ap, ◌∙◌, arith, subst}
-use Rattle.std.proofs.Common.{length, get_or, map, drop, take}
+use Rattle.std.proofs.Common.{length, get_or, map, drop}
 use Rattle.std.specs.Prelude.{Some, is_some, IfSome, slice_range, ◌==◌}
-use Rattle.std.proofs.lemmas.List.{length-map, get_or-map, get_or_default, length-take, length-drop, get_or-take, get_or-drop, take-map}
+use Rattle.std.proofs.lemmas.List.{length-map, get_or-map, get_or_default, length-take, length-drop, get_or-take, get_or-drop}
 use Rattle.std.proofs.lemmas.List.Folds.{list_any_at}
 use Rattle.std.proofs.lemmas.Bool.{true≢false}
 use Rattle.lset_words.specs.declared.Reply.{Reply}
@@ -16,10 +16,10 @@ use Rattle.lset_history.proofs.Histories.{calls_of, pairs_of}
 use Rattle.lset_judge.specs.declared.marks.Mark.{Mark}
 use Rattle.lset_judge.specs.Rule.{Event, idle, leaves, opened, same}
 use Rattle.lset_judge.specs.Events.{Kind, changes, sees, nothing, begin_event, end_event, event_in, event_at, rule_explains}
-use Rattle.lset_judge.specs.Marks.{Noted, ruled_on, noted_at, marks_of, AreMarks, no_mark, has_mark, FailsAt, FailsBy}
+use Rattle.lset_judge.specs.Marks.{Noted, ruled_on, noted_at, marks_of, AreMarks, no_mark, has_mark}
 use Rattle.lset_judge.proofs.EventLemmas.{kind, until, begun_below, end_below, Begins, Told, of_nothing, of_begin, of_end, told, begins_at, ends_there}
 use Rattle.lset_judge.proofs.MarkLemmas.{IsMoment, at_begin, at_end, mark_tells, begin_marked, end_marked, in_contains, contains_in}
-use Rattle.lset_judge.proofs.Noting.{NotesTell, notes_judge, fails_by}
+use Rattle.lset_judge.proofs.Noting.{NotesTell, notes_judge}
 use Rattle.lset_judge.proofs.Placing.{In}
 
 module _ (threads : ℕ) (calls : List CallRecord) (history : IsHistory threads calls) where
@@ -56,7 +56,7 @@ module _ (threads : ℕ) (calls : List CallRecord) (history : IsHistory threads 
       let m : Mark = get_or marks i d in let k = are.known i d low in
       let t = mark_tells m.call (call m.call) m (contains_in m (marks_of m.call (call m.call)) k.1) in (k.0, t.key, t.moment)
 
-  right_at : (marks : List Mark) → AreMarks calls marks → (i : ℕ) (d : Mark) (k : ℕ) → i < length marks → (get_or marks i d).key ≡ k
+  pub right_at : (marks : List Mark) → AreMarks calls marks → (i : ℕ) (d : Mark) (k : ℕ) → i < length marks → (get_or marks i d).key ≡ k
       → ((noted_at last calls (get_or marks i d)).0 < last)
       × (event_at last k calls (suc (noted_at last calls (get_or marks i d)).0) ≡ (noted_at last calls (get_or marks i d)).1)
       × (0 < (get_or marks i d).moment)
@@ -109,7 +109,7 @@ pub record IsRunOf (marks : List Mark) (k start end : ℕ) : Type 0 where
 pub run_at : (marks : List Mark) (start end i : ℕ) (d : Mark) → start + i < end → get_or (slice_range marks start end) i d ≡ get_or marks (start + i) d
 run_at marks start end i d low = get_or-take (end - start) (drop start marks) i d (omega (arith, low)) ∙ get_or-drop start marks i d
 
-run_length : (marks : List Mark) (start end : ℕ) → start ≤ end → end ≤ length marks → length (slice_range marks start end) + start ≡ end
+pub run_length : (marks : List Mark) (start end : ℕ) → start ≤ end → end ≤ length marks → length (slice_range marks start end) + start ≡ end
 run_length marks start end low inside = simp (length-take, length-drop) (omega (arith, low, inside))
 
 module _ (h : HistoryValue) (keys : List ℕ) (history : IsHistory h.opening.threads h.calls) (marks : List Mark) (are : AreMarks h.calls marks)
@@ -130,7 +130,7 @@ module _ (h : HistoryValue) (keys : List ℕ) (history : IsHistory h.opening.thr
       get_or-map (noted_at last_of h.calls) (slice_range marks start end) i no_mark d (omega (arith, b, low))
       ∙ ap (noted_at last_of h.calls) (run_at marks start end i no_mark low)
 
-  tell : NotesTell (event_at last_of k h.calls) last_of notes
+  pub tell : NotesTell (event_at last_of k h.calls) last_of notes
   tell = record {
     rising = λ i j d low high.
         let b = notes_long in
@@ -171,31 +171,20 @@ module _ (h : HistoryValue) (keys : List ℕ) (history : IsHistory h.opening.thr
       ≡ is_some (ruled_on (Some (opened (has_key k h.opening.keys))) (notes ++ (last_of, leaves (has_key k keys)) ∷ []))
   run_judges = notes_judge h keys k notes tell
 
-  -- where the rule fails at a mark, it fails by its moment
-  pub run_fails : (moment : ℕ) → FailsAt (opened (has_key k h.opening.keys)) last_of h.calls (slice_range marks start end) moment → FailsBy h k moment
-  run_fails moment f =
-      let ms : List Mark = slice_range marks start end in let inside = f.inside in
-      let note : Mark → Noted = noted_at last_of h.calls in
-      let long = length-map ms note in
-      let b = run_length marks start end run.low run.inside in let c = run.inside in
-      let own = run.own (start + f.place) no_mark (omega arith) (omega (arith, b, inside)) in
-      let some = (right_at h.opening.threads h.calls history marks are (start + f.place) no_mark k (omega (arith, b, c, inside)) own).2 in
-      let there = f.there in
-      let same = ap (λ (m : Mark). m.moment) (run_at marks start end f.place no_mark (omega (arith, b, inside))) in
-      fails_by (event_at last_of k h.calls) last_of notes tell f.place (omega (arith, long, inside)) moment
-      (λ d. let at = ap (λ (x : Noted). x.0) (note_at f.place d (omega (arith, b, inside))) in omega (arith, at, some, same, there))
-      (opened (has_key k h.opening.keys)) (ap (ruled_on (Some (opened (has_key k h.opening.keys)))) (take-map note (f.place + 1) ms) ∙ f.fails)
+-- a key without marks
+pub no_run : (marks : List Mark) (k : ℕ) → has_mark k marks ≡ false → IsRunOf marks k 0 0
+no_run marks k none = record {
+  low = omega arith;
+  inside = omega arith;
+  own = λ i d low high. absurd (omega (arith, high));
+  all = λ i d low own. absurd (true≢false (sym (list_any_at (λ (m : Mark). m.key == k) marks i d low (equal_test _ _ own)) ∙ none));
+}
 
 -- A KEY WITHOUT MARKS is to be left as it was at first
 pub unmarked : (h : HistoryValue) (keys : List ℕ) → IsHistory h.opening.threads h.calls → (marks : List Mark) → AreMarks h.calls marks → (k : ℕ)
     → has_mark k marks ≡ false → rule_explains h keys k ≡ same (has_key k keys) (has_key k h.opening.keys)
 unmarked h keys history marks are k none =
-    run_judges h keys history marks are k 0 0 (record {
-      low = omega arith;
-      inside = omega arith;
-      own = λ i d low high. absurd (omega (arith, high));
-      all = λ i d low own. absurd (true≢false (sym (list_any_at (λ (m : Mark). m.key == k) marks i d low (equal_test _ _ own)) ∙ none));
-    }) ∙ left_as_was (latest_moment h.calls) (has_key k h.opening.keys) (has_key k keys)
+    run_judges h keys history marks are k 0 0 (no_run marks k none) ∙ left_as_was (latest_moment h.calls) (has_key k h.opening.keys) (has_key k keys)
   where
     left_as_was : (last : ℕ) (b left : Bool) → is_some (ruled_on (Some (opened b)) ((last, leaves left) ∷ [])) ≡ same left b
     left_as_was last true true = refl

@@ -18,9 +18,9 @@ use Rattle.lset_history.proofs.Histories.{calls_of, pairs_of}
 use Rattle.lset_judge.specs.declared.rule.KeyState.{KeyState}
 use Rattle.lset_judge.specs.declared.stream.Failed.{Failed}
 use Rattle.lset_judge.specs.declared.stream.Pending.{Pending}
-use Rattle.lset_judge.specs.Rule.{Event, State, idle, found, entered}
+use Rattle.lset_judge.specs.Rule.{Event, State, idle, found, entered, stepped, state_after}
 use Rattle.lset_judge.specs.Events.{kind_if, until_if, ends_at, begin_event, event_at}
-use Rattle.lset_judge.specs.Stream.{stepped, state_after, behind_all, state_for, pending_of, no_pending, IsBefore, ArePending, IsJudgedTo}
+use Rattle.lset_judge.specs.Stream.{behind_all, state_for, pending_of, no_pending, IsBefore, ArePending, IsJudgedTo}
 use Rattle.lset_judge.specs.Stream.{IsMetBy, IsMet, MayCome}
 use Rattle.lset_judge.proofs.After.{idle_step, quiet_until}
 use Rattle.lset_judge.proofs.EventLemmas.{Told, of_nothing, of_begin, of_end, told, ends_there}

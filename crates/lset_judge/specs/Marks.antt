@@ -1,6 +1,6 @@
 -- The marks of calls: the moments at which something may happen of a key, and the rule on the marks of one key.
 use Rattle.std.specs.Prelude.{◌≡◌, ◌≢◌, ℕ, suc, ◌-◌, ◌==◌, ◌<◌, ◌≤◌, ◌⊎◌, Bool, List, [], ◌∷◌, ◌++◌, length, Option, Some, None, All, AllPairs}
-use Rattle.std.specs.Prelude.{Contains, slice_index_or, ◌+◌, false, map, take, IfSome, ◌&&◌, not, if◌then◌else◌}
+use Rattle.std.specs.Prelude.{Contains, slice_index_or, ◌+◌, false, map, take, IfSome, ◌&&◌, not, if◌then◌else◌, IsSomeAnd}
 use Rattle.std.specs.List.{list_any}
 use Rattle.lset_words.specs.declared.Reply.{Reply}
 use Rattle.lset_words.specs.declared.history.CallRecord.{CallRecord}
@@ -11,7 +11,7 @@ use Rattle.lset_history.specs.History.{HistoryValue, latest_moment}
 use Rattle.lset_judge.specs.declared.marks.Mark.{Mark}
 use Rattle.lset_judge.specs.declared.verdict.Refusal.{Refusal}
 use Rattle.lset_judge.specs.Rule.{Event, leaves, State, found, entered, ruled, opened}
-use Rattle.lset_judge.specs.Events.{Kind, changes, sees, nothing, kind_if, event_in, event_at, events_on, rule_explains}
+use Rattle.lset_judge.specs.Events.{Kind, changes, sees, nothing, kind_if, event_in, event_at, events_on, rule_explains, HasFailed}
 
 -- ---- the marks
 
@@ -86,11 +86,12 @@ keys_left h (Some keys) = keys
 abbrev pub no_mark : Mark
 no_mark = record { key = 0; moment = 0; call = 0 }
 
--- the rule fails at the mark of a moment
+-- the rule fails at the mark of a moment, and not before
 pub record FailsAt (state : State) (latest : ℕ) (calls : List CallRecord) (run : List Mark) (moment : ℕ) : Type 0 where
   pub place : ℕ
   pub inside : place < length run
   pub there : (slice_index_or run place no_mark).moment ≡ moment
+  pub before : (s : State) × (ruled_on (Some state) (map (noted_at latest calls) (take place run)) ≡ Some s)
   pub fails : ruled_on (Some state) (map (noted_at latest calls) (take (place + 1) run)) ≡ None
 
 -- the rule fails on a key by a moment, whatever happens after it
@@ -102,7 +103,16 @@ FailsBy h key moment = (other : ℕ → Event) (left : Bool)
 -- the rule fails on the key of a refusal, and by its moment, if it has one
 pub record Refuses (h : HistoryValue) (keys : List ℕ) (r : Refusal) : Type 0 where
   pub rule : rule_explains h keys r.key.0 ≡ false
-  pub by : IfSome r.moment (FailsBy h r.key.0)
+  pub by : IfSome r.moment (HasFailed h r.key.0)
+
+-- the moment of a refusal, if there is one and it has one
+abbrev pub refused_at : Option Refusal → Option ℕ
+refused_at None = None
+refused_at (Some r) = r.moment
+
+-- a moment is not later than another; none is later than all
+abbrev pub IsNoLater : Option ℕ → Option ℕ → Type 0
+IsNoLater moment other = IfSome other (λ n. IsSomeAnd moment (λ m. m ≤ n))
 
 -- the marks from one place to before another are of one key, and the next one is of another key
 pub record IsRunEnd (marks : List Mark) (start end : ℕ) : Type 0 where

@@ -91,5 +91,15 @@ ruled m None vs = None
 ruled m (Some s) [] = Some s
 ruled m (Some s) (v ∷ vs) = ruled (suc m) (entered v (found m v s)) vs
 
+-- what happens at the moment after one, to the state up to it; none if the rule has failed
+abbrev pub stepped : ℕ → Event → Option State → Option State
+stepped m v None = None
+stepped m v (Some s) = entered v (found m v s)
+
+-- the state after a moment
+abbrev pub state_after : (ℕ → Event) → Bool → ℕ → Option State
+state_after ev opening zero = Some (opened opening)
+state_after ev opening (suc m) = stepped m (ev (suc m)) (state_after ev opening m)
+
 abbrev pub rule_succeeds : Bool → List Event → Bool
 rule_succeeds opening events = is_some (ruled 0 (Some (opened opening)) events)

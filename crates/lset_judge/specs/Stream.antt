@@ -1,5 +1,5 @@
 -- A STREAM OF CALLS, judged as they come: what is kept of the calls so far, and what the verdict says of them.
-use Rattle.std.specs.Prelude.{◌≡◌, ◌≢◌, ℕ, zero, suc, ◌<◌, ◌≤◌, ◌^◌, ◌⊎◌, Bool, true, false, List, length, Option, Some, None, All}
+use Rattle.std.specs.Prelude.{◌≡◌, ◌≢◌, ℕ, ◌<◌, ◌≤◌, ◌^◌, ◌⊎◌, Bool, true, false, List, length, Option, Some, None, All}
 use Rattle.std.specs.Prelude.{AllPairs, Contains, IfSome, ◌-◌, slice_index_or}
 use Rattle.std.specs.List.Sorted.{IsStrictlyIncreasing}
 use Rattle.std.specs.Ordering.{nat_cmp}
@@ -17,7 +17,7 @@ use Rattle.lset_judge.specs.declared.stream.StreamVerdict.TheVariants.{Lineariza
 use Rattle.lset_judge.specs.declared.stream.Failed.{Failed}
 use Rattle.lset_judge.specs.declared.stream.Pending.{Pending}
 use Rattle.lset_judge.specs.declared.stream.Stream.{Stream}
-use Rattle.lset_judge.specs.Rule.{Event, State, idle, opened, found, entered}
+use Rattle.lset_judge.specs.Rule.{Event, State, idle, opened, found, entered, state_after}
 use Rattle.lset_judge.specs.Code.{state_of}
 use Rattle.lset_judge.specs.Events.{kind_if, until_if, end_event, event_at}
 use Rattle.lset_judge.specs.Verdict.{IsPlain, IsExplained, IsUnexplained, IsRefusedBy, is_plain, with_quota}
@@ -32,18 +32,6 @@ stream_history threads opening calls = record {
   opening = record { threads = threads; quota = length calls; keys = opening };
   calls = calls;
 }
-
--- ---- the rule, one moment after another
-
--- what happens at the moment after one, to the state up to it; none if the rule has failed
-abbrev pub stepped : ℕ → Event → Option State → Option State
-stepped m v None = None
-stepped m v (Some s) = entered v (found m v s)
-
--- the state of a key after a moment
-abbrev pub state_after : (ℕ → Event) → Bool → ℕ → Option State
-state_after ev opening zero = Some (opened opening)
-state_after ev opening (suc m) = stepped m (ev (suc m)) (state_after ev opening m)
 
 -- ---- what is kept
 

@@ -11,7 +11,7 @@ use Rattle.lset_words.specs.Words.{key_of}
 use Rattle.lset_words.specs.SequentialSet.{has_key}
 use Rattle.lset_history.specs.History.{HistoryValue, latest_moment}
 use Rattle.lset_history.specs.Faults.{Explains}
-use Rattle.lset_judge.specs.Events.{RulePasses}
+use Rattle.lset_judge.specs.Events.{RulePasses, FailsFirst}
 use Rattle.lset_judge.specs.declared.verdict.Refusal.{Refusal}
 use Rattle.lset_judge.specs.declared.verdict.Verdict.{Verdict}
 use Rattle.lset_judge.specs.declared.verdict.Verdict.TheVariants.{Linearizable, NotLinearizable, Undecided}
@@ -107,11 +107,12 @@ IsRefused h keys refusal = IsRefusedBy h keys refusal.key.0 refusal.moment
 
 -- ---- WHAT A VERDICT SAYS
 
--- a verdict says that some order explains the calls and leaves the keys; that none does, with a refusal that says why; or that this is not
--- a history that the judge decides, and that the judge's rule fails on no key of it
+-- a verdict says that some order explains the calls and leaves the keys; that none does, with a refusal that says why, and that is
+-- where the judge's rule fails first; or that this is not a history that the judge decides, and that the rule fails on no key of it
 abbrev pub IsVerdict : HistoryValue → List ℕ → Verdict → Type 0
 IsVerdict h keys Linearizable = IsExplained h keys
-IsVerdict h keys (NotLinearizable refusal) = IsUnexplained h keys × IsRefused h keys refusal
+IsVerdict h keys (NotLinearizable refusal) =
+    IsUnexplained h keys × IsRefused h keys refusal × FailsFirst h keys refusal.key.0 refusal.moment
 IsVerdict h keys Undecided = (IsJudged h → ⊥) × RulePasses h keys
 
 -- a history of a set without a quota: each thread has room for all calls
@@ -122,7 +123,8 @@ without_quota h = with_quota (length h.calls) h
 -- ended calls answered true or false, and none is a ceiling; of another it may say that it does not, if the judge's rule fails on no key
 abbrev pub IsVerdictWithoutQuota : HistoryValue → List ℕ → Verdict → Type 0
 IsVerdictWithoutQuota h keys Linearizable = IsExplained (without_quota h) keys
-IsVerdictWithoutQuota h keys (NotLinearizable refusal) = ((quota : ℕ) → IsUnexplained (with_quota quota h) keys) × IsRefused h keys refusal
+IsVerdictWithoutQuota h keys (NotLinearizable refusal) =
+    ((quota : ℕ) → IsUnexplained (with_quota quota h) keys) × IsRefused h keys refusal × FailsFirst h keys refusal.key.0 refusal.moment
 IsVerdictWithoutQuota h keys Undecided = (IsPlain h.calls → ⊥) × RulePasses h keys
 
 -- a verdict on a recording that was cut off, so that the keys left are not known, says that with some keys left some order explains the

@@ -1,13 +1,13 @@
 //! Each key judged by the rule, over its marks.
 
-ghost use Rattle.std.specs.Prelude.{◌≡◌, ◌≢◌, ◌<◌, ◌++◌, ℕ, All, map, length, false, true, None, Some, is_none, is_some, IfOk, IfSome, slice_index_or, if◌then◌else◌, MatchOption, option_copied};
+ghost use Rattle.std.specs.Prelude.{◌≡◌, ◌≢◌, ◌<◌, ◌++◌, ℕ, All, map, length, false, true, None, Some, is_none, is_some, IfOk, IfSome, IsTrue, IsFalse, slice_index_or, if◌then◌else◌, MatchOption, option_copied};
 ghost use Rattle.std.specs.List.Sorted.{IsStrictlyIncreasing, IsNonDecreasingBy};
 ghost use Rattle.lset_words.specs.SequentialSet.{has_key};
 ghost use Rattle.lset_words.specs.History.{IsHistory};
 ghost use Rattle.lset_history.specs.History.{latest_moment};
 ghost use Rattle.lset_judge.specs.Rule.{opened};
-ghost use Rattle.lset_judge.specs.Events.{rule_explains, RulePasses};
-ghost use Rattle.lset_judge.specs.Marks.{ruled_on, noted_at, left_notes, keys_left, AreMarks, has_mark, no_mark, IsOneOf, FailsAt, Refuses};
+ghost use Rattle.lset_judge.specs.Events.{rule_explains, RulePasses, HoldsUntil, FailsFirst};
+ghost use Rattle.lset_judge.specs.Marks.{ruled_on, noted_at, left_notes, keys_left, AreMarks, has_mark, no_mark, IsOneOf, FailsAt, Refuses, refused_at, IsNoLater};
 ghost use Rattle.lset_judge.specs.Code.{state_of};
 ghost use Rattle.lset_judge.specs.Verdict.{IsJudged, IsExplained, IsUnexplained, IsRefused, with_quota};
 
@@ -70,6 +70,8 @@ fn judge_run(
     ensures key { IfOk result (λ refused. IfSome refused (λ refusal. refusal.key.0 ≡ (slice_index_or run.now 0 no_mark).key)) }
     ensures at { let key = (slice_index_or run.now 0 no_mark).key in IfOk result (λ refused. IfSome refused (λ refusal. IfSome refusal.moment
         (FailsAt (opened (has_key key history.now.opening.keys)) latest history.now.calls run.now))) }
+    ensures through { let key = (slice_index_or run.now 0 no_mark).key in IfOk result (λ refused. refused_at refused ≡ None
+        → is_some (ruled_on (Some (opened (has_key key history.now.opening.keys))) (map (noted_at latest history.now.calls) run.now)) ≡ true) }
 {
     let key = run[0].key;
     let mut state = KeyState::opened(alloc, is_among(history.opening(), key));
@@ -107,13 +109,27 @@ fn lost_key(keys: &[u32], others: &[u32], marks: &[Mark]) -> Option<u32>
     None
 }
 
+/// Whether a moment is not later than another; none is later than all.
+fn is_no_later(moment: Option<u32>, other: Option<u32>) -> bool
+    ensures yes { IsTrue result → IsNoLater moment other }
+    ensures no { IsFalse result → IsNoLater other moment }
+{
+    match (moment, other) {
+        (Some(moment), Some(other)) => moment <= other,
+        (None, Some(_)) => false,
+        (_, None) => true,
+    }
+}
+
 /// The refusal of which the moment is the earlier.
+#[tactic(auto, using(crate::proofs::Failing::no_later_itself))]
 fn earlier(first: Option<Refusal>, second: Option<Refusal>) -> Option<Refusal>
-    ensures { IsOneOf first second result }
+    ensures one { IsOneOf first second result }
+    ensures no_later { IsNoLater (refused_at result) (refused_at first) × IsNoLater (refused_at result) (refused_at second) }
 {
     match (first, second) {
         (Some(one), Some(other)) => {
-            if one.moment.unwrap_or(u32::MAX) <= other.moment.unwrap_or(u32::MAX) {
+            if is_no_later(one.moment, other.moment) {
                 first
             } else {
                 second
@@ -133,9 +149,10 @@ fn first_of_runs(
 ) -> Result<Option<Refusal>, AllocError>
     requires rising { IfSome (option_copied left) IsStrictlyIncreasing }
     requires marks { AreMarks history.now.calls marks.now }
-    ensures { IfOk result (λ refused. MatchOption refused
+    ensures judged { IfOk result (λ refused. MatchOption refused
         ((k : ℕ) → has_mark k marks.now ≡ true → rule_explains history.now (keys_left history.now (option_copied left.entry)) k ≡ true)
         (Refuses history.now (keys_left history.now (option_copied left.entry)))) }
+    ensures first { IfOk result (λ refused. (k : ℕ) → has_mark k marks.now ≡ true → HoldsUntil history.now k (refused_at refused)) }
 {
     let calls = history.calls();
     let latest = latest_moment(calls);
@@ -183,6 +200,7 @@ pub(crate) fn first_failure(
     ensures judged { IfOk result (λ refused. MatchOption refused
         (RulePasses history.now (keys_left history.now (option_copied left.entry)))
         (Refuses history.now (keys_left history.now (option_copied left.entry)))) }
+    ensures first { IfOk result (λ refused. (k : ℕ) → HoldsUntil history.now k (refused_at refused)) }
 {
     let opening = history.opening();
     let marks = marks_of(alloc, history.calls())?;
@@ -195,9 +213,10 @@ pub(crate) fn first_failure(
     }
 }
 
-/// Why no order explains the history and leaves the keys: a key, and the moment up to which its calls have no order, the first that the
-/// rule finds; in a history with `ceiling` and `full` too, and under any quota. If there is none, the rule fails on no key; and if the judge
-/// decides the history (`is_judged`), under its own quota or another, some order explains it.
+/// Why no order explains the history and leaves the keys: a key, and the moment up to which its calls have no order; in a history with
+/// `ceiling` and `full` too, and under any quota. It is where the rule fails first: by no earlier moment has it failed on any key. If there
+/// is none, the rule fails on no key; and if the judge decides the history (`is_judged`), under its own quota or another, some order
+/// explains it.
 ///
 /// `keys` are the keys left; they rise. It sorts the moments of the calls once, and goes over them once: n log n steps for n calls.
 pub fn first_refused(
@@ -215,6 +234,8 @@ pub fn first_refused(
         → (quota : ℕ) → IsJudged (with_quota quota history.now) → IsExplained (with_quota quota history.now) keys.now) }
     ensures ruled { IfOk result (λ refused. refused ≡ None → RulePasses history.now keys.now) }
     ensures fails { IfOk result (λ refused. IfSome refused (λ refusal. rule_explains history.now keys.now refusal.key.0 ≡ false)) }
+    ensures first { IfOk result (λ refused. IfSome refused
+        (λ refusal. FailsFirst history.now keys.now refusal.key.0 refusal.moment)) }
 {
     first_failure(alloc, history, Some(keys))
 }

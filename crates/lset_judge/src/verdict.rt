@@ -34,6 +34,7 @@ pub enum Verdict {
 /// Whether some order linearizes the calls of a history from its opening keys, and leaves these keys: the answer is `Linearizable` exactly
 /// if one does, and `NotLinearizable` exactly if none does, for each history that the judge decides (`is_judged`). Of any other it says
 /// `NotLinearizable` only if none does, and `Undecided` only if its rule fails on no key.
+/// A refusal is where its rule fails first: by no earlier moment has it failed on any key.
 ///
 /// `keys` are the keys left; they rise. It fails only if memory is refused, and takes some 12 bytes for each begin and end of a call.
 /// (Linearizability is Herlihy and Wing's; that it is told in n log n steps for n calls of a set, this project's own.)

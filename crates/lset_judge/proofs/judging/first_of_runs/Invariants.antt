@@ -1,7 +1,7 @@
 use Rattle.std.proofs.Common.{◌≡◌, ℕ, ◌<◌, ◌≤◌, ◌-◌, true, length, get_or}
 use Rattle.std.specs.Prelude.{MatchOption, option_copied}
-use Rattle.lset_judge.specs.Events.{rule_explains}
-use Rattle.lset_judge.specs.Marks.{no_mark, keys_left, Refuses}
+use Rattle.lset_judge.specs.Events.{rule_explains, HoldsUntil}
+use Rattle.lset_judge.specs.Marks.{no_mark, keys_left, Refuses, refused_at}
 use Rattle.lset_judge.proofs.judging.first_of_runs.Given as goal
 
 abbrev pub invariant-loop-start : goal.invariant-loop-start
@@ -11,6 +11,7 @@ invariant-loop-start l = record {
   judged : MatchOption l.first
       ((i : ℕ) → i < l.start → rule_explains l.history (keys_left l.history (option_copied l.left)) (get_or l.marks i no_mark).key ≡ true)
       (Refuses l.history (keys_left l.history (option_copied l.left)));
+  holds : (i : ℕ) → i < l.start → HoldsUntil l.history (get_or l.marks i no_mark).key (refused_at l.first);
 }
 
 abbrev pub decreases-loop-start : goal.decreases-loop-start

@@ -1,6 +1,7 @@
 use Rattle.std.proofs.lemmas.Result.{IfOk-weaker}
 use Rattle.lset_judge.proofs.Deciding.{explained}
 use Rattle.lset_judge.specs.Verdict.{with_quota}
+use Rattle.lset_judge.proofs.Failing.{first_found}
 use Rattle.lset_judge.proofs.Refusals.{some_fails, none_fails, rule_fails}
 use Rattle.lset_judge.proofs.Refused.{found_refused, found_refutes, found_refutes_so}
 use Rattle.lset_judge.proofs.judging.first_refused.Goals as goal
@@ -51,3 +52,7 @@ pub returns-clause-fails : goal.returns-clause-fails
 returns-clause-fails c =
     let h = c.args.history.now in let keys = c.args.keys.now in
     IfOk-weaker c.first_failure.result _ _ (λ found m. rule_fails h keys found (some_fails h keys found m)) c.first_failure.ensures.judged
+
+pub returns-clause-first : goal.returns-clause-first
+returns-clause-first c =
+    first_found c.args.history.now c.args.keys.now c.first_failure.result c.first_failure.ensures.judged c.first_failure.ensures.first

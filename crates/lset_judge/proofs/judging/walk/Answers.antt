@@ -20,6 +20,7 @@ returns-then-not-branch-clause-failed c =
       place = i;
       inside = c.loop-mark-test.true;
       there = refl;
+      before = (state_of c.loop-mark.state, c.loop-mark.invariant.first);
       fails = walked_more (noted_at c.args.latest calls) (state_of c.args.state.now) (state_of c.loop-mark.state) run i c.loop-mark-test.true
           c.loop-mark.invariant.first c.event_of-event.result c.from-before.result None event moment
           (c.in_ok-meet.ensures ∙ ap (λ b. if b then Some (state_of c.meet.new.self) else None) c.if-not-branch.true);

@@ -1,7 +1,7 @@
-use Rattle.std.proofs.Common.{None, subst, sym, ◌∙◌, true≢false}
+use Rattle.std.proofs.Common.{ℕ, None, subst, sym, ◌∙◌, true≢false}
 use Rattle.std.specs.Prelude.{MatchOption}
-use Rattle.lset_judge.specs.Events.{RulePasses}
-use Rattle.lset_judge.specs.Marks.{keys_left, Refuses}
+use Rattle.lset_judge.specs.Events.{RulePasses, HoldsUntil}
+use Rattle.lset_judge.specs.Marks.{keys_left, Refuses, refused_at}
 use Rattle.lset_judge.proofs.CutOff.{cut_off_refused, cut_off_explained}
 use Rattle.lset_judge.proofs.Refusals.{none_fails}
 use Rattle.lset_judge.proofs.verdict.judge_cut_off.Goals as goal
@@ -11,6 +11,7 @@ returns-in-Some c =
     let h = c.args.history.now in
     cut_off_refused h c.first_failure.ensures.history c.in-Some.refusal
     (subst (λ o. MatchOption o (RulePasses h (keys_left h None)) (Refuses h (keys_left h None))) c.in-Some.is c.in_ok-refused.ensures.judged)
+    (subst (λ o. (k : ℕ) → HoldsUntil h k (refused_at o)) c.in-Some.is c.in_ok-refused.ensures.first)
 
 pub returns-in-None : goal.returns-in-None
 returns-in-None c =
