@@ -93,7 +93,7 @@ NOT_AT_WILL = {
     r"lset_judge/window::is_whole": "the verdict is Undecided",
     r"lset_order/finder::nearest": "no order is found",
 }
-ALL_ROUNDS = {"for _ in 0..N::MOST", "for _ in 0..u64::MAX"}  # behind such a loop, without a break, all rounds were made
+ALL_ROUNDS = {"for _ in 0..N::MOST", "for round in 0..N::MOST", "for _ in 0..u64::MAX"}  # behind such a loop, without a break, all rounds were made
 WRAPPERS = "Err Some ReportFault::at LongFault::at Trouble::Work Trouble::Serve deliver put tell_line Vec::from_slice".split()
 # Calls of std that can fail so, the others that a `?` may follow, and what asks for memory by a number
 STD_FAILS = set("""
@@ -123,6 +123,9 @@ ODD_PLACES = {
      " && put(output, BUILT.as_bytes())"): "four calls, each of which can fail",
     ("lset_command/command_line::is_out_of_memory", "ErrorKind::OutOfMemory", "always: error.kind() == ErrorKind::OutOfMemory"): "a test",
     ("lset_dispatch/dispatching::decline", "Trouble::Memory", "if is_out_of_memory(error)"): "the test above, of an error of clap",
+    ("lset_rule/interpreter::interpret_within", "None",
+     "last.fed.answer? where last = Stepped { fed: M::feed(&begun, seen), failed: has_failed(action, seen), },"
+     " last = one_step::<M, 4>(table, place, &fourth.fed.local)"): "all rounds were made, and the last step did not answer",
     ("lset_server/lingering::drop_rest", "return", "if count == 0"): "the client's end",
     ("lset_server/lingering::take_leave", "return", "match why { EndReason::End | EndReason::ReadFault | EndReason::WriteFault =>"):
         "the client's bytes have ended, or the connection is broken",
@@ -157,10 +160,9 @@ ODD_PLACES = {
 # What is asked of std by a number: as many as the function is given of something, or as the set has
 ASKED = {
     "Vec::with_capacity(alloc, calls.len())":
-        "lset_calls/order::ranked_calls lset_calls/report::records_of lset_calls/turns::numbered lset_work/room::with_room",
-    "Vec::with_capacity(alloc, ranked.len())":
-        "lset_calls/order::without_ranks lset_replay/order::without_ranks lset_replay/order::points_of",
-    "Vec::with_capacity(alloc, places.len())": "lset_replay/order::ranked_calls",
+        "lset_calls/order::pointed_calls lset_calls/report::records_of lset_calls/turns::numbered lset_work/room::with_room",
+    "Vec::with_capacity(alloc, places.len())": "lset_replay/order::pointed_calls lset_report/order::order_of lset_report/order::points_of",
+    "Vec::with_capacity(alloc, keys)": "lset_work/room::reserved",
     "Vec::with_capacity(alloc, numbers.len())": "lset_judge/alone::calls_numbered",
     "Vec::with_capacity(alloc, seats.len())": "lset_server/workers::start_all",
     "Vec::with_capacity(alloc, programs.len())": "lset_work/room::with_room",
@@ -180,6 +182,7 @@ ASKED = {
     "vec![in alloc; false; threads as usize]": "lset_report/calls::new",
     "vec![in alloc; None; threads as usize]": "lset_replay/recorder::new",
     "tree.iter().copied().collect(alloc)": "broken_lists/meeting::keys_in",
+    "(0..layout.threads()).map(|t| Local::idle(layout, t)).collect(alloc)": "broken_lists/world::idle_locals",
     "chain.iter().copied().collect(self.alloc) where chain = chain_met(self.alloc, self.world.words())?":
         "broken_lists/running::changed_chain",
     "chain.iter().copied().collect(alloc)": "lset_replay/tracing::copy_of",
