@@ -10,7 +10,7 @@ use Rattle.lset_judge.specs.Verdict.{IsUnexplained, with_quota}
 use Rattle.lset_parts.specs.Parts.{Part}
 use Rattle.lset_parts.specs.Kept.{KeptParts, EndsFull}
 use Rattle.lset_parts.specs.Judged.{RefutesTheWhole}
-use Rattle.lset_parts.proofs.Kept.{has_no_full, rests_before}
+use Rattle.lset_parts.proofs.Kept.{has_no_full, keys_are, rests_before}
 use Rattle.lset_parts.proofs.Needed.{part_needed}
 
 pub refutes : (kept : KeptParts) (p : Part) → p.history.opening.keys ≡ kept.keys
@@ -27,4 +27,4 @@ refutes kept p same full told none opening ps threads quota a rest late whole E 
       calls = p.history.calls;
     }) order p.keys in
     none (length order) order
-    (subst Opened (sym a.keys_are ∙ sym same) (needed.1 p.history.opening.threads (length order) (omega arith)))
+    (subst Opened (keys_are opening ps kept a ∙ sym same) (needed.1 p.history.opening.threads (length order) (omega arith)))

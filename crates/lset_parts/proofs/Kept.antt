@@ -1,17 +1,20 @@
 -- One part more.
-use Rattle.std.proofs.Common.{◌≡◌, ◌≢◌, ℕ, ◌+◌, ◌<◌, ◌≤◌, true, List, [], ◌∷◌, ◌++◌, map, length, get_or, refl, sym, subst, ap, ◌∙◌, arith}
-use Rattle.std.specs.Prelude.{All, AllPairs, Option, Some, None, IfSome, IsSome, IsSomeAnd, IsTrue, ◌↔◌}
+use Rattle.std.proofs.Common.{◌≡◌, ◌≢◌, ℕ, ◌+◌, ◌<◌, ◌≤◌, ◌&&◌, max, Bool, true, List, [], ◌∷◌, ◌++◌, map, get_or, refl, sym, subst, ap, ◌∙◌, arith}
+use Rattle.std.specs.Prelude.{All, AllPairs, Option, Some, None, IfSome, IsSome, IsSomeAnd, IsTrue, is_some}
 use Rattle.std.specs.List.Sorted.{IsStrictlyIncreasing}
-use Rattle.std.proofs.lemmas.List.{append-nil, append_assoc, length-map}
+use Rattle.std.proofs.lemmas.List.{append-nil, append_assoc}
 use Rattle.std.proofs.lemmas.List.Elements.{All-append, All-cons, All-map, All-nil}
+use Rattle.std.proofs.lemmas.List.Folds.{list_all-append}
+use Rattle.std.proofs.lemmas.List.Sums.{AllPass-from_list_all}
 use Rattle.lset_words.specs.declared.Reply.{Reply}
 use Rattle.lset_words.specs.declared.history.CallRecord.{CallRecord}
 use Rattle.lset_words.specs.History.{Precedes}
 use Rattle.lset_words.specs.declared.Reply.TheVariants.{Full}
-use Rattle.lset_history.proofs.Lists.{get_or_mapped}
-use Rattle.lset_parts.specs.Parts.{call_since, end_since, Part, IsExplained, HasNoFull, OpensAsLeft, calls_of, whole_calls, keys_left}
+use Rattle.lset_history.specs.History.{latest_moment}
+use Rattle.lset_history.proofs.Keeping.{all_ends_below}
+use Rattle.lset_parts.specs.Parts.{call_since, end_since, Part, AreParts, IsExplained, HasNoFull, OpensAsLeft, calls_of, whole_calls, keys_left}
 use Rattle.lset_parts.specs.Cuts.{IsAtRest}
-use Rattle.lset_parts.specs.Kept.{KeptParts, IsKeptOf, IsUpTo, EndsEarly, EndsFull}
+use Rattle.lset_parts.specs.Kept.{KeptParts, IsKeptOf, Follows, EndsEarly, EndsFull, kept_of, latest_begin, have_ended}
 use Rattle.lset_parts.proofs.Joining.{all_head, all_tail, pairs_append}
 use Rattle.lset_parts.proofs.Whole.{ComesAfter}
 
@@ -58,17 +61,6 @@ not_before began x y l n h = n (earlier y.ended h)
     earlier None h = h
     earlier (Some d) h = let b : d.0 < x.begun = h in omega arith
 
-up_to_later : (began latest began' latest' : ℕ) → began ≤ began' → latest ≤ latest' → (x : CallRecord) → IsUpTo began latest x
-    → IsUpTo began' latest' x
-up_to_later began latest began' latest' l m x a = record {
-  begun = (let b : x.begun ≤ began = a.begun in omega arith);
-  ended = later x.ended a.ended;
-}
-  where
-    later : (e : Option (ℕ × Reply)) → IfSome e (λ (d : ℕ × Reply). d.0 ≤ latest) → IfSome e (λ (d : ℕ × Reply). d.0 ≤ latest')
-    later None h = h
-    later (Some d) h = let b : d.0 ≤ latest = h in omega arith
-
 abbrev pub HasEnded : CallRecord → Type 0
 HasEnded x = IsSome x.ended
 
@@ -83,64 +75,78 @@ has_no_full calls full k d b = none_ends_full (get_or calls k d).ended (full k d
 abbrev PartHasNoFull : Part → Type 0
 PartHasNoFull p = HasNoFull p.history.calls
 
-pub one_part_more : (kept new : KeptParts) (p : Part)
-    → p.history.opening.keys ≡ kept.keys
-    → All (λ (x : CallRecord). EndsEarly kept.began x → ⊥) (calls_of p)
-    → All (λ (x : CallRecord). EndsFull x → ⊥) p.history.calls
-    → IsExplained p
-    → new.keys ≡ p.keys
-    → All (IsUpTo new.began new.latest) (calls_of p)
-    → (IsTrue new.at_rest ↔ (IsTrue kept.at_rest × All HasEnded p.history.calls))
-    → kept.began ≤ new.began → kept.latest ≤ new.latest → (kept.began ≤ kept.latest → new.began ≤ new.latest)
-    → (opening : List ℕ) (ps : List Part) → IsKeptOf opening ps kept → IsKeptOf opening (ps ++ p ∷ []) new
-one_part_more kept new p same late full explained keys upto rest began latest turn opening ps a =
+-- ---- what is kept of one part more
+
+begin_more : (xs ys : List CallRecord) → latest_begin (xs ++ ys) ≡ max (latest_begin xs) (latest_begin ys)
+begin_more [] ys = omega arith
+begin_more (x ∷ xs) ys = let rest = begin_more xs ys in omega arith
+
+moment_more : (xs ys : List CallRecord) → latest_moment (xs ++ ys) ≡ max (latest_moment xs) (latest_moment ys)
+moment_more [] ys = omega arith
+moment_more (x ∷ xs) ys = let rest = moment_more xs ys in omega arith
+
+end_same : (since : ℕ) (e : Option (ℕ × Reply)) → is_some (end_since since e) ≡ is_some e
+end_same since None = refl
+end_same since (Some e) = refl
+
+pub ended_same : (since : ℕ) (xs : List CallRecord) → have_ended (map (call_since since) xs) ≡ have_ended xs
+ended_same since [] = refl
+ended_same since (x ∷ xs) = rw (end_same since x.ended) (ap (λ b. is_some x.ended && b) (ended_same since xs))
+
+begun_upto : (xs : List CallRecord) → All (λ (x : CallRecord). x.begun ≤ latest_begin xs) xs
+begun_upto [] = All-nil (λ (x : CallRecord). x.begun ≤ 0)
+begun_upto (x ∷ xs) = All-cons (λ (y : CallRecord). y.begun ≤ latest_begin (x ∷ xs)) x xs (omega arith)
+    (λ k d b. let low = begun_upto xs k d b in omega arith)
+
+pub is_kept : (kept new : KeptParts) → new.keys ≡ kept.keys → new.began ≡ kept.began → new.latest ≡ kept.latest
+    → new.at_rest ≡ kept.at_rest → new ≡ kept
+is_kept kept new keys began latest rest =
+    let of_keys : List ℕ → KeptParts = λ k. record { keys = k; began = new.began; latest = new.latest; at_rest = new.at_rest } in
+    let of_began : ℕ → KeptParts = λ k. record { keys = kept.keys; began = k; latest = new.latest; at_rest = new.at_rest } in
+    let of_latest : ℕ → KeptParts = λ k. record { keys = kept.keys; began = kept.began; latest = k; at_rest = new.at_rest } in
+    let of_rest : Bool → KeptParts = λ k. record { keys = kept.keys; began = kept.began; latest = kept.latest; at_rest = k } in
+    ap of_keys keys ∙ ap of_began began ∙ ap of_latest latest ∙ ap of_rest rest
+
+abbrev pub kept_with : KeptParts → Part → KeptParts
+kept_with kept p = record {
+  keys = p.keys;
+  began = max kept.began (latest_begin (calls_of p));
+  latest = max kept.latest (latest_moment (calls_of p));
+  at_rest = kept.at_rest && have_ended p.history.calls;
+}
+
+kept_more : (opening : List ℕ) (ps : List Part) (p : Part) → kept_with (kept_of opening ps) p ≡ kept_of opening (ps ++ p ∷ [])
+kept_more opening ps p =
+    let more = calls_more ps p in
+    sym (is_kept (kept_with (kept_of opening ps) p) (kept_of opening (ps ++ p ∷ [])) (left_more opening ps p)
+    (ap latest_begin more ∙ begin_more (whole_calls ps) (calls_of p))
+    (ap latest_moment more ∙ moment_more (whole_calls ps) (calls_of p))
+    (ap have_ended more ∙ list_all-append (λ (x : CallRecord). is_some x.ended) (whole_calls ps) (calls_of p)
+    ∙ ap (λ b. have_ended (whole_calls ps) && b) (ended_same p.since p.history.calls)))
+
+parts_more : (opening : List ℕ) (ps : List Part) (p : Part) → AreParts opening ps → Follows (kept_of opening ps) p.since p.history
+    → IsExplained p → AreParts opening (ps ++ p ∷ [])
+parts_more opening ps p a f explained =
     let cut : All (λ (q : Part). All (λ (r : Part). ComesAfter q r) (p ∷ [])) ps = λ i d b.
     one_all (λ (r : Part). ComesAfter (get_or ps i d) r) p
     (λ k e c m g n.
-    not_before kept.began (get_or (calls_of (get_or ps i d)) m g) (get_or (calls_of p) k e)
-    ((of_each (IsUpTo kept.began kept.latest) ps a.moments i d b m g n).begun)
-    (late k e c)) in
+    not_before (latest_begin (whole_calls ps)) (get_or (calls_of (get_or ps i d)) m g) (get_or (calls_of p) k e)
+    (of_each (λ (x : CallRecord). x.begun ≤ latest_begin (whole_calls ps)) ps (begun_upto (whole_calls ps)) i d b m g n)
+    (f.none_early k e c)) in
     record {
-      parts = record {
-        rising = a.parts.rising;
-        explained = All-append IsExplained ps (p ∷ []) a.parts.explained (one_all IsExplained p explained);
-        no_full = All-append PartHasNoFull ps (p ∷ []) a.parts.no_full
-            (one_all PartHasNoFull p (has_no_full p.history.calls full));
-        opens = opens_more opening ps p a.parts.opens (same ∙ a.keys_are);
-        cut = pairs_append ComesAfter ps (p ∷ []) a.parts.cut (one_pair ComesAfter p) cut;
-      };
-      keys_are = keys ∙ sym (left_more opening ps p);
-      moments = subst (All (IsUpTo new.began new.latest)) (sym (calls_more ps p))
-          (All-append (IsUpTo new.began new.latest) (whole_calls ps) (calls_of p)
-          (λ k d b. up_to_later kept.began kept.latest new.began new.latest began latest (get_or (whole_calls ps) k d)
-          (a.moments k d b)) upto);
-      in_turn = turn a.in_turn;
-      rests = (
-        (λ t. let both = rest.0 t in
-            subst (All HasEnded) (sym (calls_more ps p)) (All-append HasEnded (whole_calls ps) (calls_of p) (a.rests.0 both.0)
-            (All-map HasEnded (call_since p.since) p.history.calls (λ k d b. ended_since (get_or p.history.calls k d).ended (both.1 k d b))))),
-        (λ all. let both : All HasEnded (whole_calls ps ++ calls_of p) = subst (All HasEnded) (calls_more ps p) all in
-            rest.1 (
-              a.rests.1 (first_of HasEnded (whole_calls ps) (calls_of p) both),
-              (λ k d b. ended_before (get_or p.history.calls k d).ended
-                  (mapped_ended p.history.calls k d b (second_of HasEnded (whole_calls ps) (calls_of p) both))),
-            )),
-      );
+      rising = a.rising;
+      explained = All-append IsExplained ps (p ∷ []) a.explained (one_all IsExplained p explained);
+      no_full = All-append PartHasNoFull ps (p ∷ []) a.no_full (one_all PartHasNoFull p (has_no_full p.history.calls f.none_full));
+      opens = opens_more opening ps p a.opens f.opening;
+      cut = pairs_append ComesAfter ps (p ∷ []) a.cut (one_pair ComesAfter p) cut;
     }
-  where
-    ended_since : (e : Option (ℕ × Reply)) → IsSome e → IsSome (end_since p.since e)
-    ended_since None h = absurd (cc)
-    ended_since (Some d) h = refl
 
-    ended_before : (e : Option (ℕ × Reply)) → IsSome (end_since p.since e) → IsSome e
-    ended_before None h = absurd (cc)
-    ended_before (Some d) h = refl
-
-    mapped_ended : (xs : List CallRecord) (k : ℕ) (d : CallRecord) → k < length xs → All HasEnded (map (call_since p.since) xs)
-        → IsSome (end_since p.since (get_or xs k d).ended)
-    mapped_ended xs k d b h =
-        let many : length (map (call_since p.since) xs) ≡ length xs = length-map xs (call_since p.since) in
-        subst HasEnded (get_or_mapped (call_since p.since) xs k d) (h k (call_since p.since d) (omega arith))
+pub one_part_more : (kept : KeptParts) (p : Part) → Follows kept p.since p.history → IsExplained p
+    → (opening : List ℕ) (ps : List Part) → IsKeptOf opening ps kept → IsKeptOf opening (ps ++ p ∷ []) (kept_with kept p)
+one_part_more kept p f explained opening ps a = record {
+  parts = parts_more opening ps p a.parts (subst (λ (k : KeptParts). Follows k p.since p.history) a.kept_is f) explained;
+  kept_is = ap (λ (k : KeptParts). kept_with k p) a.kept_is ∙ kept_more opening ps p;
+}
 
 pub none_kept : (keys : List ℕ) → IsStrictlyIncreasing keys
     → IsKeptOf keys [] (record { keys = keys; began = 0; latest = 0; at_rest = true })
@@ -152,25 +158,31 @@ none_kept keys rising = record {
     opens = tt;
     cut = λ i j d a b. absurd (omega arith);
   };
-  keys_are = refl;
-  moments = All-nil (IsUpTo 0 0);
-  in_turn = omega arith;
-  rests = ((λ t. All-nil HasEnded), (λ a. refl));
+  kept_is = refl;
 }
+
+pub keys_are : (opening : List ℕ) (ps : List Part) (kept : KeptParts) → IsKeptOf opening ps kept → keys_left opening ps ≡ kept.keys
+keys_are opening ps kept a = sym (ap (λ (k : KeptParts). k.keys) a.kept_is)
 
 -- parts at rest, and calls that follow
 pub rests_before : (kept : KeptParts) (opening : List ℕ) (ps : List Part) (since : ℕ) (calls : List CallRecord)
     → IsKeptOf opening ps kept → IsTrue kept.at_rest → kept.latest ≤ since → All (λ (x : CallRecord). 0 < x.begun) calls
     → IsAtRest (whole_calls ps) (map (call_since since) calls)
-rests_before kept opening ps since calls a t late counted = record {
-  ended = a.rests.0 t;
-  before = λ k d b. All-map (λ (y : CallRecord). Precedes (get_or (whole_calls ps) k d) y) (call_since since) calls
-      (λ m e c.
-      let low : 0 < (get_or calls m e).begun = counted m e c in
-      over (get_or calls m e).begun (get_or (whole_calls ps) k d).ended low (a.rests.0 t k d b) ((a.moments k d b).ended));
-}
+rests_before kept opening ps since calls a t late counted =
+    let latest : latest_moment (whole_calls ps) ≤ since = subst (λ (k : KeptParts). k.latest ≤ since) a.kept_is late in
+    let rest : have_ended (whole_calls ps) ≡ true = subst (λ (k : KeptParts). IsTrue k.at_rest) a.kept_is t in
+    let ended : All HasEnded (whole_calls ps) =
+    AllPass-from_list_all (λ (x : CallRecord). is_some x.ended) (whole_calls ps) rest in
+    record {
+      ended = ended;
+      before = λ k d b. All-map (λ (y : CallRecord). Precedes (get_or (whole_calls ps) k d) y) (call_since since) calls
+          (λ m e c.
+          let low : 0 < (get_or calls m e).begun = counted m e c in
+          over (get_or calls m e).begun (get_or (whole_calls ps) k d).ended low (ended k d b)
+          (all_ends_below (whole_calls ps) (since + 1) (omega arith) k d b));
+    }
   where
-    over : (begun : ℕ) (e : Option (ℕ × Reply)) → 0 < begun → IsSome e → IfSome e (λ (d : ℕ × Reply). d.0 ≤ kept.latest)
+    over : (begun : ℕ) (e : Option (ℕ × Reply)) → 0 < begun → IsSome e → IfSome e (λ (d : ℕ × Reply). d.0 < since + 1)
         → IsSomeAnd e (λ (d : ℕ × Reply). d.0 < since + begun)
     over begun None l h m = absurd (cc)
-    over begun (Some d) l h m = let b : d.0 ≤ kept.latest = m in omega arith
+    over begun (Some d) l h m = let b : d.0 < since + 1 = m in omega arith

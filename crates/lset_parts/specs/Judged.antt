@@ -3,7 +3,7 @@ use Rattle.std.specs.Prelude.{◌≡◌, ℕ, ◌≤◌, IsTrue, List, [], ◌�
 use Rattle.lset_judge.specs.declared.verdict.Refusal.{Refusal}
 use Rattle.lset_judge.specs.declared.verdict.Verdict.{Verdict}
 use Rattle.lset_judge.specs.declared.verdict.Verdict.TheVariants.{Linearizable, NotLinearizable, Undecided}
-use Rattle.lset_judge.specs.Verdict.{IsPlain, IsRefused, IsUnexplained, with_quota}
+use Rattle.lset_judge.specs.Verdict.{IsRefused, IsUnexplained, IsVerdictWithoutQuota, with_quota}
 use Rattle.lset_parts.specs.Parts.{Part, calls_of, whole_calls}
 use Rattle.lset_parts.specs.Kept.{KeptParts, IsKeptOf}
 
@@ -27,4 +27,4 @@ pub record IsRefusedPart (kept : KeptParts) (p : Part) (refusal : Refusal) : Typ
 abbrev pub IsPartVerdict : KeptParts → KeptParts → Part → Verdict → Type 0
 IsPartVerdict old new p Linearizable = (opening : List ℕ) (ps : List Part) → IsKeptOf opening ps old → IsKeptOf opening (ps ++ p ∷ []) new
 IsPartVerdict old new p (NotLinearizable refusal) = IsRefusedPart old p refusal × (new ≡ old)
-IsPartVerdict old new p Undecided = (IsPlain p.history.calls → ⊥) × (new ≡ old)
+IsPartVerdict old new p Undecided = IsVerdictWithoutQuota p.history p.keys Undecided × (new ≡ old)

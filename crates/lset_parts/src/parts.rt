@@ -1,9 +1,10 @@
-ghost use Rattle.std.specs.Prelude.{◌≡◌, ℕ, ◌+◌, ◌≤◌, ◌<◌, ◌^◌, List, [], ◌∷◌, ◌++◌, map, All, Any, IfOk, OnOk, OnErr, IfErr, IsTrue, IfSome, IfNone, IsSome, MatchBool, MatchOption, ◌↔◌};
+ghost use Rattle.std.specs.Prelude.{◌≡◌, ℕ, ◌+◌, ◌≤◌, ◌^◌, ◌&&◌, max, List, [], ◌∷◌, ◌++◌, map, All, Any, IfOk, OnOk, OnErr, IfErr, IsTrue, IfNone, MatchBool, MatchOption, ◌↔◌};
 ghost use Rattle.std.specs.List.Sorted.{IsStrictlyIncreasing};
 ghost use Rattle.lset_words.specs.History.{IsHistory};
+ghost use Rattle.lset_history.specs.History.{last_moment, latest_moment};
 ghost use Rattle.lset_parts.specs.Parts.{Part, IsExplained, call_since};
 ghost use Rattle.lset_parts.specs.Judged.{IsPartVerdict};
-ghost use Rattle.lset_parts.specs.Kept.{IsKeptOf, Follows, WholeIsExplained, NextIsNeeded, IsPartFault, EndsEarly, EndsFull, IsUpTo};
+ghost use Rattle.lset_parts.specs.Kept.{IsKeptOf, Follows, WholeIsExplained, NextIsNeeded, IsPartFault, EndsEarly, EndsFull, have_ended, latest_begin};
 
 use lset_history::History;
 use lset_judge::{Verdict, judge_without_quota};
@@ -27,7 +28,7 @@ pub enum PartFault {
     /// One of its calls has the reply `Full`, so its set has a quota.
     #[error("one of its calls has the reply full")]
     HasFull,
-    /// There was no memory for the keys that it left.
+    /// It follows them, but there was no memory to judge it, or for the keys that it left.
     #[error("out of memory")]
     Memory,
 }
@@ -97,13 +98,13 @@ fn ends_full(made: CallRecord) -> bool
 }
 
 fn have_ended(calls: &[CallRecord]) -> bool
-    ensures { IsTrue result ↔ All (λ x. IsSome x.ended) calls.now }
+    ensures { result ≡ have_ended calls.now }
 {
     calls.iter().all(|made| made.ended.is_some())
 }
 
 fn stays_at_rest(at_rest: bool, calls: &[CallRecord]) -> bool
-    ensures { IsTrue result ↔ (IsTrue at_rest × All (λ x. IsSome x.ended) calls.now) }
+    ensures { result ≡ (at_rest && have_ended calls.now) }
 {
     at_rest && have_ended(calls)
 }
@@ -164,7 +165,6 @@ impl Parts {
 
     /// Why a history whose moments count from `since` does not follow the parts, if it does not.
     fn find_fault(&self, since: u64, history: &History) -> Option<PartFault>
-        ensures clock { IfNone result (since ≤ 2 ^ 63) }
         ensures history { IfNone result (IsHistory history.now.opening.threads history.now.calls) }
         ensures opening { IfNone result (IsStrictlyIncreasing history.now.opening.keys) }
         ensures cases { MatchOption result (Follows self.now since history.now) (IsPartFault self.now since history.now) }
@@ -198,6 +198,7 @@ impl Parts {
         keys: &[u32],
     ) -> Result<(), PartFault>
         requires { IsExplained (record { history = history.now; keys = keys.now; since = since }) }
+        ensures follows { OnOk result (Follows self.old since history.now) }
         // What was kept of any parts is then kept of those parts and this one.
         ensures kept { OnOk result ((opening : List ℕ) (ps : List Part) → IsKeptOf opening ps self.old
             → IsKeptOf opening (ps ++ record { history = history.now; keys = keys.now; since = since } ∷ []) self.new) }
@@ -222,7 +223,8 @@ impl Parts {
     /// Judges a part, and adds it if some order explains it (`lset_judge::judge_without_quota`). If none does and the parts before are at
     /// rest, none explains the recording up to the end of this part. `keys` are the keys that the part left; they rise.
     ///
-    /// `since` is as in `add`. Only `Linearizable` changes anything. It takes n log n steps for n calls of the part.
+    /// `since` is as in `add`. Only `Linearizable` changes anything. `Undecided` is an answer only on a part of which
+    /// `lset_judge::is_plain` is false. It takes n log n steps for n calls of the part.
     pub fn judge(
         &mut self,
         alloc: Global,
@@ -231,6 +233,7 @@ impl Parts {
         keys: &[u32],
     ) -> Result<Verdict, PartFault>
         requires { IsStrictlyIncreasing keys.now }
+        ensures follows { OnOk result (Follows self.old since history.now) }
         ensures verdict { IfOk result
             (IsPartVerdict self.old self.new (record { history = history.now; keys = keys.now; since = since })) }
         ensures refused { IfErr result (IsPartFault self.old since history.now) }
@@ -253,8 +256,7 @@ impl Parts {
 
 fn last_moment(made: CallRecord, since: u64) -> u64
     requires { since ≤ 2 ^ 63 }
-    ensures begun { (call_since since made).begun ≤ result }
-    ensures ended { IfSome (call_since since made).ended (λ end. end.0 ≤ result) }
+    ensures { result ≡ last_moment (call_since since made) }
 {
     let begun = moment_since(since, made.begun);
     match made.ended {
@@ -266,10 +268,8 @@ fn last_moment(made: CallRecord, since: u64) -> u64
 /// The latest beginning and the latest moment, with those of these calls.
 fn latest_of(calls: &[CallRecord], since: u64, began: u64, latest: u64) -> (u64, u64)
     requires { since ≤ 2 ^ 63 }
-    ensures calls { All (IsUpTo result.0 result.1) (map (call_since since) calls.now) }
-    ensures began { began ≤ result.0 }
-    ensures latest { latest ≤ result.1 }
-    ensures in_turn { began ≤ latest → result.0 ≤ result.1 }
+    ensures began { result.0 ≡ max began (latest_begin (map (call_since since) calls.now)) }
+    ensures latest { result.1 ≡ max latest (latest_moment (map (call_since since) calls.now)) }
 {
     let mut last_began = began;
     let mut last = latest;

@@ -1,18 +1,16 @@
 -- The files of a recording are gone over.
-use Rattle.std.proofs.Common.{◌≡◌, ℕ, ◌+◌, ◌<◌, map, drop, get_or, true, List, [], ◌∷◌, ◌++◌, length, length-append, Option, Some, None, Ok, Err, sym, subst, ap, ◌∙◌, arith, inl, inr}
+use Rattle.std.proofs.Common.{◌≡◌, ℕ, ◌+◌, ◌<◌, map, drop, get_or, List, [], ◌∷◌, ◌++◌, length, length-append, Option, Some, None, Ok, Err, sym, subst, ap, ◌∙◌, arith, inl, inr}
 use Rattle.std.specs.Prelude.{◌⊎◌, IfSome}
 use Rattle.std.proofs.lemmas.List.{at_drop_more}
-use Rattle.lset_parts.specs.Parts.{Part, ExplainsWithoutQuota, whole_calls}
-use Rattle.lset_parts.specs.Kept.{KeptParts}
+use Rattle.lset_parts.specs.Parts.{Part}
 use Rattle.lset_parts.proofs.Whole.{explains_whole}
-use Rattle.lset_parts.proofs.Kept.{none_kept}
 use Rattle.tool_base.specs.declared.trouble.Trouble.{Trouble}
 use Rattle.tool_base.specs.declared.trouble.Trouble.TheVariants.{CannotRead}
 use Rattle.tool_parts.specs.declared.key_part.KeyPart.{KeyPart}
 use Rattle.tool_parts.specs.declared.kept.Finding.{Finding}
 use Rattle.tool_parts.specs.declared.kept.Kept.{Kept}
-use Rattle.tool_parts.specs.Parting.{IsKept, IsKeptBy, JudgesFile, StopsAt, FindsAt, GoesOver, FilesMade, IsWholeExplained}
-use Rattle.tool_parts.specs.Parting.{AllExplained, IsTrouble}
+use Rattle.tool_parts.specs.Parting.{AreAdded, IsKept, JudgesFile, StopsAt, FindsAt, GoesOver, FilesMade, IsWholeExplained}
+use Rattle.tool_parts.specs.Parting.{AllExplained, IsTrouble, opening_of}
 
 -- behind some parts, what the rest makes is made of all
 pub record Goes (asked : Option KeyPart) (parts : ℕ) (IsFile : Option (List ℕ) → Type 0) (all rest : List (List ℕ)) (index : ℕ) (kept : Kept)
@@ -63,49 +61,34 @@ module _ (asked : Option KeyPart) (parts : ℕ) (IsFile : Option (List ℕ) → 
   pub found : (old new : Kept) (f : Finding) (made : FilesMade) → Goes asked parts IsFile all (path ∷ rest) index old
       → JudgesFile asked IsFile old new (Ok (Some f)) → FindsAt (index + 1) parts path f made → GoesOver asked parts IsFile all [] made
   found old new f made g (inl e) finds = absurd cc
-  found old new f made g (inr (held, file, (bytes, known, taken, (p, told, is)))) finds =
+  found old new f made g (inr (held, file, (bytes, known, taken, judged))) finds =
+      let j = judged g.ps g.kept_is in
       g.goes made (inr (
         held,
         file,
         bytes,
         known,
-        p,
-        told,
-        inl (f, is g.ps g.kept_is, subst (λ (n : ℕ). FindsAt (n + 1) parts path f made) (sym g.count) finds),
+        taken,
+        j.0,
+        j.1,
+        inl (f, j.2, subst (λ (n : ℕ). FindsAt (n + 1) parts path f made) (sym g.count) finds),
       ))
 
   -- past a part that is added
   pub went_on : (old new : Kept) → Goes asked parts IsFile all (path ∷ rest) index old → JudgesFile asked IsFile old new (Ok None)
       → Goes asked parts IsFile all rest (index + 1) new
   went_on old new g (inl e) = absurd cc
-  went_on old new g (inr (held, file, (bytes, known, taken, (p, told, whole, adds)))) = record {
-    ps = g.ps ++ p ∷ [];
-    kept_is = adds g.ps g.kept_is;
-    count = (let before : length g.ps ≡ index = g.count in omega (arith, length-append g.ps (p ∷ [])));
-    goes = λ made over. g.goes made (inr (held, file, bytes, known, p, told, inr (whole, over)));
-  }
+  went_on old new g (inr (held, file, (bytes, known, taken, judged))) =
+      let j = judged g.ps g.kept_is in
+      let p : Part = j.0 in
+      record {
+        ps = g.ps ++ p ∷ [];
+        kept_is = j.2.1;
+        count = (let before : length g.ps ≡ index = g.count in omega (arith, length-append g.ps (p ∷ [])));
+        goes = λ made over. g.goes made (inr (held, file, bytes, known, taken, p, j.1, inr (j.2.0, j.2.1.added, over)));
+      }
 
--- the parts that are kept, at the end
-pub whole_explained : (ps : List Part) (kept : Option KeptParts) → IsKeptBy ps kept → IsWholeExplained ps
-whole_explained ps (Some kept) (opening, a) =
-    let whole = explains_whole opening ps a.parts in
-    record {
-      opening = opening;
-      kept = kept;
-      kept_is = a;
-      order = whole.0;
-      explains = subst (λ (left : List ℕ). ExplainsWithoutQuota opening (whole_calls ps) whole.0 left) (sym a.keys_are) whole.1;
-    }
-whole_explained ps None none = subst IsWholeExplained (sym none) no_part
-  where
-    no_part : IsWholeExplained []
-    no_part =
-        let a = none_kept [] (λ k l. absurd (omega arith)) in
-        let whole = explains_whole [] [] a.parts in
-        record {
-          opening = [];
-          kept = record { keys = []; began = 0; latest = 0; at_rest = true };
-          kept_is = a;
-          order = whole.0;
-          explains = whole.1;
-        }
+-- the parts that are added, at the end
+pub whole_explained : (ps : List Part) → AreAdded ps → IsWholeExplained ps
+whole_explained ps a =
+    let whole = explains_whole (opening_of ps) ps a.parts in record { added = a; order = whole.0; explains = whole.1 }

@@ -1,11 +1,13 @@
 -- Why a part of a recording ends the judging, and what is written of it.
-use Rattle.std.specs.Prelude.{◌≡◌, ◌≢◌, ℕ, ◌<◌, ◌^◌, ◌==◌, ◌⊎◌, Bool, true, false, if◌then◌else◌, List, [], ◌∷◌, ◌++◌, codes, drop, min, Any}
+use Rattle.std.specs.Prelude.{◌≡◌, ℕ, ◌==◌, ◌⊎◌, Bool, true, false, if◌then◌else◌, List, [], ◌∷◌, ◌++◌, codes, drop, min}
 use Rattle.std.specs.Prelude.{Option, Some, None}
 use Rattle.std.specs.Fmt.{decimal}
 use Rattle.lset_judge.specs.declared.verdict.Refusal.{Refusal}
-use Rattle.lset_judge.specs.Verdict.{IsPlain}
-use Rattle.lset_parts.specs.Parts.{Part, calls_of}
-use Rattle.lset_parts.specs.Kept.{KeptParts, EndsEarly, EndsFull}
+use Rattle.lset_judge.specs.declared.verdict.Verdict.TheVariants as verdict
+use Rattle.lset_judge.specs.Verdict.{IsVerdictWithoutQuota}
+use Rattle.lset_parts.specs.declared.parts.PartFault.TheVariants as fault
+use Rattle.lset_parts.specs.Parts.{Part}
+use Rattle.lset_parts.specs.Kept.{KeptParts, Follows, IsPartFault}
 use Rattle.lset_parts.specs.Judged.{IsRefusedPart}
 use Rattle.tool_base.specs.Tools.{AnswerValue}
 use Rattle.tool_base.specs.Trouble.{trouble_text}
@@ -63,10 +65,12 @@ pub record IsRefused (kept : KeptParts) (p : Part) (lines : List ℕ) (rests : B
   pub is_answer : IsRefusedAnswer p.history p.keys refusal answer
   pub lines_are : lines ≡ answer.text
 
--- what it says of a part, if this is kept of the parts before it
+-- what it says of a part, if this is kept of the parts before it: the part follows them and is judged, or why it does not follow them
 abbrev pub IsFindingBy : KeptParts → Part → Finding → Type 0
-IsFindingBy kept p (Refused lines rests) = IsRefused kept p lines.items rests
-IsFindingBy kept p (OtherKeys key) = (p.history.opening.keys ≢ kept.keys) × (key ≡ first_difference p.history.opening.keys kept.keys)
-IsFindingBy kept p Undecided = (IsPlain p.history.calls → ⊥) ⊎ Any EndsFull p.history.calls
-IsFindingBy kept p Late = 2 ^ 63 < p.since
-IsFindingBy kept p Early = Any (EndsEarly kept.began) (calls_of p)
+IsFindingBy kept p (Refused lines rests) = Follows kept p.since p.history × IsRefused kept p lines.items rests
+IsFindingBy kept p (OtherKeys key) =
+    IsPartFault kept p.since p.history fault.Opening × (key ≡ first_difference p.history.opening.keys kept.keys)
+IsFindingBy kept p Undecided =
+    (Follows kept p.since p.history × IsVerdictWithoutQuota p.history p.keys verdict.Undecided) ⊎ IsPartFault kept p.since p.history fault.HasFull
+IsFindingBy kept p Late = IsPartFault kept p.since p.history fault.Late
+IsFindingBy kept p Early = IsPartFault kept p.since p.history fault.Early

@@ -1,16 +1,16 @@
 -- What is made of a recording in parts: of some of its keys, and of several files.
-use Rattle.std.specs.Prelude.{◌≡◌, ℕ, ◌+◌, ◌≤◌, ◌^◌, ◌⊎◌, false, List, [], ◌∷◌, ◌++◌, length, Option, Some, None, option_map, IfSome, Result, Ok, Err}
+use Rattle.std.specs.Prelude.{◌≡◌, ℕ, ◌+◌, ◌<◌, ◌≤◌, ◌^◌, ◌⊎◌, false, List, [], ◌∷◌, ◌++◌, length, Option, Some, None, option_map, IfSome, Result, Ok, Err}
 use Rattle.std.specs.Io.KnownBytes.{Keeps}
 use Rattle.std.specs.List.Sorted.{IsStrictlyIncreasing}
 use Rattle.lset_words.specs.declared.history.Placed.{Placed}
-use Rattle.lset_history.specs.History.{HistoryValue}
+use Rattle.lset_history.specs.History.{HistoryValue, latest_moment}
 use Rattle.lset_calls.specs.Calls.{CallsValue, AreCalls}
 use Rattle.lset_calls.specs.Texts.{calls_text}
 use Rattle.lset_calls.specs.Reading.{reading}
 use Rattle.lset_calls.specs.Histories.{IsHistoryOf}
 use Rattle.lset_judge.specs.Verdict.{IsPlain}
-use Rattle.lset_parts.specs.Parts.{Part, ExplainsWithoutQuota, IsExplained, whole_calls}
-use Rattle.lset_parts.specs.Kept.{KeptParts, IsKeptOf}
+use Rattle.lset_parts.specs.Parts.{Part, AreParts, ExplainsWithoutQuota, IsExplained, keys_left, whole_calls}
+use Rattle.lset_parts.specs.Kept.{KeptParts, IsKeptOf, kept_of}
 use Rattle.tool_base.specs.declared.answer.Answer.{Answer}
 use Rattle.tool_base.specs.declared.trouble.Trouble.{Trouble}
 use Rattle.tool_base.specs.declared.trouble.Trouble.TheVariants.{CannotRead, Memory, Bad}
@@ -30,8 +30,9 @@ use Rattle.tool_parts.specs.Findings.{IsFindingBy, finding_text, parts_ok_text, 
 
 -- ---- A PART OF A RECORDING
 
--- A file has this part, of the keys that are asked for: its calls, the history that they are, and the keys left.
-pub record IsPartOf (asked : Option KeyPart) (bytes : List ℕ) (p : Part) : Type 0 where
+-- A file has this part behind these, of the keys that are asked for: its calls, the history that they are, and the keys left. Its clock
+-- begins at the latest moment of the parts before.
+pub record IsPartOf (asked : Option KeyPart) (ps : List Part) (bytes : List ℕ) (p : Part) : Type 0 where
   pub calls : CallsValue
   pub are : AreCalls calls
   pub text_is : bytes ≡ calls_text calls
@@ -42,6 +43,7 @@ pub record IsPartOf (asked : Option KeyPart) (bytes : List ℕ) (p : Part) : Typ
   pub left_is : AreKeysOf calls.keys left
   pub asked_history : p.history ≡ history_asked asked history
   pub asked_keys : p.keys ≡ keys_asked asked left
+  pub since_is : p.since ≡ latest_moment (whole_calls ps)
 
 -- the judge decides the whole history of which some keys are asked for: then locality holds of it
 abbrev pub IsWholeJudged : Option KeyPart → HistoryValue → Type 0
@@ -49,12 +51,25 @@ IsWholeJudged asked h = IfSome asked (λ (_ : KeyPart). IsPlain h.calls)
 
 -- ---- what is kept of the parts so far
 
-abbrev pub IsKeptBy : List Part → Option KeptParts → Type 0
-IsKeptBy ps None = ps ≡ []
-IsKeptBy ps (Some kept) = (opening : List ℕ) × IsKeptOf opening ps kept
+-- the keys with which the first part opens, and so the whole recording
+abbrev pub opening_of : List Part → List ℕ
+opening_of [] = []
+opening_of (p ∷ ps) = p.history.opening.keys
 
+-- these parts were added: they are parts of a recording, and have fewer than 2^64 calls
+pub record AreAdded (ps : List Part) : Type 0 where
+  pub parts : AreParts (opening_of ps) ps
+  pub few : length (whole_calls ps) < 2 ^ 64
+
+-- what is kept of them, once there is one
+abbrev pub kept_by : List Part → Option KeptParts
+kept_by [] = None
+kept_by (p ∷ ps) = Some (kept_of p.history.opening.keys (p ∷ ps))
+
+-- this is kept of these parts, and how many calls they have
 pub record IsKept (ps : List Part) (kept : Kept) : Type 0 where
-  pub parts : IsKeptBy ps kept.parts
+  pub added : AreAdded ps
+  pub parts : kept.parts ≡ kept_by ps
   pub calls : kept.calls ≡ length (whole_calls ps)
 
 abbrev pub IsOpened : List ℕ → Option KeptParts → KeptParts → Type 0
@@ -64,22 +79,27 @@ IsOpened keys (Some old) new = new ≡ old
 abbrev pub part_at : Told → ℕ → Part
 part_at told since = record { history = told.history; keys = told.keys.items; since = since }
 
--- A FINDING about a part behind these parts; the calls may be 2^64 or more
+-- what a file tells of a part, behind these
+abbrev pub part_behind : List Part → Told → Part
+part_behind ps told = part_at told (latest_moment (whole_calls ps))
+
+-- A FINDING about a part behind these parts: the calls are 2^64 or more, or what is kept of those parts gives the finding
 abbrev pub IsFindingNext : List Part → Part → Finding → Type 0
 IsFindingNext ps p finding =
-    ((opening : List ℕ) × (kept : KeptParts) × IsKeptOf opening ps kept × IsFindingBy kept p finding)
+    ((length (whole_calls ps) + length p.history.calls < 2 ^ 64) × IsFindingBy (kept_of (opening_of (ps ++ p ∷ [])) ps) p finding)
     ⊎ ((finding ≡ Late) × (2 ^ 64 ≤ length (whole_calls ps) + length p.history.calls))
 
--- and the judge may not decide the whole history of which some keys are asked for
-abbrev pub IsFinding : HistoryValue → List Part → Part → Finding → Type 0
-IsFinding h ps p finding = IsFindingNext ps p finding ⊎ ((finding ≡ Undecided) × (IsPlain h.calls → ⊥))
+-- unless the judge does not decide the whole history of which some keys are asked for
+abbrev pub IsFinding : Option KeyPart → HistoryValue → List Part → Part → Finding → Type 0
+IsFinding asked h ps p finding =
+    (IsWholeJudged asked h × IsFindingNext ps p finding) ⊎ ((finding ≡ Undecided) × (IsWholeJudged asked h → ⊥))
 
 -- ---- ONE PART MORE
 
 -- what the calls of a text tell of the keys that are asked for, if the judge decides the whole of it
 abbrev pub IsToldBy : CallsValue → Option KeyPart → Option Told → Type 0
 IsToldBy c asked None =
-    (h : HistoryValue) × (left : List ℕ) × (c.cut_off ≡ false) × IsHistoryOf c h × AreKeysOf c.keys left × (IsPlain h.calls → ⊥)
+    (h : HistoryValue) × (left : List ℕ) × (c.cut_off ≡ false) × IsHistoryOf c h × AreKeysOf c.keys left × (IsWholeJudged asked h → ⊥)
 IsToldBy c asked (Some told) =
     (h : HistoryValue) × (left : List ℕ) × (c.cut_off ≡ false) × IsHistoryOf c h × AreKeysOf c.keys left × IsWholeJudged asked h
     × (told.history ≡ history_asked asked h) × (told.keys.items ≡ keys_asked asked left) × IsStrictlyIncreasing told.keys.items
@@ -90,13 +110,15 @@ IsKeysTold h left asked None = IsPlain h.calls → ⊥
 IsKeysTold h left asked (Some told) = IsPlain h.calls × (told.history ≡ history_asked (Some asked) h)
     × (told.keys.items ≡ keys_asked (Some asked) left) × IsStrictlyIncreasing told.keys.items
 
--- the part that a file has is added to those kept, or it ends the judging
+-- a part is added behind these, or it ends the judging
+abbrev pub JudgesBehind : Option KeyPart → HistoryValue → List Part → Part → Kept → Option Finding → Type 0
+JudgesBehind asked h ps p new None = IsWholeJudged asked h × IsKept (ps ++ p ∷ []) new
+JudgesBehind asked h ps p new (Some finding) = IsFinding asked h ps p finding
+
+-- the same of the part that a file has, behind those kept
 abbrev pub JudgesText : Option KeyPart → List ℕ → Kept → Kept → Option Finding → Type 0
-JudgesText asked bytes old new None =
-    (p : Part) × (told : IsPartOf asked bytes p) × IsWholeJudged asked told.history
-    × ((ps : List Part) → IsKept ps old → IsKept (ps ++ p ∷ []) new)
-JudgesText asked bytes old new (Some finding) =
-    (p : Part) × (told : IsPartOf asked bytes p) × ((ps : List Part) → IsKept ps old → IsFinding told.history ps p finding)
+JudgesText asked bytes old new found =
+    (ps : List Part) → IsKept ps old → (p : Part) × (told : IsPartOf asked ps bytes p) × JudgesBehind asked told.history ps p new found
 
 -- a trouble with an input of these bytes, or its first fault
 abbrev pub IsTrouble : List ℕ → Trouble → Type 0
@@ -115,14 +137,14 @@ JudgesInput asked input old new (Err t) = IfSome input (λ (bytes : List ℕ). I
 -- ---- BY KEY: what is made of an input and the words for the keys
 
 -- some order explains the calls of the keys that are asked for, and leaves those keys; or none does; or it is not decided
-abbrev pub IsAnswerOnKeys : HistoryValue → Part → AnswerValue → Type 0
-IsAnswerOnKeys h p answer =
+abbrev pub IsAnswerOnKeys : KeyPart → HistoryValue → Part → AnswerValue → Type 0
+IsAnswerOnKeys asked h p answer =
     (IsPlain h.calls × IsExplained p × (answer ≡ record { text = ok_line (length p.history.calls); status = 0 }))
-    ⊎ ((finding : Finding) × IsFinding h [] p finding × (answer ≡ record { text = finding_text finding; status = 1 }))
+    ⊎ ((finding : Finding) × IsFinding (Some asked) h [] p finding × (answer ≡ record { text = finding_text finding; status = 1 }))
 
 abbrev pub JudgesPart : KeyPart → List ℕ → Made → Type 0
 JudgesPart asked bytes (Ok answer) =
-    IsTaken bytes × (p : Part) × (told : IsPartOf (Some asked) bytes p) × IsAnswerOnKeys told.history p answer
+    IsTaken bytes × (p : Part) × (told : IsPartOf (Some asked) [] bytes p) × IsAnswerOnKeys asked told.history p answer
 JudgesPart asked bytes (Err t) = IsTrouble bytes t
 
 abbrev pub JudgesAsked : Option KeyPart → Option (List ℕ) → Made → Type 0
@@ -171,11 +193,9 @@ FindsAt number parts path finding made =
 -- ALL PARTS ARE EXPLAINED: one order explains the whole recording, from the keys with which the first part opens, and leaves
 -- those that the last one left
 pub record IsWholeExplained (ps : List Part) : Type 0 where
-  pub opening : List ℕ
-  pub kept : KeptParts
-  pub kept_is : IsKeptOf opening ps kept
+  pub added : AreAdded ps
   pub order : List Placed
-  pub explains : ExplainsWithoutQuota opening (whole_calls ps) order kept.keys
+  pub explains : ExplainsWithoutQuota (opening_of ps) (whole_calls ps) order (keys_left (opening_of ps) ps)
 
 abbrev pub AllExplained : ℕ → List Part → FilesMade → Type 0
 AllExplained parts ps made =
@@ -188,10 +208,10 @@ GoesOver asked parts IsFile [] ps made = AllExplained parts ps made
 GoesOver asked parts IsFile (path ∷ rest) ps made =
     ((t : Trouble) × ((t ≡ CannotRead) ⊎ ((held : Option (List ℕ)) × IsFile held × IfSome held (λ (bytes : List ℕ). IsTrouble bytes t)))
     × StopsAt (length ps + 1) parts path t made)
-    ⊎ ((held : Option (List ℕ)) × IsFile held × (bytes : List ℕ) × IfSome held (λ (known : List ℕ). bytes ≡ known)
-    × (p : Part) × (told : IsPartOf asked bytes p)
-    × (((finding : Finding) × IsFinding told.history ps p finding × FindsAt (length ps + 1) parts path finding made)
-    ⊎ (IsWholeJudged asked told.history × GoesOver asked parts IsFile rest (ps ++ p ∷ []) made)))
+    ⊎ ((held : Option (List ℕ)) × IsFile held × (bytes : List ℕ) × IfSome held (λ (known : List ℕ). bytes ≡ known) × IsTaken bytes
+    × (p : Part) × (told : IsPartOf asked ps bytes p)
+    × (((finding : Finding) × IsFinding asked told.history ps p finding × FindsAt (length ps + 1) parts path finding made)
+    ⊎ (IsWholeJudged asked told.history × AreAdded (ps ++ p ∷ []) × GoesOver asked parts IsFile rest (ps ++ p ∷ []) made)))
 
 -- the value of `--keys`, if there is one
 abbrev pub keys_of_words : Option (List ℕ) → Option (Option KeyPart)

@@ -6,7 +6,7 @@ ghost use Rattle.lset_parts.specs.Parts.{Part};
 ghost use Rattle.lset_parts.specs.Kept.{IsKeptOf, IsPartFault};
 ghost use Rattle.tool_base.specs.declared.trouble.Trouble.TheVariants.{Memory};
 ghost use Rattle.tool_parts.specs.Findings.{IsFindingBy, first_difference};
-ghost use Rattle.tool_parts.specs.Parting.{IsFindingNext, IsKept, IsOpened, part_at};
+ghost use Rattle.tool_parts.specs.Parting.{IsFindingNext, IsKept, IsOpened, part_at, part_behind};
 
 use lset_history::History;
 use lset_judge::Verdict;
@@ -136,10 +136,10 @@ impl Kept {
         told: &Told,
     ) -> Result<Option<Finding>, Trouble>
         requires { IsStrictlyIncreasing told.now.keys.items }
-        ensures added { result ≡ Ok None → (since : ℕ) × ((ps : List Part) → IsKept ps self.old
-            → IsKept (ps ++ part_at told.now since ∷ []) self.new) }
-        ensures found { IfOk result (λ found. IfSome found (λ finding. (since : ℕ) × ((ps : List Part) → IsKept ps self.old
-            → IsFindingNext ps (part_at told.now since) finding))) }
+        ensures added { result ≡ Ok None → (ps : List Part) → IsKept ps self.old
+            → IsKept (ps ++ part_behind ps told.now ∷ []) self.new }
+        ensures found { IfOk result (λ found. IfSome found (λ finding. (ps : List Part) → IsKept ps self.old
+            → IsFindingNext ps (part_behind ps told.now) finding)) }
         ensures memory { IfErr result (λ t. t ≡ Memory) }
     {
         let more = told.history.calls().len() as u64;

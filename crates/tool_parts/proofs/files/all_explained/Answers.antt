@@ -9,6 +9,6 @@ says text = Ok (record { text = text; status = 0 })
 
 pub returns-in-Ok : goal.returns-in-Ok
 returns-in-Ok c = λ ps kept. inl (
-  whole_explained ps c.args.kept.now.parts kept.parts,
+  whole_explained ps kept.added,
   ap says (c.in-Ok.ensures ∙ ap (parts_ok_text c.args.parts) kept.calls),
 )

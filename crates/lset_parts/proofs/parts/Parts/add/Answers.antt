@@ -1,9 +1,9 @@
-use Rattle.std.proofs.Common.{List, map, sym, subst}
-use Rattle.std.specs.Prelude.{All, IsTrue, ◌↔◌}
+use Rattle.std.proofs.Common.{◌≡◌, ◌&&◌, List, map, max, sym, subst, ap, ◌∙◌}
 use Rattle.lset_words.specs.declared.history.CallRecord.{CallRecord}
+use Rattle.lset_history.specs.History.{latest_moment}
 use Rattle.lset_parts.specs.Parts.{Part, call_since}
-use Rattle.lset_parts.specs.Kept.{KeptParts, IsKeptOf, IsUpTo, Follows}
-use Rattle.lset_parts.proofs.Kept.{HasEnded, one_part_more}
+use Rattle.lset_parts.specs.Kept.{KeptParts, IsKeptOf, Follows, have_ended, latest_begin}
+use Rattle.lset_parts.proofs.Kept.{kept_with, is_kept, one_part_more}
 use Rattle.lset_parts.proofs.parts.Parts.add.Goals as goal
 
 pub returns-clause-kept : goal.returns-clause-kept
@@ -23,10 +23,15 @@ returns-clause-kept c = λ opening ps a.
     } in
     let follows : Follows kept p.since p.history =
     subst (λ (k : KeptParts). Follows k p.since p.history) (sym c.self.view_is) c.in_default.ensures.cases in
-    one_part_more kept new p follows.opening follows.none_early follows.none_full c.requires c.in-Ok.ensures.items
-    (subst (λ (xs : List CallRecord). All (IsUpTo new.began new.latest) (map (call_since p.since) xs))
-    c.calls.ensures.value c.latest_of-began.ensures.calls)
-    (subst (λ (xs : List CallRecord). IsTrue new.at_rest ↔ (IsTrue kept.at_rest × All HasEnded xs)) c.calls-2.ensures.value
-    c.stays_at_rest-at_rest.ensures)
-    c.latest_of-began.ensures.began c.latest_of-began.ensures.latest c.latest_of-began.ensures.in_turn
-    opening ps (subst (IsKeptOf opening ps) (sym c.self.view_is) a)
+    let keys : new.keys ≡ p.keys = c.in-Ok.ensures.items in
+    let began : new.began ≡ max kept.began (latest_begin (map (call_since p.since) p.history.calls)) =
+    c.latest_of-began.ensures.began
+    ∙ ap (λ (xs : List CallRecord). max kept.began (latest_begin (map (call_since p.since) xs))) c.calls.ensures.value in
+    let latest : new.latest ≡ max kept.latest (latest_moment (map (call_since p.since) p.history.calls)) =
+    c.latest_of-began.ensures.latest
+    ∙ ap (λ (xs : List CallRecord). max kept.latest (latest_moment (map (call_since p.since) xs))) c.calls.ensures.value in
+    let rest : new.at_rest ≡ (kept.at_rest && have_ended p.history.calls) =
+    c.stays_at_rest-at_rest.ensures ∙ ap (λ (xs : List CallRecord). kept.at_rest && have_ended xs) c.calls-2.ensures.value in
+    let same : new ≡ kept_with kept p = is_kept (kept_with kept p) new keys began latest rest in
+    subst (IsKeptOf opening _) (sym same)
+    (one_part_more kept p follows c.requires opening ps (subst (IsKeptOf opening ps) (sym c.self.view_is) a))

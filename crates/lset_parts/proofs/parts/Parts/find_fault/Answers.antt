@@ -1,4 +1,4 @@
-use Rattle.std.proofs.Common.{List, map, sym, subst, ◌∙◌}
+use Rattle.std.proofs.Common.{List, map, sym, subst, ◌∙◌, arith}
 use Rattle.std.specs.Prelude.{All}
 use Rattle.std.specs.Cmp.Lexicographic.{same_text}
 use Rattle.std.proofs.lemmas.Bool.{not-false}
@@ -17,6 +17,7 @@ returns-clause-cases c =
     } in
     let same = same_text _ c.as_slice.result.now (sym (not-false _ (sym c.if-ne.ensures))) in
     let follows : Follows kept c.args.since c.args.history.now = record {
+      clock = omega arith;
       opening = sym c.opening.ensures.value ∙ same ∙ c.as_slice.ensures.value;
       none_early = subst (λ (xs : List CallRecord). All (λ (x : CallRecord). EndsEarly kept.began x → ⊥) (map (call_since c.args.since) xs))
           c.calls.ensures.value c.if-ends_early.ensures;

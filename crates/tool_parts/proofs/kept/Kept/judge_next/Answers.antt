@@ -9,26 +9,25 @@ use Rattle.tool_parts.proofs.kept.Kept.judge_next.Goals as goal
 
 pub returns-in-Some-2-clause-found : goal.returns-in-Some-2-clause-found
 returns-in-Some-2-clause-found c =
+    let told = c.args.told.now in
     let now = c.in_ok-parts.parts in
-    let keys = c.args.told.now.history.opening.keys in
-    let p = part_at c.args.told.now now.latest in
+    let keys = told.history.opening.keys in
     let had : c.take.result ≡ c.args.self.now.parts = cc in
     let opened : IsOpened keys c.args.self.now.parts now = subst (λ (o : Option KeptParts). IsOpened keys o now) had c.in_ok-parts.ensures in
-    let is : IsFindingBy now p c.in-Some-2.finding =
-    subst (λ (f : Option Finding). IfSome f (IsFindingBy now p)) c.in-Some-2.is c.in_ok-finding.ensures.found in
-    (now.latest, found_next keys c.args.self.now now p c.in-Some-2.finding opened is)
+    let is : IsFindingBy now (part_at told now.latest) c.in-Some-2.finding =
+    subst (λ (f : Option Finding). IfSome f (IsFindingBy now (part_at told now.latest))) c.in-Some-2.is c.in_ok-finding.ensures.found in
+    let many = ap length c.calls.ensures.value in
+    found_next told c.args.self.now now c.in-Some-2.finding opened is (omega (arith, many, c.in-Some.ensures))
 
 pub returns-in-None-clause-added : goal.returns-in-None-clause-added
 returns-in-None-clause-added c = λ e.
+    let told = c.args.told.now in
     let now = c.in_ok-parts.parts in
     let after = c.judge_behind.new.parts in
-    let keys = c.args.told.now.history.opening.keys in
-    let p = part_at c.args.told.now now.latest in
+    let keys = told.history.opening.keys in
     let had : c.take.result ≡ c.args.self.now.parts = cc in
     let opened : IsOpened keys c.args.self.now.parts now = subst (λ (o : Option KeptParts). IsOpened keys o now) had c.in_ok-parts.ensures in
-    let calls : c.in-Some.calls ≡ c.args.self.now.calls + length p.history.calls =
-    (let many = ap length c.calls.ensures.value in omega (arith, many, c.in-Some.ensures)) in (
-      now.latest,
-      added keys c.args.self.now (record { parts = Some after; calls = c.in-Some.calls }) now after p opened
-          (c.in_ok-finding.ensures.added (cc)) refl calls,
-    )
+    let many = ap length c.calls.ensures.value in
+    let calls : c.in-Some.calls ≡ c.args.self.now.calls + length told.history.calls = omega (arith, many, c.in-Some.ensures) in
+    added told c.args.self.now (record { parts = Some after; calls = c.in-Some.calls }) now after opened
+    (c.in_ok-finding.ensures.added (cc)) refl calls (omega arith)
