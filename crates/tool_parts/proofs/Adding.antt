@@ -3,10 +3,11 @@ use Rattle.std.proofs.Common.{◌≡◌, ℕ, ◌+◌, ◌<◌, ◌≤◌, ◌^�
 use Rattle.std.proofs.lemmas.List.{length-map}
 use Rattle.lset_judge.specs.declared.verdict.Refusal.{Refusal}
 use Rattle.lset_judge.specs.declared.verdict.Verdict.{Verdict}
-use Rattle.lset_judge.specs.declared.verdict.Verdict.TheVariants.{NotLinearizable}
+use Rattle.lset_judge.specs.declared.verdict.Verdict.TheVariants.{NotLinearizable, Undecided}
+use Rattle.lset_judge.specs.Verdict.{IsVerdictWithoutQuota}
 use Rattle.lset_parts.specs.Judged.{IsPartVerdict, IsRefusedPart}
 use Rattle.lset_parts.specs.Parts.{Part, AreParts, call_since, calls_of, whole_calls}
-use Rattle.lset_parts.specs.Kept.{KeptParts, IsKeptOf, kept_of}
+use Rattle.lset_parts.specs.Kept.{KeptParts, Follows, IsKeptOf, kept_of}
 use Rattle.lset_parts.proofs.Kept.{none_kept}
 use Rattle.tool_parts.specs.declared.kept.Finding.{Finding}
 use Rattle.tool_parts.specs.declared.kept.Finding.TheVariants.{Late}
@@ -93,6 +94,18 @@ refused_part old new told keys since verdict refusal same late is says =
     let said : IsPartVerdict old new (p keys since) (NotLinearizable refusal) = subst (IsPartVerdict old new (p keys since)) is says in
     let behind : IsRefusedPart old (p keys old.latest) refusal = subst (λ (s : ℕ). IsRefusedPart old (p keys s) refusal) late said.0 in
     (subst (λ (ks : List ℕ). IsRefusedPart old (p ks old.latest) refusal) same behind, said.1)
+
+-- and of one that it does not decide
+pub undecided_part : (old new : KeptParts) (told : Told) (keys : List ℕ) (since : ℕ) (verdict : Verdict) → keys ≡ told.keys.items
+    → since ≡ old.latest → verdict ≡ Undecided → Follows old since told.history
+    → IsPartVerdict old new (record { history = told.history; keys = keys; since = since }) verdict
+    → Follows old old.latest told.history × IsVerdictWithoutQuota told.history told.keys.items Undecided
+undecided_part old new told keys since verdict same late is follows says =
+    let said : IsPartVerdict old new (record { history = told.history; keys = keys; since = since }) Undecided =
+    subst (IsPartVerdict old new (record { history = told.history; keys = keys; since = since })) is says in (
+      subst (λ (s : ℕ). Follows old s told.history) late follows,
+      subst (λ (ks : List ℕ). IsVerdictWithoutQuota told.history ks Undecided) same said.0,
+    )
 
 pub is_refused : (old new : KeptParts) (told : Told) (refusal : Refusal) (rests : Bool) (answer : AnswerValue)
     → IsRefusedPart old (part_at told old.latest) refusal × (new ≡ old)

@@ -1,9 +1,9 @@
-use Rattle.std.proofs.Common.{List, ℕ, sym, subst}
+use Rattle.std.proofs.Common.{List, ℕ, sym, subst, inl}
 use Rattle.lset_judge.specs.Verdict.{IsRefused}
 use Rattle.lset_parts.specs.Kept.{Follows}
 use Rattle.tool_base.specs.Tools.{AnswerValue}
 use Rattle.tool_judge.specs.Judging.{IsRefusedAnswer}
-use Rattle.tool_parts.proofs.Adding.{refused_part, is_refused}
+use Rattle.tool_parts.proofs.Adding.{refused_part, undecided_part, is_refused}
 use Rattle.tool_parts.proofs.kept.judge_behind.Goals as goal
 
 pub refused_answer-requires-clause-refused : goal.refused_answer-requires-clause-refused
@@ -27,3 +27,8 @@ returns-in_ok-text-in-Ok-NotLinearizable-clause-found c =
           (subst (λ (ks : List ℕ). IsRefusedAnswer told.history ks refusal answer) c.deref-in-Ok-NotLinearizable.ensures.value
           c.in_ok-text-in-Ok-NotLinearizable.ensures.answer) c.is_at_rest.ensures,
     )
+
+pub returns-in-Ok-Undecided-clause-found : goal.returns-in-Ok-Undecided-clause-found
+returns-in-Ok-Undecided-clause-found c =
+    inl (undecided_part c.args.parts.now c.judge.new.self c.args.told.now c.deref.result.now c.latest-since.result _ c.deref.ensures.value
+    c.latest-since.ensures c.in-Ok-Undecided.field-0-is c.in-Ok-Undecided.ensures.follows c.in-Ok-Undecided.ensures.verdict)
