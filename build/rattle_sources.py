@@ -14,6 +14,7 @@ END_OF_SIGNATURE = re.compile(r"\n\s*(?:requires|ensures|//)|\s*\{|;(?![^\[\]\n]
 NAME = r"[^\W\d][\w'\-]*"  # of the logic
 USE = re.compile(r"^\s*(?:ghost )?(?:pub )?use Rattle\.([^\s{;]+?)(?:\.\{([^}]*)\})?(?: as (" + NAME + r"))?;?[ ]*$", re.M)
 TEST = re.compile(r"^\s*#\[test\]$", re.M)
+DECLARED = re.compile(r"^(?:pub(?:\(\w+\))? )?(?:(?:struct|enum) (\w+)(?:[^\n]*;$|.*?^[})])|(?:const|type) (\w+).*?;$)", re.M | re.S)
 
 
 def uses(text):
@@ -27,6 +28,25 @@ def uses(text):
         if not listed and other:
             modules[other] = path
     return names, modules
+
+
+def imports(text):
+    """What the `use` lines of a file bring in of Rust: for each name the crate, and the name that it has there."""
+    found = {}
+    for crate, listed in re.findall(r"^(?:pub )?use (\w+)::([^;]*);", text, re.M):
+        for name, here in re.findall(r"(\w+)(?: as (\w+))?\s*(?=[,}]|$)", listed):
+            found[here or name] = (crate, name)
+    return found
+
+
+def shown_of(text):
+    """What others see of a type or constant: its variants, its public fields, or what it is another name for."""
+    text = re.sub(r"^\s*(?://|#\[)[^\n]*\n", "", text, flags=re.M)
+    if not re.match(r"(?:pub(?:\(\w+\))? )?struct ", text):
+        return text
+    if "{" not in text.split("\n")[0]:
+        return " ".join(re.findall(r"\bpub (?!struct\b)([^,)]*)", text))
+    return "\n".join(it for it in re.split(r"\n(?=    \w)", text) if it.startswith("    pub "))
 
 
 def braced(text, start):
@@ -102,6 +122,11 @@ class Block:
         found = (self.text[it.start() : item_end(self.text, it.start())] for it in GHOST.finditer(self.text))
         return [it for it in found if "{" in it]
 
+    @property
+    def seen(self):
+        """What of these a contract sees: all but an invariant, which only narrows which values a type has."""
+        return "".join(it for it in self.ghosts if it.split()[1] != "invariant")
+
 
 @dataclass(frozen=True)
 class Function:
@@ -160,6 +185,11 @@ class Source:
         starts = (it for it in starts if self.text[it.end() : it.end() + 1] == "{")
         return [Block(it[1], it[2].strip(), self.text.count("\n", 0, it.start()) + 1,
                       self.text[it.start() : braced(self.text, it.start())]) for it in starts]
+
+    @cached_property
+    def declared(self):
+        """The types and constants, by name, each with what others see of it."""
+        return {it[1] or it[2]: shown_of(it[0]) for it in DECLARED.finditer(self.text)}
 
     @cached_property
     def functions(self):

@@ -1,7 +1,8 @@
-"""What build/rattle_sources.py reads of a source: functions with their comments, contracts and blocks, views with nested braces, enums."""
+"""What build/rattle_sources.py reads of a source: functions with their comments, contracts and blocks, views with nested braces, enums,
+what others see of a type."""
 
 from harness.cases import TOP, same, test
-from rattle_sources import Library, Source, uses
+from rattle_sources import Library, Source, imports, uses
 
 TEXT = '''//! A file.
 
@@ -58,6 +59,41 @@ pub extern "C" fn listset_of(text: &[u8], room: &mut [u8]) -> u32 {
     0
 }
 '''
+TYPES = '''use crate::fault::Fault;
+use lset_words::{
+    Call, MOST_QUOTA as MOST,
+    history::Placed,
+};
+
+/// So many.
+pub const MOST_OF_ALL: u64 = 2
+    + MOST as u64;
+pub type Order = Vec<Placed>;
+pub struct Key(pub u32, Fault);
+
+pub struct Seen<T> {
+    /// A call: Fault.
+    pub call: Option<
+        (Call, T),
+    >,
+    hidden: Fault,
+    pub(crate) ours: Fault,
+    ghost small: { MOST < 2 },
+    pub ghost held: { Held },
+}
+
+impl<T> Model for Seen<T> {
+    ghost Value = { SeenValue };
+    ghost invariant = { λ s. Fits (record { call = s.call }) s.hidden };
+    ghost view = { λ s. record { call = s.call } };
+}
+
+enum Answer {
+    #[allow(unused)]
+    Yes(Call), // a comment
+    No,
+}
+'''
 SOURCE = Source(TEXT)
 FUNCTIONS = {it.name: it for it in SOURCE.functions}
 
@@ -84,6 +120,23 @@ def a_view_is_read_whole(_case):
     block = next(it for it in SOURCE.blocks if it.is_of_trait)
     same((block.subject, [it.strip() for it in block.ghosts]),
          ("Thing", ["ghost view = { λ it. record { words = { it.words }; past = record_of it.past } };"]), "what it states")
+
+
+@test
+def no_contract_sees_an_invariant(_case):
+    seen = Source(TYPES).blocks[0].seen
+    same((["SeenValue" in seen, "λ s. record { call = s.call }" in seen, "Fits" in seen]), [True, True, False], seen)
+
+
+@test
+def what_others_see_of_types_and_constants(_case):
+    seen = {name: " ".join(it.split()) for name, it in Source(TYPES).declared.items()}
+    due = {"MOST_OF_ALL": "pub const MOST_OF_ALL: u64 = 2 + MOST as u64;", "Order": "pub type Order = Vec<Placed>;", "Key": "u32",
+           "Seen": "pub call: Option< (Call, T), >, pub ghost held: { Held }, }",
+           "Answer": "enum Answer { Yes(Call), // a comment No, }"}
+    same(seen, due, "the types and constants")
+    same(imports(TYPES), {"Fault": ("crate", "Fault"), "Call": ("lset_words", "Call"), "MOST": ("lset_words", "MOST_QUOTA"),
+                          "Placed": ("lset_words", "Placed")}, "what use lines bring in of Rust")
 
 
 @test

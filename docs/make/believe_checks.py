@@ -21,7 +21,7 @@ def problems(top):
 def file_faults():
     modules, _, reached = analysis()
     names = {}
-    for path, name in sorted(reached):
+    for path, name in sorted(it for it in reached if it[0] in modules):
         names.setdefault(modules[path].file, []).append(name)
     told = {file for _, file, *_ in entries()}
     for file in sorted(set(names) - told):
@@ -37,6 +37,8 @@ def file_faults():
             yield f"says that {file} is to be believed, and no public contract reaches it"
     for _, file, name, definitions, _ in entries():
         for it in definitions:
+            if file in names and it not in names[file]:
+                yield f"shows {it} in {file}, and no public contract reaches it"
             if (TOP / "crates" / file).exists() and not comment_of(file, it, name):
                 yield f"shows a comment of {it} in {file}, and there is none"
 

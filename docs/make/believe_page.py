@@ -1,12 +1,12 @@
 """The parts of docs/BELIEVE.md that `docs/make/pages` makes: the definitions that believed.txt lists with what their comments say, how many
-lines of definitions each promise stands on, and the files that no public contract reaches."""
+lines of definitions and which types each promise stands on, and the files that no public contract reaches."""
 
 import functools
 import re
 from pathlib import Path
 
 from antt_definitions import KINDS
-from reached_definitions import analysis, closure
+from reached_definitions import analysis, closure, types_by_file
 
 TOP = Path(__file__).resolve().parent.parent.parent
 BELIEVED = Path(__file__).resolve().parent / "believed.txt"
@@ -27,15 +27,29 @@ ROWS = [
 ]
 
 
-def table_of_lines(contracts, modules):
-    rows = ["| To understand | Lines of definitions | In files |", "|---|---|---|"]
+def reached_by(holds):
+    """What the contracts of a row reach."""
+    modules, contracts, _ = analysis()
+    return closure(set().union(*(seeds for crate, name, _, seeds in contracts if holds(crate, name))), modules)
+
+
+def table_of_lines(_top):
+    modules = analysis()[0]
+    rows = ["| To understand | Lines of definitions | In files | Types and constants |", "|---|---|---|---|"]
     for title, holds in ROWS:
-        seeds = set().union(*(seeds for crate, name, _, seeds in contracts if holds(crate, name)))
-        reached = closure(seeds, modules)
-        lines = sum(len(modules[path].items[name].lines) for path, name in reached)
+        reached = reached_by(holds)
+        definitions = [it for it in reached if it[0] in modules]
+        lines = sum(len(modules[path].items[name].lines) for path, name in definitions)
+        types = sum(map(len, types_by_file(reached).values()))
         if reached:
-            rows.append(f"| {title} | {round(lines, -1)} | {len({path for path, _ in reached})} |")
+            rows.append(f"| {title} | {round(lines, -1)} | {len({path for path, _ in definitions})} | {types} |")
     return "\n".join(rows)
+
+
+def list_of_types(_top):
+    """The types and constants of the rows of the table but the last, by their files."""
+    files = types_by_file(set().union(*(reached_by(holds) for _, holds in ROWS[:-1])))
+    return "\n".join(f"- `{file}`: {', '.join(f'`{it}`' for it in names)}" for file, names in files.items())
 
 
 # ---- the definitions, with their comments
@@ -115,11 +129,11 @@ def grouped(files):
 def private_files(_top):
     """The files of specs/ that no public contract reaches."""
     modules, _, reached = analysis()
-    files = {modules[path].file for path, _ in reached}
+    files = {modules[path].file for path, _ in reached if path in modules}
     of_tests = {module.file for module in modules.values() if module.file.split("/")[0].endswith("_tests")}
     private = {module.file for module in modules.values() if "/specs/" in module.file and "/specs/Lawful" not in module.file}
     return grouped(sorted(private - files - of_tests)) + "."
 
 
 MADE = {f"definitions {it}": functools.partial(definitions_of, it) for it in dict.fromkeys(it[0] for it in entries())}
-MADE |= {"lines": lambda _top: table_of_lines(analysis()[1], analysis()[0]), "private files": private_files}
+MADE |= {"lines": table_of_lines, "types": list_of_types, "private files": private_files}
