@@ -158,7 +158,8 @@ impl<M: Running> LiveSet<M> {
 
 impl<M: Bounded> LiveSet<M> {
     /// Makes the call from the seat, which is one of this set, with no handle to wait by: each of its loops makes at most
-    /// `N::MOST` rounds. The answer is the seat and the reply, and of both is so what `call` says.
+    /// `N::MOST` rounds, but for the walk of a `contains` of LazyList and LockFreeList, which waits for nobody and makes as many
+    /// as it needs. The answer is the seat and the reply, and of both is so what `call` says.
     ///
     /// `None` where a loop has made all its rounds, as at a lock that is held: the thread has made at least `N::MOST` steps of
     /// the call, which is still under way, with the locks that it has. Its seat could make no other and is gone, so the set is
