@@ -1,7 +1,7 @@
 //! The judge, and the order that is found, beside a search of all orders, on 100,000 small histories, with what its refusals say and how
 //! many calls overlap a change; on runs of the five lists; and on histories that it does not decide.
 
-use crate::made::in_turn;
+use crate::made::{ended, in_turn, rising_keys};
 use crate::prelude::*;
 use lset_judge::{Window, overlapped};
 
@@ -314,6 +314,32 @@ fn an_order_of_small_histories_is_found_if_there_is_one(rt: HostRuntime) -> Resu
     Ok(())
 }
 
+/// Each thread makes one call, which answers true, and all of them overlap: adds of keys of their own, or in turn an add and a remove of
+/// one key.
+fn overlapping(alloc: Global, is_one_key: bool) -> Result<History, Fail> {
+    let mut calls = Vec::new(alloc);
+    for thread in 0..MOST_THREADS {
+        let call = match (is_one_key, thread % 2) {
+            (false, _) => Call::Add(Key(thread)),
+            (true, 0) => Call::Add(Key(0)),
+            (true, _) => Call::Remove(Key(0)),
+        };
+        let bar = (thread + 1, MOST_THREADS + thread + 1);
+        calls.push(ended(thread, call, bar, Reply::True))?;
+    }
+    Ok(History::from_calls(MOST_THREADS, 1, Vec::new(alloc), calls))
+}
+
+#[test]
+fn an_order_of_calls_of_all_threads_that_overlap_is_found(rt: HostRuntime) -> Result<(), Fail> {
+    let alloc = rt.alloc();
+    let adds = overlapping(alloc, false)?;
+    assert!(rt; is_ordered(alloc, &adds, &rising_keys(alloc, MOST_THREADS)?)? == Some(true));
+    let changes = overlapping(alloc, true)?;
+    assert!(rt; is_ordered(alloc, &changes, &[])? == Some(true));
+    Ok(())
+}
+
 /// The calls of a history one after another.
 fn streamed(alloc: Global, history: &History) -> Result<Stream, Fail> {
     let mut stream = Stream::new(alloc, history.opening())?;
@@ -411,7 +437,7 @@ fn the_judge_is_right_of_small_histories(rt: HostRuntime) -> Result<(), Fail> {
     }
     let without = (HISTORIES - with_order) as usize;
     assert!(rt; with_order > 30_000 && without > 30_000, "{with_order}");
-    assert!(rt; shown < 4 * without, "{shown} calls shown of {without}");
+    assert!(rt; shown < 2 * without, "{shown} calls shown of {without}");
     Ok(())
 }
 

@@ -102,14 +102,17 @@ fn the_calls_of_a_key_that_never_rests_are_shown(rt: HostRuntime) -> Result<(), 
     Ok(())
 }
 
+/// So many calls find the key.
+const FINDS: u32 = 850_000;
+
 /// While a long call takes key 5 out, many calls find it, one does not, and the next does: three of them show it.
 #[test]
 fn the_calls_that_find_a_key_are_left_out(rt: HostRuntime) -> Result<(), Fail> {
     let alloc = rt.alloc();
     let mut calls = Vec::new(alloc);
     calls.push(true_call(0, Call::Remove(FIVE), 1, u32::MAX - 1))?;
-    for number in 1..=TIMES + 2 {
-        let is_there = number != TIMES + 1;
+    for number in 1..=FINDS + 2 {
+        let is_there = number != FINDS + 1;
         let reply = if is_there { Reply::True } else { Reply::False };
         let bar = (2 * number, 2 * number + 1);
         calls.push(ended(1, Call::Contains(FIVE), bar, reply))?;
@@ -118,11 +121,11 @@ fn the_calls_that_find_a_key_are_left_out(rt: HostRuntime) -> Result<(), Fail> {
     let history = History::from_calls(2, 0, opening, calls);
     let refusal = Refusal {
         key: FIVE,
-        moment: Some(2 * TIMES + 5),
+        moment: Some(2 * FINDS + 5),
     };
     assert!(rt; judge(alloc, &history, &[])? == Verdict::NotLinearizable(refusal));
     let window = window_of_refusal(alloc, &history, &[], refusal)?;
-    let (calls, wanted) = (window.calls.as_slice(), [0, TIMES + 1, TIMES + 2]);
+    let (calls, wanted) = (window.calls.as_slice(), [0, FINDS + 1, FINDS + 2]);
     assert!(rt; calls == wanted.as_slice(), "{}", calls.len());
     Ok(())
 }

@@ -15,12 +15,14 @@ fn add_of_six(thread: u32, begun: u64, ended: Option<(u64, Reply)>) -> StreamCal
 
 /// Calls after one of thread 3 from moment 2 to 7, each with all the faults that come after the one that is named, as far as one call
 /// can have them.
-fn with_faults() -> [(StreamCall, StreamFault); 5] {
+fn with_faults() -> [(StreamCall, StreamFault); 7] {
     let (full, late) = (Some((7, Reply::Full)), LAST_MOMENT + 1);
-    let taken = Some((7, Reply::False));
+    let (late_full, taken) = (Some((late, Reply::Full)), Some((7, Reply::False)));
     [
         (add_of_six(3, 2, Some((2, Reply::Full))), StreamFault::Early),
         (add_of_six(3, late, full), StreamFault::Early),
+        (add_of_six(3, 5, late_full), StreamFault::Early),
+        (add_of_six(3, 7, late_full), StreamFault::Early),
         (add_of_six(3, 5, Some((5, Reply::Full))), StreamFault::Ends),
         (add_of_six(3, 5, full), StreamFault::NotPlain),
         (add_of_six(3, 5, taken), StreamFault::Taken),

@@ -2,6 +2,16 @@
 
 use crate::made::{FIVE, ended};
 use crate::prelude::*;
+use lset_judge::Window;
+
+/// The window of calls of key 5, which no order explains, and which leave it.
+fn window_of(alloc: Global, calls: Vec<CallRecord>) -> Result<Window, Fail> {
+    let history = History::from_calls(3, MOST_QUOTA, Vec::new(alloc), calls);
+    let Verdict::NotLinearizable(refusal) = judge(alloc, &history, &[5])? else {
+        return Err(Fail::new("the calls are not refused"));
+    };
+    Ok(window_of_refusal(alloc, &history, &[5], refusal)?)
+}
 
 /// Calls of key 5, which no order explains, leave it; the window has these.
 fn has_window<R: Abort>(
@@ -10,11 +20,7 @@ fn has_window<R: Abort>(
     calls: Vec<CallRecord>,
     wanted: &[u32],
 ) -> Result<(), Fail> {
-    let history = History::from_calls(3, 200, Vec::new(alloc), calls);
-    let Verdict::NotLinearizable(refusal) = judge(alloc, &history, &[5])? else {
-        return Err(Fail::new("the calls are not refused"));
-    };
-    let window = window_of_refusal(alloc, &history, &[5], refusal)?;
+    let window = window_of(alloc, calls)?;
     assert!(rt; window.calls.as_slice() == wanted, "{:?}", window.calls);
     Ok(())
 }
@@ -33,23 +39,58 @@ fn calls_that_are_not_needed_are_left_out(rt: HostRuntime) -> Result<(), Fail> {
     has_window(&rt, rt.alloc(), calls, &[0, 101, 102])
 }
 
-/// The key goes in and out a hundred times. Then it is found by a call that began before another that did not find it, while an `add`
-/// is pending; and the next call does not find it. So the window begins with a call that began before a moment at which no change was
-/// pending.
+/// The key goes in and out so many times. Then it is found by a call that began before so many others, which did not find it, while an
+/// `add` is pending; and the next call does not find it. Each moment is so far from the next.
+fn found_early(
+    alloc: Global,
+    times: u32,
+    looks: u32,
+    apart: u32,
+) -> Result<Vec<CallRecord>, AllocError> {
+    let mut calls = Vec::new(alloc);
+    for number in 0..times {
+        let at = 4 * number;
+        let (adds, removes) = ((at + 1, at + 2), (at + 3, at + 4));
+        calls.push(ended(0, Call::Add(FIVE), adds, Reply::True))?;
+        calls.push(ended(0, Call::Remove(FIVE), removes, Reply::True))?;
+    }
+    let (at, behind) = (4 * times, 4 * times + 2 * looks);
+    calls.push(ended(0, Call::Contains(FIVE), (at + 1, behind + 3), Reply::True))?;
+    for number in 0..looks {
+        let bar = (at + 2 * number + 2, at + 2 * number + 3);
+        calls.push(ended(1, Call::Contains(FIVE), bar, Reply::False))?;
+    }
+    calls.push(ended(2, Call::Add(FIVE), (behind + 2, behind + 6), Reply::True))?;
+    calls.push(ended(
+        1,
+        Call::Contains(FIVE),
+        (behind + 4, behind + 5),
+        Reply::False,
+    ))?;
+    for call in &mut calls {
+        call.begun *= apart;
+        call.ended = call.ended.map(|(end, reply)| (apart * end, reply));
+    }
+    Ok(calls)
+}
+
+/// The window begins with a call that began before a moment at which no change was pending.
 #[test]
 fn a_window_begins_before_a_call_that_is_needed(rt: HostRuntime) -> Result<(), Fail> {
-    let mut calls = Vec::new(rt.alloc());
-    for number in 0..100 {
-        let at = 4 * number;
-        calls.push(ended(0, Call::Add(FIVE), (at + 1, at + 2), Reply::True))?;
-        calls.push(ended(0, Call::Remove(FIVE), (at + 3, at + 4), Reply::True))?;
-    }
-    calls.push(ended(0, Call::Contains(FIVE), (401, 405), Reply::True))?;
-    calls.push(ended(1, Call::Contains(FIVE), (402, 403), Reply::False))?;
-    calls.push(ended(2, Call::Add(FIVE), (404, 408), Reply::True))?;
-    calls.push(ended(1, Call::Contains(FIVE), (406, 407), Reply::False))?;
+    let mut calls = found_early(rt.alloc(), 100, 1, 1)?;
     // this one begins after the calls that have no order
     calls.push(ended(0, Call::Remove(FIVE), (409, 410), Reply::True))?;
     calls.push(ended(0, Call::Add(FIVE), (411, 412), Reply::True))?;
     has_window(&rt, rt.alloc(), calls, &[200, 202, 203])
+}
+
+/// One call that is needed spans 200 others of more than 2,000: the window has at most 60 calls, and 80 if moments are far apart.
+#[test]
+fn a_window_begins_not_long_before_a_call_that_is_needed(rt: HostRuntime) -> Result<(), Fail> {
+    for (apart, most) in [(1, 60usize), (1 << 18, 80)] {
+        let window = window_of(rt.alloc(), found_early(rt.alloc(), 1_000, 200, apart)?)?;
+        let count = window.calls.len();
+        assert!(rt; 3 < count && count <= most, "{count} calls, {apart} apart");
+    }
+    Ok(())
 }
