@@ -79,7 +79,8 @@ REFUSAL_TO_COME = "still to be refused"
 GUESSING = {"Oracle::keys"}
 # The calls that ask for no growth, and (`BLOCKS`) all in whose name the program takes a block.
 WITHOUT_GROWTH = {
-    "World::step", "History::end", "LiveSet::add", "LiveSet::remove", "LiveSet::contains", "LiveSet::contains_now",
+    "World::step", "History::end", "LiveSet::add", "LiveSet::remove", "LiveSet::contains", "LiveSet::ceiling",
+    "LiveSet::contains_now", "LiveSet::call_within", "LiveSet::receipt", "LiveSet::copied", "LiveSet::after",
     "LiveSet::gather", "LiveSet::close", "session",
 }
 BLOCKS = WITHOUT_GROWTH | {"Oracle::keys"}

@@ -1,7 +1,8 @@
 """A body that gives up keeps its contract: no contract says when memory, a device or a thread is refused, so it may say so past any size.
 Here each place of the sources that answers so stands directly under the failure of a call that can fail so: the `else` of
 `let Ok(..) = call`, `if call.is_err()`, an arm `Err(_)` of `match call`, or an arm that names such a failure. ODD_PLACES has all others,
-each with what decides it. ASKED has what is asked of std by a number, for a number that no machine has is refused as well."""
+each with what decides it. ASKED has what is asked of std by a number, for a number that no machine has is refused as well. Where contracts
+say little, STEPS_OF, LOOPS_OF and LINGERS have what a function does."""
 
 import re
 from dataclasses import dataclass
@@ -198,14 +199,28 @@ ASKED = {
 }
 # Methods of ours that have the name of one of STD_FAILS, and other failures
 SAME_NAMES = {"tool_base/answer::write": "no place stands under a call of it"}
-# Functions that answer nothing, of which contracts say less than they do: their branches and calls in turn
+# Functions of which contracts say less than they do, as of those that answer nothing: their branches and calls in turn
 STEPS_OF = {
+    "lset_server/workers::hold": "let .set_nodelay let buffered_session Device::new Device::new take_leave",  # no read has a time
     "lset_server/lingering::take_leave": "match let Instant::now else if .shutdown .is_err drop_rest Device::new",
     "lset_server/lingering::drop_rest": "let let while let .min .len let .read else if",
     "tool_base/answer::tell": "match tell_line tell_line tell_line tell_line tell_line tell_line tell_line tell_line tell_made",
     "tool_base/answer::tell_made": "if let line_of_trouble tell_line",
     "tool_base/answer::tell_line": "let put",
 }
+# The loops of the server. A loopback has fewer ports than a server may have sessions, so no test comes to the last; and a loop around a
+# call that the system refuses may never end.
+LOOPS_OF = {
+    "lset_server/lingering::drop_rest": ["while left > 0"],
+    "lset_server/serving::accept_all": ["for number in 0..sessions"],
+    "lset_server/serving::close_all": ["for _ in 0..workers"],
+    "lset_server/workers::join_all": ["for worker in workers"],
+    "lset_server/workers::start_all": ["for seat in seats"],
+    "lset_server/workers::work": ["while sessions < u64::from(most)"],
+}
+# How long and how far the server reads after its last answer, as docs/TEXTS.md says: that it reads so far no client sees for certain
+LINGERS = "MOST_DROPPED: usize = 1_048_576;", "MOST_SECONDS: u64 = 1;"
+LINGERS_SAID = "the server still reads and drops input, for at most one second and 1,048,576 bytes,"
 
 
 # ---- what stands in the sources
@@ -449,6 +464,12 @@ class Body:
         return words in (["true"], ["false"], ["None"], ["Some", "("]) or self.is_at_will(items) or call_at_end(items) == ".ok"
 
     @property
+    def loops(self):
+        """The heads of its loops in turn."""
+        found = [(it, braces(it, len(it) - 1)) for it in walk(self.items) if text_of(it) == "{"]
+        return [squeezed(f"{kind} {self.said(head)}") for _, (kind, head) in found if kind in ("for", "while", "loop")]
+
+    @property
     def steps(self):
         """Its branches and calls in turn."""
         found = []
@@ -532,6 +553,12 @@ def each_row_is_of_a_place(_case):
     same(sorted(rows - {(it.guard, it.function) for it in found}), [], "rows of ASKED that no place has, to be taken out")
 
 
+def enums_of(text):
+    """The name of each enum, and its variants."""
+    for name, body in re.findall(r"^(?:pub(?:\(crate\))? )?enum (\w+) \{\n(.*?)^\}", text, re.M | re.S):
+        yield name, re.findall(r"^    ([A-Z]\w*)", body, re.M)
+
+
 @test
 def each_variant_of_an_error_is_said_or_may_be_answered_at_any_time(_case):
     """A new variant belongs into SAID if a contract says when it is answered, and into VARIANTS if none can. (lset_history's Refusal is
@@ -540,8 +567,7 @@ def each_variant_of_an_error_is_said_or_may_be_answered_at_any_time(_case):
     text = "\n".join(it.text for it in found.files.values())
     errors = set(re.findall(r"-> Result<.*, (\w+)>(?: \{)?$", text, re.M))
     enums = {}
-    for name, body in re.findall(r"^(?:pub(?:\(crate\))? )?enum (\w+) \{\n(.*?)^\}", text, re.M | re.S):
-        variants = re.findall(r"^    ([A-Z]\w*)", body, re.M)
+    for name, variants in enums_of(text):
         if name in errors - {"Refusal"} or VARIANTS.keys() & variants:
             enums[name] = " ".join(it for it in variants if it not in VARIANTS)
     same(enums, SAID, "what each error has beside VARIANTS, and SAID")
@@ -585,8 +611,30 @@ def what_gives_up_has_no_other_name(_case):
 
 @test
 def what_answers_nothing_takes_its_steps(_case):
-    found = {it.name: it.steps for it in once(sources).bodies if it.at_will == "return"}
+    found = {it.name: it.steps for it in once(sources).bodies if it.at_will == "return" or it.name in STEPS_OF}
     same(found, STEPS_OF, "the branches and calls of what answers nothing")
+
+
+@test
+def a_server_has_no_other_loops(_case):
+    found = {it.name: it.loops for it in once(sources).bodies if it.crate == "lset_server" and it.loops}
+    same(found, LOOPS_OF, "the loops of the server")
+
+
+@test
+def each_variant_is_answered_somewhere(_case):
+    """A failure that no place answers is passed over, or tried again for ever. (`#[from]` answers by itself.)"""
+    found = once(sources)
+    text = "\n".join(it.text for it in found.files.values())
+    may_be = {f"{name}::{it}" for name, variants in enums_of(text) for it in variants if it in VARIANTS and f"{it}(#[from]" not in text}
+    same(sorted(may_be - {it.what for it in found.places}), [], "variants that no place answers")
+
+
+@test
+def a_server_reads_on_as_far_as_is_said(_case):
+    text = once(sources).files["lset_server/src/lingering.rt"].text
+    same([it for it in LINGERS if f"\nconst {it}\n" not in text], [], "constants that lingering.rt has not")
+    same((TOP / "docs" / "TEXTS.md").read_text().count(LINGERS_SAID), 1, "the lines of docs/TEXTS.md that say so")
 
 
 # ---- the test itself: a small source, and bodies that give up

@@ -4,6 +4,8 @@ A thread needs addresses for its stack, so a limit on the program's addresses (`
 The limits go down in steps of less than a stack, from one under which all threads start to the least under which the program
 begins. Under each, `run` gives its outcome, or says that a thread or memory was refused; `serve` the same, and its client is
 served whole or not at all. A run that does not end within its seconds fails, as does any other answer.
+
+A limit on its files (`ulimit -n`) refuses connections: `serve` says so, and ends.
 """
 
 import collections
@@ -13,13 +15,14 @@ import socket
 import subprocess
 import threading
 
-from harness.cases import KINDS, Wrong, each, given, once, usable
+from harness.cases import KINDS, Wrong, each, given, once, same, usable
 from harness.programs import ran
 
 THREADS = 8
 QUOTA = 16_384
 CALLS = 50
 SECONDS = 30
+FILES = 4  # the streams and the listener
 REQUESTS, ANSWERS = b"ADD 7\nCONTAINS 7\nQUIT\n", b"TRUE\nTRUE\nBYE\n"
 REFUSALS = {
     (1, "listset: work: Spawn\n"): "thread refused",
@@ -121,3 +124,12 @@ def run(case, kind):
 @each(KINDS)
 def serve(case, kind):
     all_ends(case, kind, ended_serve)
+
+
+@each(KINDS)
+def serve_without_files(case, kind):
+    """The system refuses the first connection before a client comes."""
+    words = [case.program, "serve", kind, "2", "4", "0", "1"]
+    made = ran("sh", "-c", 'ulimit -n "$0" && exec "$@"', str(FILES), *words, seconds=SECONDS)
+    same(bool(re.fullmatch(r"listening 127\.0\.0\.1:\d+\n", made.stdout)), True, f"its first line alone, in {made.stdout!r}")
+    same((made.returncode, made.stderr), (1, "listset: serve: Accept\n"), "its status and its fault")

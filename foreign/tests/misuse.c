@@ -87,6 +87,7 @@ static void refused_calls(uint8_t kind) {
   expect("gather into none", listset_gather(&c, &b), LISTSET_NO_SEAT);
   expect("keys of a running set", listset_keys(&a, room, 8), SIZE_MAX);
   expect("gather", listset_gather(&a, &b), LISTSET_OK);
+  expect("what was gathered is not split off", listset_split(&a, &b), LISTSET_NO_MORE);
   calls_without_a_seat("a gathered seat", &b);
   expect("remove", listset_remove(&a, 7), LISTSET_TRUE);
   expect("close", listset_close(&a), LISTSET_OK);
@@ -102,6 +103,31 @@ static void refused_calls(uint8_t kind) {
   calls_without_a_seat("a dropped seat", &a);
 }
 
+static size_t asked_before;
+
+static void expect_unasked(const char *what, size_t found, size_t due) {
+  expect(what, found, due);
+  expect("memory that a call asks for", asked, asked_before);
+  asked_before = asked;
+}
+
+// No call of a set asks for memory, but for those that open it, split a seat off and close it.
+static void calls_without_memory(uint8_t kind) {
+  listset_seat a = LISTSET_NONE, b = LISTSET_NONE;
+  uint32_t at = 0;
+  expect("open for two", listset_open(kind, 2, 2, 1, KEYS, 3, &a), LISTSET_OK);
+  expect("split one of two", listset_split(&a, &b), LISTSET_OK);
+  asked_before = asked;
+  expect_unasked("add by one", listset_add(&a, 100), LISTSET_TRUE);
+  expect_unasked("add by the other", listset_add(&b, 100), LISTSET_FALSE);
+  expect_unasked("contains", listset_contains(&b, 100), LISTSET_TRUE);
+  expect_unasked("ceiling", listset_ceiling(&b, 64, &at), LISTSET_AT);
+  expect_unasked("remove", listset_remove(&b, 100), LISTSET_TRUE);
+  expect_unasked("gather", listset_gather(&a, &b), LISTSET_OK);
+  expect_unasked("add once gathered", listset_add(&a, 9), LISTSET_TRUE);
+  listset_drop(&a);
+}
+
 // A set of ten seats, of which three are split off. The opener, which has the rest within it, is gathered into one that was split off;
 // and a set is closed of which most seats were never split off.
 static void seats_within(uint8_t kind) {
@@ -113,6 +139,7 @@ static void seats_within(uint8_t kind) {
   expect("split c", listset_split(&opener, &c), LISTSET_OK);
   expect("three are out", listset_close(&opener), LISTSET_SEATS_OUT);
   expect("gather one of one", listset_gather(&a, &b), LISTSET_OK);
+  expect("one that was gathered is not split off", listset_split(&a, &b), LISTSET_NO_MORE);
   expect("gather a seat with others within it", listset_gather(&a, &opener), LISTSET_OK);
   expect("nothing is split off one that has gathered", listset_split(&a, &b), LISTSET_NO_MORE);
   expect("one is out", listset_close(&a), LISTSET_SEATS_OUT);
@@ -188,6 +215,7 @@ int main(void) {
   for (uint8_t kind = LISTSET_COARSE; kind <= LISTSET_LOCK_FREE; kind++) {
     refused_at = 0;
     refused_calls(kind);
+    calls_without_memory(kind);
     seats_within(kind);
     most_keys(kind);
     blocks = 0;

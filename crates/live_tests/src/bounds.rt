@@ -7,7 +7,8 @@ use crate::pauses::Count;
 use crate::prelude::*;
 use lset_live::{Countless, Rounds};
 
-struct UpTo<const N: u64>;
+/// So many rounds.
+pub struct UpTo<const N: u64>;
 
 impl<const N: u64> Rounds for UpTo<N> {
     ghost MOST = { N };
@@ -19,7 +20,7 @@ impl<const N: u64> Rounds for UpTo<N> {
 const KEYS: [u32; 5] = [10, 20, 30, 40, 50];
 
 /// A set with two seats, and these.
-fn opened<M: Bounded, R: Abort>(rt: &R, alloc: Global) -> (LiveSet<M>, Seat<M>, Seat<M>)
+pub fn opened<M: Bounded, R: Abort>(rt: &R, alloc: Global) -> (LiveSet<M>, Seat<M>, Seat<M>)
     ensures { (result.1.set ≡ result.0) × (result.2.set ≡ result.0) }
 {
     let (set, mut seats) = open_with::<M>(alloc, 2, 4, &KEYS).expect(rt, "not opened");

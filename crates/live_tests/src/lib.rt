@@ -43,6 +43,8 @@ mod renewal;
 #[cfg(test)]
 mod sentences;
 #[cfg(test)]
+mod stopped;
+#[cfg(test)]
 mod stopping;
 #[cfg(test)]
 mod typed;

@@ -3,7 +3,7 @@ ghost use Rattle.std.specs.Prelude.{◌≡◌, All};
 
 use crate::opened::{last_of, make_calls, rising_keys};
 use crate::prelude::*;
-use crate::programs::{are_answered, pair, worked};
+use crate::programs::{Asked, are_answered, pair, worked};
 
 /// More calls than a smaller number can count, and so many that the square of them is not made in time.
 const MANY_CALLS: u32 = 400_000;
@@ -112,10 +112,13 @@ fn two_before_zero<M: Running, R: Abort>(rt: &R, alloc: Global) -> (LiveSet<M>, 
     (set, seats)
 }
 
+/// A gate gets the numbers of the seats' threads, also of one that has taken another in.
 fn works_in_any_order<M: Running + Send + Sync, R: Host>(rt: &R, alloc: Global) {
     let (set, seats) = two_before_zero::<M, R>(rt, alloc);
     let programs = pair(rt, alloc, &[Call::Add(Key(2))], &[Call::Add(Key(1))]);
-    let outcome = worked(rt, alloc, set, seats, programs, &Always);
+    let asked = Asked::new();
+    let outcome = worked(rt, alloc, set, seats, programs, &asked);
+    assert!(rt; asked.are(&[1, 0, 0, 0, 0, 0, 1, 0, 0, 0]));
     assert!(rt; are_answered(&outcome, &[&[Reply::True], &[Reply::True]]));
     assert!(rt; outcome.keys.as_slice() == [1, 2].as_slice());
 }

@@ -2,10 +2,11 @@
 //! contract says how often a call tries before it gives up.
 ghost use Rattle.std.specs.Prelude.{◌≡◌};
 
+use crate::bounds::UpTo;
 use crate::opened::{last_of, two_seats};
 use crate::prelude::*;
 use crate::waiting::comes;
-use lset_live::Countless;
+use lset_live::{Countless, Rounds};
 use std::cell::Cell;
 
 /// Stops after the step with a number, from 0, until another thread has tried often enough.
@@ -35,11 +36,23 @@ impl<'a, R: Clock> Pause for Holding<'a, R> {
 
 /// Pauses as another pause does, and counts the tries that fail: it says when they are so many.
 #[derive(Drop)]
-struct Trying<'a, P> {
+pub struct Trying<'a, P> {
     pause: P,
     most: u64,
-    tries: Cell<u64>,
+    pub tries: Cell<u64>,
     tried: &'a AtomicBool,
+}
+
+impl<'a, P: Pause> Trying<'a, P> {
+    pub fn new(pause: P, most: u64, tried: &'a AtomicBool) -> Trying<'a, P> {
+        let tries = Cell::new(0);
+        Trying {
+            pause,
+            most,
+            tries,
+            tried,
+        }
+    }
 }
 
 impl<'a, P: Pause> Pause for Trying<'a, P> {
@@ -62,7 +75,7 @@ impl<'a, P: Pause> Pause for Trying<'a, P> {
 }
 
 #[derive(Drop)]
-struct Unpaused;
+pub struct Unpaused;
 
 impl Pause for Unpaused {
     fn moved(&self, _thread: u32) {}
@@ -70,11 +83,12 @@ impl Pause for Unpaused {
     fn failed(&self, _thread: u32) {}
 }
 
-/// A seat adds 1, and stops with a lock.
-fn holds<M: Running, R: Host>(
+/// A seat makes a call, and stops after a step of it, with a lock.
+pub fn holds<M: Running, R: Host>(
     rt: &R,
     set: &LiveSet<M>,
     mut seat: Seat<M>,
+    call: Call,
     stops_at: u64,
     flags: (&AtomicBool, &AtomicBool),
 ) -> Reply
@@ -87,7 +101,7 @@ fn holds<M: Running, R: Host>(
         has_stopped: flags.0,
         tried: flags.1,
     };
-    set.call(rt, &mut seat, Call::Add(Key(1)), &holding)
+    set.call(rt, &mut seat, call, &holding)
 }
 
 /// Once the other has stopped, a seat adds 2: its reply, and how often it tried in vain.
@@ -102,12 +116,7 @@ fn tries<M: Running, R: Host, P: Pause + Drop>(
     requires { seat.set ≡ set.now }
 {
     let _came = comes(rt, flags.0);
-    let trying = Trying {
-        pause,
-        most,
-        tries: Cell::new(0),
-        tried: flags.1,
-    };
+    let trying = Trying::new(pause, most, flags.1);
     let reply = set.call(rt, &mut seat, Call::Add(Key(2)), &trying);
     (reply, trying.tries.get())
 }
@@ -127,7 +136,7 @@ fn both_add<M: Running + Send + Sync, R: Host, P: Pause + Send + Drop>(
     let (zero, one) = seats;
     join(
         rt,
-        move || holds(rt, set, one, stops_at, flags),
+        move || holds(rt, set, one, Call::Add(Key(1)), stops_at, flags),
         move || tries(rt, set, zero, pause, most, flags),
     )
 }
@@ -228,14 +237,15 @@ fn changes<M: Running, R: Host>(rt: &R, set: &LiveSet<M>, mut seat: Seat<M>, tur
     }
 }
 
-/// A seat adds 5, disturbed after these steps; `None` if it gives up.
-fn is_disturbed<M: Bounded, R: Clock>(
+/// A seat adds 5, disturbed after these steps: the reply, `None` if it gives up, and how often it was disturbed. Once it has ended the
+/// other waits for it no more.
+fn is_disturbed<M: Bounded, R: Clock, N: Rounds>(
     rt: &R,
     set: &LiveSet<M>,
     seat: Seat<M>,
     turns: &Turns,
     steps: (u64, u64),
-) -> Option<Reply>
+) -> (Option<Reply>, u64)
     requires { seat.set ≡ set.now }
 {
     let (first, period) = steps;
@@ -247,31 +257,39 @@ fn is_disturbed<M: Bounded, R: Clock>(
         steps: Cell::new(0),
     };
     let call = Call::Add(Key(5));
-    let (_seat, reply) = set.call_within::<Disturbed<'_, R>, Countless>(seat, call, &disturbed)?;
-    Some(reply)
+    let made = set.call_within::<Disturbed<'_, R>, N>(seat, call, &disturbed);
+    let asked = turns.asked.swap(CHANGES, Ordering::SeqCst);
+    match made {
+        Some((_seat, reply)) => (Some(reply), asked),
+        None => (None, asked),
+    }
 }
 
-/// Seat 1 adds 5 while seat 0 changes the set, in two threads: the reply.
-fn one_is_disturbed<M: Running + Send + Sync, R: Host>(
+/// Seat 1 adds 5 while seat 0 changes the set, in two threads: the reply, and how often it was disturbed.
+fn one_is_disturbed<M: Running + Send + Sync, R: Host, N: Rounds>(
     rt: &R,
     set: &LiveSet<M>,
     seats: (Seat<M>, Seat<M>),
     turns: &Turns,
     steps: (u64, u64),
-) -> Option<Reply>
+) -> (Option<Reply>, u64)
     requires { (seats.0.set ≡ set.now) × (seats.1.set ≡ set.now) }
 {
     let (zero, one) = seats;
     let both = join(
         rt,
-        move || is_disturbed(rt, set, one, turns, steps),
+        move || is_disturbed::<M, R, N>(rt, set, one, turns, steps),
         move || changes(rt, set, zero, turns),
     );
     both.0
 }
 
-/// A call whose link changes before it takes it, time and again, starts over each time, and comes to its end.
-fn starts_over<M: Running + Send + Sync, R: Host>(rt: &R, alloc: Global, steps: (u64, u64)) {
+/// What comes of a call of these rounds whose link changes before it takes it, time and again.
+fn after_changes<M: Running + Send + Sync, R: Host, N: Rounds>(
+    rt: &R,
+    alloc: Global,
+    steps: (u64, u64),
+) -> (Option<Reply>, u64) {
     let (set, mut seats) = open::<M>(alloc, 2, 2_000).expect(rt, "not opened");
     let one = last_of(rt, &set, &mut seats);
     let zero = last_of(rt, &set, &mut seats);
@@ -279,9 +297,15 @@ fn starts_over<M: Running + Send + Sync, R: Host>(rt: &R, alloc: Global, steps: 
         asked: AtomicU64::new(0),
         made: AtomicU64::new(0),
     };
-    let reply = one_is_disturbed(rt, &set, (zero, one), &turns, steps);
-    assert!(rt; reply == Some(Reply::True));
+    let found = one_is_disturbed::<M, R, N>(rt, &set, (zero, one), &turns, steps);
     assert!(rt; turns.made.load(Ordering::SeqCst) == CHANGES);
+    found
+}
+
+/// It starts over each time, and comes to its end.
+fn starts_over<M: Running + Send + Sync, R: Host>(rt: &R, alloc: Global, steps: (u64, u64)) {
+    let found = after_changes::<M, R, Countless>(rt, alloc, steps);
+    assert_eq!(rt; found, (Some(Reply::True), CHANGES));
 }
 
 #[test]
@@ -289,4 +313,25 @@ fn a_call_starts_over_as_often_as_it_takes(rt: HostRuntime) {
     starts_over::<OptimisticList, HostRuntime>(&rt, rt.alloc(), (1, 7));
     starts_over::<LazyList, HostRuntime>(&rt, rt.alloc(), (1, 7));
     starts_over::<LockFreeList, HostRuntime>(&rt, rt.alloc(), (4, 6));
+}
+
+/// With 100 rounds it starts over no more often, and gives up.
+fn gives_up<M: Running + Send + Sync, R: Host>(rt: &R, alloc: Global, steps: (u64, u64)) {
+    let found = after_changes::<M, R, UpTo<100>>(rt, alloc, steps);
+    assert_eq!(rt; found, (None, 100));
+}
+
+#[test]
+fn an_optimistic_call_starts_over_in_its_rounds_alone(rt: HostRuntime) {
+    gives_up::<OptimisticList, HostRuntime>(&rt, rt.alloc(), (1, 7));
+}
+
+#[test]
+fn a_lazy_call_starts_over_in_its_rounds_alone(rt: HostRuntime) {
+    gives_up::<LazyList, HostRuntime>(&rt, rt.alloc(), (1, 7));
+}
+
+#[test]
+fn a_lock_free_call_starts_over_in_its_rounds_alone(rt: HostRuntime) {
+    gives_up::<LockFreeList, HostRuntime>(&rt, rt.alloc(), (4, 6));
 }

@@ -148,14 +148,20 @@ fn a_gate_ends_a_program(rt: HostRuntime) {
     }
 }
 
-/// Counts how often it is asked for each of the first three calls of two seats, and for other ones.
+/// Counts how often it is asked for each of the first three calls of three seats, and for other ones.
 #[derive(Drop)]
-struct Asked {
-    counts: [AtomicU32; 7],
+pub struct Asked {
+    counts: [AtomicU32; 10],
 }
 
 impl Asked {
-    fn are(&self, wanted: &[u32]) -> bool {
+    pub fn new() -> Asked {
+        Asked {
+            counts: [0; 10].map(AtomicU32::new),
+        }
+    }
+
+    pub fn are(&self, wanted: &[u32]) -> bool {
         self.counts
             .iter()
             .zip(wanted)
@@ -165,10 +171,10 @@ impl Asked {
 
 impl Gate for Asked {
     fn pass(&self, seat: u32, call: u32) -> bool {
-        let at = if seat < 2 && call < 3 {
+        let at = if seat < 3 && call < 3 {
             3 * seat + call
         } else {
-            6
+            9
         };
         self.counts[at as usize].fetch_add(1, Ordering::SeqCst);
         true
@@ -177,13 +183,48 @@ impl Gate for Asked {
 
 #[test]
 fn a_gate_is_asked_once_for_each_call(rt: HostRuntime) {
-    let asked = Asked {
-        counts: [0; 7].map(AtomicU32::new),
-    };
+    let asked = Asked::new();
     let programs = two_programs(&rt, rt.alloc());
     let (set, seats) = two_in_a_row::<LazyList, HostRuntime>(&rt, rt.alloc());
     let _outcome = worked(&rt, rt.alloc(), set, seats, programs, &asked);
-    assert!(rt; asked.are(&[1, 1, 1, 1, 1, 0, 0]));
+    assert!(rt; asked.are(&[1, 1, 1, 1, 1, 0, 0, 0, 0, 0]));
+}
+
+/// Answers false at one call, and counts how often it is asked.
+#[derive(Drop)]
+struct ShutOnce {
+    shut: Shut,
+    asked: Asked,
+}
+
+impl Gate for ShutOnce {
+    fn pass(&self, seat: u32, call: u32) -> bool {
+        let _passes = self.asked.pass(seat, call);
+        self.shut.pass(seat, call)
+    }
+}
+
+/// The gate answers false at one call, and is asked so often for each.
+fn is_asked_until_it_is_shut<R: Host>(rt: &R, alloc: Global, shut: Shut, wanted: &[u32]) {
+    let asked = Asked::new();
+    let gate = ShutOnce { shut, asked };
+    let programs = two_programs(rt, alloc);
+    let fault = fault_of::<LazyList, R, ShutOnce>(rt, alloc, programs, &gate);
+    assert!(rt; fault.cause == WorkCause::Gate && gate.asked.are(wanted));
+}
+
+/// Once it has answered false to a program it is not asked for it again, and the other program runs to its end.
+#[test]
+fn a_gate_is_asked_no_more_once_it_is_shut(rt: HostRuntime) {
+    let rows = [
+        (0, 0, [1, 0, 0, 1, 1, 0, 0, 0, 0, 0]),
+        (0, 1, [1, 1, 0, 1, 1, 0, 0, 0, 0, 0]),
+        (0, 2, [1, 1, 1, 1, 1, 0, 0, 0, 0, 0]),
+        (1, 0, [1, 1, 1, 1, 0, 0, 0, 0, 0, 0]),
+    ];
+    for &(seat, call, wanted) in &rows {
+        is_asked_until_it_is_shut(&rt, rt.alloc(), Shut { seat, call }, &wanted);
+    }
 }
 
 /// Holds each seat at its second call until the other seat is there too.
@@ -208,7 +249,9 @@ fn two_workers_meet(rt: HostRuntime) {
     at_each_list!(meet, rt);
 }
 
-/// Holds the call of seat 0 until seat 1 has made two calls, and those until the call of seat 0 is asked for.
+/// Holds the call of seat 0 until seat 1 has made two calls, and those until the call of seat 0 is asked for. Seat 1 is held for a while
+/// at its fourth call, though nothing is waited for: had it been asked for all its calls before the first is made, then seat 0 would
+/// look in the meantime.
 #[derive(Drop)]
 struct Turns<'a, R> {
     rt: &'a R,
@@ -228,12 +271,16 @@ impl<'a, R: Clock> Gate for Turns<'a, R> {
                 self.has_added.store(true, Ordering::SeqCst);
                 true
             }
+            (_, 3) => {
+                thread::sleep(self.rt, Duration::from_millis(300));
+                true
+            }
             _ => true,
         }
     }
 }
 
-/// A gate asked after a call would let that of seat 0 look before seat 1 adds.
+/// A gate asked after a call, or for all calls before the first, would let that of seat 0 look before seat 1 adds.
 #[test]
 fn a_gate_is_asked_before_each_call(rt: HostRuntime) {
     let turns = Turns {
@@ -242,11 +289,11 @@ fn a_gate_is_asked_before_each_call(rt: HostRuntime) {
         has_added: AtomicBool::new(false),
     };
     let look = Call::Contains(Key(5));
-    let changes = [Call::Contains(Key(9)), Call::Add(Key(5)), look];
+    let changes = [Call::Contains(Key(9)), Call::Add(Key(5)), look, look];
     let programs = pair(&rt, rt.alloc(), &[look], &changes);
     let (set, seats) = two_in_a_row::<LazyList, HostRuntime>(&rt, rt.alloc());
     let outcome = worked(&rt, rt.alloc(), set, seats, programs, &turns);
-    let second: &[Reply] = &[Reply::False, Reply::True, Reply::True];
+    let second: &[Reply] = &[Reply::False, Reply::True, Reply::True, Reply::True];
     assert!(rt; are_as_wanted(&outcome, &[&[Reply::True], second], &[5]));
 }
 

@@ -1,10 +1,12 @@
-//! Running sets, from their opening to their keys. LazyList's adds and removes go through the interpreter; its `contains`
-//! and all calls of LockFreeList are plain loops.
+//! Running sets of each list, from their opening to their keys.
 ghost use Rattle.std.specs.Prelude.{◌≡◌, IfOk, All};
 
 use crate::prelude::*;
-use lset_live::{Running, RunningReads};
+use lset_coarse::CoarseList;
+use lset_fine::FineList;
+use lset_live::{Countless, Running, RunningReads, Spin};
 use lset_lock_free::LockFreeList;
+use lset_optimistic::OptimisticList;
 use lset_server::{Device, session};
 
 fn last_seat<M: Running>(set: &LiveSet<M>, seats: &mut Vec<Seat<M>>) -> Result<Seat<M>>
@@ -37,8 +39,8 @@ fn add_six<M: Running, R: Wait>(rt: &R, set: &LiveSet<M>, seat: &mut Seat<M>) ->
     Ok(())
 }
 
-/// Changes the set, leaves the keys 1, 2, 4, 5 and 6, and looks for a key that went out and for one that is there.
-fn change_and_look<M: RunningReads, R: Wait>(
+/// Changes the set, leaves the keys 1, 2, 4, 5 and 6, and looks for a key that went out and for the next one.
+fn change_and_look<M: Running, R: Wait>(
     rt: &R,
     alloc: Global,
     calls: &mut Calls,
@@ -54,8 +56,68 @@ fn change_and_look<M: RunningReads, R: Wait>(
     check(set.remove(rt, seat, Key(3)) == Reply::True)?;
     calls.announce(alloc, "LiveSet::contains")?;
     check(set.contains(rt, seat, Key(3)) == Reply::False)?;
-    calls.announce(alloc, "LiveSet::contains_now")?;
-    check(set.contains_now(seat, Key(4)))
+    calls.announce(alloc, "LiveSet::ceiling")?;
+    check(set.ceiling(rt, seat, Key(3)) == Reply::At(Key(4)))
+}
+
+/// Makes a call with no handle to wait by, which is answered so.
+fn call_within<M: Running>(
+    alloc: Global,
+    calls: &mut Calls,
+    set: &LiveSet<M>,
+    seat: Seat<M>,
+    call: Call,
+    wanted: Reply,
+) -> Result<Seat<M>>
+    requires { seat.set ≡ set.now }
+    ensures { IfOk result (λ s. s.set ≡ set.now) }
+{
+    calls.announce(alloc, "LiveSet::call_within")?;
+    let made = set.call_within::<Spin, Countless>(seat, call, &Spin::new());
+    let Some((seat, reply)) = made else {
+        return Err(Error::msg("a call gave up"));
+    };
+    check(reply == wanted)?;
+    Ok(seat)
+}
+
+/// One call of each kind, which leave the keys as they were.
+fn call_each_within<M: Running>(
+    alloc: Global,
+    calls: &mut Calls,
+    set: &LiveSet<M>,
+    seat: Seat<M>,
+) -> Result<Seat<M>>
+    requires { seat.set ≡ set.now }
+    ensures { IfOk result (λ s. s.set ≡ set.now) }
+{
+    let key = Key(9);
+    let seat = call_within(alloc, calls, set, seat, Call::Add(key), Reply::True)?;
+    let seat = call_within(alloc, calls, set, seat, Call::Contains(key), Reply::True)?;
+    let found = Reply::At(key);
+    let seat = call_within(alloc, calls, set, seat, Call::Ceiling(Key(7)), found)?;
+    call_within(alloc, calls, set, seat, Call::Remove(key), Reply::True)
+}
+
+/// A seat gives a receipt, and another goes on after it; so does the first after a second one.
+fn pass_receipts<M: Running>(
+    alloc: Global,
+    calls: &mut Calls,
+    set: &LiveSet<M>,
+    zero: &mut Seat<M>,
+    one: &mut Seat<M>,
+) -> Result<()>
+    requires { (zero.old.set ≡ set.now) × (one.old.set ≡ set.now) }
+    ensures { (zero.new.set ≡ set.now) × (one.new.set ≡ set.now) }
+{
+    calls.announce(alloc, "LiveSet::receipt")?;
+    let mut receipt = set.receipt(zero);
+    calls.announce(alloc, "LiveSet::copied")?;
+    let copy = set.copied(&mut receipt);
+    calls.announce(alloc, "LiveSet::after")?;
+    set.after(one, receipt);
+    set.after(zero, copy);
+    Ok(())
 }
 
 /// A session over bytes in memory, with an answer of each kind but `FULL`.
@@ -104,14 +166,30 @@ fn gather_and_close<M: Running>(
 }
 
 /// Opens a set, makes calls from both seats, and closes it.
-fn running_set<M: RunningReads, R: Wait>(rt: &R, alloc: Global, calls: &mut Calls) -> Result<()> {
+fn running_set<M: Running, R: Wait>(rt: &R, alloc: Global, calls: &mut Calls) -> Result<()> {
     let (set, mut zero, mut one) = opened::<M>(alloc, calls)?;
     change_and_look(rt, alloc, calls, &set, &mut zero)?;
     answer_session(rt, alloc, calls, &set, &mut one)?;
+    pass_receipts(alloc, calls, &set, &mut zero, &mut one)?;
+    let one = call_each_within(alloc, calls, &set, one)?;
     gather_and_close(alloc, calls, set, zero, one)
 }
 
+/// Opens a set whose reads do not block, and looks for a key that is there and for one that is not.
+fn read_now<M: RunningReads, R: Wait>(rt: &R, alloc: Global, calls: &mut Calls) -> Result<()> {
+    let (set, mut zero, mut one) = opened::<M>(alloc, calls)?;
+    add_six(rt, &set, &mut one)?;
+    calls.announce(alloc, "LiveSet::contains_now")?;
+    check(set.contains_now(&mut zero, Key(4)))?;
+    check(!set.contains_now(&mut zero, Key(7)))
+}
+
 pub fn running_sets<R: Wait>(rt: &R, alloc: Global, calls: &mut Calls) -> Result<()> {
+    running_set::<CoarseList, R>(rt, alloc, calls)?;
+    running_set::<FineList, R>(rt, alloc, calls)?;
+    running_set::<OptimisticList, R>(rt, alloc, calls)?;
     running_set::<LazyList, R>(rt, alloc, calls)?;
-    running_set::<LockFreeList, R>(rt, alloc, calls)
+    running_set::<LockFreeList, R>(rt, alloc, calls)?;
+    read_now::<LazyList, R>(rt, alloc, calls)?;
+    read_now::<LockFreeList, R>(rt, alloc, calls)
 }
