@@ -18,11 +18,15 @@ The sets, for tests and teaching: a thread calls from a seat of its own, and one
     mine.gather(other)
     keys = mine.close()
 
+A key, the seats and the quota are 0 to 4294967295: another integer raises ValueError, what is no integer TypeError, and the set
+stays as it was.
+
 The library is that of the folder LISTSET_LIB where this is set, else that beside this file.
 """
 
 import ctypes
 import itertools
+import operator
 import os
 import pathlib
 
@@ -148,6 +152,7 @@ FULL, AT, NO_SEAT = 2, 3, 255  # replies; 0 and 1 are False and True
 FAULTS = {10: "the seats are not 1 to 64", 11: "the quota is above 16384", 12: "the keys do not rise or are too many",
           13: "out of memory", 16: "not all seats are gathered", 17: "no seat is left to be split off",
           18: "not two seats of one set", 255: "there is no seat"}
+GREATEST = 2**32 - 1
 _NUMBERS = itertools.count()
 
 
@@ -168,8 +173,16 @@ def _told(code):
         raise Fault(code)
 
 
+def _number(given, what="key"):
+    """An integer that C has as a uint32_t: ctypes would cut any other to 32 bits."""
+    number = operator.index(given)
+    if not 0 <= number <= GREATEST:
+        raise ValueError(f"the {what} {number} is not in the range 0 to {GREATEST}")
+    return number
+
+
 def _keys(keys):
-    return (ctypes.c_uint32 * max(len(keys), 1))(*keys)
+    return (ctypes.c_uint32 * max(len(keys), 1))(*map(_number, keys))
 
 
 class Seat:
@@ -184,7 +197,7 @@ class Seat:
         return function(ctypes.byref(self.raw), *values)
 
     def _reply(self, name, key, *values):
-        reply = self._call(name, ctypes.c_uint32(key), *values)
+        reply = self._call(name, ctypes.c_uint32(_number(key)), *values)
         if reply == NO_SEAT:
             raise Fault(reply)
         return reply
@@ -239,6 +252,7 @@ def open_set(kind, seats, quota, keys=()):
     """Opens a set with keys that rise, and gives a seat that has all others within it."""
     made, keys = Seat(), list(keys)
     _LIBRARY.listset_open.restype = ctypes.c_uint8
-    sizes = [ctypes.c_uint8(LISTS.index(kind)), ctypes.c_uint32(seats), ctypes.c_uint32(quota), ctypes.c_uint64(next(_NUMBERS))]
-    _told(_LIBRARY.listset_open(*sizes, _keys(keys), ctypes.c_size_t(len(keys)), ctypes.byref(made.raw)))
+    sizes = [ctypes.c_uint32(_number(seats, "number of seats")), ctypes.c_uint32(_number(quota, "quota")), ctypes.c_uint64(next(_NUMBERS))]
+    first, count = _keys(keys), ctypes.c_size_t(len(keys))
+    _told(_LIBRARY.listset_open(ctypes.c_uint8(LISTS.index(kind)), *sizes, first, count, ctypes.byref(made.raw)))
     return made

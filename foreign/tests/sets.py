@@ -6,6 +6,7 @@ import threading
 import listset
 
 THREADS, CALLS, KEYS, OPENING = 4, 3000, 64, [1, 7, 63]
+ENDS = [0, 2**32 - 1]  # the least key and the greatest
 
 
 def calls_of(seat, number, net):
@@ -57,6 +58,47 @@ def refusals():
     assert mine.close() == [7, 9] and code(mine.add, 1) == 255 and other.close() == []
 
 
+def ends(kind):
+    """The least key and the greatest, in and out of each call."""
+    mine = listset.open_set(kind, 1, 2, ENDS)
+    assert [mine.ceiling(key) for key in (0, 1, ENDS[1])] == [0, ENDS[1], ENDS[1]], kind
+    assert all(mine.contains(key) and mine.remove(key) and not mine.contains(key) for key in ENDS), kind
+    assert mine.ceiling(0) is None and [mine.add(key) for key in ENDS] == [True, True], kind
+    assert (mine.ceiling(0), mine.ceiling(1), mine.close()) == (0, ENDS[1], ENDS), kind
+
+
+def raised(call, *values):
+    """The type and the text of what a call raises."""
+    try:
+        call(*values)
+    except Exception as fault:
+        return type(fault), str(fault)
+    return None, ""
+
+
+def numbers():
+    """What 32 bits do not hold is refused and not cut, and what is no integer; and the set is as it was."""
+    mine = listset.open_set("lazy", 1, 4, [1, 5])
+    calls = [mine.add, mine.remove, mine.contains, mine.ceiling, *(lambda it, at=at: opened(at, it) for at in range(4))]
+    for call in calls:
+        for number in (-1, -(2**32) + 5, 2**32, 2**32 + 1, 2**32 + 5, 2**64 + 5):
+            fault, text = raised(call, number)
+            assert fault is ValueError and f" {number} " in text and text.endswith(" the range 0 to 4294967295"), (call, number, fault, text)
+        for other in (5.0, "5", None, [5]):
+            assert raised(call, other)[0] is TypeError, (call, other)
+    assert mine.add(2) and mine.close() == [1, 2, 5]
+
+
+def opened(at, number):
+    """Opens a set with this number as the seats, the quota, the first key or the last."""
+    seats, quota, first, last = [number if at == it else it + 1 for it in range(4)]
+    listset.open_set("lazy", seats, quota, [first, last])
+
+
 for it in listset.LISTS:
     trial(it)
+    ends(it)
 refusals()
+for place in range(4):
+    opened(place, place + 1)
+numbers()
