@@ -3,13 +3,14 @@ the folder LISTSET_PREFIX if that is set, and the programs of docs/FOREIGN.md. A
 races. They see the callers; the libraries are not compiled with them.
 """
 
+import ast
 import os
 import pathlib
 import re
 import shutil
 import sys
 
-from harness.cases import TOP, Wrong, given, lacking, needs, test_on, usable
+from harness.cases import TOP, Wrong, each, given, lacking, needs, test_on, usable
 from harness.programs import LONG, ran, well
 
 FOREIGN, EXAMPLES, FORMS = TOP / "foreign", TOP / "examples" / "schedules", TOP / "examples" / "in-a-test"
@@ -17,6 +18,25 @@ TESTS, PREFIX = FOREIGN / "tests", pathlib.Path(os.environ.get("LISTSET_PREFIX",
 TAKES_TURNS = True  # (each has more threads than there are processors)
 WARN = ["-Wall", "-Wextra", "-Werror", "-O1", "-g"]
 MEMORY, RACES = "-fsanitize=address,undefined", "-fsanitize=thread"
+OF_C = TOP / "crates" / "ffi_sets" / "src"
+BINDINGS = {"c": "listset.h", "cpp": "listset.hpp", "rust": "rust/src/sets.rs", "python": "listset.py"}
+# where each has the lists, in order
+LISTS = {"c": r"enum \{ (LISTSET_COARSE.*?) \};", "cpp": r"enum class list : uint8_t \{ (.*?) \};", "rust": r"pub enum List \{(.*?)\}"}
+LISTS |= {"python": r"^LISTS = \[(.*?)\]"}
+# of each fault what listset.h says beside its number, and the sentence of the bindings
+FAULTS = {
+    "BAD_SEATS": ("not 1 to 64", "the seats are not 1 to 64"),
+    "BAD_QUOTA": ("above 16,384", "the quota is above 16384"),
+    "BAD_KEYS": ("they do not rise, or are more than 1,048,576", "the keys do not rise or are too many"),
+    "OUT_OF_MEMORY": ("", "out of memory"),
+    "BAD_KIND": ("", None),  # (the bindings' types have no such list, and open onto no full seat)
+    "IS_SEAT": ("`out` is full", None),
+    "SEATS_OUT": ("not all seats are gathered", "not all seats are gathered"),
+    "NO_MORE": ("no seat is left to be split off", "no seat is left to be split off"),
+    "NO_GATHER": ("not two seats of one list and number", "not two seats of one set"),
+    "NO_SEAT": ("the seat is empty, or of a closed set", "there is no seat"),
+}
+IN_RUST = {"NO_GATHER": "the seats are of two sets", "NO_SEAT": None}  # (the types rule the others out)
 WRAPPED = [f"-Wl,--wrap={it}" for it in ("malloc", "realloc", "free")]
 
 
@@ -201,3 +221,64 @@ def python(installed):
     is_judged(well(*first, cwd=FORMS / "python", **how), installed.proof())
     well(sys.executable, "-B", TESTS / "sets.py", **how)
     installed.first_program("python", sys.executable, "-B", installed.page("python", "py"), **how)
+
+
+def source(language):
+    return (FOREIGN / BINDINGS[language]).read_text()
+
+
+def part(pattern, text):
+    """What a pattern finds that is there once."""
+    found = re.findall(pattern, text, re.M | re.S)
+    if len(found) != 1:
+        raise Wrong(f"{pattern} is there {len(found)} times")
+    return found[0]
+
+
+@each(BINDINGS)
+def order_of_lists(_case, language):
+    """Each binding has the lists by the numbers of the crate ffi_sets."""
+    due = re.findall(r"^ +(\d+) => Held::(\w+)\(open_of", (OF_C / "each.rt").read_text(), re.M)
+    found = re.findall(r"[\w-]+", part(LISTS[language], source(language)))
+    found = [re.sub("^listset|[_-]", "", it.lower()) for it in found]
+    if len(due) != 5 or [(str(at), it) for at, it in enumerate(found)] != [(at, it.lower()) for at, it in due]:
+        raise Wrong(f"{BINDINGS[language]} has the lists {found}, and ffi_sets has {due}")
+
+
+def numbers_in(text, pattern):
+    return {name: int(number) for name, number in re.findall(pattern, text, re.M)}
+
+
+def sentences_in_c(text, _numbers):
+    return {int(number): said for number, said in re.findall(r"^ +LISTSET_\w+ = (\d+),? *(?:/\* (.*?) \*/)?$", text, re.M)}
+
+
+def sentences_in_cpp(text, numbers):
+    found = re.findall(r"case LISTSET_(\w+): return \"(.*)\";", text)
+    return {**{numbers[name]: said for name, said in found}, numbers["NO_SEAT"]: part(r"default: return \"(.*?)\";", text)}
+
+
+def sentences_in_rust(text, _numbers):
+    said = dict(re.findall(r"Fault::(\w+) => \"(.*)\",", text))
+    return {int(number): said[name] for number, name in re.findall(r"^ +(\d+) => Fault::(\w+),", text, re.M)}
+
+
+def sentences_in_python(text, _numbers):
+    return ast.literal_eval(part(r"^FAULTS = (\{.*?\})", text))
+
+
+SENTENCES = {"c": sentences_in_c, "cpp": sentences_in_cpp, "rust": sentences_in_rust, "python": sentences_in_python}
+
+
+@each(BINDINGS)
+def sentences_of_faults(_case, language):
+    """Each fault has in each binding the number of the crate ffi_sets, and its sentence."""
+    numbers = numbers_in((OF_C / "codes.rt").read_text(), r"^pub const (\w+): u8 = (\d+);")
+    in_c = numbers_in(source("c"), r"^ +LISTSET_(\w+) = (\d+)")
+    if wrong := {name for name in FAULTS if in_c.get(name) != numbers[name]} | (numbers.keys() - FAULTS.keys() - {"DONE"}):
+        raise Wrong(f"listset.h has other numbers than ffi_sets for {sorted(wrong)}")
+    told = SENTENCES[language](source(language), numbers)
+    for name, (beside, sentence) in FAULTS.items():
+        due = beside if language == "c" else IN_RUST.get(name, sentence) if language == "rust" else sentence
+        if told.get(numbers[name]) != due:
+            raise Wrong(f"{BINDINGS[language]} says {told.get(numbers[name])!r} of {name}, {numbers[name]}, and not {due!r}")

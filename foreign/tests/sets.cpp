@@ -69,8 +69,30 @@ static void expect_shared() {
   expect(thrown([] { listset::shared(list::lazy, 65, 1); }) == LISTSET_BAD_SEATS, "too many shared seats");
 }
 
+// The least key and the greatest, in and out of each call, from a seat and behind a shared set.
+template <typename Set> static void expect_ends(Set set) {
+  const uint32_t most = UINT32_MAX;
+  expect(set.ceiling(0) == 0u && set.ceiling(1) == most && set.ceiling(most) == most, "ceiling of the least and the greatest key");
+  expect(set.contains(0) && set.remove(0) && !set.contains(0) && set.ceiling(0) == most, "the least key");
+  expect(set.contains(most) && set.remove(most) && !set.contains(most) && !set.ceiling(0), "the greatest key");
+  expect(set.add(0) == added::is_new && set.add(most) == added::is_new && set.ceiling(0) == 0u, "both again");
+  expect(set.close() == std::vector<uint32_t>({0, most}), "both are left");
+}
+
+// A seat that is assigned over a full one: the set of that one is let go of too, as the sanitizer for addresses counts.
+static void expect_assigned(list kind) {
+  seat mine = listset::open(kind, 2, 1, {1}), other = listset::open(kind, 1, 1, {2});
+  mine = std::move(other);
+  expect(mine.contains(2) && !mine.contains(1) && mine.close() == std::vector<uint32_t>({2}), "the seat that was assigned");
+}
+
 int main() {
   expect_shared();
+  for (list kind : {list::coarse, list::fine, list::optimistic, list::lazy, list::lock_free}) {
+    expect_ends(listset::open(kind, 1, 2, {0, UINT32_MAX}));
+    expect_ends<listset::shared>({kind, 2, 1, {0, UINT32_MAX}});
+    expect_assigned(kind);
+  }
   for (list kind : {list::coarse, list::fine, list::optimistic, list::lazy, list::lock_free}) expect(is_right(kind), "keys of a list");
   seat mine = listset::open(list::lazy, 2, 1, {5, 9}), split = mine.split(), other = listset::open(list::lazy, 1, 1), none;
   expect(thrown([&] { mine.split(); }) == LISTSET_NO_MORE, "no seat is left");

@@ -81,6 +81,22 @@ fn a_shared_set_uses_the_quota_of_each_seat() {
 }
 
 #[test]
+fn the_least_key_and_the_greatest() {
+    let ends = [0, u32::MAX];
+    for list in LISTS {
+        let mut mine = open(list, 1, 2, &ends).unwrap();
+        assert_eq!([0, 1, u32::MAX].map(|key| mine.ceiling(key)), [Some(0), Some(u32::MAX), Some(u32::MAX)]);
+        assert_eq!(ends.map(|key| (mine.contains(key), mine.remove(key), mine.contains(key))), [(true, true, false); 2]);
+        assert_eq!((mine.ceiling(0), ends.map(|key| mine.add(key))), (None, [Added::True; 2]));
+        assert_eq!((mine.ceiling(0), mine.ceiling(1)), (Some(0), Some(u32::MAX)));
+        assert_eq!(mine.close().map_err(|it| it.1).unwrap(), ends, "{list:?}");
+    }
+    let shared = Shared::open(List::Lazy, 2, 1, &ends).unwrap();
+    assert_eq!((shared.ceiling(0), shared.ceiling(1), shared.contains(u32::MAX)), (Some(0), Some(u32::MAX), true));
+    assert_eq!(shared.close().map_err(|it| it.1).unwrap(), ends);
+}
+
+#[test]
 fn what_is_refused_is_given_back() {
     assert_eq!(open(List::Lazy, 0, 1, &[]).err(), Some(Fault::Seats));
     assert_eq!(open(List::Lazy, 1, 16385, &[]).err(), Some(Fault::Quota));
