@@ -95,8 +95,8 @@ fn a_window_begins_not_long_before_a_call_that_is_needed(rt: HostRuntime) -> Res
     Ok(())
 }
 
-/// The key goes in and out so many times, and in. A call that does not find it begins before so many others, which find it, and ends after a
-/// `remove` that does not end. So the `remove` has taken it out, and it cannot be left.
+/// The key goes in and out so many times, and in. A call that does not find it begins before so many others, which find it, and ends
+/// after a `remove` has begun that does not end. So the `remove` has taken it out, and it cannot be left.
 fn taken_out(alloc: Global, times: u32, looks: u32) -> Result<Vec<CallRecord>, AllocError> {
     let mut calls = Vec::new(alloc);
     for number in 0..times {
