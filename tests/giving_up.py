@@ -2,7 +2,7 @@
 Here each place of the sources that answers so stands directly under the failure of a call that can fail so: the `else` of
 `let Ok(..) = call`, `if call.is_err()`, an arm `Err(_)` of `match call`, or an arm that names such a failure. ODD_PLACES has all others,
 each with what decides it. ASKED has what is asked of std by a number, for a number that no machine has is refused as well. Where contracts
-say little, STEPS_OF, LOOPS_OF and LINGERS have what a function does."""
+say little, STEPS_OF, LOOPS_OF, SESSIONS_OF, ROUNDS_OF and LINGERS have what a function does."""
 
 import re
 from dataclasses import dataclass
@@ -202,6 +202,8 @@ SAME_NAMES = {"tool_base/answer::write": "no place stands under a call of it"}
 # Functions of which contracts say less than they do, as of those that answer nothing: their branches and calls in turn
 STEPS_OF = {
     "lset_server/workers::hold": "let .set_nodelay let buffered_session Device::new Device::new take_leave",  # no read has a time
+    "lset_server/workers::start": "let let let let let Snapshot::of Snapshot::of Snapshot::of u64::from .spawn_with work .ok",
+    "lset_server/workers::work": "let let while u64::from let next else hold",  # no number of calls ends it
     "lset_server/lingering::take_leave": "match let Instant::now else if .shutdown .is_err drop_rest Device::new",
     "lset_server/lingering::drop_rest": "let let while let .min .len let .read else if",
     "tool_base/answer::tell": "match tell_line tell_line tell_line tell_line tell_line tell_line tell_line tell_line tell_made",
@@ -218,6 +220,23 @@ LOOPS_OF = {
     "lset_server/workers::start_all": ["for seat in seats"],
     "lset_server/workers::work": ["while sessions < u64::from(most)"],
 }
+# How many sessions a worker may hold. Contracts say that it holds no more; so here is what passes the number on and looks at it, and what
+# gives `most` its value.
+SESSIONS_OF = {
+    "lset_server/workers::start": ("move || work(rt, from, pass, set, seat, most)", ["most = self.sessions"]),
+    "lset_server/workers::work": ("while sessions < u64::from(most) {", []),
+}
+# The bound on its rounds that a call is given: that of its caller, `N`, but where the caller has none. A call that may wait has to take
+# as many rounds as it needs: its contract lets it wait for ever instead, past any bound, and that of a call from C lets it answer nothing.
+ROUNDS_OF = {
+    "ffi_sets/holding::call": "call_within Countless",
+    "lset_live/running::make_on": "make_within Countless",
+    "lset_live/set::call_within": "make_within N",
+    "lset_live/bounded::make_within":
+        "interpret_within N, coarse_within N, fine_within N, optimistic_within N, lazy_change_within N, interpret_within N,"
+        " lock_free_change_within N, interpret_within N",
+}
+BOUNDS = ["const MOST: u64", "Rounds for Countless", "const MOST: u64 = u64::MAX"]  # the trait, and its only type
 # How long and how far the server reads after its last answer, as docs/TEXTS.md says: that it reads so far no client sees for certain
 LINGERS = "MOST_DROPPED: usize = 1_048_576;", "MOST_SECONDS: u64 = 1;"
 LINGERS_SAID = "the server still reads and drops input, for at most one second and 1,048,576 bytes,"
@@ -619,6 +638,25 @@ def what_answers_nothing_takes_its_steps(_case):
 def a_server_has_no_other_loops(_case):
     found = {it.name: it.loops for it in once(sources).bodies if it.crate == "lset_server" and it.loops}
     same(found, LOOPS_OF, "the loops of the server")
+
+
+@test
+def a_worker_holds_as_many_sessions_as_it_may(_case):
+    for name, (text, values) in SESSIONS_OF.items():
+        body = next(it for it in once(sources).bodies if it.name == name)
+        same(body.said(body.items).count(text), 1, f"how often {name} says `{text}`")
+        same(body.values.get("most", []), values, f"what gives `most` of {name} its value")
+
+
+@test
+def a_call_that_may_wait_has_countless_rounds(_case):
+    found, text = {}, "\n".join(it.text for it in once(sources).files.values())
+    for it in once(sources).bodies:
+        for name, bound in re.findall(r"(\w+_within)::<[^()]*?(\w+)>\(", it.said(it.items)):
+            found.setdefault(it.name, []).append(f"{name} {bound}")
+    same({name: ", ".join(it) for name, it in found.items()}, ROUNDS_OF, "the bounds that are passed on")
+    bounds = re.findall(r"\bRounds for \w+|\bconst MOST: [^;]*|\b(?:Rounds|Countless) as \w+|\btype [^;]*\bCountless\b", text)
+    same(bounds, BOUNDS, "what is said of bounds")
 
 
 @test

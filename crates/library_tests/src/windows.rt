@@ -94,3 +94,43 @@ fn a_window_begins_not_long_before_a_call_that_is_needed(rt: HostRuntime) -> Res
     }
     Ok(())
 }
+
+/// The key goes in and out so many times, and in. A call that does not find it begins before so many others, which find it, and ends
+/// after a `remove` has begun that does not end. So the `remove` has taken it out, and it cannot be left.
+fn taken_out(alloc: Global, times: u32, looks: u32) -> Result<Vec<CallRecord>, AllocError> {
+    let mut calls = Vec::new(alloc);
+    for number in 0..times {
+        let at = 4 * number;
+        let (adds, removes) = ((at + 1, at + 2), (at + 3, at + 4));
+        calls.push(ended(0, Call::Add(FIVE), adds, Reply::True))?;
+        calls.push(ended(0, Call::Remove(FIVE), removes, Reply::True))?;
+    }
+    let (at, behind) = (4 * times + 2, 4 * times + 2 * looks + 4);
+    calls.push(ended(0, Call::Add(FIVE), (at - 1, at), Reply::True))?;
+    calls.push(ended(0, Call::Contains(FIVE), (at + 1, behind + 1), Reply::False))?;
+    for number in 0..looks {
+        let bar = (at + 2 * number + 2, at + 2 * number + 3);
+        calls.push(ended(1, Call::Contains(FIVE), bar, Reply::True))?;
+    }
+    calls.push(CallRecord {
+        thread: 2,
+        call: Call::Remove(FIVE),
+        begun: behind,
+        ended: None,
+    })?;
+    Ok(calls)
+}
+
+/// The refusal of a key that should not be left has no moment, and its windows too are tried further back. Of one look the second window
+/// has the call that is needed and the `remove`. Of a hundred the ninth begins 57 moments before the call; in these the key goes in and out
+/// with 28 calls.
+#[test]
+fn a_window_of_a_key_that_is_left_is_short(rt: HostRuntime) -> Result<(), Fail> {
+    for (looks, most) in [(1, 2usize), (100, 30)] {
+        let window = window_of(rt.alloc(), taken_out(rt.alloc(), 1_000, looks)?)?;
+        let count = window.calls.len();
+        assert!(rt; window.left == Some(true), "{looks} looks");
+        assert!(rt; 1 < count && count <= most, "{count} calls, {looks} looks");
+    }
+    Ok(())
+}

@@ -78,6 +78,19 @@ fn a_read_has_rounds(rt: HostRuntime) {
     at_each_list!(reads_in_rounds, rt);
 }
 
+/// In a list that marks, a `contains` has no rounds: it walks to the last key, and past it, under any bound.
+fn walks_on<M: Bounded, R: Abort>(rt: &R, alloc: Global) {
+    let (last, none) = (Call::Contains(Key(50)), Call::Contains(Key(55)));
+    assert!(rt; reply_of::<M, R, UpTo<1>>(rt, alloc, last) == Some(Reply::True));
+    assert!(rt; reply_of::<M, R, UpTo<1>>(rt, alloc, none) == Some(Reply::False));
+}
+
+#[test]
+fn a_contains_of_a_list_that_marks_has_no_rounds(rt: HostRuntime) {
+    walks_on::<LazyList, HostRuntime>(&rt, rt.alloc());
+    walks_on::<LockFreeList, HostRuntime>(&rt, rt.alloc());
+}
+
 /// A seat that has taken another in has rounds for its calls as before.
 fn goes_on_with_two<M: Bounded, R: Abort>(rt: &R, alloc: Global) {
     let (set, mut zero, one) = opened::<M, R>(rt, alloc);
