@@ -204,6 +204,9 @@ STEPS_OF = {
     "lset_server/workers::hold": "let .set_nodelay let buffered_session Device::new Device::new take_leave",  # no read has a time
     "lset_server/workers::start": "let let let let let Snapshot::of Snapshot::of Snapshot::of u64::from .spawn_with work .ok",
     "lset_server/workers::work": "let let while u64::from let next else hold",  # no number of calls ends it
+    "lset_server/serving::accept_all": "for let .accept else let u64::from if send .is_err",  # nor has a stream
+    "lset_server/lingering::read": "let .elapsed let Duration::from_secs .saturating_sub .set_read_timeout let .read",
+    "ffi_sets/yielding::failed": "let .get let match for hint::spin_loop if .set else libc::sched_yield",
     "lset_server/lingering::take_leave": "match let Instant::now else if .shutdown .is_err drop_rest Device::new",
     "lset_server/lingering::drop_rest": "let let while let .min .len let .read else if",
     "tool_base/answer::tell": "match tell_line tell_line tell_line tell_line tell_line tell_line tell_line tell_line tell_made",
@@ -223,8 +226,9 @@ LOOPS_OF = {
 # How many sessions a worker may hold. Contracts say that it holds no more; so here is what passes the number on and looks at it, and what
 # gives `most` its value.
 SESSIONS_OF = {
-    "lset_server/workers::start": ("move || work(rt, from, pass, set, seat, most)", ["most = self.sessions"]),
-    "lset_server/workers::work": ("while sessions < u64::from(most) {", []),
+    "lset_server/workers::start": ("move || work(rt, from, pass, set, seat, most)", "most", ["most = self.sessions"]),
+    "lset_server/workers::work": ("while sessions < u64::from(most) {", "most", []),
+    "lset_server/serving::serve_in": ("let workers = seats.len()", "workers", ["workers = seats.len()"]),  # not as many as the set has
 }
 # The bound on its rounds that a call is given: that of its caller, `N`, but where the caller has none. A call that may wait has to take
 # as many rounds as it needs: its contract lets it wait for ever instead, past any bound, and that of a call from C lets it answer nothing.
@@ -642,10 +646,10 @@ def a_server_has_no_other_loops(_case):
 
 @test
 def a_worker_holds_as_many_sessions_as_it_may(_case):
-    for name, (text, values) in SESSIONS_OF.items():
+    for name, (text, number, values) in SESSIONS_OF.items():
         body = next(it for it in once(sources).bodies if it.name == name)
         same(body.said(body.items).count(text), 1, f"how often {name} says `{text}`")
-        same(body.values.get("most", []), values, f"what gives `most` of {name} its value")
+        same(body.values.get(number, []), values, f"what gives `{number}` of {name} its value")
 
 
 @test
