@@ -36,6 +36,10 @@ fn the_first_fault_of_a_call_is_named(rt: HostRuntime) -> Result<(), Fail> {
     for (call, fault) in with_faults() {
         assert!(rt; stream.add(call) == Err(fault), "{fault}");
     }
+    // A later pending call takes the end, and an earlier one is of the thread.
+    stream.add(add_of_six(4, 3, Some((8, Reply::True))))?;
+    let both = add_of_six(3, 5, Some((8, Reply::True)));
+    assert!(rt; stream.add(both) == Err(StreamFault::Taken));
     Ok(())
 }
 

@@ -50,6 +50,17 @@ fn an_order_is_found_if_a_pending_add_has_no_room(rt: HostRuntime) -> Result<(),
 }
 
 #[test]
+fn an_order_is_found_if_a_ceiling_is_pending(rt: HostRuntime) -> Result<(), Fail> {
+    let alloc = rt.alloc();
+    let adds = (0, Call::Add(FIVE), Reply::True);
+    let mut history = in_turn(History::new(alloc, 2, 1), &[adds])?;
+    history.begin(1, Call::Ceiling(Key(0)), 3)?;
+    assert!(rt; is_judged(&history));
+    assert!(rt; matches!(find_order(alloc, &history, &[5])?, Found::Order(_)));
+    Ok(())
+}
+
+#[test]
 fn a_ceiling_or_a_full_hides_no_refusal(rt: HostRuntime) -> Result<(), Fail> {
     let alloc = rt.alloc();
     for (call, reply) in OTHERS {
