@@ -735,4 +735,4 @@ def a_small_source_gives_up_nowhere(_case):
 @cases(lambda: {f"a_body_that_gives_up_is_told/{name}": it for name, it in WRONG.items()})
 def a_body_that_gives_up_is_told(_case, old, new, guard):
     faults = small(old, new).faults()
-    same(len(faults) == 1 and guard in faults[0], True, f"`{guard}` is told of, in {faults}")
+    same(len(faults) == 1 and guard in faults[0], True, f"`{guard}` is named, in {faults}")

@@ -193,7 +193,7 @@ def head_start(items, at):
 
 
 def braces(path, depth):
-    """What the bracket is that stands at a depth of a path: a kind, and what more there is of it.
+    """The bracket at a depth of a path: a kind, and what more there is of it.
 
     `call`: the name or None, and where its path begins; `arm`: the pattern; `let-else`: pattern and value; `struct`: where its path begins;
     `if`, `else`, `match`, `while`, `for`, `loop`: what stands behind the word; `closure`, `block`, and `[`: what stands before."""

@@ -51,7 +51,7 @@ pub struct FailingWriter {
 }
 
 impl FailingWriter {
-    /// A writer that has taken no byte. If `fails_at` is 0 no write fails, but for want of memory for its byte.
+    /// A writer that has taken no byte. If `fails_at` is 0 no write fails, unless memory for its byte is refused.
     pub fn new(alloc: Global, fails_at: u64) -> FailingWriter {
         FailingWriter {
             text: Vec::new(alloc),

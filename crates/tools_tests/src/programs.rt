@@ -1,4 +1,4 @@
-//! The command line: a help that is not written, and a want of memory.
+//! The command line: a help that is not written, and memory that is refused.
 use crate::devices::{Failure, Writer, planned};
 use crate::prelude::*;
 use crate::row_texts::CANNOT_WRITE;
