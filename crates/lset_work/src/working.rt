@@ -84,7 +84,7 @@ fn run_all<R: Threads + Wait + Sync, M: Running + Send + Sync, G: Gate + Sync>(
 /// call, and leaves the keys. No program has more than 4,294,967,295 calls. It waits for its threads, which wait for the
 /// locks of the set and as long as the gate does.
 ///
-/// The cause of a `WorkFault` is one of these:
+/// The cause of a `WorkFault` is the first of these that applies:
 ///
 /// - `Programs`: the programs are not as many as the seats, or the seats do not hold all seats of the set. Nothing was
 ///   called, and set and seats come back.
