@@ -199,6 +199,17 @@ fn a_pause_is_told_of_a_link_that_another_seat_has_changed(rt: HostRuntime) {
     }
 }
 
+/// A call takes a marked node out on its way (row 3), before the seat that marked it does.
+fn taken_out() -> Row {
+    (5, (remove(5), add(7)), (4, 2), TRUE, (7, 0))
+}
+
+#[test]
+fn a_pause_is_asked_after_a_marked_node_is_taken_out(rt: HostRuntime) {
+    is_told::<LockFreeList, HostRuntime>(&rt, rt.alloc(), taken_out());
+    is_told::<Stepped<LockFreeList>, HostRuntime>(&rt, rt.alloc(), taken_out());
+}
+
 /// Another seat finds what a LazyList's call has stored by then: a link to a new key, and a mark. And it changes a link that
 /// the call has loaded, so that the validation fails.
 fn stepped() -> [Row; 3] {
