@@ -1,4 +1,4 @@
-"""What the set server gives: requests a second, beside redis."""
+"""What the set server gives: requests a second, beside redis. It starts both servers, and reads the port of each."""
 
 import contextlib
 import os

@@ -1,4 +1,5 @@
-"""What running threads cost: whole programs, calls by kind, rounds of calls under contention, and at several sizes of the set."""
+"""What running threads cost, beside lists by hand: whole programs, calls by kind, rounds of calls under contention and how their ratio
+changes on the way, and at several sizes of the set."""
 
 import os
 import shutil

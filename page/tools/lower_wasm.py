@@ -1,4 +1,4 @@
-"""Lowers a WebAssembly module with a 64-bit memory to one with a 32-bit memory, which every browser and node run.
+"""Lowers a WebAssembly module with a 64-bit memory, section by section, to one with a 32-bit memory, which every browser and node run.
 
 Addresses stay 64-bit numbers, also in the exports. Where memory is read or written, the lower half of the address is taken. The
 lowered module does the same:
