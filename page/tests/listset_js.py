@@ -1,7 +1,6 @@
 """Compares page/listset.js, in node, with the program on the same words and input (schedules, also generated ones, and other texts):
-both outputs and the status. Of wrong words the
-status is the same, nothing is on the output, and the script says what is wrong in one line; and of those that the program has alone,
-by which ./listset builds it."""
+both outputs and the status. Of wrong words the status is the same, nothing is on the output, and the script says what is wrong in one
+line; and of those that the program has alone, by which ./listset builds it."""
 
 import os
 import pathlib
