@@ -3,6 +3,7 @@ ghost use Rattle.std.specs.Prelude.{◌≡◌};
 
 use crate::opened::{keys_left, last_of, make_calls, rising_keys};
 use crate::prelude::*;
+use lset_live::Added;
 
 /// A seat adds `count` keys, from `first` up, in falling order: each stands right behind the head, where no key below it is
 /// in the list.
@@ -101,9 +102,24 @@ const PAST_ALL: [(Call, Reply); 5] = [
     (Call::Ceiling(LAST), Reply::Nothing),
 ];
 
+/// The last key is gone: receipts of a seat, and its typed calls.
+fn knows_the_last_is_gone<M: Running, R: Host>(rt: &R, set: &LiveSet<M>, seat: &mut Seat<M>)
+    requires { seat.old.set ≡ set.now }
+    ensures { seat.new.set ≡ set.now }
+{
+    let mut receipt = set.receipt(seat);
+    let copied = set.copied(&mut receipt);
+    set.after(seat, copied);
+    drop(receipt);
+    assert!(rt; !seat.contains(rt, set, LAST) && !seat.remove(rt, set, LAST));
+    assert!(rt; seat.add(rt, set, LAST) == Added::Full);
+    assert!(rt; seat.ceiling(rt, set, LAST).is_none());
+}
+
 fn goes_past_all<M: Running, R: Host>(rt: &R, alloc: Global) {
     let (set, mut seat) = with_most_keys::<M, R>(rt, alloc);
     make_calls(rt, &set, &mut seat, &PAST_ALL);
+    knows_the_last_is_gone(rt, &set, &mut seat);
     assert!(rt;
         keys_left(rt, set, seat).len() == (MOST_THREADS * MOST_QUOTA + MOST_OPENING - 1) as usize
     );
@@ -114,6 +130,18 @@ fn lists_with_locks_are_walked_to_their_end(rt: HostRuntime) {
     goes_past_all::<CoarseList, HostRuntime>(&rt, rt.alloc());
     goes_past_all::<FineList, HostRuntime>(&rt, rt.alloc());
     goes_past_all::<OptimisticList, HostRuntime>(&rt, rt.alloc());
+}
+
+fn reads_past_all<M: RunningReads, R: Host>(rt: &R, alloc: Global) {
+    let (set, mut seat) = with_most_keys::<M, R>(rt, alloc);
+    assert!(rt; set.contains_now(&mut seat, LAST));
+    assert!(rt; !set.contains_now(&mut seat, Key(u32::MAX)));
+}
+
+#[test]
+fn reads_that_do_not_block_go_past_all_keys(rt: HostRuntime) {
+    reads_past_all::<LazyList, HostRuntime>(&rt, rt.alloc());
+    reads_past_all::<LockFreeList, HostRuntime>(&rt, rt.alloc());
 }
 
 #[test]

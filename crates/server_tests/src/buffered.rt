@@ -14,9 +14,11 @@ struct Seen {
     in_time: Cell<bool>,
 }
 
-/// Gives three empty lines, each in a read of its own, and looks at each read whether what was read before is answered.
+/// Gives a text three times, each in a read of its own, and looks at each read whether all lines that were read before are answered.
 #[derive(Drop)]
 struct Asking<'a> {
+    text: &'a [u8],
+    reads: u64,
     lines: u64,
     seen: &'a Seen,
 }
@@ -31,12 +33,18 @@ impl Source for Asking<'_> {
     fn read(&mut self, buffer: &mut [u8]) -> Option<usize> {
         let answered = self.seen.written.get() == self.lines.wrapping_mul(4);
         self.seen.in_time.set(self.seen.in_time.get() && answered);
-        if buffer.is_empty() || self.lines >= 3 {
+        if self.reads >= 3 {
             return Some(0);
         }
-        self.lines += 1;
-        buffer[0] = b'\n';
-        Some(1)
+        self.reads += 1;
+        let count = buffer.len().min(self.text.len());
+        buffer[..count].copy_from_slice(&self.text[..count]);
+        let lines = buffer[..count]
+            .iter()
+            .filter(|byte| **byte == b'\n')
+            .count();
+        self.lines = self.lines.wrapping_add(lines as u64);
+        Some(count)
     }
 }
 
@@ -60,20 +68,42 @@ impl Sink for Counting<'_> {
     }
 }
 
-#[test]
-fn answers_leave_before_each_read(rt: HostRuntime) {
-    let (set, mut seat) = one_seat(&rt, rt.alloc());
+/// The lines of the text are no calls. Each is answered before the session reads on.
+fn is_answered_in_time<R: Host>(rt: &R, alloc: Global, text: &[u8], buffered: bool) {
+    let (set, mut seat) = one_seat(rt, alloc);
     let seen = Seen {
         written: Cell::new(0),
         in_time: Cell::new(true),
     };
-    let asking = Asking {
+    let mut asking = Asking {
+        text,
+        reads: 0,
         lines: 0,
         seen: &seen,
     };
-    let ended = buffered_session(&rt, asking, Counting { seen: &seen }, &set, &mut seat);
-    assert!(&rt; ended == end(EndReason::End, 0));
-    assert!(&rt; seen.in_time.get() && seen.written.get() == 12);
+    let mut counting = Counting { seen: &seen };
+    let ended = if buffered {
+        buffered_session(rt, asking, counting, &set, &mut seat)
+    } else {
+        session(rt, &mut asking, &mut counting, &set, &mut seat)
+    };
+    assert!(rt; ended == end(EndReason::End, 0));
+    assert!(rt; seen.in_time.get(), "{buffered}");
+    let lines = text.iter().filter(|byte| **byte == b'\n').count();
+    assert!(rt;
+        seen.written.get() == (lines as u64).wrapping_mul(12),
+        "{buffered}"
+    );
+}
+
+/// A line, a read that has no room for more, and a read that ends within a line.
+#[test]
+fn answers_leave_before_each_read(rt: HostRuntime) {
+    let texts: &[&[u8]] = &[b"\n", &[b'\n'; 4096], b"\nA"];
+    for text in texts {
+        is_answered_in_time(&rt, rt.alloc(), text, true);
+        is_answered_in_time(&rt, rt.alloc(), text, false);
+    }
 }
 
 /// The text is answered as without waiting, and the session ends so too.
