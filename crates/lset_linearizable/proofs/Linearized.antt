@@ -1,4 +1,4 @@
--- Every run that has an account, and whose contents are listed, is explained by the order of placement.
+-- Every run that has an account, and whose contents are listed, is explained by its placement, of which there is one.
 use Rattle.std.proofs.Common.{ℕ, List, sym, subst, arith}
 use Rattle.lset_words.specs.declared.history.Placed.{Placed}
 use Rattle.lset_words.specs.Words.{Opening}
@@ -13,7 +13,8 @@ use Rattle.lset_steps.specs.Chain.{contents_of, counts_of}
 use Rattle.lset_steps.specs.Laws.{views}
 use Rattle.lset_steps.specs.Worlds.{IsContent}
 use Rattle.lset_steps.specs.Promises.{HasAccount, ListedContent, ContentIsListed}
-use Rattle.lset_linearizable.specs.Headline.{IsPlacedBy, ExplainsRun, RunsAreLinearizable}
+use Rattle.lset_linearizable.specs.Headline.{ExplainsRun, RunsAreLinearizable}
+use Rattle.lset_linearizable.specs.Headline.{IsPlacedBy, IsThePlacement, PlacementExplainsRuns}
 
 module _ (T : Table) (op : Opening) (last : ℕ) (es : ℕ → Event)
     (account : Account op last (log_of T op es) (contents_of (views T op es))
@@ -30,15 +31,23 @@ module _ (T : Table) (op : Opening) (last : ℕ) (es : ℕ → Event)
         (counts_of (views T op es)) order account placed listed.keys listed.rising.1
         (λ j. (listed.member j, listed.only j))))
         listed.rising;
+  }
+
+  the_placement : (order : List Placed) → IsPlacedBy T op es last order → IsThePlacement T op es last order
+  the_placement order placed = record {
     placement = placed;
     alone = λ other o. placement_once op.quota last (calls_at (log_of T op es) last)
         (contents_of (views T op es)) (counts_of (views T op es)) other order o placed;
   }
 
-pub runs_linearize : (T : Table) → HasAccount T → ListedContent T → RunsAreLinearizable T
-runs_linearize T account listed op last es run =
+pub placement_explains : (T : Table) → HasAccount T → ListedContent T → PlacementExplainsRuns T
+placement_explains T account listed op last es run =
     let a = account op last es run in
     let p : (order : List Placed) × IsPlacedBy T op es last order =
     has_placement op last (log_of T op es) (contents_of (views T op es))
     (counts_of (views T op es)) a in
-    (p.0, explained T op last es a (listed op last last es run (omega arith)) p.0 p.1)
+    let l = listed op last last es run (omega arith) in
+    (p.0, explained T op last es a l p.0 p.1, the_placement T op last es a l p.0 p.1)
+
+pub runs_linearize : (T : Table) → PlacementExplainsRuns T → RunsAreLinearizable T
+runs_linearize T placed op last es run = let p = placed op last es run in (p.0, p.1)

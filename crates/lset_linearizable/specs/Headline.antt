@@ -21,25 +21,31 @@ keys_left op history order = (set_left (opening_set op) (map (answered history) 
 abbrev pub history_of : Table → Opening → (ℕ → Event) → ℕ → List CallRecord
 history_of T op es k = history_at (log_of T op es) k
 
--- the order is [Placement], by the contents of the worlds of the run and its threads' counts of successful adds
-abbrev pub IsPlacedBy : Table → Opening → (ℕ → Event) → ℕ → List Placed → Type 0
-IsPlacedBy T op es k order = IsPlacement op.quota k (calls_at (log_of T op es) k)
-    (contents_of (views T op es)) (counts_of (views T op es)) order
-
 -- ONE ORDER OF CALLS explains the first `last` events of a run:
 pub record ExplainsRun (T : Table) (op : Opening) (es : ℕ → Event) (last : ℕ) (order : List Placed) : Type 0 where
   -- what the run shows is a history,
   pub history : IsHistory op.threads (history_of T op es last)
   -- the order linearizes it from the opening set,
   pub linearizes : Linearizes op.quota (opening_set op) (history_of T op es last) order
-  -- the keys that it leaves are the content of the last world, rising,
+  -- and the keys that it leaves are the content of the last world, rising.
   pub content : IsContent (views T op es last) (keys_left op (history_of T op es last) order)
-  -- it is the run's placement,
-  pub placement : IsPlacedBy T op es last order
-  -- and no other order is.
-  pub alone : (other : List Placed) → IsPlacedBy T op es last other → other ≡ order
 
 -- THE HEADLINE: every run has such an order.
 abbrev pub RunsAreLinearizable : Table → Type 0
 RunsAreLinearizable T = (op : Opening) (last : ℕ) (es : ℕ → Event) → Run T op es last
     → (order : List Placed) × ExplainsRun T op es last order
+
+-- the order is a [Placement], by the contents of the worlds of the run and its threads' counts of successful adds
+abbrev pub IsPlacedBy : Table → Opening → (ℕ → Event) → ℕ → List Placed → Type 0
+IsPlacedBy T op es k order = IsPlacement op.quota k (calls_at (log_of T op es) k)
+    (contents_of (views T op es)) (counts_of (views T op es)) order
+
+-- [The placement of a run]: the order is a placement of its first `last` events, and no other order is
+pub record IsThePlacement (T : Table) (op : Opening) (es : ℕ → Event) (last : ℕ) (order : List Placed) : Type 0 where
+  pub placement : IsPlacedBy T op es last order
+  pub alone : (other : List Placed) → IsPlacedBy T op es last other → other ≡ order
+
+-- THE SAME, AND WHICH ORDER: every run has an order that explains it and is its placement.
+abbrev pub PlacementExplainsRuns : Table → Type 0
+PlacementExplainsRuns T = (op : Opening) (last : ℕ) (es : ℕ → Event) → Run T op es last
+    → (order : List Placed) × ExplainsRun T op es last order × IsThePlacement T op es last order

@@ -13,7 +13,7 @@ use Rattle.lset_steps.specs.Chain.{View}
 use Rattle.lset_steps.specs.Laws.{view_of, views}
 use Rattle.lset_steps.specs.Worlds.{WorldState, IsContent, keys_in}
 use Rattle.lset_steps.proofs.Segments.{chain_once}
-use Rattle.lset_linearizable.specs.Headline.{history_of, keys_left, ExplainsRun, RunsAreLinearizable}
+use Rattle.lset_linearizable.specs.Headline.{history_of, keys_left, ExplainsRun, IsThePlacement, PlacementExplainsRuns}
 use Rattle.lset_replay.specs.declared.events.LineEvent.{LineEvent}
 use Rattle.lset_replay.specs.declared.recorder.Recorder.{Recorder}
 use Rattle.lset_replay.specs.Events.{only_events}
@@ -90,15 +90,16 @@ replay_is T accounts p op events w r order keys h a o c = record {
 }
 
 -- THE HEADLINE of a report
-module _ (T : Table) (headline : RunsAreLinearizable T) (op : Opening) (events : List Event) (history : List CallRecord)
+module _ (T : Table) (headline : PlacementExplainsRuns T) (op : Opening) (events : List Event) (history : List CallRecord)
     (order : List Placed) (keys : List ℕ)
     (h : IsReportOf T op events history order keys) where
   -- the order of the run is the report's
   run_explained : ExplainsRun T op (event_at events) (length events) order
   run_explained =
-      let found : (o : List Placed) × ExplainsRun T op (event_at events) (length events) o =
+      let found : (o : List Placed) × ExplainsRun T op (event_at events) (length events) o
+      × IsThePlacement T op (event_at events) (length events) o =
       headline op (length events) (event_at events) h.run in
-      subst (λ o. ExplainsRun T op (event_at events) (length events) o) (sym (found.1.alone order h.placement)) found.1
+      subst (λ o. ExplainsRun T op (event_at events) (length events) o) (sym (found.2.alone order h.placement)) found.1
 
   pub explains : Linearizes op.quota (opening_set op) history order
   explains = subst (λ z. Linearizes op.quota (opening_set op) z order) (sym h.history_is) run_explained.linearizes
@@ -108,7 +109,7 @@ module _ (T : Table) (headline : RunsAreLinearizable T) (op : Opening) (events :
       ∙ content_once (views T op (event_at events) (length events))
       (keys_left op (history_of T op (event_at events) (length events)) order) keys run_explained.content h.content
 
-pub explained_is : (T : Table) → RunsAreLinearizable T → (p : Plan) (events : List Event) (v : ReportValue) →
+pub explained_is : (T : Table) → PlacementExplainsRuns T → (p : Plan) (events : List Event) (v : ReportValue) →
     IsReplayOf T p events v
     → IsExplained v
 explained_is T headline p events v h = record {

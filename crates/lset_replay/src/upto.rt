@@ -16,7 +16,7 @@ use crate::events::event_of;
 use crate::order::in_order;
 use crate::recorder::Recorder;
 use crate::start::start_of;
-use lset_linearizable::runs_are_linearizable;
+use lset_linearizable::placement_explains_runs;
 use lset_lists::{List, Task, on_list};
 use lset_report::Report;
 use lset_schedule::{Line, Schedule};
@@ -87,7 +87,7 @@ fn replay_on<M: Machine>(alloc: Global, schedule: &Schedule) -> Result<FrontRepo
 {
     has_account::<M>();
     listed_content::<M>();
-    runs_are_linearizable::<M>();
+    placement_explains_runs::<M>();
     let (mut world, mut recorder) = start_of::<M>(alloc, schedule)?;
     let reach = follow_upto(
         &mut world,

@@ -67,7 +67,7 @@ told version kind history order keys =
     record { version = version; kind = kind; history = history; order = order; keys = keys }
 
 pub returns-clause-explained : goal.returns-clause-explained
-returns-clause-explained g c = explained_is g.M.Machine.table c.runs_are_linearizable.ensures (view c.args.schedule.now)
+returns-clause-explained g c = explained_is g.M.Machine.table c.placement_explains_runs.ensures (view c.args.schedule.now)
     (first_events (view c.args.schedule.now) c.in_ok-reach.reach.events)
     (told c.args.schedule.now.version c.args.schedule.now.kind c.follow_upto.new.recorder.history
     c.in_ok-ordered.ordered.order.items c.in_ok-keys.keys.items)
