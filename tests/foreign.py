@@ -170,9 +170,13 @@ def c(installed):
 @test
 def cpp(installed):
     made, first, how = installed.room / "made", installed.room / "first", [MEMORY] if installed.works(MEMORY) else []
+    elsewhere, flags = installed.room / "elsewhere.o", ["-std=c++17", *WARN, *how, "-pthread"]
+    well("g++", *flags, "-c", TESTS / "elsewhere.cpp", installed.include, "-o", elsewhere)
     for name in ("judge.cpp", "sets.cpp", "judged.cpp"):
-        well("g++", "-std=c++17", *WARN, *how, TESTS / name, *installed.flags(), "-pthread", "-o", made)
+        well("g++", *flags, TESTS / name, elsewhere, *installed.flags(), "-o", made)
         well(made)
+    well("g++", *flags, *WRAPPED, TESTS / "refused.cpp", installed.include, installed.library / "liblistset.a", "-o", made)
+    well(made)
     well("g++", "-std=c++17", *WARN, installed.page("cpp", "cpp", "listset::open"), *installed.flags(), "-pthread", "-o", first)
     well(first)
     well("g++", "-std=c++17", *WARN, installed.page("cpp", "cpp"), *installed.flags(), "-o", first)
@@ -186,15 +190,18 @@ def rust(installed):
     how = {**os.environ, "LISTSET_EXAMPLES": str(EXAMPLES)}
     said = well(*cargo, "test", "--locked", *target, "--manifest-path", crate / "Cargo.toml", env=how)
     passed = [line for line in said.splitlines() if line.startswith("test result: ok.") and " 0 passed" not in line]
-    if len(passed) != 3:
+    if len(passed) != 4:
         raise Wrong(f"cargo ran {len(passed)} kinds of tests:\n{said[-2000:]}")
-    manifest, page = installed.room / "Cargo.toml", installed.page("rust", "rs")
-    needs = f"[dependencies]\nlistset = {{ path = '{crate}' }}\n\n[[bin]]\nname = 'first'\npath = '{page}'\n"
-    manifest.write_text(f"[package]\nname = 'first'\nversion = '0.0.0'\nedition = '2021'\n\n{needs}")
-    well(*cargo, "build", *target, "--manifest-path", manifest)
-    installed.first_program("rust", installed.room / "target" / "debug" / "first")
-    first = ["my_set_is_linearizable", "--", "--nocapture"]
+    manifest, made = installed.room / "Cargo.toml", installed.room / "target" / "debug"
     how = {"env": {**os.environ, "LISTSET_LIB": str(installed.library)}}
+    parts = f"[dependencies]\nlistset = {{ path = '{crate}' }}\nlistset_judge = {{ path = '{FORMS / 'rust'}' }}\n"
+    for name, source in (("first", installed.page("rust", "rs")), ("judged", TESTS / "judged.rs")):
+        parts += f"\n[[bin]]\nname = '{name}'\npath = '{source}'\n"
+    manifest.write_text(f"[package]\nname = 'first'\nversion = '0.0.0'\nedition = '2021'\n\n{parts}")
+    well(*cargo, "build", *target, "--manifest-path", manifest, **how)
+    installed.first_program("rust", made / "first")
+    well(made / "judged")
+    first = ["my_set_is_linearizable", "--", "--nocapture"]
     is_judged(well(*cargo, "test", "--locked", *target, "--manifest-path", FORMS / "rust" / "Cargo.toml", *first, **how), installed.proof())
 
 

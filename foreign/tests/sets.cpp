@@ -1,12 +1,16 @@
 // The lists from C++: four threads put keys in and take some out; and what is refused leaves the seats as they were.
 #include "listset.hpp"
 
+#include <algorithm>
+#include <atomic>
 #include <cstdio>
 #include <thread>
 
 using listset::added;
 using listset::list;
 using listset::seat;
+
+seat opened_elsewhere(); // by elsewhere.cpp
 
 static int wrong = 0;
 
@@ -61,12 +65,35 @@ static bool is_right_shared(list kind) {
   return set.contains(1) && set.ceiling(3) == 4u && set.close() == due;
 }
 
+// Threads that add keys of their own, more than the seats have quota for: as many are new as they have, and just those are left.
+static bool is_filled(uint32_t seats, uint32_t quota) {
+  listset::shared set(list::lazy, seats, quota);
+  std::vector<std::vector<uint32_t>> mine(4);
+  std::atomic<int> thrown{0};
+  std::vector<std::thread> threads;
+  for (uint32_t at = 0; at < 4; at++)
+    threads.emplace_back([&, at] {
+      for (uint32_t key = at; key < 2000; key += 4) try {
+          if (set.add(key) == added::is_new) mine[at].push_back(key);
+        } catch (const listset::fault &) {
+          thrown++;
+        }
+    });
+  for (std::thread &thread : threads) thread.join();
+  std::vector<uint32_t> due;
+  for (const std::vector<uint32_t> &keys : mine) due.insert(due.end(), keys.begin(), keys.end());
+  std::sort(due.begin(), due.end());
+  return thrown == 0 && due.size() == seats * quota && set.close() == due;
+}
+
 static void expect_shared() {
   for (list kind : {list::coarse, list::fine, list::optimistic, list::lazy, list::lock_free}) expect(is_right_shared(kind), "shared keys");
   listset::shared few(list::lazy, 2, 1, {5});
   expect(few.add(1) == added::is_new && few.add(2) == added::is_new && few.add(3) == added::full, "each seat's quota is used");
   expect(few.add(1) == added::not_new && few.close() == std::vector<uint32_t>({1, 2, 5}), "shared, closed");
   expect(thrown([] { listset::shared(list::lazy, 65, 1); }) == LISTSET_BAD_SEATS, "too many shared seats");
+  for (int round = 0; round < 20; round++) expect(is_filled(2, 50), "four threads use the quota of two seats");
+  expect(is_filled(64, 1), "and that of 64");
 }
 
 // The least key and the greatest, in and out of each call, from a seat and behind a shared set.
@@ -86,8 +113,42 @@ static void expect_assigned(list kind) {
   expect(mine.contains(2) && !mine.contains(1) && mine.close() == std::vector<uint32_t>({2}), "the seat that was assigned");
 }
 
+// A seat gathers none of another set: of many, half of them from another source file, opened in another thread.
+static void expect_apart() {
+  seat mine = listset::open(list::lazy, 1, 0);
+  const int many = 70000; // (more than 16 bits number)
+  int refused = 0;
+  std::thread([&] {
+    for (int at = 0; at < many; at++) {
+      seat other = at % 2 == 0 ? opened_elsewhere() : listset::open(list::lazy, 1, 0);
+      refused += thrown([&] { mine.gather(std::move(other)); }) == LISTSET_NO_GATHER;
+    }
+  }).join();
+  expect(refused == many, "a seat of one of many sets");
+}
+
+// The most keys that a set may open with, and the least and the greatest quota.
+static void expect_limits() {
+  std::vector<uint32_t> keys(1 << 20);
+  for (uint32_t at = 0; at < keys.size(); at++) keys[at] = 4095 * at;
+  expect(listset::open(list::lazy, 1, 0, keys).close() == keys, "the most opening keys");
+  keys.push_back(UINT32_MAX);
+  expect(thrown([&] { listset::open(list::lazy, 1, 0, keys); }) == LISTSET_BAD_KEYS, "one opening key more");
+  expect(thrown([] { listset::open(list::lazy, 1, 1, {7, 7}); }) == LISTSET_BAD_KEYS, "a key twice");
+  expect(thrown([] { listset::open(list::lazy, 1, 1, {9, 5}); }) == LISTSET_BAD_KEYS, "keys that fall");
+  expect(thrown([] { listset::open(list::lazy, 1, 16385); }) == LISTSET_BAD_QUOTA, "too large a quota");
+  expect(thrown([] { listset::open(list::lazy, 0, 1); }) == LISTSET_BAD_SEATS, "no seats");
+  expect(listset::open(list::lazy, 1, 0).add(1) == added::full, "a quota of 0");
+  seat most = listset::open(list::lazy, 1, 16384);
+  uint32_t left = 16384;
+  while (left > 0 && most.add(left) == added::is_new) left--;
+  expect(left == 0 && most.add(0) == added::full, "the greatest quota");
+}
+
 int main() {
   expect_shared();
+  expect_apart();
+  expect_limits();
   for (list kind : {list::coarse, list::fine, list::optimistic, list::lazy, list::lock_free}) {
     expect_ends(listset::open(kind, 1, 2, {0, UINT32_MAX}));
     expect_ends<listset::shared>({kind, 2, 1, {0, UINT32_MAX}});

@@ -2,6 +2,7 @@
 
 import random
 import threading
+import unittest.mock
 
 import listset
 
@@ -90,6 +91,78 @@ def numbers():
     assert mine.add(2) and mine.close() == [1, 2, 5]
 
 
+def apart():
+    """A seat gathers none of another set: of more than 16 bits number, opened in another thread."""
+    mine, found = listset.open_set("lazy", 1, 0), set()
+
+    def run():
+        found.update(code(mine.gather, listset.open_set("lazy", 1, 0)) for _ in range(70_000))
+
+    thread = threading.Thread(target=run)
+    thread.start()
+    thread.join()
+    assert found == {18}, found
+
+
+def limits():
+    """The most seats and keys, and the ends of the quota."""
+    keys = [4095 * it for it in range(2**20)]
+    assert listset.open_set("lazy", 1, 0, keys).close() == keys
+    assert [code(listset.open_set, "lazy", 1, 1, it) for it in ([*keys, ENDS[1]], [7, 7], [9, 5])] == [12] * 3
+    assert code(listset.open_set, "lazy", 1, 16385) == 11 and code(listset.open_set, "lazy", 65, 1) == 10
+    assert listset.open_set("lazy", 1, 0).add(1) is None
+    most = listset.open_set("lazy", 1, 16384)
+    assert all(most.add(key) for key in range(16384, 0, -1)) and most.add(0) is None
+    first = listset.open_set("lazy", 64, 1)
+    seats = [first, *(first.split() for _ in range(63))]
+    assert all(it.add(key) for key, it in enumerate(seats)) and [it.add(64) for it in seats] == [None] * 64
+    for it in seats[1:]:
+        first.gather(it)
+    assert first.close() == [*range(64)]
+
+
+def closed_again():
+    """Where `close` has no memory for the keys, it gives them when it is called again."""
+    keys, mine = listset._keys, listset.open_set("lazy", 1, 1, [5, 9])
+    for refused in (1, 2):
+        with unittest.mock.patch.object(listset, "_keys", side_effect=[*[keys([])] * (refused - 1), MemoryError]):
+            assert raised(mine.close)[0] is MemoryError, refused
+    assert mine.close() == [5, 9]
+
+
+def pages():
+    """How much memory this process takes."""
+    with open("/proc/self/statm") as file:
+        return int(file.read().split()[1])
+
+
+def memory():
+    """Sets that nobody holds any more take no memory, each some 3 MB."""
+    before = pages()
+    for _ in range(60):
+        listset.open_set("lazy", 8, 16384).split()
+    assert pages() - before < 2**14, f"{pages() - before} pages"
+
+
+def side_by_side():
+    """Other threads run while a call of the judge goes on."""
+    counted, is_over = [0], threading.Event()
+
+    def count():
+        while not is_over.wait(0.001):
+            counted[0] += 1
+
+    calls = "".join(f"call 0 contains 5 {at} - {at + 1} false\n" for at in range(1, 200_000, 2))
+    thread = threading.Thread(target=count)
+    thread.start()
+    before = counted[0]
+    listset.judge_text(f"listset-calls 2\nlist lazy\nthreads 1\nquota 0\n{calls}end\n")
+    after = counted[0]
+    is_over.set()
+    thread.join()
+    assert after - before > 5, after - before
+
+
 def opened(at, number):
     """Opens a set with this number as the seats, the quota, the first key or the last."""
     seats, quota, first, last = [number if at == it else it + 1 for it in range(4)]
@@ -103,3 +176,8 @@ refusals()
 for place in range(4):
     opened(place, place + 1)
 numbers()
+apart()
+limits()
+closed_again()
+memory()
+side_by_side()

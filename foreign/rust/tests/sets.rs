@@ -80,6 +80,48 @@ fn a_shared_set_uses_the_quota_of_each_seat() {
     assert_eq!(Shared::open(List::Lazy, 0, 1, &[]).err(), Some(Fault::Seats));
 }
 
+/// As many keys are new as the seats have quota for, whichever threads add them, and just those are left.
+#[test]
+fn threads_use_the_quota_of_each_seat() {
+    for (seats, quota) in [(2, 50), (64, 1)] {
+        let set = Shared::open(List::Lazy, seats, quota, &[]).unwrap();
+        let run = |thread| -> Vec<u32> {
+            (0..500).map(|at| at * THREADS + thread).filter(|key| set.add(*key) == Added::True).collect()
+        };
+        let run = &run;
+        let mut due: Vec<u32> = scope(|threads| {
+            let running: Vec<_> = (0..THREADS).map(|thread| threads.spawn(move || run(thread))).collect();
+            running.into_iter().flat_map(|it| it.join().unwrap()).collect()
+        });
+        due.sort_unstable();
+        assert_eq!(due.len() as u32, seats * quota);
+        assert_eq!(set.close().map_err(|it| it.1).unwrap(), due);
+    }
+}
+
+/// A seat gathers none of another set: of more than 16 bits number, opened in another thread.
+#[test]
+fn sets_are_told_apart() {
+    let mut mine = open(List::Lazy, 1, 0, &[]).unwrap();
+    let run = || {
+        let mut gathered = || mine.gather(open(List::Lazy, 1, 0, &[]).unwrap()).map_err(|it| it.1);
+        (0..70_000).filter(|_| gathered() == Err(Fault::OtherSet)).count()
+    };
+    assert_eq!(scope(|threads| threads.spawn(run).join()).unwrap(), 70_000);
+}
+
+#[test]
+fn the_most_keys_and_the_ends_of_the_quota() {
+    let mut keys: Vec<u32> = (0..1 << 20).map(|at| 4095 * at).collect();
+    assert!(open(List::Lazy, 1, 0, &keys).unwrap().close().map_err(|it| it.1).unwrap() == keys, "the most opening keys");
+    keys.push(u32::MAX);
+    assert_eq!([&keys[..], &[7, 7], &[9, 5]].map(|it| open(List::Lazy, 1, 1, it).err()), [Some(Fault::Keys); 3]);
+    assert_eq!(open(List::Lazy, 1, 16_385, &[]).err(), Some(Fault::Quota));
+    assert_eq!(open(List::Lazy, 1, 0, &[]).unwrap().add(1), Added::Full);
+    let mut most = open(List::Lazy, 1, 16_384, &[]).unwrap();
+    assert!((1..=16_384).rev().all(|key| most.add(key) == Added::True) && most.add(0) == Added::Full);
+}
+
 #[test]
 fn the_least_key_and_the_greatest() {
     let ends = [0, u32::MAX];

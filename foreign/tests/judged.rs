@@ -1,0 +1,19 @@
+//! The five lists, each shared by eight threads and judged in this process as a set of one's own is (docs/YOUR-SET.md).
+use listset::{Added, List, Shared};
+use listset_judge::Options;
+
+fn main() {
+    let proof = listset::version().lines().find(|it| it.starts_with("proof ")).unwrap();
+    for list in [List::Coarse, List::Fine, List::Optimistic, List::Lazy, List::LockFree] {
+        let verdict = listset_judge::judge(
+            || Shared::open(list, 8, 16_384, &[]).unwrap(),
+            |set, key| set.add(key) == Added::True,
+            |set, key| set.remove(key),
+            |set, key| set.contains(key),
+            Options::default(),
+        );
+        let verdict = verdict.unwrap();
+        println!("{verdict}");
+        assert!(verdict.overlapped > 0 && verdict.judge == format!("liblistset, {proof}"), "{verdict}");
+    }
+}
