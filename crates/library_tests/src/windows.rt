@@ -39,6 +39,18 @@ fn calls_that_are_not_needed_are_left_out(rt: HostRuntime) -> Result<(), Fail> {
     has_window(&rt, rt.alloc(), calls, &[0, 101, 102])
 }
 
+/// A thread adds the key and removes it so many times in turn, at the moments from 1 on.
+fn in_and_out(alloc: Global, times: u32) -> Result<Vec<CallRecord>, AllocError> {
+    let mut calls = Vec::new(alloc);
+    for number in 0..times {
+        let at = 4 * number;
+        let (adds, removes) = ((at + 1, at + 2), (at + 3, at + 4));
+        calls.push(ended(0, Call::Add(FIVE), adds, Reply::True))?;
+        calls.push(ended(0, Call::Remove(FIVE), removes, Reply::True))?;
+    }
+    Ok(calls)
+}
+
 /// The key goes in and out so many times. Then it is found by a call that began before so many others, which did not find it, while an
 /// `add` is pending; and the next call does not find it. Each moment is so far from the next.
 fn found_early(
@@ -47,13 +59,7 @@ fn found_early(
     looks: u32,
     apart: u32,
 ) -> Result<Vec<CallRecord>, AllocError> {
-    let mut calls = Vec::new(alloc);
-    for number in 0..times {
-        let at = 4 * number;
-        let (adds, removes) = ((at + 1, at + 2), (at + 3, at + 4));
-        calls.push(ended(0, Call::Add(FIVE), adds, Reply::True))?;
-        calls.push(ended(0, Call::Remove(FIVE), removes, Reply::True))?;
-    }
+    let mut calls = in_and_out(alloc, times)?;
     let (at, behind) = (4 * times, 4 * times + 2 * looks);
     calls.push(ended(0, Call::Contains(FIVE), (at + 1, behind + 3), Reply::True))?;
     for number in 0..looks {
@@ -98,13 +104,7 @@ fn a_window_begins_not_long_before_a_call_that_is_needed(rt: HostRuntime) -> Res
 /// The key goes in and out so many times, and in. A call that does not find it begins before so many others, which find it, and ends
 /// after a `remove` has begun that does not end. So the `remove` has taken it out, and it cannot be left.
 fn taken_out(alloc: Global, times: u32, looks: u32) -> Result<Vec<CallRecord>, AllocError> {
-    let mut calls = Vec::new(alloc);
-    for number in 0..times {
-        let at = 4 * number;
-        let (adds, removes) = ((at + 1, at + 2), (at + 3, at + 4));
-        calls.push(ended(0, Call::Add(FIVE), adds, Reply::True))?;
-        calls.push(ended(0, Call::Remove(FIVE), removes, Reply::True))?;
-    }
+    let mut calls = in_and_out(alloc, times)?;
     let (at, behind) = (4 * times + 2, 4 * times + 2 * looks + 4);
     calls.push(ended(0, Call::Add(FIVE), (at - 1, at), Reply::True))?;
     calls.push(ended(0, Call::Contains(FIVE), (at + 1, behind + 1), Reply::False))?;
