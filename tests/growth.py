@@ -1,0 +1,382 @@
+"""Large recordings, reports, drafts and schedules of many shapes, given to each command that reads them. A command has 8 seconds of a
+processor, which is several times what it takes: a step whose time grows with the square of its input takes minutes.
+
+A shape says which calls there are, with which replies: of keys that rise, fall or are shuffled, of one key or two, on many opening keys, with
+ceilings between changes. A layout says of which threads they are, and when they begin and end: in turn, side by side, of one thread, beside a call
+that never ends. So it is known how many calls, places and keys are printed, that an order explains the calls, and which are drawn.
+"""
+
+import itertools
+import random
+import re
+from typing import NamedTuple
+
+from harness.cases import Wrong, cases, same, test
+from harness.programs import ran
+
+PROCESSOR_SECONDS = 8  # a program built without a proof takes up to 2
+THREADS, QUOTA = 64, 16384
+CALLS = 4700 * THREADS  # of a recording
+NEWLINE = b"\n"
+GREATEST = 2**32 - 1  # the key of the call that never ends
+HEADING = f"lazy list, {THREADS} threads, quota {QUOTA}: "
+
+
+# ---- shapes of calls
+
+class Shape(NamedTuple):
+    opening: list
+    calls: list  # of each the word, the key and the reply
+    left: list
+
+
+def shuffled(things):
+    found = list(things)
+    random.Random(1).shuffle(found)
+    return found
+
+
+def calls_of(word, keys, reply="true"):
+    return [(word, key, reply) for key in keys]
+
+
+def repeated(calls, many):
+    return (calls * (many // len(calls) + 1))[:many]
+
+
+def keys_that_rise(many):
+    return Shape([], calls_of("add", range(many)), range(many))
+
+
+def keys_that_fall(many):
+    return Shape([], calls_of("add", range(many)[::-1]), range(many))
+
+
+def keys_shuffled(many):
+    keys = shuffled(range(many // 2))
+    return Shape([], calls_of("add", keys) + calls_of("remove", shuffled(keys)), [])
+
+
+def one_key(many):
+    return Shape([], repeated([("add", 5, "true"), ("remove", 5, "true")], many), [])
+
+
+def two_keys(many):
+    return Shape([], repeated([(word, key, "true") for word in ("add", "remove") for key in (5, 9)], many), [])
+
+
+def keys_that_come_and_go(many):
+    return Shape([], [(word, key, "true") for key in range(many // 2) for word in ("add", "remove")], [])
+
+
+def opening_keys_removed_from_the_greatest(many):
+    return Shape(range(many), calls_of("remove", range(many)[::-1]), [])
+
+
+def opening_keys_removed_from_the_least(many):
+    return Shape(range(many), calls_of("remove", range(many)), [])
+
+
+def looks(many):
+    """Each second key is there from the beginning."""
+    there = range(0, many, 2)
+    return Shape(there, [("contains", key, "false" if key % 2 else "true") for key in shuffled(range(many))], there)
+
+
+def looks_at_the_least(many):
+    return Shape(range(many), calls_of("contains", [0] * many), range(many))
+
+
+def looks_in_vain(many):
+    return Shape([], calls_of("contains", [5] * many, "false"), [])
+
+
+def calls_that_change_nothing(many):
+    keys = range(many // 2)
+    return Shape(keys, [call for key in keys for call in (("add", key, "false"), ("remove", many + key, "false"))], keys)
+
+
+def ceilings_between_changes(many):
+    """A key comes and goes, another each time, and the set is empty."""
+    return Shape([], [call for key in range(many // 3) for call in (("add", key, "true"), ("remove", key, "true"), ("ceiling", 0, "nothing"))], [])
+
+
+def ceilings_of_keys_that_go(many):
+    """The least key goes, and the next one is found."""
+    half = many // 2
+    return Shape(range(half + 1), [call for key in range(half) for call in (("remove", key, "true"), ("ceiling", 0, f"at-{key + 1}"))], [half])
+
+
+# ---- layouts of calls: of the one with this number the thread, and the moments at which it begins, takes effect and ends
+
+def in_turn(number):
+    return number % THREADS, 3 * number + 1, 3 * number + 2, 3 * number + 3
+
+
+def of_one_thread(number):
+    return 0, *in_turn(number)[1:]
+
+
+def side_by_side(number):
+    """Each thread begins a call; then each takes effect; then each ends."""
+    turn, thread = divmod(number, THREADS)
+    begin = 3 * THREADS * turn + thread + 1
+    return thread, begin, begin + THREADS, begin + 2 * THREADS
+
+
+def beside_a_call(number):
+    """The last thread has a call that begins first."""
+    return number % (THREADS - 1), *(moment + 1 for moment in in_turn(number)[1:])
+
+
+# ---- recorded calls
+
+def reversed_lines(lines):
+    return lines[::-1]
+
+
+class Way(NamedTuple):
+    shape: object
+    layout: object = in_turn
+    has_points: bool = False
+    arranged: object = list  # the order of the lines
+    is_shown: bool = False
+
+    def name(self):
+        words = [self.shape.__name__, self.layout.__name__, *["points"] * self.has_points]
+        return "-".join(words if self.arranged is list else [*words, self.arranged.__name__])
+
+
+WAYS = [
+    Way(keys_that_rise, is_shown=True), Way(keys_that_rise, beside_a_call, arranged=shuffled),
+    Way(keys_that_fall, side_by_side, is_shown=True), Way(keys_that_fall, in_turn, True, reversed_lines),
+    Way(keys_shuffled), Way(keys_shuffled, side_by_side, True, is_shown=True),
+    Way(one_key, in_turn, True, is_shown=True), Way(one_key, side_by_side),
+    Way(two_keys, beside_a_call, is_shown=True), Way(two_keys, side_by_side, True, shuffled),
+    Way(opening_keys_removed_from_the_greatest), Way(opening_keys_removed_from_the_greatest, of_one_thread, True),
+    Way(opening_keys_removed_from_the_least, side_by_side),
+    Way(looks, of_one_thread, is_shown=True), Way(calls_that_change_nothing, side_by_side),
+    Way(ceilings_between_changes, in_turn, True), Way(ceilings_of_keys_that_go, beside_a_call, True, is_shown=True),
+]
+
+
+class Recording:
+    """The calls of a shape in a way, as texts of versions 2 and 3."""
+
+    def __init__(self, way, is_wrong=False):
+        self.way, (self.opening, self.calls, self.left) = way, way.shape(CALLS)
+        if is_wrong:
+            word, key, reply = self.calls[-1]
+            self.calls[-1] = word, key, {"true": "false", "false": "true"}[reply]
+        self.places = len(self.calls)
+        self.count = self.places + (way.layout is beside_a_call)
+        self.has_ceilings = any(word == "ceiling" for word, _, _ in self.calls)
+        self.has_changes = any(reply == "true" and word != "contains" for word, _, reply in self.calls)
+
+    def lines(self, point):
+        """The lines of the calls, by their begins."""
+        form, open_point = f"call {{0}} {{4}} {{5}} {{1}} {point}{{3}} {{6}}\n", "- " * bool(point)
+        beside = [f"call {THREADS - 1} add {GREATEST} 1 {open_point}- -\n"] * (self.count - self.places)
+        return beside + [form.format(*self.way.layout(number), *call) for number, call in enumerate(self.calls)]
+
+    def text(self):
+        """Version 2. The keys that are left fall, unless they stand in the report as they stand here."""
+        head = f"listset-calls 2\nlist lazy\nthreads {THREADS}\nquota {QUOTA}\n"
+        calls = self.way.arranged(self.lines("{2} " if self.way.has_points else "- "))
+        return whole(head, self.opening, calls, self.left if self.way.has_points or not self.has_changes else self.left[::-1])
+
+    def long_text(self):
+        return whole("listset-calls 3\n", self.opening, self.lines(""), self.left)
+
+
+def whole(head, opening, calls, left):
+    return "".join([head, *(f"opening {key}\n" for key in opening), *calls, *(f"key {key}\n" for key in left), "end\n"]).encode()
+
+
+# ---- what commands print
+
+class Tried:
+    """Commands that are tried in turn. What is wrong with each is told at the end."""
+
+    def __init__(self):
+        self.faults = []
+
+    def __enter__(self):
+        return self
+
+    def __exit__(self, _kind, fault, _trace):
+        if isinstance(fault, Wrong):
+            self.faults.append(str(fault))
+        return isinstance(fault, Wrong)
+
+    def tell(self):
+        if self.faults:
+            raise Wrong("; ".join(self.faults))
+
+
+def output(program, *words, text=None, status=0):
+    """What a command prints that ends with this status, and nothing on standard error; it has few seconds of a processor."""
+    done = ran("bash", "-c", 'ulimit -t "$0" && exec "$@"', PROCESSOR_SECONDS, program, *words, text=text if text else b"")
+    command = " ".join([*map(str, words), *([f"of {text.split(NEWLINE, 1)[0].decode()}"] if text else [])])
+    if done.returncode < 0:
+        raise Wrong(f"{command}: signal {-done.returncode}, perhaps by its {PROCESSOR_SECONDS} seconds of a processor")
+    same((done.returncode, done.stderr), (status, b""), f"{command}: status and standard error")
+    return done.stdout
+
+
+def judges(program, text, calls):
+    """The first line of what `judge` prints."""
+    same(output(program, "judge", text=text).split(NEWLINE)[0], f"ok {calls} calls".encode(), "judge")
+
+
+def checks(program, report, **lines):
+    """How many lines of each kind a report has, and what `check` says."""
+    same({word: report.count(f"\n{word} ".encode()) for word in lines}, lines, "the lines of the report")
+    same(output(program, "check", text=report), b"ok\n", "check")
+
+
+def shows(program, *words, text, heading, most, places):
+    """`show`: the heading; that at most so many places are not before the picture, and that none is left out."""
+    picture = output(program, "show", *words, text=text).decode()
+    left_out = re.search("^([0-9]+) before, ([0-9]+) after$", picture, re.M)
+    if not left_out:
+        raise Wrong(f"the picture does not say how many places are before and after it: {picture[-300:]!r}")
+    before, after = map(int, left_out.groups())
+    all_places = before + len(re.findall("^ *[0-9]+  at [0-9]+ ", picture, re.M)) + after
+    same((picture.split("\n")[0], all_places), (heading, places), "the heading of the picture, and the places in all")
+    same(places - before <= most, True, f"that {before} places are all but {most}")
+
+
+@cases(lambda: {f"recordings/{way.name()}": (way,) for way in WAYS})
+def recordings(case, way):
+    """`judge` of both versions, `report`, `check` of the report, and `show` of the calls and of the report."""
+    recording, tried, report = Recording(way), Tried(), None
+    text = recording.text()
+    with tried:
+        judges(case.program, text, recording.count)
+    with tried:
+        if not recording.has_ceilings:
+            judges(case.program, recording.long_text(), recording.count)
+    with tried:
+        report = output(case.program, "report", text=text)
+        checks(case.program, report, opening=len(recording.opening), call=recording.count, place=recording.places, key=len(recording.left))
+    for shown in [text, report] if way.is_shown else []:
+        with tried:
+            begin = way.layout(recording.places - THREADS)[1]
+            if shown:
+                shows(case.program, "--from", begin, text=shown, heading=f"{HEADING}{recording.count} calls", most=THREADS, places=recording.places)
+    tried.tell()
+
+
+WRONG = [Way(one_key), Way(keys_shuffled, side_by_side), Way(looks, beside_a_call), Way(opening_keys_removed_from_the_greatest)]
+
+
+@cases(lambda: {f"refused_recordings/{way.name()}": (way,) for way in WRONG})
+def refused_recordings(case, way):
+    """`judge` of both versions, `report` and `show`, where the last reply is wrong."""
+    recording, tried = Recording(way, is_wrong=True), Tried()
+    key, end = recording.calls[-1][1], way.layout(recording.places - 1)[3]
+    said = f"not linearizable\nno order explains the calls of key {key} up to moment {end}\n".encode()
+    text = recording.text()
+    with tried:
+        same(output(case.program, "judge", text=text, status=1).startswith(said), True, f"that judge says {said}")
+    with tried:
+        same(output(case.program, "judge", text=recording.long_text(), status=1), said, "judge of version 3")
+    with tried:
+        if recording.has_changes:  # (else it is ordered by points)
+            same(output(case.program, "report", text=text, status=1), b"no order explains these calls: judge shows why\n", "report")
+    with tried:
+        same(said in output(case.program, "show", text=text, status=1), True, f"that show says {said}")
+    tried.tell()
+
+
+@test
+def refused_reports(case):
+    """`check` and `show`, where a key is missing that is left, a call stands before all others, and one has no place."""
+    tried, last = Tried(), CALLS - 1
+    report = output(case.program, "report", text=Recording(Way(looks)).text())
+    head, place, tail = report.rpartition(f"place {last} ".encode())
+    line, _, keys = tail.partition(NEWLINE)
+    first = head.index(b"place ")
+    added = output(case.program, "report", text=Recording(Way(keys_that_rise)).text())
+    for text, said in ((added.replace(f"key {last}\n".encode(), b""), "refused WrongSet"), (head + keys, f"refused Missing {last}"),
+                       (head[:first] + place + line + NEWLINE + head[first:] + keys, f"refused TooEarly {last}")):
+        with tried:
+            same(output(case.program, "check", text=text, status=1).decode(), said + "\n", "check")
+        with tried:
+            same(f"\n{said}" in output(case.program, "show", text=text, status=1).decode(), True, f"that show says {said}")
+    tried.tell()
+
+
+@test
+def parts(case):
+    """`judge` of two parts, of all keys and of each fourth one."""
+    tried, files = Tried(), []
+    for shape in (keys_that_rise, opening_keys_removed_from_the_greatest):
+        files.append(case.room / shape.__name__)
+        files[-1].write_bytes(Recording(Way(shape)).text())
+    for words, calls in (((), 2 * CALLS), (("--keys", "1/4"), CALLS // 2)):
+        with tried:
+            same(output(case.program, "judge", *words, *files).decode(), f"ok 2 parts, {calls} calls\n", "judge of parts")
+    tried.tell()
+
+
+# ---- drafts and schedules
+
+class Plan(NamedTuple):
+    kind: str
+    shape: object
+    calls: int
+    is_side_by_side: bool = False
+    words: tuple = ()
+
+    def name(self):
+        return "-".join([self.kind, self.shape.__name__, *["side_by_side"] * self.is_side_by_side, *self.words[1:]])
+
+
+# (up to a million events)
+PLANS = [
+    Plan("lock-free", one_key, 128_000), Plan("lazy", one_key, 64_000, words=("--lacks", "mark-in-contains")),
+    Plan("coarse", one_key, 112_000, True), Plan("coarse", two_keys, 96_000),
+    Plan("fine", keys_that_come_and_go, 96_000), Plan("optimistic", keys_that_come_and_go, 64_000, True),
+    Plan("lock-free", keys_that_fall, 128_000), Plan("lazy", opening_keys_removed_from_the_least, 64_000),
+    Plan("optimistic", looks_at_the_least, 96_000), Plan("lazy", looks_in_vain, 192_000, True),
+    Plan("lock-free", ceilings_between_changes, 128_000), Plan("fine", ceilings_of_keys_that_go, 96_000),
+]
+
+
+def draft_of(plan, shape):
+    """Calls of all threads in turn, or as many calls as there are threads at once."""
+    head = ["listset-draft 2", f"list {plan.kind}", f"threads {THREADS}", f"quota {QUOTA}", *(f"opening {key}" for key in shape.opening)]
+    begins = [f"begin {number % THREADS} {word} {key}" for number, (word, key, _) in enumerate(shape.calls)]
+    ends = [f"go {number % THREADS} out" for number in range(len(begins))]
+    at_once = THREADS if plan.is_side_by_side else 1
+    turns = ([*begins[at:at + at_once], *ends[at:at + at_once]] for at in range(0, len(begins), at_once))
+    return "\n".join([*head, *itertools.chain.from_iterable(turns), ""]).encode()
+
+
+def events_of(schedule):
+    """How many events a schedule has."""
+    return len(re.findall(b"^begin ", schedule, re.M)) + sum(map(int, re.findall(b"^go [0-9]+ ([0-9]+)$", schedule, re.M)))
+
+
+@cases(lambda: {f"schedules/{plan.name()}": (plan,) for plan in PLANS})
+def schedules(case, plan):
+    """`draft`; of the schedule `replay`, `trace` and `show`, as text and as SVG; and `check` of the report."""
+    tried, shape = Tried(), plan.shape(plan.calls)
+    calls = len(shape.calls)
+    schedule = output(case.program, "draft", text=draft_of(plan, shape))
+    events = events_of(schedule)
+    heading = f"{plan.kind} list, {THREADS} threads, quota {QUOTA}: {calls} calls" + ("" if plan.words else f" in {events} events")
+    with tried:
+        report = output(case.program, "replay", *plan.words, text=schedule)
+        checks(case.program, report, opening=len(shape.opening), call=calls, place=calls, key=len(shape.left))
+    with tried:
+        trace = output(case.program, "trace", *plan.words, text=schedule)
+        same((trace.count(b"\nevent "), trace[-5:]), (events, b"\nend\n"), "the events of the trace, and its end")
+    with tried:
+        shows(case.program, "--from", events - 2, *plan.words, text=schedule, heading=heading, most=THREADS, places=calls)
+    with tried:
+        picture = output(case.program, "show", "--svg", "--from", events - 2, *plan.words, text=schedule)
+        same(f"<title>{heading}</title>".encode() in picture, True, "that the SVG has its heading")
+    tried.tell()
