@@ -3,7 +3,8 @@ processor, which is several times what it takes: a step whose time grows with th
 
 A shape says which calls there are, with which replies: of keys that rise, fall or are shuffled, of one key or two, on many opening keys, with
 ceilings between changes. A layout says of which threads they are, and when they begin and end: in turn, side by side, of one thread, beside a call
-that never ends. So it is known how many calls, places and keys are printed, that an order explains the calls, and which are drawn.
+that never ends. So it is known how many calls, places and keys are printed, that an order explains the calls, and which are drawn. `--few` tries
+a third of the cases.
 """
 
 import itertools
@@ -11,7 +12,7 @@ import random
 import re
 from typing import NamedTuple
 
-from harness.cases import Wrong, cases, same, test
+from harness.cases import Wrong, cases, given, same, test
 from harness.programs import ran
 
 PROCESSOR_SECONDS = 8  # a program built without a proof takes up to 2
@@ -20,6 +21,11 @@ CALLS = 4700 * THREADS  # of a recording
 NEWLINE = b"\n"
 GREATEST = 2**32 - 1  # the key of the call that never ends
 HEADING = f"lazy list, {THREADS} threads, quota {QUOTA}: "
+
+
+def named(what, things):
+    """The cases of these things, each by its name."""
+    return lambda: {f"{what}/{it.name()}": (it,) for it in things[::3 if given.few else 1]}
 
 
 # ---- shapes of calls
@@ -247,7 +253,7 @@ def shows(program, *words, text, heading, most, places):
     same(places - before <= most, True, f"that {before} places are all but {most}")
 
 
-@cases(lambda: {f"recordings/{way.name()}": (way,) for way in WAYS})
+@cases(named("recordings", WAYS))
 def recordings(case, way):
     """`judge` of both versions, `report`, `check` of the report, and `show` of the calls and of the report."""
     recording, tried, report = Recording(way), Tried(), None
@@ -271,7 +277,7 @@ def recordings(case, way):
 WRONG = [Way(one_key), Way(keys_shuffled, side_by_side), Way(looks, beside_a_call), Way(opening_keys_removed_from_the_greatest)]
 
 
-@cases(lambda: {f"refused_recordings/{way.name()}": (way,) for way in WRONG})
+@cases(named("refused_recordings", WRONG))
 def refused_recordings(case, way):
     """`judge` of both versions, `report` and `show`, where the last reply is wrong."""
     recording, tried = Recording(way, is_wrong=True), Tried()
@@ -360,7 +366,7 @@ def events_of(schedule):
     return len(re.findall(b"^begin ", schedule, re.M)) + sum(map(int, re.findall(b"^go [0-9]+ ([0-9]+)$", schedule, re.M)))
 
 
-@cases(lambda: {f"schedules/{plan.name()}": (plan,) for plan in PLANS})
+@cases(named("schedules", PLANS))
 def schedules(case, plan):
     """`draft`; of the schedule `replay`, `trace` and `show`, as text and as SVG; and `check` of the report."""
     tried, shape = Tried(), plan.shape(plan.calls)
