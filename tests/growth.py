@@ -146,7 +146,7 @@ class Way(NamedTuple):
     layout: object = in_turn
     has_points: bool = False
     arranged: object = list  # the order of the lines
-    is_shown: bool = False
+    shown: str = ""  # `calls` or `report`
 
     def name(self):
         words = [self.shape.__name__, self.layout.__name__, *["points"] * self.has_points]
@@ -154,49 +154,45 @@ class Way(NamedTuple):
 
 
 WAYS = [
-    Way(keys_that_rise, is_shown=True), Way(keys_that_rise, beside_a_call, arranged=shuffled),
-    Way(keys_that_fall, side_by_side, is_shown=True), Way(keys_that_fall, in_turn, True, reversed_lines),
-    Way(keys_shuffled), Way(keys_shuffled, side_by_side, True, is_shown=True),
-    Way(one_key, in_turn, True, is_shown=True), Way(one_key, side_by_side),
-    Way(two_keys, beside_a_call, is_shown=True), Way(two_keys, side_by_side, True, shuffled),
+    Way(keys_that_rise, shown="calls"), Way(keys_that_rise, beside_a_call, arranged=shuffled),
+    Way(keys_that_fall, side_by_side, shown="report"), Way(keys_that_fall, in_turn, True, reversed_lines),
+    Way(keys_shuffled), Way(keys_shuffled, side_by_side, True, shown="report"),
+    Way(one_key, in_turn, True, shown="calls"), Way(one_key, side_by_side),
+    Way(two_keys, beside_a_call, shown="calls"), Way(two_keys, side_by_side, True, shuffled),
     Way(opening_keys_removed_from_the_greatest), Way(opening_keys_removed_from_the_greatest, of_one_thread, True),
     Way(opening_keys_removed_from_the_least, side_by_side),
-    Way(looks, of_one_thread, is_shown=True), Way(calls_that_change_nothing, side_by_side),
-    Way(ceilings_between_changes, in_turn, True), Way(ceilings_of_keys_that_go, beside_a_call, True, is_shown=True),
+    Way(looks, of_one_thread, shown="report"), Way(calls_that_change_nothing, side_by_side),
+    Way(ceilings_between_changes, in_turn, True), Way(ceilings_of_keys_that_go, beside_a_call, True, shown="calls"),
 ]
 
 
 class Recording:
-    """The calls of a shape in a way, as texts of versions 2 and 3."""
+    """The calls of a shape in a way, as a text of version 2; without points also as one of version 3."""
 
     def __init__(self, way, is_wrong=False):
-        self.way, (self.opening, self.calls, self.left) = way, way.shape(CALLS)
+        self.way, (self.opening, calls, self.left) = way, way.shape(CALLS)
         if is_wrong:
-            word, key, reply = self.calls[-1]
-            self.calls[-1] = word, key, {"true": "false", "false": "true"}[reply]
-        self.places = len(self.calls)
-        self.count = self.places + (way.layout is beside_a_call)
-        self.has_ceilings = any(word == "ceiling" for word, _, _ in self.calls)
-        self.has_changes = any(reply == "true" and word != "contains" for word, _, reply in self.calls)
-
-    def lines(self, point):
-        """The lines of the calls, by their begins."""
-        form, open_point = f"call {{0}} {{4}} {{5}} {{1}} {point}{{3}} {{6}}\n", "- " * bool(point)
-        beside = [f"call {THREADS - 1} add {GREATEST} 1 {open_point}- -\n"] * (self.count - self.places)
-        return beside + [form.format(*self.way.layout(number), *call) for number, call in enumerate(self.calls)]
+            word, key, reply = calls[-1]
+            calls[-1] = word, key, {"true": "false", "false": "true"}[reply]
+        self.last_call, self.places = calls[-1], len(calls)
+        self.has_changes = any(reply == "true" and word != "contains" for word, _, reply in calls)
+        self.lines = [f"call {THREADS - 1} add {GREATEST} 1 - - -\n"] * (way.layout is beside_a_call)
+        for (word, key, reply), (thread, begin, point, end) in zip(calls, map(way.layout, range(len(calls)))):
+            self.lines.append(f"call {thread} {word} {key} {begin} {point if way.has_points else '-'} {end} {reply}\n")
+        self.count = len(self.lines)
 
     def text(self):
         """Version 2. The keys that are left fall, unless they stand in the report as they stand here."""
-        head = f"listset-calls 2\nlist lazy\nthreads {THREADS}\nquota {QUOTA}\n"
-        calls = self.way.arranged(self.lines("{2} " if self.way.has_points else "- "))
-        return whole(head, self.opening, calls, self.left if self.way.has_points or not self.has_changes else self.left[::-1])
+        left = self.left if self.way.has_points or not self.has_changes else self.left[::-1]
+        return whole(f"listset-calls 2\nlist lazy\nthreads {THREADS}\nquota {QUOTA}\n", self.opening, "".join(self.way.arranged(self.lines)), left)
 
     def long_text(self):
-        return whole("listset-calls 3\n", self.opening, self.lines(""), self.left)
+        """Version 3, in which no call has a point."""
+        return whole("listset-calls 3\n", self.opening, "".join(self.lines).replace(" - ", " "), self.left)
 
 
 def whole(head, opening, calls, left):
-    return "".join([head, *(f"opening {key}\n" for key in opening), *calls, *(f"key {key}\n" for key in left), "end\n"]).encode()
+    return "".join([head, *(f"opening {key}\n" for key in opening), calls, *(f"key {key}\n" for key in left), "end\n"]).encode()
 
 
 # ---- what commands print
@@ -255,22 +251,21 @@ def shows(program, *words, text, heading, most, places):
 
 @cases(named("recordings", WAYS))
 def recordings(case, way):
-    """`judge` of both versions, `report`, `check` of the report, and `show` of the calls and of the report."""
+    """`judge` of both versions, `report`, `check` of the report, and `show` of the calls or of the report."""
     recording, tried, report = Recording(way), Tried(), None
     text = recording.text()
     with tried:
         judges(case.program, text, recording.count)
     with tried:
-        if not recording.has_ceilings:
+        if not way.has_points:
             judges(case.program, recording.long_text(), recording.count)
     with tried:
         report = output(case.program, "report", text=text)
         checks(case.program, report, opening=len(recording.opening), call=recording.count, place=recording.places, key=len(recording.left))
-    for shown in [text, report] if way.is_shown else []:
-        with tried:
+    with tried:
+        if shown := {"calls": text, "report": report}.get(way.shown):
             begin = way.layout(recording.places - THREADS)[1]
-            if shown:
-                shows(case.program, "--from", begin, text=shown, heading=f"{HEADING}{recording.count} calls", most=THREADS, places=recording.places)
+            shows(case.program, "--from", begin, text=shown, heading=f"{HEADING}{recording.count} calls", most=THREADS, places=recording.places)
     tried.tell()
 
 
@@ -281,7 +276,7 @@ WRONG = [Way(one_key), Way(keys_shuffled, side_by_side), Way(looks, beside_a_cal
 def refused_recordings(case, way):
     """`judge` of both versions, `report` and `show`, where the last reply is wrong."""
     recording, tried = Recording(way, is_wrong=True), Tried()
-    key, end = recording.calls[-1][1], way.layout(recording.places - 1)[3]
+    key, end = recording.last_call[1], way.layout(recording.places - 1)[3]
     said = f"not linearizable\nno order explains the calls of key {key} up to moment {end}\n".encode()
     text = recording.text()
     with tried:
@@ -343,7 +338,7 @@ class Plan(NamedTuple):
 # (up to a million events)
 PLANS = [
     Plan("lock-free", one_key, 128_000), Plan("lazy", one_key, 64_000, words=("--lacks", "mark-in-contains")),
-    Plan("coarse", one_key, 112_000, True), Plan("coarse", two_keys, 96_000),
+    Plan("coarse", two_keys, 96_000, True),
     Plan("fine", keys_that_come_and_go, 96_000), Plan("optimistic", keys_that_come_and_go, 64_000, True),
     Plan("lock-free", keys_that_fall, 128_000), Plan("lazy", opening_keys_removed_from_the_least, 64_000),
     Plan("optimistic", looks_at_the_least, 96_000), Plan("lazy", looks_in_vain, 192_000, True),
@@ -368,7 +363,7 @@ def events_of(schedule):
 
 @cases(named("schedules", PLANS))
 def schedules(case, plan):
-    """`draft`; of the schedule `replay`, `trace` and `show`, as text and as SVG; and `check` of the report."""
+    """`draft`; of the schedule `replay`, `trace` and `show`, also as SVG of calls that overlap; and `check` of the report."""
     tried, shape = Tried(), plan.shape(plan.calls)
     calls = len(shape.calls)
     schedule = output(case.program, "draft", text=draft_of(plan, shape))
@@ -383,6 +378,7 @@ def schedules(case, plan):
     with tried:
         shows(case.program, "--from", events - 2, *plan.words, text=schedule, heading=heading, most=THREADS, places=calls)
     with tried:
-        picture = output(case.program, "show", "--svg", "--from", events - 2, *plan.words, text=schedule)
-        same(f"<title>{heading}</title>".encode() in picture, True, "that the SVG has its heading")
+        if plan.is_side_by_side:
+            picture = output(case.program, "show", "--svg", "--from", events - 2, text=schedule)
+            same(f"<title>{heading}</title>".encode() in picture, True, "that the SVG has its heading")
     tried.tell()
