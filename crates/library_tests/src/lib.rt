@@ -21,6 +21,8 @@ mod made;
 #[cfg(test)]
 mod openings;
 #[cfg(test)]
+mod overlaps;
+#[cfg(test)]
 mod parts;
 #[cfg(test)]
 mod points;
@@ -28,6 +30,8 @@ mod points;
 mod prelude;
 #[cfg(test)]
 mod runs;
+#[cfg(test)]
+mod sentences;
 #[cfg(test)]
 mod steps;
 #[cfg(test)]

@@ -18,6 +18,8 @@ mod pieces;
 #[cfg(test)]
 mod prelude;
 #[cfg(test)]
+mod sentences;
+#[cfg(test)]
 mod serving;
 #[cfg(test)]
 mod sessions;

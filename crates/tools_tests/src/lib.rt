@@ -23,6 +23,8 @@ mod row_texts;
 #[cfg(test)]
 mod rows;
 #[cfg(test)]
+mod sentences;
+#[cfg(test)]
 mod servers;
 #[cfg(test)]
 mod troubles;

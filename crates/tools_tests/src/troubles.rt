@@ -5,7 +5,7 @@ use tool_base::{KeyCause, LineCause, ServeName, Trouble, ValueName, WorkName, de
 /// An error, its exit status, and the line about it after the program's name.
 type Told = (Trouble, u8, &'static str);
 
-const TOLD: [Told; 33] = [
+const TOLD: [Told; 37] = [
     (Trouble::CannotRead, 1, "cannot read"),
     (Trouble::TooLong, 1, "too long"),
     (
@@ -32,6 +32,26 @@ const TOLD: [Told; 33] = [
         Trouble::Line(u64::MAX, LineCause::Keys(KeyCause::TooMany)),
         1,
         "line 18446744073709551615: TooMany",
+    ),
+    (
+        Trouble::Line(1, LineCause::Keys(KeyCause::Line)),
+        1,
+        "line 1: Line",
+    ),
+    (
+        Trouble::Line(2, LineCause::Keys(KeyCause::Number)),
+        1,
+        "line 2: Number",
+    ),
+    (
+        Trouble::Line(3, LineCause::Keys(KeyCause::Opening)),
+        1,
+        "line 3: Opening",
+    ),
+    (
+        Trouble::Line(4, LineCause::Keys(KeyCause::NotEnded)),
+        1,
+        "line 4: NotEnded",
     ),
     (Trouble::Work(WorkName::Programs), 1, "work: Programs"),
     (Trouble::Work(WorkName::Spawn), 1, "work: Spawn"),

@@ -1,0 +1,309 @@
+//! What each error of the libraries says: the sentence of each variant, and, of an error of a file, its line and its cause.
+
+use crate::prelude::*;
+use broken_lists::BrokenStepError;
+use lset_calls::{CallsCause, CallsFault, ClashFault};
+use lset_long::{LongCause, LongFault};
+use lset_parts::PartFault;
+use lset_replay::ReplayFault;
+use lset_report::{ReportCause, ReportFault};
+use lset_schedule::{Cause, GenFault, ScheduleFault};
+use lset_text::{HeaderCause, HeaderFault};
+use lset_words::LayoutFault;
+use std::error::Error;
+
+/// Each error of a table says what stands beside it.
+fn say_so<E: Error + Copy, R: Abort>(
+    rt: &R,
+    alloc: Global,
+    table: &[(E, &str)],
+) -> Result<(), Fail> {
+    for &(error, sentence) in table {
+        let said = error.to_string(alloc)?;
+        assert!(rt; said.as_str() == sentence, "{sentence}");
+    }
+    Ok(())
+}
+
+const OUT_OF_MEMORY: &str = "out of memory";
+
+const HISTORY: [(HistoryFault, &str); 5] = [
+    (HistoryFault::NoThread, "no such thread"),
+    (HistoryFault::Busy, "the thread has an open call"),
+    (HistoryFault::NotOpen, "no open call has this number"),
+    (
+        HistoryFault::Time,
+        "the moment is not above every earlier one",
+    ),
+    (HistoryFault::Memory, OUT_OF_MEMORY),
+];
+
+#[test]
+fn a_fault_of_a_history_has_its_sentence(rt: HostRuntime) -> Result<(), Fail> {
+    say_so(&rt, rt.alloc(), &HISTORY)
+}
+
+const ORDER: [(OrderFault, &str); 7] = [
+    (OrderFault::Unknown(3), "no call has the number 3"),
+    (OrderFault::Twice(4), "call 4 stands twice"),
+    (
+        OrderFault::Missing(5),
+        "call 5 has ended and does not stand in the order",
+    ),
+    (OrderFault::WrongReply(6), "call 6 has another reply"),
+    (
+        OrderFault::TooEarly(7),
+        "call 7 stands before a call that it follows",
+    ),
+    (OrderFault::WrongSet, "the order leaves another set"),
+    (OrderFault::Memory, OUT_OF_MEMORY),
+];
+
+#[test]
+fn a_fault_of_an_order_has_its_sentence(rt: HostRuntime) -> Result<(), Fail> {
+    say_so(&rt, rt.alloc(), &ORDER)
+}
+
+const STREAM: [(StreamFault, &str); 6] = [
+    (
+        StreamFault::Early,
+        "it begins no later than a call before it, or a moment is too large",
+    ),
+    (StreamFault::Ends, "it does not end after its begin"),
+    (
+        StreamFault::NotPlain,
+        "it is a ceiling, or its reply is not true or false",
+    ),
+    (
+        StreamFault::Taken,
+        "a call before it ends at one of its moments",
+    ),
+    (StreamFault::Busy, "its thread has a call pending"),
+    (StreamFault::Memory, OUT_OF_MEMORY),
+];
+
+#[test]
+fn a_fault_of_a_stream_has_its_sentence(rt: HostRuntime) -> Result<(), Fail> {
+    say_so(&rt, rt.alloc(), &STREAM)
+}
+
+const PART: [(PartFault, &str); 5] = [
+    (
+        PartFault::Late,
+        "its clock begins after moment 9223372036854775808",
+    ),
+    (
+        PartFault::Opening,
+        "it opens with other keys than the part before left",
+    ),
+    (
+        PartFault::Early,
+        "one of its calls ended before a call of an earlier part began",
+    ),
+    (PartFault::HasFull, "one of its calls has the reply full"),
+    (PartFault::Memory, OUT_OF_MEMORY),
+];
+
+#[test]
+fn a_fault_of_a_part_has_its_sentence(rt: HostRuntime) -> Result<(), Fail> {
+    say_so(&rt, rt.alloc(), &PART)
+}
+
+const LAYOUT: [(LayoutFault, &str); 3] = [
+    (LayoutFault::Threads, "threads outside 1 to 64"),
+    (LayoutFault::Quota, "quota above 16384"),
+    (LayoutFault::Opening, "more than 1048576 opening keys"),
+];
+
+#[test]
+fn a_fault_of_a_layout_has_its_sentence(rt: HostRuntime) -> Result<(), Fail> {
+    say_so(&rt, rt.alloc(), &LAYOUT)
+}
+
+const STEP: [(StepFault, &str); 3] = [
+    (StepFault::NoThread, "no such thread"),
+    (StepFault::Busy, "a call of the thread is open"),
+    (StepFault::Idle, "no call of the thread is open"),
+];
+
+#[test]
+fn a_fault_of_a_step_has_its_sentence(rt: HostRuntime) -> Result<(), Fail> {
+    say_so(&rt, rt.alloc(), &STEP)
+}
+
+const BROKEN_STEP: [(BrokenStepError, &str); 4] = [
+    (BrokenStepError::NoThread, "no such thread"),
+    (BrokenStepError::Busy, "a call of the thread is open"),
+    (BrokenStepError::Idle, "no call of the thread is open"),
+    (BrokenStepError::Lost, "the step names no word of the table"),
+];
+
+#[test]
+fn a_fault_of_a_step_of_a_broken_list_has_its_sentence(rt: HostRuntime) -> Result<(), Fail> {
+    say_so(&rt, rt.alloc(), &BROKEN_STEP)
+}
+
+const GENERATED: [(GenFault, &str); 4] = [
+    (GenFault::Threads, "threads outside 1 to 64"),
+    (GenFault::Quota, "quota above 16384"),
+    (GenFault::Keys, "no keys"),
+    (GenFault::Memory, OUT_OF_MEMORY),
+];
+
+#[test]
+fn a_fault_of_a_generated_schedule_has_its_sentence(rt: HostRuntime) -> Result<(), Fail> {
+    say_so(&rt, rt.alloc(), &GENERATED)
+}
+
+const REPLAY: [(ReplayFault, &str); 4] = [
+    (ReplayFault::NoThread(LINE), "line 4294967305: NoThread"),
+    (ReplayFault::Busy(LINE), "line 4294967305: Busy"),
+    (ReplayFault::Idle(LINE), "line 4294967305: Idle"),
+    (ReplayFault::Memory, OUT_OF_MEMORY),
+];
+
+#[test]
+fn a_fault_of_a_replay_has_its_sentence(rt: HostRuntime) -> Result<(), Fail> {
+    say_so(&rt, rt.alloc(), &REPLAY)
+}
+
+/// A line of a file, past 32 bits.
+const LINE: u64 = 4_294_967_305;
+
+/// Each error of a table, of that line and with this cause, says the line and the name beside the cause.
+fn names_its_line<C: Copy, E: Error, F: Fn(C) -> E, R: Abort>(
+    rt: &R,
+    alloc: Global,
+    table: &[(C, &str)],
+    fault: F,
+) -> Result<(), Fail>
+    requires { F.IsAlwaysCallable fault }
+{
+    for &(cause, name) in table {
+        let said = fault(cause).to_string(alloc)?;
+        let due = format!(in alloc; "line 4294967305: {name}")?;
+        assert!(rt; said.as_str() == due.as_str(), "{name}");
+    }
+    Ok(())
+}
+
+const HEADER: [(HeaderCause, &str); 5] = [
+    (HeaderCause::Header, "Header"),
+    (HeaderCause::Kind, "Kind"),
+    (HeaderCause::Threads, "Threads"),
+    (HeaderCause::Quota, "Quota"),
+    (HeaderCause::NotEnded, "NotEnded"),
+];
+
+#[test]
+fn a_fault_of_a_header_names_line_and_cause(rt: HostRuntime) -> Result<(), Fail> {
+    names_its_line(
+        &rt,
+        rt.alloc(),
+        &HEADER,
+        |cause| HeaderFault { line: LINE, cause },
+    )
+}
+
+const SCHEDULE: [(Cause, &str); 10] = [
+    (Cause::Header, "Header"),
+    (Cause::Kind, "Kind"),
+    (Cause::Threads, "Threads"),
+    (Cause::Quota, "Quota"),
+    (Cause::Event, "Event"),
+    (Cause::Number, "Number"),
+    (Cause::TooMany, "TooMany"),
+    (Cause::Opening, "Opening"),
+    (Cause::NotEnded, "NotEnded"),
+    (Cause::Memory, "Memory"),
+];
+
+#[test]
+fn a_fault_of_a_schedule_names_line_and_cause(rt: HostRuntime) -> Result<(), Fail> {
+    names_its_line(
+        &rt,
+        rt.alloc(),
+        &SCHEDULE,
+        |cause| ScheduleFault { line: LINE, cause },
+    )
+}
+
+const REPORT: [(ReportCause, &str); 11] = [
+    (ReportCause::Header, "Header"),
+    (ReportCause::Kind, "Kind"),
+    (ReportCause::Threads, "Threads"),
+    (ReportCause::Quota, "Quota"),
+    (ReportCause::Line, "Line"),
+    (ReportCause::Number, "Number"),
+    (ReportCause::TooMany, "TooMany"),
+    (ReportCause::Opening, "Opening"),
+    (ReportCause::History, "History"),
+    (ReportCause::NotEnded, "NotEnded"),
+    (ReportCause::Memory, "Memory"),
+];
+
+#[test]
+fn a_fault_of_a_report_names_line_and_cause(rt: HostRuntime) -> Result<(), Fail> {
+    names_its_line(
+        &rt,
+        rt.alloc(),
+        &REPORT,
+        |cause| ReportFault { line: LINE, cause },
+    )
+}
+
+const CALLS: [(CallsCause, &str); 12] = [
+    (CallsCause::Header, "Header"),
+    (CallsCause::Kind, "Kind"),
+    (CallsCause::Threads, "Threads"),
+    (CallsCause::Quota, "Quota"),
+    (CallsCause::Line, "Line"),
+    (CallsCause::Number, "Number"),
+    (CallsCause::TooMany, "TooMany"),
+    (CallsCause::Opening, "Opening"),
+    (CallsCause::History, "History"),
+    (CallsCause::Point, "Point"),
+    (CallsCause::NotEnded, "NotEnded"),
+    (CallsCause::Memory, "Memory"),
+];
+
+#[test]
+fn a_fault_of_calls_names_line_and_cause(rt: HostRuntime) -> Result<(), Fail> {
+    names_its_line(
+        &rt,
+        rt.alloc(),
+        &CALLS,
+        |cause| CallsFault { line: LINE, cause },
+    )
+}
+
+const LONG: [(LongCause, &str); 6] = [
+    (LongCause::Line, "Line"),
+    (LongCause::Number, "Number"),
+    (LongCause::Opening, "Opening"),
+    (LongCause::History, "History"),
+    (LongCause::NotEnded, "NotEnded"),
+    (LongCause::Memory, "Memory"),
+];
+
+#[test]
+fn a_fault_of_a_long_recording_names_line_and_cause(rt: HostRuntime) -> Result<(), Fail> {
+    names_its_line(
+        &rt,
+        rt.alloc(),
+        &LONG,
+        |cause| LongFault { line: LINE, cause },
+    )
+}
+
+const CLASH: [(ClashFault, &str); 4] = [
+    (ClashFault::History(LINE), "line 4294967305: History"),
+    (ClashFault::Quota(LINE), "line 4294967305: Quota"),
+    (ClashFault::CutOff, "the recording was cut off"),
+    (ClashFault::Memory, OUT_OF_MEMORY),
+];
+
+#[test]
+fn a_fault_of_calls_that_clash_has_its_sentence(rt: HostRuntime) -> Result<(), Fail> {
+    say_so(&rt, rt.alloc(), &CLASH)
+}
