@@ -1,0 +1,324 @@
+"""A body that treats a size, a place, a moment or a key apart keeps a contract that says little. So one that finds no order if more than
+16 calls wait, or draws no picture of more than 1,000, is proved; and a test has few sizes and few keys.
+Here each number above 2 in a body has a row of NUMBERS with what it is for: a literal, the largest or smallest number of a type, a shift,
+a conversion that fails past a size, and each constant that is a number or is made of some. A row gives what a function has, and how often.
+So a number that is new, or is used once more, is an error, and so is a row whose number is gone. It does not notice a number that is
+computed from small ones, or from the length of a text."""
+
+import re
+from collections import Counter
+from dataclasses import dataclass
+from functools import cached_property
+
+from harness.cases import TOP, Wrong, cases, once, same, test
+from harness.rattle_tokens import block, text_at, walk
+from rattle_sources import Source
+
+# The crates whose contracts do not fix each answer: a function may answer Unknown, None or an allocation failure, or returns a text of
+# which no clause says more than that it is one. In the others (the lists and their steps, words, texts, rules, loops, broken lists, sets
+# for C) clauses are equations with tables and numbers, and a body with another number is not proved.
+OF_CRATES = re.compile(r"lset_(order|claims|judge|history|parts|points|replay|report|calls|long|schedule|session|server|work|live)"
+                       r"|lset_(command|dispatch)|listset|tool_\w+")
+FEW = 2  # numbers up to this one have no row: a test has cases of such sizes
+LITERAL = re.compile(r"(0x[\da-fA-F_]+|0b[01_]+|0o[0-7_]+|\d[\d_]*)(?:[ui](?:8|16|32|64|128|size))?")
+DIGITS = re.compile(r'b?"\d+"')
+OF_TYPE = ("MAX", "MIN", "BITS", "try_from")
+# Methods that set a size apart without a number
+APART = re.compile(r"checked_\w+|overflowing_\w+|pow|try_into|is_power_of_two|(leading|trailing)_(zeros|ones)|count_(zeros|ones)|ilog\w*|isqrt")
+CONSTANT = re.compile(r"^[ \t]*(?:pub(?:\(crate\))? )?(?:const|static) ([A-Z]\w*): ([^=]*?)(?: =\s*(.*?))?;$", re.M | re.S)
+NUMBER_TYPE = re.compile(r"[ui](8|16|32|64|128|size)")
+
+# Functions, the numbers that each of them has (`N*4`: four times), and what these are for
+NUMBERS = [
+    # Of files: what a reader takes, and its errors, are equations with constants of the format
+    ("lset_(calls|report)/lines::open_call", "u32::MAX*4", "what a number of the line may be"),
+    ("lset_(calls|report)/lines::ended_call", "u32::MAX*5", "the same"),
+    ("lset_(calls|long)/lines::opening_or_key lset_long/lines::(open|true|false)_call lset_schedule/reading::begin", "u32::MAX*2", "the same"),
+    ("lset_report/lines::(place|key|opening_or_key) lset_schedule/(body::read_line|reading::go) tool_draft/reading::(out|to)", "u32::MAX",
+     "the same"),
+    ("lset_session/requests::read_request tool_serve/keys::key_of_line tool_parts/key_part::key_part_in", "u32::MAX", "the same"),
+    ("lset_schedule/reading::go", "MOST_STEPS", "the same"),
+    ("tool_draft/reading::to", "MOST_ROW", "the same"),
+    ("lset_long/moments::moment", "LAST_WITH_A_DIGIT 10 LAST_MOMENT", "the digits of a moment, up to the last one"),
+    ("lset_long/lines::line_told", "LONGEST_LINE", "a longer line has the fault Line"),
+    ("lset_(calls|report)/reading::judged", "MOST_OPENING MOST_CALLS", "with more lines of a kind there is the fault TooMany"),
+    ("lset_calls/reading::judged", "MOST_KEYS_OPENED", "the same"),
+    ("lset_report/reading::judged", "MOST_PLACES", "the same"),
+    ("lset_report/reading::most_keys", "MOST_KEYS MOST_KEYS_OPENED", "the same"),
+    ("lset_schedule/body::add_key tool_serve/keys::next_key", "MOST_OPENING", "the same"),
+    ("lset_schedule/body::add_event", "MOST_EVENTS", "the same"),
+    ("lset_(calls|report)/reading::read_lines lset_schedule/body::read_body lset_long/judging::new", "FIRST_LINE",
+     "the first line below the header"),
+    ("lset_calls/(clashes::refusal|value::have_points) (lset_schedule|tool_draft)/value::first_event_line", "FIRST_LINE", "the same"),
+    ("lset_report/reading::report", "LAST_OF_HEADER", "the line at which memory was refused"),
+    ("tool_broken/asking::schedule_of", "KIND_LINE", "the line with the kind of list"),
+    ("lset_calls/version::least_version", "MOST_KEYS", "more keys need version 2"),
+    # Of inputs and arguments: their limits, which docs/TEXTS.md and the help name
+    ("tool_base/(checking::checked|replaying::replayed|streams::read_on) tool_broken/asking::schedule_of tool_draft/tool::drafted"
+     " tool_judge/judging::judge_short tool_report/reporting::(answer_on|report_bytes) tool_show/tool::shown tool_trace/tool::traced",
+     "LONGEST", "a longer input is refused"),
+    ("tool_draft/expanding::make_line", "MOST_STEPS", "the steps of a line of a schedule"),
+    ("tool_draft/expanding::lines_on", "MOST_EVENTS", "the events of a schedule"),
+    ("tool_base/moments::(moment|read_moments)", "MOST_MOMENT", "what an option may be"),
+    ("tool_base/moments::read_width", "MOST_WIDTH DEFAULT_WIDTH", "the same"),
+    ("tool_base/values::read_random_request", "MOST_THREADS MOST_QUOTA 3 MOST_CALLS_ASKED 4 MOST_KEYS_ASKED 5",
+     "the places of arguments, and what each may be"),
+    ("tool_serve/request::read_serve_request", "MOST_THREADS MOST_QUOTA 3 MOST_PORT 4 MOST_SESSIONS_ASKED", "the same"),
+    ("tool_run/request::lives_in", "6 MOST_LIVES", "the same"),
+    ("lset_command/command_line::file", "SERVE_FILE", "the place of an argument"),
+    ("tool_run/request::life", "64", "the seeds of one round: a thread each"),
+    ("tool_run/life::life", "MOST_OPENING", "a set opens with no more keys: `work: Opening`"),
+    # Of sets and schedules: what threads there may be, and where the words of a node are
+    ("lset_calls/(clashes::first_(overlap|passed)|turns::numbered) lset_claims/quota::first_too_soon lset_history/history::(opened|from_calls)"
+     " lset_judge/judged::counted_adds tool_trace/again::new", "MOST_THREADS", "an element for each thread that there may be"),
+    ("lset_live/closed::keys_in", "HEAD TAIL", "the first and the last node"),
+    ("lset_live/closed::node_key", "3*2", "the words of a node"),
+    ("lset_live/closed::(next_node|is_marked)", "4 3", "the same"),
+    ("lset_replay/tracing::is_node_word", "3", "the same"),
+    ("tool_trace/table_words::at", "checked_sub 3*3", "the same"),
+    ("tool_trace/table_words::put_key", "ABOVE_ALL_KEYS", "the key word of the tail"),
+    ("lset_live/opening::open_with", "u32::try_from u32::MAX", "more keys than 32 bits count are more than a set opens with"),
+    ("lset_schedule/draws::chosen", "3", "a call of three"),
+    ("lset_schedule/generator::is_over", "MOST_GENERATED", "the events of a generated schedule"),
+    ("lset_schedule/generator::generated_lines", "MOST_TURNS", "as many turns as all calls take"),
+    # Of judges: the moment after all others, and how long a short window is searched for
+    ("lset_order/effect::due_of", "u32::MAX", "a pending call is due after all that have an end"),
+    ("lset_order/finder::nearest", "u64::MAX", "no call is due at it: a due is below 2^33"),
+    ("lset_judge/stream::(until|close|close_cut_off)", "BEHIND_ALL", "the moment after all moments"),
+    ("lset_judge/stream::is_before", "LAST_MOMENT*3", "a later moment has the fault Early"),
+    ("lset_parts/parts::find_fault", "LAST_CLOCK", "a later clock has the fault Late"),
+    ("lset_judge/window::(begin_of|short_window)", "u32::MAX", "the last moment"),
+    ("lset_judge/window::short_window", "MOST_WINDOWS <<", "each window that is tried begins twice as far back"),
+    ("lset_judge/window::shorten", "MOST_TRIED", "how many calls are looked at for superfluous ones"),
+    ("tool_judge/texts::is_few", "100 5", "under five of a hundred"),
+    ("tool_judge/long::judge_long", "u64::MAX", "each read in turn"),
+    # Of devices: buffers, which are filled again and again
+    ("lset_server/lingering::drop_rest lset_session/sessions::session tool_base/streams::read_on tool_judge/long::judge_long", "4096",
+     "the bytes of one read"),
+    ("lset_session/buffered::(new|put|write)", "ROOM", "the buffer of answers that wait"),
+    ("tool_trace/chunks::is_full", "ROOM MOST_OF_LINE", "the buffer has space for one more line"),
+    ("lset_session/sessions::(byte_in|session)", "LONGEST_LINE", "a longer line ends a session"),
+    ("lset_session/sessions::session", "MOST_LINES", "the lines of a session"),
+    ("lset_server/lingering::drop_rest", "MOST_DROPPED", "how far the server reads after the last answer"),
+    ("lset_server/lingering::read", "MOST_SECONDS", "and how long"),
+    ("tool_base/trouble::status", "3", "the status after memory was refused"),
+    # Of pictures: how much is drawn, and where
+    ("tool_drawing/columns::width_of", "MOST_WIDTH", "the longest text of a column"),
+    ("tool_drawing/(moments::moments_shown|text::fit)", "MOST_COLUMNS", "the columns of a picture"),
+    ("tool_drawing/picture::is_whole", "u32::MAX", "the last moment"),
+    ("tool_drawing/refusals::put_places_before", "3", "a sentence of its own for two places"),
+    ("tool_drawing/sets::(first_keys|set_text)", "MOST_KEYS_SHOWN", "of more keys the number is told"),
+    ("tool_drawing/text::put_lane", "LABEL", "the width of a label"),
+    ("tool_drawing/sheet::thread_class", "8", "eight colors in turn"),
+    ("tool_drawing/sheet::x_of", "88 9 255", "where a column is"),
+    ("tool_drawing/sheet::right_edge", "4294967296", "after the last moment"),
+    ("tool_drawing/sheet::lane_y", "40 90", "where a row is"),
+    ("tool_drawing/sheet::line_y", "40 126 16 1000000", "where a line below is; a picture has fewer lines"),
+    ("tool_drawing/svg::put_sheet", "16 8 MOST_CHARACTERS 48", "the size of a sheet"),
+    ("tool_drawing/svg::put_above", "8*3 20 38 34 47", "where a text is"),
+    ("tool_drawing/svg::put_labels", "8*3 60 4", "the same"),
+    ("tool_drawing/svg::put_columns", "60", "the same"),
+    ("tool_drawing/svg::put_begin", "10", "the same"),
+    ("tool_drawing/svg::put_end", "10 4", "the same"),
+    ("tool_drawing/svg::put_points", "14", "the same"),
+    ("tool_drawing/svg::put_below", "8", "the same"),
+    # Of counts
+    ("tool_drawing/refusals::put_unknown", "checked_sub", "the last of no calls"),
+    ("tool_parts/kept::judge_next", "checked_add", "more calls than 64 bits count have the finding Late"),
+]
+
+
+@dataclass(frozen=True)
+class Found:
+    """A number in a body: the function, the number as a row has it, and where it stands."""
+
+    function: str
+    number: str
+    place: str
+
+
+class Constants:
+    """The constants of sources by their crates, and which of them are numbers, or have one in their values: no texts."""
+
+    def __init__(self, files):
+        found = {(file.split("/")[0], name): it for file, text in files.items() for name, *it in CONSTANT.findall(text)}
+        self.crates = {}
+        for crate, name in found:
+            self.crates.setdefault(name, []).append(crate)
+        self.numbers = {it for it, (kind, value) in found.items() if NUMBER_TYPE.fullmatch(kind) or has_number(value)}
+        while more := {it for it, (_, value) in found.items() if it not in self.numbers and self.names_one(it[0], value)}:
+            self.numbers |= more
+
+    def names_one(self, crate, value):
+        return any(self.is_number(crate, it) for it in re.findall(r"\w+", without_texts(value)))
+
+    def is_number(self, crate, name):
+        """Whether a name is that of such a constant: of the crate's own, or else of any other's."""
+        crates = self.crates.get(name, ())
+        return any((it, name) in self.numbers for it in ([crate] if crate in crates else crates))
+
+
+def without_texts(value):
+    return re.sub(r'b?"(?:\\.|[^"\\])*"', "", value, flags=re.S)
+
+
+def has_number(value):
+    return re.search(r"\d|::(MAX|MIN|BITS)\b", without_texts(value)) is not None
+
+
+class Sources:
+    """Sources by their file, below crates/, and the numbers in the bodies of those that are looked at."""
+
+    def __init__(self, files):
+        self.files, self.constants = files, Constants(files)
+
+    @cached_property
+    def functions(self):
+        """The functions that are looked at: of each its name in a row, its file and itself."""
+        found = []
+        for file, text in self.files.items():
+            crate, module = file.split("/")[0], file.split("/")[-1].removesuffix(".rt")
+            if OF_CRATES.fullmatch(crate):
+                found += ((f"{crate}/{module}::{it.name}", file, it) for it in Source(text).functions)
+        return found
+
+    @cached_property
+    def found(self):
+        return [it for name, file, function in self.functions for it in self.in_body(name, file, function)]
+
+    def in_body(self, name, file, function):
+        text = function.source.text
+        start = sum(len(line) + 1 for line in function.source.lines[: function.first - 1])
+        for items, at in (path[-1] for path in walk(block(text, text.index(function.contract, start) + len(function.contract)))):
+            if number := self.number(name, items, at):
+                yield Found(name, number, f"crates/{file}:" + str(text.count("\n", 0, items[at].start) + 1))
+
+    def number(self, function, items, at):
+        """A token of a function as a row has it, if it is a number or sets a size apart; else None."""
+        text, left = items[at].text, text_at(items, at - 1)
+        if it := LITERAL.fullmatch(text):
+            value = int(it[1].replace("_", ""), 0)
+            return str(value) if value > FEW and left != "." else None
+        if left == "::" and text in OF_TYPE:
+            return f"{text_at(items, at - 2)}::{text}"
+        if self.constants.is_number(function.split("/")[0], text) or left == "." and APART.fullmatch(text) or DIGITS.fullmatch(text):
+            return text
+        is_right = text == ">" and text_at(items, at + 1) == ">" and items[at].end == items[at + 1].start
+        return text if text == "<<" else ">>" if is_right and is_shift(items, at) else None
+
+    def faults(self, rows):
+        """A line for each number without a row, and for each row without its number."""
+        functions = {name for name, _, _ in self.functions}
+        left = Counter((it.function, it.number) for it in self.found)
+        for names, numbers, _ in rows:
+            for name in names.split():
+                named = [it for it in functions if re.fullmatch(name, it)]
+                if not named:
+                    yield f"a row of NUMBERS is of {name}, and there is no such function: take it out of the row"
+                left.subtract({(it, number): count for it in named for number, count in counts_of(numbers)})
+        for (function, number), count in sorted(left.items()):
+            places = ", ".join(dict.fromkeys(it.place for it in self.found if (it.function, it.number) == (function, number)))
+            if count > 0:
+                yield (f"{places}: {function} has `{number}` {count} more than its rows of NUMBERS say: take it out of the body, or give it a"
+                       " row with what it is for, and see a test fail on a wrong one")
+            elif count < 0:
+                yield f"the rows of NUMBERS say `{number}` {-count} more of {function} than it has: take it out of them"
+
+
+def is_shift(items, at):
+    """Whether `>>` at a place is a shift, and ends no types."""
+    depth = 0
+    for it in reversed(items[: at + 2]):
+        depth += {">": 1, "<": -1}.get(it.text, 0)
+        if it.text in (";", "=", "return"):
+            break
+    return depth > 0
+
+
+def counts_of(numbers):
+    """The numbers of a row, each with how often."""
+    for it in numbers.split():
+        number, _, count = it.partition("*")
+        yield number, int(count or 1)
+
+
+def sources(_room):
+    """The sources of this repository."""
+    return Sources({str(it.relative_to(TOP / "crates")): it.read_text() for it in sorted((TOP / "crates").glob("*/src/**/*.rt"))})
+
+
+# ---- the sources
+
+
+@test
+def each_number_has_a_row(_case):
+    if faults := [*once(sources).faults(NUMBERS)]:
+        raise Wrong("\n".join(faults))
+
+
+@test
+def each_row_says_what_its_numbers_are_for(_case):
+    same([it for it in NUMBERS if not all(it)], [], "rows without a word")
+
+
+# ---- the test itself: a small source, and bodies that treat a size apart
+
+SMALL_SOURCE = """
+use std::alloc::{AllocError, Global};
+
+/// The most keys.
+const MOST: usize = 16;
+
+const LAST: Key = Key(16);
+
+const WORD: &str = "16 keys";
+
+/// The first keys, of more than two.
+fn first_keys(alloc: Global, keys: &[u32]) -> Result<Vec<u32>, AllocError>
+    ensures { IfOk result (λ v. length v.items ≤ 16) }
+{
+    let mut first: Vec<Vec<u32>> = Vec::new(alloc);
+    for (place, key) in keys.iter().enumerate() {
+        if *key > 2 {
+            first.push(key.0)?;
+        }
+    }
+    first.push(keys.len().min(MOST))?;
+    Ok(first)
+}
+"""
+SMALL_ROWS = [("lset_order/small::first_keys", "MOST", "as many as there may be")]
+TEST = "*key > 2"
+WRONG = {
+    "a_place": (TEST, "place < 16", "`16` 1 more than its rows"),
+    "a_place_with_a_type": (TEST, "place < 1_6usize", "`16` 1 more"),
+    "a_size": ("keys.iter()", "keys.iter().take(65_535)", "`65535` 1 more"),
+    "a_key": (TEST, "*key == u32::MAX", "`u32::MAX` 1 more"),
+    "an_arm": (TEST, "matches!(*key, 7)", "`7` 1 more"),
+    "a_shift": (TEST, "place < 1 << 2", "`<<` 1 more"),
+    "a_shift_down": (TEST, "place >> 2 == 1", "`>>` 1 more"),
+    "a_power": (TEST, "place < 2usize.pow(2)", "`pow` 1 more"),
+    "a_conversion": (TEST, "u8::try_from(place).is_ok()", "`u8::try_from` 1 more"),
+    "a_key_as_a_text": (TEST, 'text == b"16"', '`b"16"` 1 more'),
+    "a_constant_once_more": (TEST, "place < MOST", "`MOST` 1 more"),
+    "a_constant_with_a_number_in_it": (TEST, "*key != LAST", "`LAST` 1 more"),
+    "a_constant_of_a_constant": ("/// The first keys, of more than two.\nfn first_keys(", "const FEW: Few = Few(MOST);\n\nfn few() { FEW }\n\nfn first_keys(",
+                                 "lset_order/small::few has `FEW` 1 more"),
+    "a_row_without_its_number": (".min(MOST)", "", "say `MOST` 1 more of lset_order/small::first_keys than it has"),
+}
+
+
+def small(old="", new=""):
+    same(SMALL_SOURCE.count(old) > 0, True, f"the small source has `{old}`")
+    return [*Sources({"lset_order/src/small.rt": SMALL_SOURCE.replace(old, new, 1)}).faults(SMALL_ROWS)]
+
+
+@test
+def a_small_source_has_no_fault(_case):
+    same(small(), [], "its faults")
+
+
+@cases(lambda: {f"a_number_that_is_new_is_told/{name}": it for name, it in WRONG.items()})
+def a_number_that_is_new_is_told(_case, old, new, said):
+    faults = small(old, new)
+    same(len(faults) == 1 and said in faults[0], True, f"`{said}` is said, in {faults}")
