@@ -14,10 +14,10 @@ from harness.cases import TOP, Wrong, cases, once, same, test
 from harness.rattle_tokens import block, text_at, walk
 from rattle_sources import Source
 
-# The crates whose contracts do not fix each answer: a function may answer Unknown, None or an allocation failure, or returns a text of
-# which no clause says more than that it is one. In the others (the lists and their steps, words, texts, rules, loops, broken lists, sets
-# for C) clauses are equations with tables and numbers, and a body with another number is not proved.
-OF_CRATES = re.compile(r"lset_(order|claims|judge|history|parts|points|replay|report|calls|long|schedule|session|server|work|live)"
+# The crates whose contracts do not fix each answer: a function may answer Unknown, None or an allocation failure, may wait for ever, or
+# returns a text of which no clause says more than that it is one. In the others (the lists and their steps, words, texts, broken lists)
+# clauses are equations with tables and numbers, and a body with another number is not proved; those of sets for C pass calls on.
+OF_CRATES = re.compile(r"lset_(order|claims|judge|history|parts|points|replay|report|calls|long|schedule|session|server|work|live|loops|rule)"
                        r"|lset_(command|dispatch)|listset|tool_\w+")
 FEW = 2  # numbers up to this one have no row: a test has cases of such sizes
 LITERAL = re.compile(r"(0x[\da-fA-F_]+|0b[01_]+|0o[0-7_]+|\d[\d_]*)(?:[ui](?:8|16|32|64|128|size))?")
@@ -81,6 +81,15 @@ NUMBERS = [
     ("lset_schedule/draws::chosen", "3", "a call of three"),
     ("lset_schedule/generator::is_over", "MOST_GENERATED", "the events of a generated schedule"),
     ("lset_schedule/generator::generated_lines", "MOST_TURNS", "as many turns as all calls take"),
+    ("lset_loops/(coarse|fine|lazy|optimistic)::walk lset_loops/(lazy|lock_free|optimistic)::make"
+     " lset_loops/(lock_free::find|optimistic::reaches|steps::wait_for) lset_rule/interpreter::interpret_within", "MOST",
+     "the rounds that a call is given"),
+    ("lset_loops/coarse::make", "LOCK*2", "the lock of the list"),
+    ("lset_loops/(fine::make|optimistic::reaches)", "HEAD", "the first node"),
+    ("lset_rule/interpreter::interpret_within", "3 4", "the steps of a round in turn"),
+    ("lset_rule/interpreter::interpret_read", "5", "a read step"),
+    ("lset_rule/row_steps::one_step", " ".join(f"{it}*2" for it in (*range(3, 16), *range(20, 26))), "each row of a table by its number"),
+    ("lset_rule/pause::failed", "MOST_WAITS", "how long it backs off"),
     # Of judges: the moment after all others, and how long a short window is searched for
     ("lset_order/effect::due_of", "u32::MAX", "a pending call is due after all that have an end"),
     ("lset_order/finder::nearest", "u64::MAX", "no call is due at it: a due is below 2^33"),
