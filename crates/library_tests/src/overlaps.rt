@@ -1,4 +1,5 @@
 //! Orders of calls of all threads that overlap, whichever ends first, and of keys at both ends of the numbers: each is found.
+ghost use Rattle.std.specs.Prelude.{◌<◌, ◌≤◌, IfOk};
 ghost use Rattle.std.specs.List.Sorted.{IsStrictlyIncreasing};
 
 use crate::made::{in_turn, rising_keys};
@@ -94,10 +95,10 @@ fn an_order_of_the_greatest_key_is_found(rt: HostRuntime) -> Result<(), Fail> {
 
 const HISTORIES: u64 = 500;
 
-/// In each history, so many threads are asked in turn for their next move.
+/// How often a thread is asked for its next move in each history.
 const MOVES: u32 = 600;
 
-/// So far apart are the moments of every other history.
+/// How far apart moments are in some histories: the last one is near the end of 32 bits.
 const FAR: u32 = 7_000_000;
 
 /// How many keys a history may have at each end of the numbers.
@@ -123,8 +124,10 @@ impl Stand {
 }
 
 /// A call of one of so many keys at each end of the numbers.
-fn drawn_call(rng: &mut Pcg32, many: u32) -> Call {
-    let number = rng.next_u32() % many.clamp(1, MOST_KEYS);
+fn drawn_call(rng: &mut Pcg32, many: u32) -> Call
+    requires { 0 < many }
+{
+    let number = rng.next_u32() % many;
     let key = if rng.next_u32() % 2 == 0 {
         Key(number)
     } else {
@@ -137,34 +140,18 @@ fn drawn_call(rng: &mut Pcg32, many: u32) -> Call {
     }
 }
 
-/// Some of these keys, rising.
-fn drawn_keys(alloc: Global, rng: &mut Pcg32, many: u32) -> Result<Vec<u32>, Fail> {
-    let mut oracle = Oracle::opened(alloc, 1, MOST_QUOTA, &[])?;
-    for _call in 0..2 * many {
-        oracle.apply(0, drawn_call(rng, many))?;
+/// The keys of a set that opens: so many at one end of the numbers.
+fn drawn_keys(alloc: Global, rng: &mut Pcg32, many: u32) -> Result<Vec<u32>, Fail>
+    requires { many ≤ 32 }
+    ensures { IfOk result (λ v. IsStrictlyIncreasing v.items) }
+{
+    let is_low = rng.next_u32() % 2 == 0;
+    let first = if is_low { 0 } else { u32::MAX - many };
+    let mut keys = Vec::new(alloc);
+    for key in first..first + many {
+        keys.push(key)?;
     }
-    Ok(oracle.keys()?)
-}
-
-/// The next move of a thread: its call takes effect at one moment of its bar.
-fn moved(
-    rng: &mut Pcg32,
-    history: &mut History,
-    oracle: &mut Oracle,
-    stand: Stand,
-    (thread, moment, many): (u32, u32, u32),
-) -> Result<Stand, Fail> {
-    Ok(match stand {
-        Stand::AtRest => {
-            let call = drawn_call(rng, many);
-            Stand::Begun(history.begin(thread, call, moment)?, call)
-        }
-        Stand::Begun(number, call) => Stand::Done(number, oracle.apply(thread, call)?),
-        Stand::Done(number, reply) => {
-            history.end(number, reply, moment)?;
-            Stand::AtRest
-        }
-    })
+    Ok(keys)
 }
 
 /// Whether an order is found of calls laid round a legal order: of up to 64 threads, of which for a while some move alone, those
@@ -174,24 +161,31 @@ fn is_laid_found(alloc: Global, rng: &mut Pcg32) -> Result<bool, Fail> {
         1 + rng.next_u32() % MOST_THREADS,
         1 + rng.next_u32() % MOST_KEYS,
     );
-    let apart = if rng.next_u32() % 2 == 0 { 1 } else { FAR };
+    let is_far = rng.next_u32() % 2 == 0;
     let opening = drawn_keys(alloc, rng, many)?;
-    if opening.len() > 64 {
-        return Err(Fail::new("more keys than there are"));
-    }
     let mut oracle = Oracle::opened(alloc, threads, MOST_QUOTA, &opening)?;
     let mut history = History::opened(alloc, threads, MOST_QUOTA, opening);
     let mut stands = [Stand::AtRest; 64];
     let mut only = 0;
-    for turn in 1..=MOVES {
+    for turn in 1..MOVES {
         if rng.next_u32() % 64 == 0 {
             only = rng.next_u32() % 4;
         }
         let thread = rng.next_u32() % threads;
         let stand = stands[thread as usize];
         if only == 3 || stand.next() == only {
-            let place = (thread, turn * apart, many);
-            stands[thread as usize] = moved(rng, &mut history, &mut oracle, stand, place)?;
+            let moment = if is_far { FAR * turn } else { turn };
+            stands[thread as usize] = match stand {
+                Stand::AtRest => {
+                    let call = drawn_call(rng, many);
+                    Stand::Begun(history.begin(thread, call, moment)?, call)
+                }
+                Stand::Begun(number, call) => Stand::Done(number, oracle.apply(thread, call)?),
+                Stand::Done(number, reply) => {
+                    history.end(number, reply, moment)?;
+                    Stand::AtRest
+                }
+            };
         }
     }
     is_found(alloc, &history, &oracle.keys()?)

@@ -25,7 +25,8 @@ fn say_so<E: Error + Copy, R: Abort>(
     Ok(())
 }
 
-const OUT_OF_MEMORY: &str = "out of memory";
+/// A line of a file, past 32 bits.
+const LINE: u64 = 4_294_967_305;
 
 const HISTORY: [(HistoryFault, &str); 5] = [
     (HistoryFault::NoThread, "no such thread"),
@@ -35,7 +36,7 @@ const HISTORY: [(HistoryFault, &str); 5] = [
         HistoryFault::Time,
         "the moment is not above every earlier one",
     ),
-    (HistoryFault::Memory, OUT_OF_MEMORY),
+    (HistoryFault::Memory, "out of memory"),
 ];
 
 #[test]
@@ -56,7 +57,7 @@ const ORDER: [(OrderFault, &str); 7] = [
         "call 7 stands before a call that it follows",
     ),
     (OrderFault::WrongSet, "the order leaves another set"),
-    (OrderFault::Memory, OUT_OF_MEMORY),
+    (OrderFault::Memory, "out of memory"),
 ];
 
 #[test]
@@ -79,7 +80,7 @@ const STREAM: [(StreamFault, &str); 6] = [
         "a call before it ends at one of its moments",
     ),
     (StreamFault::Busy, "its thread has a call pending"),
-    (StreamFault::Memory, OUT_OF_MEMORY),
+    (StreamFault::Memory, "out of memory"),
 ];
 
 #[test]
@@ -101,7 +102,7 @@ const PART: [(PartFault, &str); 5] = [
         "one of its calls ended before a call of an earlier part began",
     ),
     (PartFault::HasFull, "one of its calls has the reply full"),
-    (PartFault::Memory, OUT_OF_MEMORY),
+    (PartFault::Memory, "out of memory"),
 ];
 
 #[test]
@@ -147,7 +148,7 @@ const GENERATED: [(GenFault, &str); 4] = [
     (GenFault::Threads, "threads outside 1 to 64"),
     (GenFault::Quota, "quota above 16384"),
     (GenFault::Keys, "no keys"),
-    (GenFault::Memory, OUT_OF_MEMORY),
+    (GenFault::Memory, "out of memory"),
 ];
 
 #[test]
@@ -159,16 +160,13 @@ const REPLAY: [(ReplayFault, &str); 4] = [
     (ReplayFault::NoThread(LINE), "line 4294967305: NoThread"),
     (ReplayFault::Busy(LINE), "line 4294967305: Busy"),
     (ReplayFault::Idle(LINE), "line 4294967305: Idle"),
-    (ReplayFault::Memory, OUT_OF_MEMORY),
+    (ReplayFault::Memory, "out of memory"),
 ];
 
 #[test]
 fn a_fault_of_a_replay_has_its_sentence(rt: HostRuntime) -> Result<(), Fail> {
     say_so(&rt, rt.alloc(), &REPLAY)
 }
-
-/// A line of a file, past 32 bits.
-const LINE: u64 = 4_294_967_305;
 
 /// Each error of a table, of that line and with this cause, says the line and the name beside the cause.
 fn names_its_line<C: Copy, E: Error, F: Fn(C) -> E, R: Abort>(
@@ -300,7 +298,7 @@ const CLASH: [(ClashFault, &str); 4] = [
     (ClashFault::History(LINE), "line 4294967305: History"),
     (ClashFault::Quota(LINE), "line 4294967305: Quota"),
     (ClashFault::CutOff, "the recording was cut off"),
-    (ClashFault::Memory, OUT_OF_MEMORY),
+    (ClashFault::Memory, "out of memory"),
 ];
 
 #[test]
