@@ -71,7 +71,8 @@ NUMBERS = [
     ("tool_run/life::life", "MOST_OPENING", "a set opens with no more keys: `work: Opening`"),
     # Of sets and schedules: what threads there may be, and where the words of a node are
     ("lset_calls/(clashes::first_(overlap|passed)|turns::numbered) lset_claims/quota::first_too_soon"
-     " lset_history/history::(opened|from_calls) lset_judge/judged::counted_adds tool_trace/again::new", "MOST_THREADS", "an element for each thread that there may be"),
+     " lset_history/history::(opened|from_calls) lset_judge/judged::counted_adds tool_trace/again::new", "MOST_THREADS",
+     "an element for each thread that there may be"),
     ("lset_live/closed::keys_in", "HEAD TAIL", "the first and the last node"),
     ("lset_live/closed::node_key", "3*2", "the words of a node"),
     ("lset_live/closed::(next_node|is_marked)", "4 3", "the same"),
@@ -81,7 +82,7 @@ NUMBERS = [
     ("lset_live/opening::open_with", "u32::try_from u32::MAX", "more keys than 32 bits count are more than a set opens with"),
     ("lset_schedule/draws::chosen", "3", "a call of three"),
     ("lset_schedule/generator::is_over", "MOST_GENERATED", "the events of a generated schedule"),
-    ("lset_schedule/generator::generated_lines", "MOST_TURNS", "as many turns as all calls take"),
+    ("lset_schedule/generator::generated_lines", "MOST_TURNS", "the turns of a generated schedule"),
     ("lset_loops/(coarse|fine|lazy|optimistic)::walk lset_loops/(lazy|lock_free|optimistic)::make"
      " lset_loops/(lock_free::find|optimistic::reaches|steps::wait_for) lset_rule/interpreter::interpret_within", "MOST",
      "the rounds that a call is given"),
