@@ -201,8 +201,15 @@ class shared {
   };
   std::deque<place> places;
 
+  // The place that has the seats when the set is closed. A set that was moved from has none.
+  place &first() {
+    if (places.empty()) throw fault(LISTSET_NO_SEAT);
+    return places.front();
+  }
+
   // Makes a call from a seat: a thread begins to look for a free one at its own place.
   template <typename Call> auto by(Call call) {
+    first();
     static std::atomic<size_t> threads{0};
     thread_local const size_t mine = threads++;
     for (size_t tried = 0; tried < places.size(); tried++) {
@@ -237,8 +244,9 @@ public:
 
   // Ends the set, which no call uses any more, and gives its keys. If it throws, as memory was refused, it may be called again.
   std::vector<uint32_t> close() {
-    for (; places.size() > 1; places.pop_back()) places.front().mine.gather(std::move(places.back().mine));
-    return places.front().mine.close();
+    seat &all = first().mine;
+    for (; places.size() > 1; places.pop_back()) all.gather(std::move(places.back().mine));
+    return all.close();
   }
 };
 

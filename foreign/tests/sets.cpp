@@ -86,6 +86,30 @@ static bool is_filled(uint32_t seats, uint32_t quota) {
   return thrown == 0 && due.size() == seats * quota && set.close() == due;
 }
 
+// Four threads add the same keys, as many as the seats have quota for: an add is full only if no seat has quota left, and then its key is there.
+static int full_too_soon() {
+  const uint32_t many = 1000;
+  listset::shared set(list::lazy, 2, many / 2);
+  std::atomic<int> full{0};
+  std::vector<std::thread> threads;
+  for (int at = 0; at < 4; at++)
+    threads.emplace_back([&] {
+      for (uint32_t key = 0; key < many; key++) full += set.add(key) == added::full;
+    });
+  for (std::thread &thread : threads) thread.join();
+  return full;
+}
+
+// A set that was closed, or moved from, has no seat.
+static void expect_no_seat() {
+  listset::shared closed(list::lazy, 2, 1), moved(list::lazy, 2, 1);
+  closed.close();
+  for (int again = 0; again < 2; again++) expect(thrown([&] { closed.add(1); }) == LISTSET_NO_SEAT, "a call of a closed set");
+  listset::shared set = std::move(moved);
+  expect(thrown([&] { moved.add(1); }) == LISTSET_NO_SEAT && thrown([&] { moved.close(); }) == LISTSET_NO_SEAT, "a set that was moved from");
+  expect(set.add(1) == added::is_new && set.close() == std::vector<uint32_t>({1}), "the set that it became");
+}
+
 static void expect_shared() {
   for (list kind : {list::coarse, list::fine, list::optimistic, list::lazy, list::lock_free}) expect(is_right_shared(kind), "shared keys");
   listset::shared few(list::lazy, 2, 1, {5});
@@ -94,6 +118,10 @@ static void expect_shared() {
   expect(thrown([] { listset::shared(list::lazy, 65, 1); }) == LISTSET_BAD_SEATS, "too many shared seats");
   for (int round = 0; round < 20; round++) expect(is_filled(2, 50), "four threads use the quota of two seats");
   expect(is_filled(64, 1), "and that of 64");
+  int full = 0;
+  for (int round = 0; round < 20; round++) full += full_too_soon();
+  expect(full == 0, "no add is full while a seat has quota");
+  expect_no_seat();
 }
 
 // The least key and the greatest, in and out of each call, from a seat and behind a shared set.
@@ -110,6 +138,8 @@ template <typename Set> static void expect_ends(Set set) {
 static void expect_assigned(list kind) {
   seat mine = listset::open(kind, 2, 1, {1}), other = listset::open(kind, 1, 1, {2});
   mine = std::move(other);
+  seat &same = mine;
+  mine = std::move(same);
   expect(mine.contains(2) && !mine.contains(1) && mine.close() == std::vector<uint32_t>({2}), "the seat that was assigned");
 }
 
@@ -125,6 +155,24 @@ static void expect_apart() {
     }
   }).join();
   expect(refused == many, "a seat of one of many sets");
+  std::vector<seat> two;
+  for (int at = 0; at < 2; at++) two.push_back(listset::open(list::lazy, 1, 0));
+  expect(thrown([&] { two[0].gather(std::move(two[1])); }) == LISTSET_NO_GATHER, "two sets in turn");
+  int apart = 0;
+  const int rounds = 1000;
+  for (int round = 0; round < rounds; round++) {
+    std::atomic<int> ready{0};
+    seat opened[2];
+    const auto open_one = [&](int at) {
+      for (ready++; ready < 2;) std::this_thread::yield();
+      opened[at] = listset::open(list::lazy, 1, 0);
+    };
+    std::thread other(open_one, 1);
+    open_one(0);
+    other.join();
+    apart += thrown([&] { opened[0].gather(std::move(opened[1])); }) == LISTSET_NO_GATHER;
+  }
+  expect(apart == rounds, "two sets that two threads open at once");
 }
 
 // The most keys that a set may open with, and the least and the greatest quota.

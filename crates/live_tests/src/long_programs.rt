@@ -6,7 +6,7 @@ use crate::prelude::*;
 use crate::programs::{Asked, are_answered, pair, worked};
 
 /// More calls than a smaller number can count, and so many that the square of them is not made in time.
-const MANY_CALLS: u32 = 400_000;
+const MANY_CALLS: u32 = 2_000_000;
 
 /// Is asked for the calls of one program, which have to come in turn.
 #[derive(Drop)]

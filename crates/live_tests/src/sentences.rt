@@ -52,6 +52,8 @@ fn a_set_that_is_not_closed_says_why(rt: HostRuntime) -> Result<(), Fail> {
     let Err(out) = set.close(zero) else {
         panic!(rt; "a set is closed by one seat of two")
     };
+    let shown = format!(in rt.alloc(); "{out:?}")?;
+    assert!(rt; shown.as_str() == "SeatsOut { seats: 2, held: 1, .. }");
     let said = sentence(&rt, out)?;
     assert!(rt; said.as_str() == "the seat does not hold all seats of the set");
     Ok(())

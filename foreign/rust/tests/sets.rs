@@ -1,6 +1,7 @@
 //! The lists in four threads, beside sets of std for each thread's own keys, and at misuse.
 
 use std::collections::BTreeSet;
+use std::sync::Barrier;
 use std::thread::scope;
 
 use listset::{open, Added, Fault, List, Seat, Shared};
@@ -96,6 +97,37 @@ fn threads_use_the_quota_of_each_seat() {
         due.sort_unstable();
         assert_eq!(due.len() as u32, seats * quota);
         assert_eq!(set.close().map_err(|it| it.1).unwrap(), due);
+    }
+}
+
+/// Threads add the same keys, as many as the seats have quota for: an add is full only if no seat has quota left, and then its key is there.
+#[test]
+fn no_add_is_full_while_a_seat_has_quota() {
+    for _ in 0..20 {
+        let set = Shared::open(List::Lazy, 2, 500, &[]).unwrap();
+        let run = || (0..1000).filter(|key| set.add(*key) == Added::Full).count();
+        let run = &run;
+        scope(|threads| {
+            let running: Vec<_> = (0..THREADS).map(|_| threads.spawn(run)).collect();
+            assert!(running.into_iter().all(|it| it.join().unwrap() == 0));
+        });
+    }
+}
+
+/// Two sets that two threads open at once have two numbers.
+#[test]
+fn sets_that_are_opened_at_once_are_told_apart() {
+    for _ in 0..1000 {
+        let ready = Barrier::new(2);
+        let run = || {
+            ready.wait();
+            open(List::Lazy, 1, 0, &[]).unwrap()
+        };
+        let (mut mine, other) = scope(|threads| {
+            let other = threads.spawn(run);
+            (run(), other.join().unwrap())
+        });
+        assert_eq!(mine.gather(other).err().map(|it| it.1), Some(Fault::OtherSet));
     }
 }
 
