@@ -2,7 +2,6 @@
 #include "listset.hpp"
 
 #include <algorithm>
-#include <atomic>
 #include <cstdio>
 #include <thread>
 
@@ -67,23 +66,19 @@ static bool is_right_shared(list kind) {
 
 // Threads that add keys of their own, more than the seats have quota for: as many are new as they have, and just those are left.
 static bool is_filled(uint32_t seats, uint32_t quota) {
-  listset::shared set(list::lazy, seats, quota);
-  std::vector<std::vector<uint32_t>> mine(4);
-  std::atomic<int> thrown{0};
+  listset::shared set(list::lock_free, seats, quota); // (which has no lock that a wrong call would not return)
+  std::vector<std::vector<uint32_t>> added_by(4);
   std::vector<std::thread> threads;
   for (uint32_t at = 0; at < 4; at++)
     threads.emplace_back([&, at] {
-      for (uint32_t key = at; key < 2000; key += 4) try {
-          if (set.add(key) == added::is_new) mine[at].push_back(key);
-        } catch (const listset::fault &) {
-          thrown++;
-        }
+      for (uint32_t key = at; key < 2000; key += 4)
+        if (set.add(key) == added::is_new) added_by[at].push_back(key);
     });
   for (std::thread &thread : threads) thread.join();
   std::vector<uint32_t> due;
-  for (const std::vector<uint32_t> &keys : mine) due.insert(due.end(), keys.begin(), keys.end());
+  for (const std::vector<uint32_t> &keys : added_by) due.insert(due.end(), keys.begin(), keys.end());
   std::sort(due.begin(), due.end());
-  return thrown == 0 && due.size() == seats * quota && set.close() == due;
+  return due.size() == seats * quota && set.close() == due;
 }
 
 // Four threads add the same keys, as many as the seats have quota for: an add is full only if no seat has quota left, and then its key is there.
@@ -111,13 +106,13 @@ static void expect_no_seat() {
 }
 
 static void expect_shared() {
+  for (int round = 0; round < 20; round++) expect(is_filled(2, 50), "four threads use the quota of two seats");
+  expect(is_filled(64, 1), "and that of 64");
   for (list kind : {list::coarse, list::fine, list::optimistic, list::lazy, list::lock_free}) expect(is_right_shared(kind), "shared keys");
   listset::shared few(list::lazy, 2, 1, {5});
   expect(few.add(1) == added::is_new && few.add(2) == added::is_new && few.add(3) == added::full, "each seat's quota is used");
   expect(few.add(1) == added::not_new && few.close() == std::vector<uint32_t>({1, 2, 5}), "shared, closed");
   expect(thrown([] { listset::shared(list::lazy, 65, 1); }) == LISTSET_BAD_SEATS, "too many shared seats");
-  for (int round = 0; round < 20; round++) expect(is_filled(2, 50), "four threads use the quota of two seats");
-  expect(is_filled(64, 1), "and that of 64");
   int full = 0;
   for (int round = 0; round < 20; round++) full += full_too_soon();
   expect(full == 0, "no add is full while a seat has quota");

@@ -85,7 +85,7 @@ fn a_shared_set_uses_the_quota_of_each_seat() {
 #[test]
 fn threads_use_the_quota_of_each_seat() {
     for (seats, quota) in [(2, 50), (64, 1)] {
-        let set = Shared::open(List::Lazy, seats, quota, &[]).unwrap();
+        let set = Shared::open(List::LockFree, seats, quota, &[]).unwrap();
         let run = |thread| -> Vec<u32> {
             (0..500).map(|at| at * THREADS + thread).filter(|key| set.add(*key) == Added::True).collect()
         };
