@@ -306,6 +306,8 @@ def refused_reports(case):
             same(output(case.program, "check", text=text, status=1).decode(), said + "\n", "check")
         with tried:
             same(f"\n{said}" in output(case.program, "show", text=text, status=1).decode(), True, f"that show says {said}")
+        with tried:
+            same(f">{said}" in output(case.program, "show", "--svg", text=text, status=1).decode(), True, f"that the SVG says {said}")
     tried.tell()
 
 
@@ -359,6 +361,15 @@ def draft_of(plan, shape):
 def events_of(schedule):
     """How many events a schedule has."""
     return len(re.findall(b"^begin ", schedule, re.M)) + sum(map(int, re.findall(b"^go [0-9]+ ([0-9]+)$", schedule, re.M)))
+
+
+@test
+def chains(case):
+    """`trace --chain` of calls that change nothing of many keys."""
+    plan = Plan("lazy", looks_at_the_least, 64_000)
+    schedule = output(case.program, "draft", text=draft_of(plan, plan.shape(plan.calls)))
+    trace = output(case.program, "trace", "--chain", text=schedule)
+    same((trace.count(b"\nevent "), trace.count(b"\nchain ")), (events_of(schedule), 0), "the events of the trace, and the chains")
 
 
 @cases(named("schedules", PLANS))

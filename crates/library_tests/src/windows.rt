@@ -39,6 +39,20 @@ fn calls_that_are_not_needed_are_left_out(rt: HostRuntime) -> Result<(), Fail> {
     has_window(&rt, rt.alloc(), calls, &[0, 101, 102])
 }
 
+/// The key goes in and out. Then it is found by a call that begins before another, which does not find it; so from there on the calls
+/// say nothing of where it is. A second call finds it while it is added, and the next does not.
+#[test]
+fn a_window_begins_before_a_call_that_says_nothing(rt: HostRuntime) -> Result<(), Fail> {
+    let mut calls = in_and_out(rt.alloc(), 100)?;
+    let (there, gone) = (Reply::True, Reply::False);
+    calls.push(ended(1, Call::Contains(FIVE), (401, 409), there))?;
+    calls.push(ended(0, Call::Contains(FIVE), (402, 403), gone))?;
+    calls.push(ended(0, Call::Add(FIVE), (404, 411), there))?;
+    calls.push(ended(2, Call::Contains(FIVE), (405, 406), there))?;
+    calls.push(ended(2, Call::Contains(FIVE), (407, 408), gone))?;
+    has_window(&rt, rt.alloc(), calls, &[202, 203, 204])
+}
+
 /// A thread adds the key and removes it so many times in turn, at the moments from 1 on.
 fn in_and_out(alloc: Global, times: u32) -> Result<Vec<CallRecord>, AllocError> {
     let mut calls = Vec::new(alloc);

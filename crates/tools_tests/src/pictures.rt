@@ -220,6 +220,16 @@ fn each_fault_has_its_sentence(rt: HostRuntime) -> Result<(), Fail> {
     let line =
         "refused WrongReply 2: place 3 says true, and after places 1 and 2 the set is {} and answers false";
     assert_sentence(&rt, rt.alloc(), refusal, line)?;
+    let refusal = Refusal::SetReply {
+        call: 2,
+        place: 5,
+        says: Reply::False,
+        keys: [5].to_vec(rt.alloc())?,
+        answer: Reply::True,
+    };
+    let line =
+        "refused WrongReply 2: place 5 says false, and after places 1 to 4 the set is {5} and answers true";
+    assert_sentence(&rt, rt.alloc(), refusal, line)?;
     let left = [1, 2, 3, 4, 5, 6, 7, 8, 9, 10].to_vec(rt.alloc())?;
     let line = "refused WrongSet: the order leaves {1,2,3,4,5,6,7,8,..+2}, and the keys are {5}";
     assert_sentence(&rt, rt.alloc(), Refusal::WrongSet { left }, line)?;
