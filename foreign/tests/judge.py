@@ -3,9 +3,9 @@
     judge.py EXAMPLES     their folder; that of listset.py is in PYTHONPATH
 """
 
+import concurrent.futures
 import pathlib
 import sys
-import threading
 
 import listset
 
@@ -20,15 +20,12 @@ def pairs(folder):
             yield it.read_bytes(), report.read_text()
 
 
-def judge(examples, faults):
+def judge(examples):
     for schedule, report in examples:
-        try:
-            assert listset.replay(schedule) == listset.replay(schedule.decode()) == report
-            listset.check(report)
-            assert listset.trace(schedule, with_chains=True).startswith("listset-trace ")
-            assert listset.show(report, width=60)
-        except (AssertionError, listset.Wrong) as fault:
-            faults.append(fault)
+        assert listset.replay(schedule) == listset.replay(schedule.decode()) == report
+        listset.check(report)
+        assert listset.trace(schedule, with_chains=True).startswith("listset-trace ")
+        assert listset.show(report, width=60)
 
 
 def wrong(call, *values):
@@ -69,13 +66,11 @@ def judges_recorded_calls():
 
 
 def main():
-    examples, faults = list(pairs(pathlib.Path(sys.argv[1]))), []
-    threads = [threading.Thread(target=judge, args=(examples, faults)) for _ in range(THREADS)]
-    for it in threads:
-        it.start()
-    for it in threads:
-        it.join()
-    assert len(examples) > 20 and not faults, faults
+    examples = list(pairs(pathlib.Path(sys.argv[1])))
+    assert len(examples) > 20
+    with concurrent.futures.ThreadPoolExecutor(THREADS) as threads:
+        for it in [threads.submit(judge, examples) for _ in range(THREADS)]:
+            it.result()
     each_says_its_own()
     judges_recorded_calls()
     assert wrong(listset.check, listset.example("snip", is_broken=True)) == (1, "WrongSet")

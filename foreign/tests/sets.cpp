@@ -50,10 +50,11 @@ static bool is_right(list kind) {
 // The same behind one set, of fewer seats than threads.
 static bool is_right_shared(list kind) {
   listset::shared set(kind, 3, 2000);
+  std::atomic<int> found{0};
   std::vector<std::thread> threads;
   for (uint32_t at = 0; at < 4; at++)
-    threads.emplace_back([&set, at] {
-      for (uint32_t key = at; key < 4000; key += 4) set.add(key);
+    threads.emplace_back([&set, &found, at] {
+      for (uint32_t key = at; key < 4000; key += 4) found += set.add(key) == added::is_new && set.ceiling(key) == key && set.contains(key);
       for (uint32_t key = at; key < 4000; key += 4)
         if (key % 3 == 0) set.remove(key);
     });
@@ -61,7 +62,7 @@ static bool is_right_shared(list kind) {
   std::vector<uint32_t> due;
   for (uint32_t key = 0; key < 4000; key++)
     if (key % 3 != 0) due.push_back(key);
-  return set.contains(1) && set.ceiling(3) == 4u && set.close() == due;
+  return found == 4000 && set.contains(1) && set.ceiling(3) == 4u && set.close() == due;
 }
 
 // Threads that add keys of their own, more than the seats have quota for: as many are new as they have, and just those are left.

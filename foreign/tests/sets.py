@@ -1,5 +1,6 @@
 """The lists from Python, in four threads, whose changes are counted; and what is refused. listset.py's folder is in PYTHONPATH."""
 
+import concurrent.futures
 import random
 import threading
 import unittest.mock
@@ -10,9 +11,10 @@ THREADS, CALLS, KEYS, OPENING = 4, 3000, 64, [1, 7, 63]
 ENDS = [0, 2**32 - 1]  # the least key and the greatest
 
 
-def calls_of(seat, number, net):
-    """Calls from a seat, and how often each key was put in less how often it was taken out."""
-    draws = random.Random(number)
+def calls_of(seat, number):
+    """Calls on keys that all threads use: how often each was put in less how often it was taken out. Then calls on keys of its own, with
+    each answer: those that are left."""
+    draws, net, own = random.Random(number), [0] * KEYS, set()
     for _ in range(CALLS):
         key, kind = draws.randrange(KEYS), draws.randrange(4)
         if kind == 0:
@@ -23,20 +25,32 @@ def calls_of(seat, number, net):
             assert seat.contains(key) in (True, False)
         else:
             assert (seat.ceiling(key) or key) >= key
+    begin, end = KEYS * (number + 1), KEYS * (number + 2)
+    for _ in range(CALLS):
+        key, kind = draws.randrange(begin, end), draws.randrange(4)
+        if kind == 0:
+            assert seat.add(key) is (key not in own)
+            own.add(key)
+        elif kind == 1:
+            assert seat.remove(key) is (key in own)
+            own.discard(key)
+        elif kind == 2:
+            assert seat.contains(key) is (key in own)
+        else:
+            found, due = seat.ceiling(key), min((it for it in own if it >= key), default=None)
+            assert found == due if due is not None else found is None or found >= end
+    return net, own
 
 
 def trial(kind):
-    first = listset.open_set(kind, THREADS, CALLS, OPENING)
+    first = listset.open_set(kind, THREADS, 2 * CALLS, OPENING)
     seats = [first, *(first.split() for _ in range(1, THREADS))]
-    nets = [[0] * KEYS for _ in seats]
-    threads = [threading.Thread(target=calls_of, args=it) for it in zip(seats, range(THREADS), nets)]
-    for it in threads:
-        it.start()
-    for it in threads:
-        it.join()
+    with concurrent.futures.ThreadPoolExecutor(THREADS) as threads:
+        nets, owns = zip(*threads.map(calls_of, seats, range(THREADS)))
     for it in seats[1:]:
         first.gather(it)
-    assert first.close() == [key for key in range(KEYS) if (key in OPENING) + sum(net[key] for net in nets)], kind
+    left = [key for key in range(KEYS) if (key in OPENING) + sum(net[key] for net in nets)]
+    assert first.close() == left + sorted(set().union(*owns)), kind
 
 
 def code(call, *values):
