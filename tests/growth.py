@@ -312,6 +312,16 @@ def refused_reports(case):
 
 
 @test
+def wrong_ceilings(case):
+    """`judge`, where each ceiling says that there is no key, and many are there."""
+    many = CALLS // 3
+    calls = "".join(f"call 0 ceiling 0 {2 * number + 1} - {2 * number + 2} nothing\n" for number in range(many))
+    text = whole(f"listset-calls 2\nlist lazy\nthreads 1\nquota {QUOTA}\n", range(many), calls, range(many))
+    said = b"refused WrongReply 0\nno order has the changes at these points\n"
+    same(output(case.program, "judge", text=text, status=1), said, "judge of wrong ceilings")
+
+
+@test
 def parts(case):
     """`judge` of two parts, of all keys and of each fourth one."""
     tried, files = Tried(), []

@@ -39,6 +39,20 @@ fn calls_that_are_not_needed_are_left_out(rt: HostRuntime) -> Result<(), Fail> {
     has_window(&rt, rt.alloc(), calls, &[0, 101, 102])
 }
 
+/// While a long `add` is pending, a hundred calls do not take the key out, then one finds it, and the next does not.
+#[test]
+fn changes_that_were_not_made_are_left_out(rt: HostRuntime) -> Result<(), Fail> {
+    let mut calls = Vec::new(rt.alloc());
+    calls.push(ended(0, Call::Add(FIVE), (1, 1000), Reply::True))?;
+    for number in 1..=100 {
+        let bar = (2 * number, 2 * number + 1);
+        calls.push(ended(1, Call::Remove(FIVE), bar, Reply::False))?;
+    }
+    calls.push(ended(1, Call::Contains(FIVE), (202, 203), Reply::True))?;
+    calls.push(ended(1, Call::Contains(FIVE), (204, 205), Reply::False))?;
+    has_window(&rt, rt.alloc(), calls, &[0, 101, 102])
+}
+
 /// The key goes in and out. Then it is found by a call that begins before another, which does not find it; so from there on the calls
 /// say nothing of where it is. A second call finds it while it is added, and the next does not.
 #[test]
