@@ -198,7 +198,7 @@ def whole(head, opening, calls, left):
 # ---- what commands print
 
 class Tried:
-    """Commands that are tried in turn. What is wrong with each is told at the end."""
+    """Commands that are tried in turn: at the end it reports what is wrong with each."""
 
     def __init__(self):
         self.faults = []

@@ -118,7 +118,7 @@ NUMBERS = [
     ("tool_drawing/(moments::moments_shown|text::fit)", "MOST_COLUMNS", "the columns of a picture"),
     ("tool_drawing/picture::is_whole", "u32::MAX", "the last moment"),
     ("tool_drawing/refusals::put_places_before", "3", "a sentence of its own for two places"),
-    ("tool_drawing/sets::(first_keys|set_text)", "MOST_KEYS_SHOWN", "of more keys the number is told"),
+    ("tool_drawing/sets::(first_keys|set_text)", "MOST_KEYS_SHOWN", "of more keys a picture gives the number"),
     ("tool_drawing/text::put_lane", "LABEL", "the width of a label"),
     ("tool_drawing/sheet::thread_class", "8", "eight colors in turn"),
     ("tool_drawing/sheet::x_of", "88 9 255", "where a column is"),

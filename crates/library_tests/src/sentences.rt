@@ -193,16 +193,6 @@ const HEADER: [(HeaderCause, &str); 5] = [
     (HeaderCause::NotEnded, "NotEnded"),
 ];
 
-#[test]
-fn a_fault_of_a_header_names_line_and_cause(rt: HostRuntime) -> Result<(), Fail> {
-    names_its_line(
-        &rt,
-        rt.alloc(),
-        &HEADER,
-        |cause| HeaderFault { line: LINE, cause },
-    )
-}
-
 const SCHEDULE: [(Cause, &str); 10] = [
     (Cause::Header, "Header"),
     (Cause::Kind, "Kind"),
@@ -215,16 +205,6 @@ const SCHEDULE: [(Cause, &str); 10] = [
     (Cause::NotEnded, "NotEnded"),
     (Cause::Memory, "Memory"),
 ];
-
-#[test]
-fn a_fault_of_a_schedule_names_line_and_cause(rt: HostRuntime) -> Result<(), Fail> {
-    names_its_line(
-        &rt,
-        rt.alloc(),
-        &SCHEDULE,
-        |cause| ScheduleFault { line: LINE, cause },
-    )
-}
 
 const REPORT: [(ReportCause, &str); 11] = [
     (ReportCause::Header, "Header"),
@@ -239,16 +219,6 @@ const REPORT: [(ReportCause, &str); 11] = [
     (ReportCause::NotEnded, "NotEnded"),
     (ReportCause::Memory, "Memory"),
 ];
-
-#[test]
-fn a_fault_of_a_report_names_line_and_cause(rt: HostRuntime) -> Result<(), Fail> {
-    names_its_line(
-        &rt,
-        rt.alloc(),
-        &REPORT,
-        |cause| ReportFault { line: LINE, cause },
-    )
-}
 
 const CALLS: [(CallsCause, &str); 12] = [
     (CallsCause::Header, "Header"),
@@ -265,16 +235,6 @@ const CALLS: [(CallsCause, &str); 12] = [
     (CallsCause::Memory, "Memory"),
 ];
 
-#[test]
-fn a_fault_of_calls_names_line_and_cause(rt: HostRuntime) -> Result<(), Fail> {
-    names_its_line(
-        &rt,
-        rt.alloc(),
-        &CALLS,
-        |cause| CallsFault { line: LINE, cause },
-    )
-}
-
 const LONG: [(LongCause, &str); 6] = [
     (LongCause::Line, "Line"),
     (LongCause::Number, "Number"),
@@ -285,13 +245,28 @@ const LONG: [(LongCause, &str); 6] = [
 ];
 
 #[test]
-fn a_fault_of_a_long_recording_names_line_and_cause(rt: HostRuntime) -> Result<(), Fail> {
+fn a_fault_of_a_text_names_line_and_cause(rt: HostRuntime) -> Result<(), Fail> {
+    let alloc = rt.alloc();
     names_its_line(
         &rt,
-        rt.alloc(),
-        &LONG,
-        |cause| LongFault { line: LINE, cause },
-    )
+        alloc,
+        &HEADER,
+        |cause| HeaderFault { line: LINE, cause },
+    )?;
+    names_its_line(
+        &rt,
+        alloc,
+        &SCHEDULE,
+        |cause| ScheduleFault { line: LINE, cause },
+    )?;
+    names_its_line(
+        &rt,
+        alloc,
+        &REPORT,
+        |cause| ReportFault { line: LINE, cause },
+    )?;
+    names_its_line(&rt, alloc, &CALLS, |cause| CallsFault { line: LINE, cause })?;
+    names_its_line(&rt, alloc, &LONG, |cause| LongFault { line: LINE, cause })
 }
 
 const CLASH: [(ClashFault, &str); 4] = [
