@@ -1,26 +1,24 @@
 -- The text of calls is read.
 use Rattle.std.proofs.Common.{◌≡◌, ℕ, ◌<◌, ◌≤◌, ◌^◌, Bool, true, false, ltb, List, [], ◌∷◌, ◌++◌, map, length}
-use Rattle.std.proofs.Common.{Result, Ok, Err, refl, sym, ap, subst, ◌∙◌, arith, append_assoc, length-append}
+use Rattle.std.proofs.Common.{Result, Ok, Err, refl, sym, ap, subst, ◌∙◌, arith, append_assoc}
 use Rattle.std.specs.Prelude.{MatchResult, ◌≢◌}
 use Rattle.std.specs.List.{AllByRecursion}
-use Rattle.std.specs.List.Sorted.{IsStrictlyIncreasing}
 use Rattle.std.proofs.lemmas.Bool.{lt-ltb, ltb-true, and_parts}
-use Rattle.std.proofs.lemmas.List.{append-nil}
-use Rattle.std.proofs.lemmas.List.Elements.{recursion_from_All}
 use Rattle.lset_words.specs.declared.TheConstants.{MOST_OPENING}
+use Rattle.lset_text.specs.declared.headers.Header.{Header}
 use Rattle.lset_text.specs.declared.words.Version.TheVariants.{Two}
-use Rattle.lset_text.specs.Parts.{cut_at, text_of, Lacks}
+use Rattle.lset_text.specs.Parts.{cut_at, text_of}
 use Rattle.lset_text.specs.Results.{◌>>=◌}
-use Rattle.lset_text.specs.Headers.{IsHeader, header_lines}
-use Rattle.lset_text.specs.Kinds.{line_in}
+use Rattle.lset_text.specs.Headers.{header_lines}
 use Rattle.lset_text.specs.Lines.{Leads}
 use Rattle.lset_text.specs.Openings.{opening_lines}
 use Rattle.lset_text.proofs.PartLaws.{Lacks-from_test}
-use Rattle.lset_text.proofs.ReadingLaws.{bind_ok, ok_is}
+use Rattle.lset_text.proofs.ReadingLaws.{ok_is}
 use Rattle.lset_text.proofs.TextLaws.{text_again}
-use Rattle.lset_text.proofs.OpeningLaws.{above_before}
-use Rattle.lset_text.proofs.KindLaws.{made_ok, line_made, line_found_lacks}
+use Rattle.lset_text.proofs.OpeningLaws.{is_header}
+use Rattle.lset_text.proofs.KindLaws.{IsMade, line_made}
 use Rattle.lset_text.proofs.LineLaws.{leads_on}
+use Rattle.lset_text.proofs.SectionLaws.{later_pushed, openings_lead, section_leads}
 use Rattle.lset_report.specs.declared.report.TheConstants.{MOST_CALLS, MOST_KEYS_OPENED}
 use Rattle.lset_report.specs.Texts.{key_line, last_line}
 use Rattle.lset_calls.specs.declared.value.Calls.{Calls}
@@ -34,11 +32,12 @@ use Rattle.lset_calls.specs.declared.fault.CallsCause.TheVariants as wrong
 use Rattle.lset_calls.specs.declared.fault.CallsFault.{CallsFault}
 use Rattle.lset_calls.specs.Calls.{CallsValue, view, AreCalls, IsCall, ends_after}
 use Rattle.lset_calls.specs.Texts.{title, header_in, call_line, cut_line, end_line, calls_lines, calls_text}
-use Rattle.lset_calls.specs.Reading.{causes, kinds, judged, line_after, section_after, with_line, SoFar, with_told, step, grammar}
+use Rattle.lset_calls.specs.Reading.{causes, kinds, judged, SoFar, with_told, step, grammar}
 use Rattle.lset_calls.specs.Reading.{nothing_told, no_lines, text, calls_told, reading, Gives}
 use Rattle.lset_text.specs.Texts.{text_from}
-use Rattle.lset_calls.proofs.LineKinds.{line_pieces, line_text, IsNumbered, IsLine, IsLineIn, Comes, kinds_known, line_is_made}
-use Rattle.lset_calls.proofs.CallsFound.{IsGood, Holds, one_line, no_calls}
+use Rattle.lset_calls.proofs.LineKinds.{line_pieces, line_text, IsNumbered, Reaches, IsNext, kinds_known, reached}
+use Rattle.lset_calls.proofs.LineKinds.{opening_made, call_made, cut_made, key_made, end_made}
+use Rattle.lset_calls.proofs.CallsFound.{IsGood, Holds, one_line, begins}
 
 -- ---- one line
 
@@ -49,220 +48,101 @@ good_judged c (told.Key k) good = rw (lt-ltb (length c.keys) MOST_KEYS_OPENED go
 good_judged c told.End good = refl
 good_judged c told.Cut good = refl
 
-abbrev at_line : Section → CallsValue → SoFar
-at_line s c = record { section = s; calls = c }
+none_reached : (s : Section) (h : Header) → Reaches s (no_lines h)
+none_reached section.Opening h = (refl, refl, refl)
+none_reached section.Calls h = (refl, refl)
+none_reached section.Keys h = refl
+none_reached section.Done h = tt
 
-one_step : (s : Section) (c : CallsValue) (l : Line) → Comes s l → IsLine l → IsGood c l
-    → step (at_line s c) (line_text l) ≡ Ok (at_line (section_after l) (with_line c l))
-one_step s c l comes is good =
-    rw (line_made Two causes line_pieces (IsLineIn s) (kinds s) l (kinds_known s) (line_is_made s l comes is), good_judged c l good)
-    refl
+one_step : (s : SoFar) (l : Line) → IsMade Two line_pieces (kinds s.section) l → IsGood s.calls l
+    → step s (line_text l) ≡ Ok (with_told s l)
+one_step s l is good =
+    let none = no_lines (header_in s.calls) in
+    let known = kinds_known s.section none (none_reached s.section (header_in s.calls)) in
+    rw (line_made Two causes line_pieces (IsNext none) (kinds s.section) l known is, good_judged s.calls l good) refl
 
--- ---- the opening keys
+-- ---- the lines of each section lead on
 
-keys_lead : (c : CallsValue) (more : List ℕ) → IsStrictlyIncreasing (c.opening.keys ++ more)
-    → length (c.opening.keys ++ more) ≤ MOST_OPENING → AllByRecursion (λ (k : ℕ). k < 2 ^ 32) more
-    → Leads grammar (at_line section.Opening c) (opening_lines more)
-    (at_line section.Opening (record c { opening = record c.opening { keys = c.opening.keys ++ more } }))
-keys_lead c [] rising few low =
-    ap (λ (ks : List ℕ). at_line section.Opening (record c { opening = record c.opening { keys = ks } }))
-    (sym (append-nil c.opening.keys))
-keys_lead c (k ∷ more) rising few low =
-    let keys = c.opening.keys in
-    let next = with_line c (told.Opening k) in
-    let grouped : (keys ++ k ∷ []) ++ more ≡ keys ++ k ∷ more = append_assoc keys (k ∷ []) more in
-    let room : length keys < MOST_OPENING = omega (arith, few, length-append keys (k ∷ more)) in
-    let rest = keys_lead next more (subst IsStrictlyIncreasing (sym grouped) rising)
-    (subst (λ (xs : List ℕ). length xs ≤ MOST_OPENING) (sym grouped) few) low.1 in (
-      at_line section.Opening next,
-      one_step section.Opening c (told.Opening k) tt low.0 (room, above_before keys k more rising),
-      subst (λ (xs : List ℕ). Leads grammar (at_line section.Opening next) (opening_lines more)
-          (at_line section.Opening (record c { opening = record c.opening { keys = xs } }))) grouped rest,
-    )
+abbrev at : Header → List ℕ → List TimedCall → List ℕ → SoFar
+at h os cs ks = record {
+  section = reached cs ks;
+  calls = record {
+    kind = h.kind;
+    opening = record { threads = h.threads; quota = h.quota; keys = os };
+    calls = cs;
+    keys = ks;
+    cut_off = false;
+  };
+}
 
--- ---- the calls
+numbers : (threads : ℕ) (x : TimedCall) → threads ≤ 64 → IsCall threads x → IsNumbered x
+numbers threads x few is =
+    let low = ltb-true _ _ (and_parts (ltb x.thread threads) (ends_after x.begun x.ended) is.history).0 in
+    record { thread = omega (arith, low, few); key = is.key; begun = is.begun; point = is.point; end = is.end }
 
-numbers : (threads : ℕ) (x : TimedCall) → x.thread < 2 ^ 32 → IsCall threads x → IsNumbered x
-numbers threads x low is = record { thread = low; key = is.key; begun = is.begun; point = is.point; end = is.end }
+calls_lead : (h : Header) (os : List ℕ) (cs : List TimedCall) → h.threads ≤ 64 → length cs ≤ MOST_CALLS
+    → AllByRecursion (IsCall h.threads) cs → Leads grammar (at h os [] []) (map call_line cs) (at h os cs [])
+calls_lead h os cs low few are =
+    section_leads grammar (λ (xs : List TimedCall). at h os xs []) call_line (IsCall h.threads) MOST_CALLS cs few are
+    (λ front more x is room call.
+    one_step (at h os front []) (told.Call x) (call_made front x (numbers h.threads x low call)) (room, call.history, call.points)
+    ∙ ap (λ (s : Section). Ok (record { section = s; calls = (at h os (front ++ x ∷ []) []).calls }))
+    (later_pushed front x section.Opening section.Calls))
 
--- where calls or the keys may come
-abbrev Takes : Section → Type 0
-Takes section.Opening = Unit {0}
-Takes section.Calls = Unit {0}
-Takes section.Keys = ⊥
-Takes section.Done = ⊥
+keys_lead : (h : Header) (os : List ℕ) (cs : List TimedCall) (ks : List ℕ) → length ks ≤ MOST_KEYS_OPENED
+    → AllByRecursion (λ k. k < 2 ^ 32) ks → Leads grammar (at h os cs []) (map key_line ks) (at h os cs ks)
+keys_lead h os cs ks few are =
+    section_leads grammar (at h os cs) key_line (λ k. k < 2 ^ 32) MOST_KEYS_OPENED ks few are (λ front more k is room low.
+    one_step (at h os cs front) (told.Key k) (key_made cs front k low) room
+    ∙ ap (λ (s : Section). Ok (record { section = s; calls = (at h os cs (front ++ k ∷ [])).calls }))
+    (later_pushed front k (reached cs []) section.Keys))
 
-call_comes : (s : Section) (x : TimedCall) → Takes s → Comes s (told.Call x)
-call_comes section.Opening x takes = tt
-call_comes section.Calls x takes = tt
-call_comes section.Keys x takes = absurd takes
-call_comes section.Done x takes = absurd takes
-
-after_calls : Section → List TimedCall → Section
-after_calls s [] = s
-after_calls s (x ∷ xs) = section.Calls
-
-after_some : (s : Section) (xs : List TimedCall) → Takes s → Takes (after_calls s xs)
-unfolding after_calls
-after_some s [] takes = takes
-after_some s (x ∷ xs) takes = tt
-
-calls_stay : (xs : List TimedCall) → after_calls section.Calls xs ≡ section.Calls
-unfolding after_calls
-calls_stay [] = refl
-calls_stay (x ∷ xs) = refl
-
-thread_low : (threads : ℕ) (x : TimedCall) → threads ≤ 64 → IsCall threads x → x.thread < 2 ^ 32
-thread_low threads x few is =
-    let low : x.thread < threads =
-    ltb-true _ _ (and_parts (ltb x.thread threads) (ends_after x.begun x.ended) is.history).0 in omega (arith, low, few)
-
-calls_lead : (s : Section) (c : CallsValue) (more : List TimedCall) → Takes s → c.opening.threads ≤ 64
-    → length (c.calls ++ more) ≤ MOST_CALLS → AllByRecursion (IsCall c.opening.threads) more
-    → Leads grammar (at_line s c) (map call_line more) (at_line (after_calls s more) (record c { calls = c.calls ++ more }))
-unfolding after_calls
-calls_lead s c [] takes low few are = ap (λ (xs : List TimedCall). at_line s (record c { calls = xs })) (sym (append-nil c.calls))
-calls_lead s c (x ∷ more) takes low few are =
-    let next = with_line c (told.Call x) in
-    let grouped : (c.calls ++ x ∷ []) ++ more ≡ c.calls ++ x ∷ more = append_assoc c.calls (x ∷ []) more in
-    let room : length c.calls < MOST_CALLS = omega (arith, few, length-append c.calls (x ∷ more)) in
-    let rest = calls_lead section.Calls next more tt low
-    (subst (λ (xs : List TimedCall). length xs ≤ MOST_CALLS) (sym grouped) few) are.1 in
-    let named = subst (λ (z : Section). Leads grammar (at_line section.Calls next) (map call_line more)
-    (at_line z (record next { calls = next.calls ++ more }))) (calls_stay more) rest in (
-      at_line section.Calls next,
-      one_step s c (told.Call x) (call_comes s x takes) (numbers c.opening.threads x (thread_low c.opening.threads x low are.0) are.0)
-          (room, are.0.history, are.0.points),
-      subst (λ (xs : List TimedCall). Leads grammar (at_line section.Calls next) (map call_line more)
-          (at_line section.Calls (record c { calls = xs }))) grouped named,
-    )
-
--- ---- the keys and the end
-
-abbrev TakesKeys : Section → Type 0
-TakesKeys section.Opening = Unit {0}
-TakesKeys section.Calls = Unit {0}
-TakesKeys section.Keys = Unit {0}
-TakesKeys section.Done = ⊥
-
-key_comes : (s : Section) (k : ℕ) → TakesKeys s → Comes s (told.Key k)
-key_comes section.Opening k takes = tt
-key_comes section.Calls k takes = tt
-key_comes section.Keys k takes = tt
-key_comes section.Done k takes = absurd takes
-
-end_comes : (s : Section) → TakesKeys s → Comes s told.End
-end_comes section.Opening takes = tt
-end_comes section.Calls takes = tt
-end_comes section.Keys takes = tt
-end_comes section.Done takes = absurd takes
-
-cut_comes : (s : Section) → Takes s → Comes s told.Cut
-cut_comes section.Opening takes = tt
-cut_comes section.Calls takes = tt
-cut_comes section.Keys takes = absurd takes
-cut_comes section.Done takes = absurd takes
-
-takes_keys : (s : Section) → Takes s → TakesKeys s
-takes_keys section.Opening takes = tt
-takes_keys section.Calls takes = tt
-takes_keys section.Keys takes = tt
-takes_keys section.Done takes = absurd takes
-
-keys_end : (s : Section) (c : CallsValue) (more : List ℕ) → TakesKeys s → length (c.keys ++ more) ≤ MOST_KEYS_OPENED
-    → AllByRecursion (λ (k : ℕ). k < 2 ^ 32) more
-    → Leads grammar (at_line s c) (map key_line more ++ last_line ∷ []) (at_line section.Done (record c { keys = c.keys ++ more }))
-keys_end s c [] takes few low = (
-  at_line section.Done c,
-  one_step s c told.End (end_comes s takes) tt tt,
-  ap (λ (ks : List ℕ). at_line section.Done (record c { keys = ks })) (sym (append-nil c.keys)),
-)
-keys_end s c (k ∷ more) takes few low =
-    let next = with_line c (told.Key k) in
-    let grouped : (c.keys ++ k ∷ []) ++ more ≡ c.keys ++ k ∷ more = append_assoc c.keys (k ∷ []) more in
-    let room : length c.keys < MOST_KEYS_OPENED = omega (arith, few, length-append c.keys (k ∷ more)) in
-    let rest = keys_end section.Keys next more tt (subst (λ (xs : List ℕ). length xs ≤ MOST_KEYS_OPENED) (sym grouped) few) low.1 in (
-      at_line section.Keys next,
-      one_step s c (told.Key k) (key_comes s k takes) low.0 room,
-      subst (λ (xs : List ℕ). Leads grammar (at_line section.Keys next) (map key_line more ++ last_line ∷ [])
-          (at_line section.Done (record c { keys = xs }))) grouped rest,
-    )
+abbrev done_at : SoFar → Bool → SoFar
+done_at s cut_off = record { section = section.Done; calls = record s.calls { cut_off = cut_off } }
 
 -- the keys and the end, or where the recording was cut off
-tail_lines : (s : Section) (c : CallsValue) (keys : List ℕ) (cut_off : Bool) → Takes s → c.keys ≡ [] → c.cut_off ≡ false → (cut_off ≡ true → keys ≡ [])
-    → length keys ≤ MOST_KEYS_OPENED → AllByRecursion (λ (k : ℕ). k < 2 ^ 32) keys
-    → Leads grammar (at_line s c) (map key_line keys ++ end_line cut_off ∷ []) (at_line section.Done (record c { keys = keys; cut_off = cut_off }))
-tail_lines s c keys false takes none going whole few low =
-    subst (λ (b : Bool). Leads grammar (at_line s c) (map key_line keys ++ last_line ∷ []) (at_line section.Done (record c { keys = keys; cut_off = b }))) going
-    (subst (λ (ks : List ℕ). Leads grammar (at_line s c) (map key_line keys ++ last_line ∷ []) (at_line section.Done (record c { keys = ks ++ keys }))) none
-    (keys_end s c keys (takes_keys s takes) (subst (λ (ks : List ℕ). length (ks ++ keys) ≤ MOST_KEYS_OPENED) (sym none) few) low))
-tail_lines s c keys true takes none going whole few low =
-    subst (λ (ks : List ℕ). Leads grammar (at_line s c) (map key_line ks ++ cut_line ∷ []) (at_line section.Done (record c { keys = ks; cut_off = true })))
-    (sym (whole refl))
-    (subst (λ (ks : List ℕ). Leads grammar (at_line s c) (cut_line ∷ []) (at_line section.Done (record c { keys = ks; cut_off = true }))) none
-    (at_line section.Done (record c { cut_off = true }), one_step s c told.Cut (cut_comes s takes) tt tt, refl))
+tail_leads : (h : Header) (os : List ℕ) (cs : List TimedCall) (ks : List ℕ) (cut_off : Bool) → (cut_off ≡ true → ks ≡ [])
+    → length ks ≤ MOST_KEYS_OPENED → AllByRecursion (λ k. k < 2 ^ 32) ks
+    → Leads grammar (at h os cs []) (map key_line ks ++ end_line cut_off ∷ []) (done_at (at h os cs ks) cut_off)
+tail_leads h os cs ks false whole few are =
+    leads_on grammar (at h os cs []) (at h os cs ks) (done_at (at h os cs ks) false) (map key_line ks) (last_line ∷ [])
+    (keys_lead h os cs ks few are)
+    (done_at (at h os cs ks) false, one_step (at h os cs ks) told.End (end_made cs ks) tt, refl)
+tail_leads h os cs ks true whole few are =
+    subst (λ (xs : List ℕ). Leads grammar (at h os cs []) (map key_line xs ++ cut_line ∷ []) (done_at (at h os cs xs) true))
+    (sym (whole refl)) (done_at (at h os cs []) true, one_step (at h os cs []) told.Cut (cut_made cs) tt, refl)
 
 -- ---- the whole
 
+-- the lines after the header
 abbrev body_lines : CallsValue → List (List ℕ)
-body_lines c = opening_lines c.opening.keys ++ map call_line c.calls ++ map key_line c.keys ++ end_line c.cut_off ∷ []
+body_lines c = opening_lines c.opening.keys ++ (map call_line c.calls ++ (map key_line c.keys ++ end_line c.cut_off ∷ []))
 
-header_fits : (c : CallsValue) → AreCalls c → IsHeader (header_in c)
-header_fits c is = record {
-  some = is.opens.within.some;
-  few = is.opens.within.few;
-  small = is.opens.within.small;
-  opens = omega arith;
-}
+abbrev all_told : CallsValue → SoFar
+all_told c = record { section = section.Done; calls = c }
 
-body_leads : (c : CallsValue) → AreCalls c → Leads grammar (nothing_told (header_in c)) (body_lines c) (at_line section.Done c)
+body_leads : (c : CallsValue) → AreCalls c → Leads grammar (nothing_told (header_in c)) (body_lines c) (all_told c)
 body_leads c is =
-    let none = no_lines (header_in c) in
-    let opened = record none { opening = c.opening } in
-    let with_calls = record opened { calls = c.calls } in
-    let first = keys_lead none c.opening.keys is.opens.rising is.opens.within.opens
-    (recursion_from_All (λ (k : ℕ). k < 2 ^ 32) c.opening.keys is.opens.low) in
-    let second = calls_lead section.Opening opened c.calls tt is.opens.within.few is.few_calls is.calls in
-    let third = tail_lines (after_calls section.Opening c.calls) with_calls c.keys c.cut_off
-    (after_some section.Opening c.calls tt) refl refl is.whole is.few_keys is.keys in
-    let calls_on = leads_on grammar (at_line section.Opening opened) (at_line (after_calls section.Opening c.calls) with_calls)
-    (at_line section.Done c) (map call_line c.calls) (map key_line c.keys ++ end_line c.cut_off ∷ []) second third in
-    let all = leads_on grammar (nothing_told (header_in c)) (at_line section.Opening opened) (at_line section.Done c)
-    (opening_lines c.opening.keys) (map call_line c.calls ++ (map key_line c.keys ++ end_line c.cut_off ∷ [])) first calls_on in
-    subst (λ (ls : List (List ℕ)). Leads grammar (nothing_told (header_in c)) ls (at_line section.Done c))
-    (grouped (opening_lines c.opening.keys) (map call_line c.calls) (map key_line c.keys) (end_line c.cut_off ∷ [])) all
-  where
-    grouped : (o c k e : List (List ℕ)) → o ++ (c ++ (k ++ e)) ≡ o ++ c ++ k ++ e
-    grouped o c k e = simp append_assoc refl
-
-title_lacks : Lacks 10 title
-title_lacks = Lacks-from_test 10 title refl
-
-abbrev Good : SoFar → Type 0
-Good s = Holds s
-
-free_line : (s t : SoFar) (x : List ℕ) → Good s → step s x ≡ Ok t → Good t × Lacks 10 x
-free_line s t x good is =
-    let m = made_ok (with_told s) (line_after s.section s.calls x) t is in
-    let read = bind_ok (line_in Two causes (kinds s.section) x) (judged s.calls) m.0 m.1 in (
-      (one_line s t x good is).0,
-      line_found_lacks Two causes line_pieces (IsLineIn s.section) (kinds s.section) x read.0 (kinds_known s.section) read.1,
-    )
+    let h = header_in c in
+    let os = c.opening.keys in
+    let tail : List (List ℕ) = map key_line c.keys ++ end_line c.cut_off ∷ [] in
+    let opened = openings_lead grammar (λ (ks : List ℕ). at h ks [] []) Two c.opening is.opens tt
+    (λ front k two room low above. one_step (at h front [] []) (told.Opening k) (opening_made k low) (room, above)) in
+    let calls = leads_on grammar (at h os [] []) (at h os c.calls []) (all_told c) (map call_line c.calls) tail
+    (calls_lead h os c.calls is.opens.within.few is.few_calls is.calls)
+    (tail_leads h os c.calls c.keys c.cut_off is.whole is.few_keys is.keys) in
+    leads_on grammar (at h [] [] []) (at h os [] []) (all_told c) (opening_lines os) (map call_line c.calls ++ tail) opened calls
 
 pub reads_text : (c : CallsValue) → AreCalls c → reading (calls_text c) ≡ Ok c
 reads_text c is =
     let h = header_in c in
-    let fits = header_fits c is in
-    let again = text_again text Good free_line h (body_lines c) (at_line section.Done c) title_lacks fits
-    (no_calls h fits, (refl, refl, refl)) (body_leads c is) refl in
-    let lines : calls_lines c ≡ header_lines title h ++ body_lines c =
-    grouped (header_lines title h) (opening_lines c.opening.keys) (map call_line c.calls) (map key_line c.keys) (end_line c.cut_off ∷ []) in
+    let fits = is_header h c.opening.keys is.opens in
+    let again = text_again text Holds (λ s t x holds e. let m = one_line s t x holds e in (m.0, m.2)) h (body_lines c) (all_told c)
+    (Lacks-from_test 10 title refl) fits (begins h fits).0 (body_leads c is) refl in
+    let lines : calls_lines c ≡ header_lines title h ++ body_lines c = simp append_assoc in
     ap (λ (ls : List (List ℕ)). text_from text (cut_at 10 (text_of ls)) >>= calls_told) lines
     ∙ ap (λ (ps : List (List ℕ)). text_from text ps >>= calls_told) again.0
     ∙ ap (λ (r : Result SoFar CallsFault). r >>= calls_told) again.1
-  where
-    grouped : (f o c k e : List (List ℕ)) → f ++ o ++ c ++ k ++ e ≡ f ++ (o ++ c ++ k ++ e)
-    grouped f o c k e = simp append_assoc refl
 
 -- ---- as a reader's clause
 

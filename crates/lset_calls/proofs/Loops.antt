@@ -1,14 +1,14 @@
 -- Reading the lines after a header one after another, as the loop does: which line a fault stands in, and that want of memory is
 -- none.
-use Rattle.std.proofs.Common.{◌≡◌, ℕ, inl, inr, Bool, true, false, cond, ltb, List, ◌∷◌, length}
-use Rattle.std.proofs.Common.{Result, Ok, Err, refl, sym, ap, subst, ◌∙◌, arith}
-use Rattle.std.specs.Prelude.{◌≢◌, IfErr}
+use Rattle.std.proofs.Common.{◌≡◌, ℕ, inl, inr, Bool, true, false, cond, ltb, List, length}
+use Rattle.std.proofs.Common.{Result, Ok, Err, refl, sym, ap, subst, ◌∙◌}
+use Rattle.std.specs.Prelude.{◌≢◌}
 use Rattle.lset_words.specs.declared.TheConstants.{MOST_OPENING}
 use Rattle.lset_text.specs.declared.headers.Header.{Header}
 use Rattle.lset_text.specs.declared.words.Version.TheVariants.{Two}
 use Rattle.lset_text.specs.Parts.{cut_at}
 use Rattle.lset_text.specs.Kinds.{made, line_in}
-use Rattle.lset_text.specs.Lines.{lines_from, IsGoodLine, Stands}
+use Rattle.lset_text.specs.Lines.{lines_from}
 use Rattle.lset_text.specs.Results.{◌>>=◌}
 use Rattle.lset_text.specs.Headers.{header_of}
 use Rattle.lset_text.specs.Openings.{is_above}
@@ -16,10 +16,10 @@ use Rattle.lset_text.specs.Texts.{first_line, text_from}
 use Rattle.lset_text.specs.declared.headers.HeaderCause.{HeaderCause}
 use Rattle.lset_text.specs.declared.headers.HeaderCause.TheVariants as head
 use Rattle.lset_text.specs.declared.headers.HeaderFault.{HeaderFault}
-use Rattle.lset_text.proofs.TextLaws.{text_refused, text_after, good_in_text}
+use Rattle.lset_text.proofs.TextLaws.{text_refused, text_after}
 use Rattle.lset_calls.specs.declared.reading.Reader.{Reader}
 use Rattle.lset_text.proofs.KindLaws.{IsOneOf, first_fails}
-use Rattle.lset_text.proofs.LineLaws.{bind_err, stops, is_good}
+use Rattle.lset_text.proofs.LineLaws.{bind_err}
 use Rattle.lset_report.specs.declared.report.TheConstants.{MOST_CALLS, MOST_KEYS_OPENED}
 use Rattle.lset_calls.specs.declared.fault.CallsCause.{CallsCause}
 use Rattle.lset_calls.specs.declared.fault.CallsCause.TheVariants as wrong
@@ -29,7 +29,7 @@ use Rattle.lset_calls.specs.declared.reading.lines.Line.TheVariants as told
 use Rattle.lset_calls.specs.Calls.{CallsValue, is_of_history, has_point}
 use Rattle.lset_calls.specs.Texts.{title}
 use Rattle.lset_calls.specs.Reading.{fault, causes, kinds, judged, line_after, SoFar, with_told, step, grammar, nothing_told}
-use Rattle.lset_calls.specs.Reading.{is_done, cause_of, in_calls, text, line_number, IsGoodAfterHeader, Gives, state, Takes}
+use Rattle.lset_calls.specs.Reading.{is_done, cause_of, in_calls, text, Gives, state}
 use Rattle.lset_calls.specs.declared.reading.lines.Section.{Section}
 use Rattle.lset_calls.specs.declared.reading.lines.Section.TheVariants as section
 
@@ -69,28 +69,13 @@ made_fails : {X Y C : Type 0} (f : X → Y) (r : Result X C) (e : C) → made f 
 made_fails f (Ok x) e is = absurd cc
 made_fails f (Err d) e is = cc
 
-never_memory : (s : SoFar) (x : List ℕ) → step s x ≡ Err wrong.Memory → ⊥
+pub never_memory : (s : SoFar) (x : List ℕ) → step s x ≡ Err wrong.Memory → ⊥
 never_memory s x is =
     let bad = made_fails (with_told s) (line_after s.section s.calls x) wrong.Memory is in
     elim (bind_err (line_in Two causes (kinds s.section) x) (judged s.calls) wrong.Memory bad) [
       | inl form ↦ no_cause (first_fails Two causes (kinds s.section) (cut_at 32 x) wrong.Memory form)
       | inr later ↦ judged_fails s.calls later.0 later.2
     ]
-
--- ---- a line that is not taken
-
-module _ (whole : List ℕ) (read : Result SoFar CallsFault) (number : ℕ) (s t : SoFar) (rest x after : List ℕ)
-    (parts : cut_at 10 rest ≡ x ∷ cut_at 10 after) (stands : Stands grammar first_line whole read number s rest) where
-  pub refused : (cause : CallsCause) → Takes {X = Unit {0}} (step s x) t (Err cause) → cause ≢ wrong.Memory
-      → read ≡ Err (fault number cause)
-  refused cause (inl is) other = stops grammar first_line whole read number s cause rest x after parts is stands
-  refused cause (inr none) other = absurd (other none.0)
-
-  pub out_of_memory : (cause : CallsCause) → Takes {X = Unit {0}} (step s x) t (Err cause) → cause ≡ wrong.Memory
-      → IsGoodLine line_number first_line (cut_at 10 whole) read number
-  out_of_memory cause (inl is) memory = absurd (never_memory s x (is ∙ ap (λ (c : CallsCause). Err c) memory))
-  out_of_memory cause (inr none) memory =
-      is_good grammar line_number (λ line c. refl) first_line whole read number s none.1 rest x after parts none.2 stands
 
 -- ---- the whole text
 
@@ -114,17 +99,6 @@ module _ (bytes rest : List ℕ) (h : Header) (is : header_of title (cut_at 10 b
   pub given_on : (r : Result Reader CallsFault) → Gives state r (lines_from grammar first_line (nothing_told h) (cut_at 10 rest))
       → Gives state r (text_from text (cut_at 10 bytes))
   given_on r gives = subst (Gives state r) (sym (text_after text (cut_at 10 bytes) (cut_at 10 rest) h is)) gives
-
-  abbrev Good : ℕ → Type 0
-  Good line = IsGoodLine line_number first_line (cut_at 10 rest) (lines_from grammar first_line (nothing_told h) (cut_at 10 rest)) line
-
-  pub good_on : (r : Result Reader CallsFault) → IfErr r (λ e. e.cause ≡ wrong.Memory → Good e.line)
-      → IfErr r (λ e. e.cause ≡ wrong.Memory → IsGoodAfterHeader bytes (text_from text (cut_at 10 bytes)) e.line)
-  good_on (Ok x) good = tt
-  good_on (Err e) good = λ memory.
-      let line = good memory in (omega (arith, line.0), good_in_text text line_number bytes rest h e.line is line)
-
--- ---- the calls of what was told
 
 -- ---- a text that ends
 

@@ -1,5 +1,5 @@
 -- A line of a report is read from its text, and from nothing else.
-use Rattle.std.proofs.Common.{◌≡◌, ℕ, ◌<◌, ◌≤◌, ◌^◌, inl, inr, Bool, false, List, [], ◌∷◌, Option, Some, None, refl, ap, arith, codes}
+use Rattle.std.proofs.Common.{◌≡◌, ℕ, ◌<◌, ◌^◌, inl, inr, Bool, false, List, [], ◌∷◌, Option, Some, None, refl, ap, arith, codes}
 use Rattle.std.specs.Fmt.{decimal}
 use Rattle.std.specs.List.{AllByRecursion}
 use Rattle.std.specs.Option.{IfSome}
@@ -13,12 +13,13 @@ use Rattle.lset_text.specs.declared.words.CallWord.TheVariants.{Add, Remove, Con
 use Rattle.lset_text.specs.declared.words.Version.{Version}
 use Rattle.lset_text.specs.declared.words.Version.TheVariants.{One, Two}
 use Rattle.lset_text.specs.Parts.{line_of}
-use Rattle.lset_text.specs.Numbers.{max_number}
 use Rattle.lset_text.specs.Spellings.{call_text, call_word_text, word_of, with_key, reply_text, HasWord}
 use Rattle.lset_text.specs.Forms.{word, moment, reply, Form, Told, spell, AllFit, have_form, ArePieces}
 use Rattle.lset_text.specs.Kinds.{LineKind}
 use Rattle.lset_text.proofs.WordLaws.{with_key-word_of}
 use Rattle.lset_text.proofs.KindLaws.{Knows, IsMade}
+use Rattle.lset_text.proofs.NumberLaws.{any_fits, moment_fits}
+use Rattle.lset_text.proofs.SectionLaws.{later}
 use Rattle.lset_report.specs.declared.reading.lines.Line.{Line}
 use Rattle.lset_report.specs.declared.reading.lines.Line.TheVariants as told
 use Rattle.lset_report.specs.declared.reading.lines.Section.{Section}
@@ -134,12 +135,6 @@ kinds_known v section.Done r reached = tt
 abbrev pub IsTold : Version → List (LineKind Line) → Line → Type 0
 IsTold v ks l = IsMade v pieces_of ks l
 
-any_fits : (n : ℕ) → n < 2 ^ 32 → (0 ≤ n) × (n ≤ max_number)
-any_fits n low = (omega arith, omega (arith, low))
-
-moment_fits : (n : ℕ) → 0 < n → n < 2 ^ 32 → (1 ≤ n) × (n ≤ max_number)
-moment_fits n some low = (omega (arith, some), omega (arith, low))
-
 pub opening_told : (k : ℕ) → k < 2 ^ 32 → IsTold Two (kinds Two section.Opening) (told.Opening k)
 opening_told k low = inl ((tt, (k, tt)), refl, (tt, (any_fits k low, tt)))
 
@@ -177,11 +172,6 @@ pub end_told_so : (v : Version) → IsTold v from_keys told.End
 end_told_so v = inr (refl, inl ((tt, tt), refl, (tt, tt)))
 
 -- ---- in the section that was reached
-
--- a section after that of some lines
-abbrev pub later : {X : Type 0} → List X → Section → Section → Section
-later [] s t = s
-later (x ∷ xs) s t = t
 
 abbrev pub reached : List CallRecord → List Placed → List ℕ → Section
 reached cs ps ks = later ks (later ps (later cs section.Opening section.Calls) section.Order) section.Keys

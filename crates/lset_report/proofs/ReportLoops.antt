@@ -1,5 +1,5 @@
 -- Reading the lines of a report one after the other, as a loop does.
-use Rattle.std.proofs.Common.{◌≡◌, ℕ, ◌+◌, ◌<◌, ◌≤◌, ◌⊎◌, inl, inr, Bool, true, false, cond, ltb, eqb, List, [], ◌∷◌, ◌++◌}
+use Rattle.std.proofs.Common.{◌≡◌, ℕ, ◌+◌, ◌<◌, ◌≤◌, ◌⊎◌, inl, inr, true, ltb, eqb, List, [], ◌∷◌, ◌++◌}
 use Rattle.std.proofs.Common.{length, get_or, codes, Result, Ok, Err, refl, sym, ap, subst, ◌∙◌, ◌≢◌, arith}
 use Rattle.std.proofs.lemmas.Bool.{ltb-true, lt-ltb, eqb-true, eq-eqb, and_parts}
 use Rattle.std.proofs.lemmas.List.{get_or-append-add}
@@ -15,7 +15,7 @@ use Rattle.lset_text.specs.Lines.{lines_from, IsFaultlessTo, IsGoodLine, Stands}
 use Rattle.lset_text.specs.Openings.{is_above}
 use Rattle.lset_text.specs.Results.{◌>>=◌}
 use Rattle.lset_text.specs.Texts.{last_of_header, first_line, text_from}
-use Rattle.lset_text.proofs.ReadingLaws.{bind_ok, ok_is}
+use Rattle.lset_text.proofs.ReadingLaws.{bind_ok, ok_is, kept_if, kept_twice}
 use Rattle.lset_text.proofs.HeaderLaws.{header_ok}
 use Rattle.lset_text.proofs.LineLaws.{stops, is_good, line_at}
 use Rattle.lset_text.proofs.TextLaws.{text_refused, text_after, header_good, good_in_text}
@@ -37,16 +37,6 @@ use Rattle.lset_report.specs.ReportReader.{so_far, state, IsFull}
 
 -- ---- the judgement of a line
 
-pub kept_if : {A E : Type 0} (b : Bool) (d : E) (x y : A) → cond b (Ok x) (Err d) ≡ Ok y → (b ≡ true) × (x ≡ y)
-kept_if true d x y e = (refl, ok_is x y e)
-kept_if false d x y e = absurd cc
-
-kept_twice : (a b : Bool) (c d : ReportCause) (l k : Line) → (cond a (Ok l) (Err c) >>= λ m. cond b (Ok m) (Err d)) ≡ Ok k
-    → (l ≡ k) × (a ≡ true) × (b ≡ true)
-kept_twice true true c d l k e = (ok_is l k e, refl, refl)
-kept_twice true false c d l k e = absurd cc
-kept_twice false b c d l k e = absurd cc
-
 -- a good line: there is room for it, and an opening key rises, and a call follows
 abbrev pub IsGood : ReportValue → Line → Type 0
 IsGood r (Opening k) = (length r.history.opening.keys < MOST_OPENING) × (is_above r.history.opening.keys k ≡ true)
@@ -61,12 +51,12 @@ pub judged_ok : (r : ReportValue) (l k : Line) → judged r l ≡ Ok k → (l �
 judged_ok r (Opening n) k e =
     let keys = r.history.opening.keys in
     let kept = kept_twice (ltb (length keys) MOST_OPENING) (is_above keys n) wrong.TooMany wrong.Opening (Opening n) k e in
-    (kept.0, (ltb-true _ _ kept.1, kept.2))
+    (kept.2, (ltb-true _ _ kept.0, kept.1))
 judged_ok r (Call number x) k e =
     let calls = r.history.calls in
     let kept = kept_twice (ltb (length calls) MOST_CALLS) (is_next r number x) wrong.TooMany wrong.History (Call number x) k e in
-    let parts = and_parts (eqb number (length calls)) _ kept.2 in
-    (kept.0, (ltb-true _ _ kept.1, eqb-true _ _ parts.0, parts.1))
+    let parts = and_parts (eqb number (length calls)) _ kept.1 in
+    (kept.2, (ltb-true _ _ kept.0, eqb-true _ _ parts.0, parts.1))
 judged_ok r (Place p) k e =
     let kept = kept_if (ltb (length r.order) MOST_PLACES) wrong.TooMany (Place p) k e in (kept.1, ltb-true _ _ kept.0)
 judged_ok r (Key n) k e =

@@ -1,35 +1,34 @@
 -- The two laws: what is read is the text of the report, and the text of a report is read.
-use Rattle.std.proofs.Common.{◌≡◌, ℕ, ◌+◌, ◌<◌, ◌≤◌, ◌^◌, inl, inr, true, false, cond, List, [], ◌∷◌, ◌++◌, map, length}
+use Rattle.std.proofs.Common.{◌≡◌, ℕ, ◌+◌, ◌<◌, ◌≤◌, ◌^◌, inl, inr, false, cond, List, [], ◌∷◌, ◌++◌, map, length}
 use Rattle.std.proofs.Common.{Option, Some, None, Result, Ok, Err, refl, sym, ap, subst, ◌∙◌, arith, append_assoc, length-append}
 use Rattle.std.specs.Prelude.{IfOk, MatchResult}
 use Rattle.std.specs.List.{AllByRecursion}
-use Rattle.std.specs.List.Sorted.{IsStrictlyIncreasing}
 use Rattle.std.proofs.lemmas.Option.{IfSome_then}
 use Rattle.std.proofs.lemmas.Grind.{flat_map-append}
 use Rattle.std.proofs.lemmas.List.{append-nil, map_push}
-use Rattle.std.proofs.lemmas.List.Elements.{All-append, All-cons, All-nil, recursion_from_All}
 use Rattle.lset_words.specs.declared.Reply.{Reply}
 use Rattle.lset_words.specs.declared.history.CallRecord.{CallRecord}
 use Rattle.lset_words.specs.declared.history.Placed.{Placed}
-use Rattle.lset_words.specs.declared.TheConstants.{MOST_OPENING}
 use Rattle.lset_words.specs.History.{MayFollow, ContinuesHistory, IsHistory}
-use Rattle.lset_words.specs.Words.{Opening, Opens}
+use Rattle.lset_words.specs.Words.{Opens}
+use Rattle.lset_words.proofs.Bounds.{opens_empty}
 use Rattle.lset_text.specs.declared.headers.Header.{Header}
 use Rattle.lset_text.specs.declared.words.Version.{Version}
 use Rattle.lset_text.specs.declared.words.Version.TheVariants.{One, Two}
 use Rattle.lset_text.specs.Parts.{cut_at, ended, text_of, Lacks}
 use Rattle.lset_text.specs.Headers.{IsHeader, header_lines}
-use Rattle.lset_text.specs.Kinds.{line_in, made}
+use Rattle.lset_text.specs.Kinds.{line_in}
 use Rattle.lset_text.specs.Lines.{Leads}
-use Rattle.lset_text.specs.Openings.{opening_line, opening_lines, HasOpening, is_above}
+use Rattle.lset_text.specs.Openings.{opening_line, opening_lines, HasOpening}
 use Rattle.lset_text.specs.Results.{◌>>=◌}
 use Rattle.lset_text.specs.Spellings.{HasCall, HasReply}
 use Rattle.lset_text.specs.Texts.{text_from}
 use Rattle.lset_text.proofs.PartLaws.{Lacks-from_test}
-use Rattle.lset_text.proofs.ReadingLaws.{bind_ok, ok_is}
-use Rattle.lset_text.proofs.OpeningLaws.{rises_more, above_before}
+use Rattle.lset_text.proofs.ReadingLaws.{bind_ok, ok_is, kept_if}
+use Rattle.lset_text.proofs.OpeningLaws.{is_header, has_none, opens_more}
 use Rattle.lset_text.proofs.KindLaws.{made_ok, line_found, line_found_lacks, line_made}
 use Rattle.lset_text.proofs.LineLaws.{leads_on, items_lead}
+use Rattle.lset_text.proofs.SectionLaws.{middle, shorter, push_last, push_before, later_pushed, section_leads, openings_lead}
 use Rattle.lset_text.proofs.TextLaws.{all_both, text_found, text_again, version_again}
 use Rattle.lset_report.specs.declared.reading.lines.Line.{Line}
 use Rattle.lset_report.specs.declared.reading.lines.Line.TheVariants as told
@@ -37,19 +36,18 @@ use Rattle.lset_report.specs.declared.reading.lines.Section.{Section}
 use Rattle.lset_report.specs.declared.reading.lines.Section.TheVariants as section
 use Rattle.lset_report.specs.declared.report.Report.{Report}
 use Rattle.lset_report.specs.declared.report.TheConstants.{MOST_CALLS, MOST_PLACES}
-use Rattle.lset_report.specs.declared.report_fault.ReportCause.{ReportCause}
 use Rattle.lset_report.specs.declared.report_fault.ReportCause.TheVariants as wrong
 use Rattle.lset_report.specs.declared.report_fault.ReportFault.{ReportFault}
 use Rattle.lset_report.specs.Report.{ReportValue, view}
 use Rattle.lset_report.specs.Texts.{title, header_in, call_line, call_lines, place_line, key_line, last_line}
 use Rattle.lset_report.specs.Texts.{report_lines, report_text, HasEnd, HasWordsIn, HasWordsOfVersion}
-use Rattle.lset_report.specs.ReportReading.{IsEnd, IsCall, IsPlace, IsReport, most_keys, causes, kinds, judged, line_after}
-use Rattle.lset_report.specs.ReportReading.{section_after, with_key_opened, with_line, SoFar, with_told, step, ends, is_done, grammar}
+use Rattle.lset_report.specs.ReportReading.{IsEnd, IsCall, IsPlace, IsReport, most_keys, causes, kinds, line_after}
+use Rattle.lset_report.specs.ReportReading.{section_after, with_line, SoFar, with_told, step, ends, is_done, grammar}
 use Rattle.lset_report.specs.ReportReading.{no_lines, nothing_told, text, version_told, report_of, reading, Gives}
 use Rattle.lset_report.proofs.ReportHistories.{history_more, may_again}
-use Rattle.lset_report.proofs.ReportLines.{pieces_of, line_text, IsLine, Reaches, IsNext, kinds_known, IsTold, later, reached, opening_told}
+use Rattle.lset_report.proofs.ReportLines.{pieces_of, line_text, IsLine, Reaches, IsNext, kinds_known, IsTold, reached, opening_told}
 use Rattle.lset_report.proofs.ReportLines.{call_told_so, place_told, key_told, end_told_so, call_comes, place_comes, key_comes}
-use Rattle.lset_report.proofs.ReportLoops.{kept_if, IsGood, judged_good, line_read, report_told}
+use Rattle.lset_report.proofs.ReportLoops.{IsGood, judged_good, line_read, report_told}
 
 calls_pushed : (n : ℕ) (xs : List CallRecord) (x : CallRecord)
     → call_lines n (xs ++ x ∷ []) ≡ call_lines n xs ++ call_line (n + length xs) x ∷ []
@@ -90,13 +88,6 @@ one_call : (f : List (List ℕ)) (cs : List CallRecord) (ps : List Placed) (ks :
     ≡ f ++ call_lines 0 cs ++ map place_line ps ++ map key_line ks ++ call_line (0 + length cs) x ∷ []
 one_call f cs ps ks x p n = rw (p, n, calls_pushed 0 cs x) (simp (append-nil, append_assoc))
 
-one_place : (f : List (List ℕ)) (ps : List Placed) (ks : List ℕ) (p : Placed) → ks ≡ []
-    → f ++ map place_line (ps ++ p ∷ []) ++ map key_line ks ≡ f ++ map place_line ps ++ map key_line ks ++ place_line p ∷ []
-one_place f ps ks p n = rw (n, map_push place_line ps p) (simp (append-nil, append_assoc))
-
-one_key : (f : List (List ℕ)) (ks : List ℕ) (k : ℕ) → f ++ map key_line (ks ++ k ∷ []) ≡ f ++ map key_line ks ++ key_line k ∷ []
-one_key f ks k = rw (map_push key_line ks k) (simp append_assoc)
-
 -- ONE MORE LINE stands after those so far
 more_lines : (r : ReportValue) (l : Line) → Reaches (section_after l) r → IsGood r l
     → lines_at (record { section = section_after l; report = with_line r l }) ≡ to_end r ++ line_text l ∷ []
@@ -105,24 +96,11 @@ more_lines r (told.Opening k) next good =
 more_lines r (told.Call n x) next good =
     let number : 0 + length r.history.calls ≡ n = omega (arith, good.1) in
     one_call (to_calls r) r.history.calls r.order r.keys x next.0 next.1 ∙ ap (λ m. to_end r ++ call_line m x ∷ []) number
-more_lines r (told.Place p) next good = one_place (to_order r) r.order r.keys p next
-more_lines r (told.Key k) next good = one_key (to_keys r) r.keys k
+more_lines r (told.Place p) next good = push_before (to_order r) (map key_line r.keys) place_line r.order p (ap (map key_line) next)
+more_lines r (told.Key k) next good = push_last (to_keys r) key_line r.keys k
 more_lines r told.End next good = refl
 
 -- ---- and the report keeps its limits
-
-opens_more : (o : Opening) (k : ℕ) → Opens o → k < 2 ^ 32 → length o.keys < MOST_OPENING → is_above o.keys k ≡ true
-    → Opens (with_key_opened o k)
-opens_more o k is low room above = record {
-  within = record {
-    some = is.within.some;
-    few = is.within.few;
-    small = is.within.small;
-    opens = omega (arith, length-append o.keys (k ∷ []), room);
-  };
-  rising = rises_more o.keys k is.rising above;
-  low = let P : ℕ → Type 0 = λ j. j < 2 ^ 32 in All-append P o.keys (k ∷ []) is.low (All-cons P k [] low (All-nil P));
-}
 
 is_report : (r : ReportValue) → Opens r.history.opening → HasOpening r.version r.history.opening.keys
     → IsHistory r.history.opening.threads r.history.calls
@@ -201,14 +179,10 @@ one_line s t x holds is =
 same_end : (s t : SoFar) → ends s ≡ Ok t → s ≡ t
 same_end s t is = (kept_if (is_done s.section) wrong.NotEnded s t is).1
 
-opens_empty : (v : Version) → HasOpening v []
-opens_empty One = refl
-opens_empty Two = tt
-
 empty_report : (v : Version) (h : Header) → IsHeader h → IsReport (no_lines v h)
 empty_report v h is = record {
-  opens = record { within = is; rising = λ k below. absurd (omega (arith, below)); low = All-nil (λ (k : ℕ). k < 2 ^ 32) };
-  opening = opens_empty v;
+  opens = opens_empty h.threads h.quota is;
+  opening = has_none v;
   history = tt;
   calls = tt;
   places = tt;
@@ -249,21 +223,9 @@ step_again s l is good =
     let v = s.report.version in
     let r = no_lines v (header_in s.report) in
     let known = kinds_known v s.section r (none_reached s.section v (header_in s.report)) in
-    let read = line_made v causes pieces_of (IsNext v r) (kinds v s.section) l known is in
-    ap (λ (x : Result Line ReportCause). made (with_told s) (x >>= judged s.report)) read
-    ∙ ap (made (with_told s)) (judged_good s.report l good)
+    rw (line_made v causes pieces_of (IsNext v r) (kinds v s.section) l known is, judged_good s.report l good) refl
 
--- ---- an item of a list
-
-at_seam : {X : Type 0} (P : X → Type 0) (front more : List X) (x : X) → AllByRecursion P (front ++ x ∷ more) → P x
-at_seam P [] more x all = all.0
-at_seam P (y ∷ ys) more x all = at_seam P ys more x all.1
-
-middle : {X : Type 0} (P : X → Type 0) (front more xs : List X) (x : X) → front ++ x ∷ more ≡ xs → AllByRecursion P xs → P x
-middle P front more xs x is all = at_seam P front more x (subst (AllByRecursion P) (sym is) all)
-
-shorter : {X : Type 0} (front more xs : List X) (x : X) → front ++ x ∷ more ≡ xs → length front < length xs
-shorter front more xs x is = let long = ap length is in omega (arith, long, length-append front (x ∷ more))
+-- ---- the lines of each section lead on
 
 follows : (threads : ℕ) (earlier front more : List CallRecord) (x : CallRecord)
     → ContinuesHistory threads earlier (front ++ x ∷ more) → MayFollow threads (earlier ++ front) x
@@ -272,12 +234,6 @@ follows threads earlier [] more x history =
 follows threads earlier (y ∷ ys) more x history =
     subst (λ (zs : List CallRecord). MayFollow threads zs x) (append_assoc earlier (y ∷ []) ys)
     (follows threads (earlier ++ y ∷ []) ys more x history.1)
-
--- ---- the lines of each section lead on
-
-later_pushed : {X : Type 0} (xs : List X) (x : X) (s t : Section) → t ≡ later (xs ++ x ∷ []) s t
-later_pushed [] x s t = refl
-later_pushed (y ∷ ys) x s t = refl
 
 abbrev at : Version → Header → List ℕ → List CallRecord → List Placed → List ℕ → SoFar
 at v h os cs ps ks = record {
@@ -291,15 +247,12 @@ at v h os cs ps ks = record {
   };
 }
 
-openings_lead : (v : Version) (h : Header) (os : List ℕ) → HasOpening v os → IsStrictlyIncreasing os → length os ≤ MOST_OPENING
-    → AllByRecursion (λ k. k < 2 ^ 32) os → Leads grammar (at v h [] [] [] []) (opening_lines os) (at v h os [] [] [])
-openings_lead One h os has rising long low =
-    subst (λ (ks : List ℕ). Leads grammar (at One h [] [] [] []) (opening_lines ks) (at One h ks [] [] [])) (sym has) refl
-openings_lead Two h os has rising long low =
-    items_lead grammar (λ (ks : List ℕ). at Two h ks [] [] []) (λ n ks. opening_lines ks) (λ n k. opening_line k) (λ n. refl)
-    (λ n k ks. refl) [] os (λ front more k is.
-    step_again (at Two h front [] [] []) (told.Opening k) (opening_told k (middle (λ n. n < 2 ^ 32) front more os k is low))
-    (omega (arith, shorter front more os k is, long), above_before front k more (subst IsStrictlyIncreasing (sym is) rising)))
+opening_step : (v : Version) (h : Header) (front : List ℕ) (k : ℕ) → v ≡ Two → k < 2 ^ 32
+    → IsGood (at v h front [] [] []).report (told.Opening k)
+    → step (at v h front [] [] []) (opening_line k) ≡ Ok (at v h (front ++ k ∷ []) [] [] [])
+opening_step v h front k two low good =
+    step_again (at v h front [] [] []) (told.Opening k)
+    (subst (λ (w : Version). IsTold w (kinds w section.Opening) (told.Opening k)) (sym two) (opening_told k low)) good
 
 calls_lead : (v : Version) (h : Header) (os : List ℕ) (cs : List CallRecord) → h.threads ≤ 64 → length cs ≤ MOST_CALLS
     → IsHistory h.threads cs → AllByRecursion (IsCall v) cs
@@ -320,34 +273,23 @@ calls_lead v h os cs few long history are =
 
 places_lead : (v : Version) (h : Header) (os : List ℕ) (cs : List CallRecord) (ps : List Placed) → length ps ≤ MOST_PLACES
     → AllByRecursion (IsPlace v) ps → Leads grammar (at v h os cs [] []) (map place_line ps) (at v h os cs ps [])
-places_lead v h os cs ps long are =
-    items_lead grammar (λ (xs : List Placed). at v h os cs xs []) (λ n xs. map place_line xs) (λ n p. place_line p) (λ n. refl)
-    (λ n p xs. refl) [] ps (λ front more p is.
-    step_again (at v h os cs front []) (told.Place p) (place_comes v cs front (told.Place p) (refl, refl, refl)
-    (place_told v p (middle (IsPlace v) front more ps p is are)))
-    (omega (arith, shorter front more ps p is, long))
+places_lead v h os cs ps few are =
+    section_leads grammar (λ (xs : List Placed). at v h os cs xs []) place_line (IsPlace v) MOST_PLACES ps few are
+    (λ front more p is room place.
+    step_again (at v h os cs front []) (told.Place p) (place_comes v cs front (told.Place p) (refl, refl, refl) (place_told v p place)) room
     ∙ ap (λ (s : Section). Ok (record { section = s; report = (at v h os cs (front ++ p ∷ []) []).report }))
     (later_pushed front p (reached cs [] []) section.Order))
 
 keys_lead : (v : Version) (h : Header) (os : List ℕ) (cs : List CallRecord) (ps : List Placed) (ks : List ℕ)
     → length ks ≤ most_keys v → AllByRecursion (λ k. k < 2 ^ 32) ks
     → Leads grammar (at v h os cs ps []) (map key_line ks) (at v h os cs ps ks)
-keys_lead v h os cs ps ks long are =
-    items_lead grammar (λ (xs : List ℕ). at v h os cs ps xs) (λ n xs. map key_line xs) (λ n k. key_line k) (λ n. refl)
-    (λ n k xs. refl) [] ks (λ front more k is.
-    step_again (at v h os cs ps front) (told.Key k) (key_comes v cs ps front (told.Key k) (refl, refl, refl) refl
-    (key_told v k (middle (λ n. n < 2 ^ 32) front more ks k is are)))
-    (omega (arith, shorter front more ks k is, long))
+keys_lead v h os cs ps ks few are =
+    section_leads grammar (at v h os cs ps) key_line (λ k. k < 2 ^ 32) (most_keys v) ks few are (λ front more k is room low.
+    step_again (at v h os cs ps front) (told.Key k) (key_comes v cs ps front (told.Key k) (refl, refl, refl) refl (key_told v k low)) room
     ∙ ap (λ (s : Section). Ok (record { section = s; report = (at v h os cs ps (front ++ k ∷ [])).report }))
     (later_pushed front k (reached cs ps []) section.Keys))
 
 -- ---- the whole
-
-header_is : (r : ReportValue) → Opens r.history.opening → IsHeader (header_in r)
-header_is r is = record { some = is.within.some; few = is.within.few; small = is.within.small; opens = omega arith }
-
-opening_keys : (r : ReportValue) → Opens r.history.opening → AllByRecursion (λ k. k < 2 ^ 32) r.history.opening.keys
-opening_keys r is = recursion_from_All (λ k. k < 2 ^ 32) r.history.opening.keys is.low
 
 -- the lines after the header
 abbrev body : ReportValue → List (List ℕ)
@@ -365,6 +307,8 @@ body_leads r is =
     let cs = r.history.calls in
     let ps = r.order in
     let ks = r.keys in
+    let opened = openings_lead grammar (λ (xs : List ℕ). at v h xs [] [] []) v r.history.opening is.opens is.opening
+    (λ front k two room low above. opening_step v h front k two low (room, above)) in
     let end = step_again (at v h os cs ps ks) told.End (key_comes v cs ps ks told.End (refl, refl, refl) refl (end_told_so v)) tt in
     let keys = leads_on grammar (at v h os cs ps []) (at v h os cs ps ks) (all_told r) (map key_line ks) (last_line ∷ [])
     (keys_lead v h os cs ps ks is.few_keys is.keys) (all_told r, end, refl) in
@@ -375,7 +319,7 @@ body_leads r is =
     (calls_lead v h os cs is.opens.within.few is.few_calls is.history is.calls) places in
     leads_on grammar (at v h [] [] [] []) (at v h os [] [] []) (all_told r) (opening_lines os)
     (call_lines 0 cs ++ (map place_line ps ++ (map key_line ks ++ last_line ∷ [])))
-    (openings_lead v h os is.opening is.opens.rising is.opens.within.opens (opening_keys r is.opens)) calls
+    opened calls
 
 title_lacks : (v : Version) → Lacks 10 (title v)
 title_lacks One = Lacks-from_test 10 (title One) refl
@@ -386,7 +330,7 @@ pub reads_text : (r : ReportValue) → IsReport r → reading (report_text r) �
 reads_text r is =
     let v = r.version in
     let h = header_in r in
-    let head = header_is r is.opens in
+    let head = is_header h r.history.opening.keys is.opens in
     let again = text_again (text v) IsSoFar (λ s t x holds e. let m = one_line s t x holds e in (m.0, m.2)) h (body r) (all_told r)
     (title_lacks v) head (starts v h head).0 (body_leads r is) refl in
     let parts : List (List ℕ) = header_lines (title v) h ++ (body r ++ [] ∷ []) in

@@ -1,15 +1,14 @@
 -- What comes after a header is read from its lines, and from nothing else: once for every text with lines of events.
 use Rattle.std.proofs.Common.{◌≡◌, ℕ, ◌+◌, ◌<◌, ◌≤◌, ◌^◌, inl, inr, Bool, true, false, cond, ltb, List, [], ◌∷◌, ◌++◌, map, length}
-use Rattle.std.proofs.Common.{Result, Ok, Err, refl, sym, ap, subst, ◌∙◌, arith, append_assoc, length-append, codes}
+use Rattle.std.proofs.Common.{Result, Ok, Err, refl, sym, ap, subst, ◌∙◌, arith, append_assoc, codes}
 use Rattle.std.specs.Fmt.{decimal}
 use Rattle.std.specs.List.{sum_by, AllByRecursion}
-use Rattle.std.specs.List.Sorted.{IsStrictlyIncreasing}
 use Rattle.std.proofs.lemmas.Bool.{lt-ltb, le-ltb, ltb-true, ltb-false}
 use Rattle.std.proofs.lemmas.List.{append-nil, map_push}
-use Rattle.std.proofs.lemmas.List.Elements.{All-append, All-cons, All-nil, recursion_from_All}
 use Rattle.std.proofs.lemmas.List.Sums.{sum_by-cons, sum_by-append}
 use Rattle.lset_words.specs.declared.TheConstants.{MOST_OPENING}
 use Rattle.lset_words.specs.Words.{Opens}
+use Rattle.lset_words.proofs.Bounds.{opens_empty}
 use Rattle.lset_text.specs.declared.headers.Header.{Header}
 use Rattle.lset_text.specs.declared.words.Version.{Version}
 use Rattle.lset_text.specs.declared.words.Version.TheVariants.{One, Two}
@@ -20,24 +19,17 @@ use Rattle.lset_text.specs.Lines.{Leads}
 use Rattle.lset_text.specs.Headers.{header_lines, IsHeader}
 use Rattle.lset_text.specs.Openings.{opening_form, opening_line, opening_lines, is_above, HasOpening}
 use Rattle.lset_text.proofs.ReadingLaws.{bind_ok, ok_is}
-use Rattle.lset_text.proofs.OpeningLaws.{rises_more, above_before}
+use Rattle.lset_text.proofs.OpeningLaws.{is_header, has_none, opens_more}
 use Rattle.lset_text.proofs.KindLaws.{Knows, IsMade, line_found, line_found_lacks, line_made, first_as, knows_as, made_as}
 use Rattle.lset_text.proofs.LineLaws.{leads_on, items_lead}
-use Rattle.lset_text.proofs.TextLaws.{text_found, text_again}
+use Rattle.lset_text.proofs.SectionLaws.{middle, openings_lead}
+use Rattle.lset_text.proofs.TextLaws.{all_both, text_found, text_again}
 use Rattle.lset_schedule.specs.declared.TheConstants.{MOST_EVENTS}
 use Rattle.lset_schedule.specs.declared.fault.Cause.{Cause}
 use Rattle.lset_schedule.specs.declared.fault.Cause.TheVariants.{TooMany, Opening}
 use Rattle.lset_text.specs.Texts.{text_from}
 use Rattle.lset_schedule.specs.ScheduleReading.{causes, EventLines, BodyValue, no_lines, Item, opens, event}
 use Rattle.lset_schedule.specs.ScheduleReading.{opening_kind, kinds_after, with_item, with_line, grammar, texts}
-
-all_push : {X : Type 0} (P : X → Type 0) (xs : List X) (x : X) → AllByRecursion P xs → P x → AllByRecursion P (xs ++ x ∷ [])
-all_push P [] x all one = (one, tt)
-all_push P (y ∷ ys) x all one = (all.0, all_push P ys x all.1 one)
-
-all_there : {X : Type 0} (P : X → Type 0) (xs more : List X) (x : X) → AllByRecursion P (xs ++ x ∷ more) → P x
-all_there P [] more x all = all.0
-all_there P (y ∷ ys) more x all = all_there P ys more x all.1
 
 -- ---- what one line adds
 
@@ -131,17 +123,8 @@ module _ {L : Type 0} (text : EventLines L) (v : Version) (title : List ℕ) (pi
       let lines = ap (λ (ls : List (List ℕ)). head ++ ls) after ∙ sym (append_assoc head (body_lines s) (opening_line k ∷ [])) in
       subst (Adds s (opening_line k)) room.2 (
         record {
-          opens = record {
-            within = record {
-              some = has.opens.within.some;
-              few = has.opens.within.few;
-              small = has.opens.within.small;
-              opens = omega (arith, ltb-true _ _ room.0, length-append s.keys (k ∷ []));
-            };
-            rising = rises_more s.keys k has.opens.rising room.1;
-            low = All-append (λ (n : ℕ). n < 2 ^ 32) s.keys (k ∷ []) has.opens.low
-                (All-cons (λ (n : ℕ). n < 2 ^ 32) k [] is.0 (All-nil (λ (n : ℕ). n < 2 ^ 32)));
-          };
+          opens = opens_more (record { threads = s.header.threads; quota = s.header.quota; keys = s.keys }) k has.opens is.0
+              (ltb-true _ _ room.0) room.1;
           opening = subst (λ w. HasOpening w (s.keys ++ k ∷ [])) (sym is.1) tt;
           lines = has.lines;
           few = has.few;
@@ -166,7 +149,7 @@ module _ {L : Type 0} (text : EventLines L) (v : Version) (title : List ℕ) (pi
         record {
           opens = has.opens;
           opening = has.opening;
-          lines = all_push Good s.lines l has.lines good;
+          lines = all_both Good s.lines (l ∷ []) has.lines (good, tt);
           few = omega (arith, sum, last, ltb-false _ _ room.0);
         },
         lines,
@@ -205,7 +188,7 @@ module _ {L : Type 0} (text : EventLines L) (v : Version) (title : List ℕ) (pi
   events_lead s ls are few =
       items_lead (grammar text v) (λ xs. record s { lines = xs }) (λ n. map line_text) (λ n. line_text) (λ n. refl)
       (λ n x xs. refl) [] ls
-      (λ front more l is. event_step (record s { lines = front }) l (all_there Good front more l (subst (AllByRecursion Good) (sym is) are))
+      (λ front more l is. event_step (record s { lines = front }) l (middle Good front more ls l is are)
       (omega (arith, few, ap (sum_by text.count) is, sum_by-append text.count front (l ∷ more), sum_by-cons text.count l more)))
 
   abbrev of_keys : Header → List ℕ → BodyValue L
@@ -221,40 +204,22 @@ module _ {L : Type 0} (text : EventLines L) (v : Version) (title : List ℕ) (pi
       let first : kinds_after text v [] ≡ kinds = ap (λ w. kinds_after text w []) two in
       rw (first, told, lt-ltb (length ks) MOST_OPENING few, above) refl
 
-  keys_lead : (w : Version) (t : BodyValue L) → w ≡ v → HasOpening w t.keys → HasText text v Good t
-      → Leads (grammar text v) (no_lines t.header) (opening_lines t.keys) (of_keys t.header t.keys)
-  keys_lead One t is none has =
-      subst (λ (ks : List ℕ). Leads (grammar text v) (no_lines t.header) (opening_lines ks) (of_keys t.header ks)) (sym none) refl
-  keys_lead Two t is some has =
-      let low = recursion_from_All (λ (k : ℕ). k < 2 ^ 32) t.keys has.opens.low in
-      items_lead (grammar text v) (of_keys t.header) (λ n. opening_lines) (λ n. opening_line) (λ n. refl) (λ n k ks. refl) [] t.keys
-      (λ front more k same. key_step t.header front k (sym is)
-      (all_there (λ (n : ℕ). n < 2 ^ 32) front more k (subst (AllByRecursion (λ (n : ℕ). n < 2 ^ 32)) (sym same) low))
-      (omega (arith, has.opens.within.opens, ap (λ (ks : List ℕ). length ks) same, length-append front (k ∷ more)))
-      (above_before front k more (subst IsStrictlyIncreasing (sym same) has.opens.rising)))
-
   body_leads : (t : BodyValue L) → HasText text v Good t → Leads (grammar text v) (no_lines t.header) (body_lines t) t
   body_leads t has =
       leads_on (grammar text v) (no_lines t.header) (of_keys t.header t.keys) t (opening_lines t.keys) (map line_text t.lines)
-      (keys_lead v t refl has.opening has) (events_lead t t.lines has.lines has.few)
+      (openings_lead (grammar text v) (of_keys t.header) v (record { threads = t.header.threads; quota = t.header.quota; keys = t.keys })
+      has.opens has.opening (λ front k two room low above. key_step t.header front k two low room above))
+      (events_lead t t.lines has.lines has.few)
 
   -- ---- the whole
 
   starts : (h : Header) → IsHeader h → HasText text v Good (no_lines h)
   starts h is = record {
-    opens = record {
-      within = record { some = is.some; few = is.few; small = is.small; opens = omega arith };
-      rising = λ k l. absurd (omega arith);
-      low = All-nil (λ (k : ℕ). k < 2 ^ 32);
-    };
-    opening = none v;
+    opens = opens_empty h.threads h.quota is;
+    opening = has_none v;
     lines = tt;
     few = omega arith;
   }
-    where
-      none : (w : Version) → HasOpening w []
-      none One = refl
-      none Two = tt
 
   -- WHAT IS READ is a text
   pub body_found : (bytes : List ℕ) (t : BodyValue L) → text_from (texts text v title) (cut_at 10 bytes) ≡ Ok t
@@ -269,8 +234,7 @@ module _ {L : Type 0} (text : EventLines L) (v : Version) (title : List ℕ) (pi
       → (cut_at 10 (text_of (text_lines t)) ≡ header_lines title t.header ++ (body_lines t ++ [] ∷ []))
       × (text_from (texts text v title) (header_lines title t.header ++ (body_lines t ++ [] ∷ [])) ≡ Ok t)
   body_again t free has =
-      let opens = has.opens.within in
-      let fits : IsHeader t.header = record { some = opens.some; few = opens.few; small = opens.small; opens = omega arith } in
+      let fits = is_header t.header t.keys has.opens in
       text_again (texts text v title) (HasText text v Good)
       (λ s u x p e. let added = line_adds s u x p e in (added.0.0, added.1)) t.header (body_lines t) t free fits
       (starts t.header fits) (body_leads t has) refl

@@ -1,30 +1,24 @@
 -- Reading what comes after a header line by line, as the loop does: which line an error is in, and that a failed allocation is none.
 use Rattle.std.proofs.Common.{◌≡◌, ℕ, ◌+◌, inl, inr, Bool, true, false, cond, ltb, List, [], ◌∷◌, length}
-use Rattle.std.proofs.Common.{Option, Some, None, Result, Ok, Err, refl, ap, ◌∙◌, arith, codes}
-use Rattle.std.specs.Prelude.{◌≢◌, IfErr, MatchOption}
+use Rattle.std.proofs.Common.{Option, Some, None, Result, Err, refl, codes}
+use Rattle.std.specs.Prelude.{MatchOption}
 use Rattle.std.specs.List.{sum_by}
 use Rattle.lset_words.specs.declared.TheConstants.{MOST_OPENING}
-use Rattle.lset_text.specs.declared.headers.Header.{Header}
 use Rattle.lset_text.specs.declared.words.Version.{Version}
 use Rattle.lset_text.specs.declared.words.Version.TheVariants.{One, Two}
 use Rattle.lset_text.specs.Parts.{cut_at}
 use Rattle.lset_text.specs.Numbers.{number_in, max_number}
 use Rattle.lset_text.specs.Forms.{have_form, both}
 use Rattle.lset_text.specs.Kinds.{made, line_in}
-use Rattle.lset_text.specs.Lines.{lines_from, IsGoodLine, Stands}
 use Rattle.lset_text.specs.Results.{or_fail}
-use Rattle.lset_text.specs.Headers.{header_of}
 use Rattle.lset_text.specs.Openings.{opening_form, is_above}
 use Rattle.lset_text.proofs.KindLaws.{IsOneOf, first_fails, first_as}
-use Rattle.lset_text.proofs.LineLaws.{bind_err, stops, is_good}
+use Rattle.lset_text.proofs.LineLaws.{bind_err}
 use Rattle.lset_schedule.specs.declared.TheConstants.{MOST_EVENTS}
 use Rattle.lset_schedule.specs.declared.fault.Cause.{Cause}
 use Rattle.lset_schedule.specs.declared.fault.Cause.TheVariants.{Number, Memory}
-use Rattle.lset_schedule.specs.declared.fault.ScheduleFault.{ScheduleFault}
-use Rattle.lset_text.specs.Texts.{first_line, text_from}
-use Rattle.lset_text.proofs.TextLaws.{good_in_text}
-use Rattle.lset_schedule.specs.ScheduleReading.{fault, causes, EventLines, BodyValue, no_lines, Item, opens, event}
-use Rattle.lset_schedule.specs.ScheduleReading.{kinds_after, with_item, with_line, grammar, texts, IsGoodAfterHeader, Takes}
+use Rattle.lset_schedule.specs.ScheduleReading.{causes, EventLines, BodyValue, Item, opens, event}
+use Rattle.lset_schedule.specs.ScheduleReading.{kinds_after, with_item, with_line}
 
 -- ---- a line that may be one of an opening key
 
@@ -65,36 +59,9 @@ no_cause : IsOneOf causes Memory → ⊥
 no_cause (inl is) = cc
 no_cause (inr is) = cc
 
-never_memory : {L : Type 0} (text : EventLines L) (v : Version) (s : BodyValue L) (x : List ℕ) → with_line text v s x ≡ Err Memory → ⊥
+pub never_memory : {L : Type 0} (text : EventLines L) (v : Version) (s : BodyValue L) (x : List ℕ) → with_line text v s x ≡ Err Memory → ⊥
 never_memory text v s x is =
     elim (bind_err (line_in v causes (kinds_after text v s.lines) x) (with_item text s) Memory is) [
       | inl bad ↦ no_cause (first_fails v causes (kinds_after text v s.lines) (cut_at 32 x) Memory bad)
       | inr bad ↦ item_fails text s bad.0 bad.2
     ]
-
--- ---- a line that is not taken
-
-module _ {L : Type 0} (text : EventLines L) (v : Version) (whole : List ℕ) (read : Result (BodyValue L) ScheduleFault) (number : ℕ)
-    (s t : BodyValue L) (rest x after : List ℕ) (parts : cut_at 10 rest ≡ x ∷ cut_at 10 after)
-    (stands : Stands (grammar text v) first_line whole read number s rest) where
-  pub refused : (cause : Cause) → Takes {X = Unit {0}} (with_line text v s x) t (Err cause) → cause ≢ Memory → read ≡ Err (fault number cause)
-  refused cause (inl is) other = stops (grammar text v) first_line whole read number s cause rest x after parts is stands
-  refused cause (inr none) other = absurd (other none.0)
-
-  pub out_of_memory : (cause : Cause) → Takes {X = Unit {0}} (with_line text v s x) t (Err cause) → cause ≡ Memory
-      → IsGoodLine (λ e. e.line) first_line (cut_at 10 whole) read number
-  out_of_memory cause (inl is) memory =
-      absurd (never_memory text v s x (is ∙ ap (λ (c : Cause). Err c) memory))
-  out_of_memory cause (inr none) memory =
-      is_good (grammar text v) (λ e. e.line) (λ line c. refl) first_line whole read number s none.1 rest x after parts none.2 stands
-
--- a good line of what comes after the header is one of the text
-pub good_after_header : {L X : Type 0} (text : EventLines L) (v : Version) (title bytes rest : List ℕ) (h : Header)
-    (r : Result X ScheduleFault) → header_of title (cut_at 10 bytes) ≡ Ok (h, cut_at 10 rest)
-    → IfErr r (λ e. e.cause ≡ Memory → IsGoodLine (λ f. f.line) first_line (cut_at 10 rest)
-    (lines_from (grammar text v) first_line (no_lines h) (cut_at 10 rest)) e.line)
-    → IfErr r (λ e. e.cause ≡ Memory → IsGoodAfterHeader bytes (text_from (texts text v title) (cut_at 10 bytes)) e.line)
-good_after_header text v title bytes rest h (Ok x) is good = tt
-good_after_header text v title bytes rest h (Err e) is good = λ memory.
-    let m = good memory in
-    (omega (arith, m.0), good_in_text (texts text v title) (λ f. f.line) bytes rest h e.line is m)

@@ -7,4 +7,5 @@ pub mod KindLaws
 pub mod LineLaws
 pub mod HeaderLaws
 pub mod OpeningLaws
+pub mod SectionLaws
 pub mod TextLaws

@@ -122,6 +122,23 @@ is_good {S} {C} {E} g number is_number first text read line s t rest x after par
           (faultless_from g number is_number line (line + 1) t (cut_at 10 after) (omega arith)),
     )
 
+-- a line that is not taken, since it has a fault or memory ran out
+module _ {S C E : Type 0} (g : Grammar S C E) (memory : C) (first : ℕ) (text : List ℕ) (read : Result S E) (line : ℕ) (s : S)
+    (rest x after : List ℕ) (parts : cut_at 10 rest ≡ x ∷ cut_at 10 after) (stands : Stands g first text read line s rest)
+    (cause : C) where
+  abbrev IsNotTaken : Type 0
+  IsNotTaken = (g.step s x ≡ Err cause) ⊎ ((cause ≡ memory) × (t : S) × (g.step s x ≡ Ok t))
+
+  pub refused : IsNotTaken → (cause ≡ memory → ⊥) → read ≡ Err (g.at line cause)
+  refused (inl is) other = stops g first text read line s cause rest x after parts is stands
+  refused (inr none) other = absurd (other none.0)
+
+  pub ran_out : (number : E → ℕ) → IsNumber g number → (g.step s x ≡ Err memory → ⊥) → IsNotTaken → cause ≡ memory
+      → IsGoodLine number first (cut_at 10 text) read line
+  ran_out number is_number never (inl is) same = absurd (never (is ∙ ap (λ (c : C). Err c) same))
+  ran_out number is_number never (inr none) same =
+      is_good g number is_number first text read line s none.1 rest x after parts none.2 stands
+
 -- the part of the text that it is
 pub line_at : {S C E : Type 0} (g : Grammar S C E) (first : ℕ) (text : List ℕ) (read : Result S E) (line : ℕ) (s : S)
     (rest x after : List ℕ) → cut_at 10 rest ≡ x ∷ cut_at 10 after → (stands : Stands g first text read line s rest)

@@ -14,7 +14,7 @@ use Rattle.std.proofs.lemmas.Str.Parse.{IsNumeralModel, numerals_by_value, tells
 use Rattle.std.proofs.lemmas.Fmt.{decimal-digits_value, digits_decimal, digits_value-decimal, decimal_nonempty}
 use Rattle.std.proofs.lemmas.Fmt.{first_decimal, decimal_digit}
 use Rattle.lset_text.specs.Parts.{Lacks}
-use Rattle.lset_text.specs.Numbers.{is_number, is_between, number_in}
+use Rattle.lset_text.specs.Numbers.{is_number, is_between, number_in, max_number}
 
 own : IsNumeralModel (λ ds. all_ascii_digits ds ≡ true) (digits_value 10)
 own = numerals_by_value _ tells_all_ascii_digits
@@ -114,3 +114,11 @@ decimal_lacks byte n low small =
     All-from_get_or (λ b. eqb b byte ≡ false) (decimal n) 0 (λ i lt.
     let range = digit_at (decimal n) i (own.to (decimal n) (digits_decimal own n small)) lt in
     ne_eqb (get_or (decimal n) i 0) byte (λ e. absurd (omega (arith, range.0, e))))
+
+-- ---- as pieces of a line
+
+pub any_fits : (n : ℕ) → n < 2 ^ 32 → (0 ≤ n) × (n ≤ max_number)
+any_fits n low = (omega arith, omega (arith, low))
+
+pub moment_fits : (n : ℕ) → 0 < n → n < 2 ^ 32 → (1 ≤ n) × (n ≤ max_number)
+moment_fits n some low = (omega (arith, some), omega (arith, low))

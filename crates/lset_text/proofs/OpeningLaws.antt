@@ -1,12 +1,19 @@
 -- Lines of opening keys, and keys that rise strictly.
-use Rattle.std.proofs.Common.{◌≡◌, ℕ, zero, suc, ◌+◌, ◌-◌, ◌<◌, ◌⊎◌, inl, inr, true, List, [], ◌∷◌, ◌++◌, length, length-append, get_or}
+use Rattle.std.proofs.Common.{◌≡◌, ℕ, zero, suc, ◌+◌, ◌-◌, ◌<◌, ◌^◌, ◌⊎◌, inl, inr, true, List, [], ◌∷◌, ◌++◌, length, length-append, get_or}
 use Rattle.std.proofs.Common.{refl, sym, ap, subst, ◌∙◌, arith}
 use Rattle.std.specs.Prelude.{nat_lt}
 use Rattle.std.specs.List.Sorted.{IsStrictlyIncreasing}
 use Rattle.std.proofs.lemmas.Bool.{ltb-true, lt-ltb}
 use Rattle.std.proofs.lemmas.List.{get_or_push, get_or_append_left, length_push}
+use Rattle.std.proofs.lemmas.List.Elements.{All-push}
 use Rattle.std.proofs.lemmas.Option.{slice_get-get_or}
-use Rattle.lset_text.specs.Openings.{above_last, is_above}
+use Rattle.lset_words.specs.declared.TheConstants.{MOST_OPENING}
+use Rattle.lset_words.specs.Words.{Opening, Opens}
+use Rattle.lset_text.specs.declared.headers.Header.{Header}
+use Rattle.lset_text.specs.declared.words.Version.{Version}
+use Rattle.lset_text.specs.declared.words.Version.TheVariants.{One, Two}
+use Rattle.lset_text.specs.Headers.{IsHeader}
+use Rattle.lset_text.specs.Openings.{above_last, is_above, HasOpening}
 
 -- a key above the last of keys that rise goes on with them
 some_last : (keys : List ℕ) (key : ℕ) → 0 < length keys → is_above keys key ≡ nat_lt (get_or keys (length keys - 1) 0) key
@@ -53,3 +60,26 @@ above_before (x ∷ xs) key more rising =
 
     longer : (xs : List ℕ) (y : ℕ) (ys : List ℕ) (n : ℕ) → n + 1 ≡ length xs → n + 1 < length (xs ++ y ∷ ys)
     longer xs y ys n e = grind (arith, length-append xs (y ∷ ys))
+
+-- ---- a set that opens with them
+
+-- its numbers are those of a header
+pub is_header : (h : Header) (keys : List ℕ) → Opens (record { threads = h.threads; quota = h.quota; keys = keys }) → IsHeader h
+is_header h keys is = record { some = is.within.some; few = is.within.few; small = is.within.small; opens = omega arith }
+
+pub has_none : (v : Version) → HasOpening v []
+has_none One = refl
+has_none Two = tt
+
+pub opens_more : (o : Opening) (k : ℕ) → Opens o → k < 2 ^ 32 → length o.keys < MOST_OPENING → is_above o.keys k ≡ true
+    → Opens (record o { keys = o.keys ++ k ∷ [] })
+opens_more o k is low room above = record {
+  within = record {
+    some = is.within.some;
+    few = is.within.few;
+    small = is.within.small;
+    opens = omega (arith, length_push o.keys k, room);
+  };
+  rising = rises_more o.keys k is.rising above;
+  low = All-push (λ (j : ℕ). j < 2 ^ 32) o.keys k is.low low;
+}

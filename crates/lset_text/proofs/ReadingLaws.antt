@@ -22,6 +22,17 @@ done x = Ok x
 pub ok_is : {A E : Type 0} (x y : A) → done {A = A} {E = E} x ≡ done y → x ≡ y
 ok_is x y e = cc
 
+-- a value that is kept if it passes a test, or two
+pub kept_if : {A E : Type 0} (b : Bool) (d : E) (x y : A) → cond b (Ok x) (Err d) ≡ Ok y → (b ≡ true) × (x ≡ y)
+kept_if true d x y e = (refl, ok_is x y e)
+kept_if false d x y e = absurd cc
+
+pub kept_twice : {A E : Type 0} (a b : Bool) (c d : E) (x y : A) → (cond a (Ok x) (Err c) >>= λ z. cond b (Ok z) (Err d)) ≡ Ok y
+    → (a ≡ true) × (b ≡ true) × (x ≡ y)
+kept_twice true true c d x y e = (refl, refl, ok_is x y e)
+kept_twice true false c d x y e = absurd cc
+kept_twice false b c d x y e = absurd cc
+
 pub map_fault_ok : {A E D : Type 0} (f : E → D) (r : Result A E) (x : A) → map_fault f r ≡ Ok x → r ≡ Ok x
 map_fault_ok f (Ok y) x e = cc
 map_fault_ok f (Err d) x e = absurd cc

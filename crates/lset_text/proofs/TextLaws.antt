@@ -1,5 +1,6 @@
 -- Whole texts: what is read stands there, and what stands there is read; once for every text.
-use Rattle.std.proofs.Common.{◌≡◌, ℕ, false, List, [], ◌∷◌, ◌++◌, length, Ok, Err, refl, sym, ap, ◌∙◌, subst, append_assoc, arith}
+use Rattle.std.proofs.Common.{◌≡◌, ℕ, ◌<◌, false, List, [], ◌∷◌, ◌++◌, length, Result, Ok, Err, refl, sym, ap, ◌∙◌, subst, append_assoc, arith}
+use Rattle.std.specs.Prelude.{IfErr}
 use Rattle.std.specs.List.{AllByRecursion}
 use Rattle.std.specs.Str.{bytes_eq}
 use Rattle.std.proofs.lemmas.Slice.Eq.{bytes_eq-Decides}
@@ -53,6 +54,17 @@ good_in_text g number bytes rest h line is good =
       omega (arith, long, good.1),
       subst (IsFaultlessTo number line) (sym (text_after g (cut_at 10 bytes) (cut_at 10 rest) h is)) good.2,
     )
+
+-- so where a reader of what comes after the header ran out of memory
+pub good_after : {S C E X : Type 0} (g : TextGrammar S C E) (number : E → ℕ) (M : E → Type 0) (bytes rest : List ℕ) (h : Header)
+    (r : Result X E) → header_of g.title (cut_at 10 bytes) ≡ Ok (h, cut_at 10 rest)
+    → IfErr r (λ e. M e → IsGoodLine number first_line (cut_at 10 rest)
+    (lines_from g.lines first_line (g.start h) (cut_at 10 rest)) (number e))
+    → IfErr r (λ e. M e → (last_of_header < number e)
+    × IsGoodLine number 1 (cut_at 10 bytes) (text_from g (cut_at 10 bytes)) (number e))
+good_after g number M bytes rest h (Ok x) is good = tt
+good_after g number M bytes rest h (Err e) is good = λ m.
+    let line = good m in (omega (arith, line.0), good_in_text g number bytes rest h (number e) is line)
 
 -- ---- BOTH WAYS
 

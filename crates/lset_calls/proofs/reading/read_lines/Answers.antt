@@ -1,9 +1,10 @@
 use Rattle.std.proofs.Common.{sym, refl, ◌∙◌}
 use Rattle.std.proofs.lemmas.Bool.{eqb-true, eqb-false}
-use Rattle.lset_text.proofs.LineLaws.{goes_on, not_ended, is_done}
+use Rattle.lset_text.proofs.LineLaws.{goes_on, not_ended, is_done, refused, ran_out}
 use Rattle.lset_text.specs.Texts.{first_line}
-use Rattle.lset_calls.specs.Reading.{grammar, state}
-use Rattle.lset_calls.proofs.Loops.{refused, out_of_memory, not_done, no_memory}
+use Rattle.lset_calls.specs.declared.fault.CallsCause.TheVariants.{Memory}
+use Rattle.lset_calls.specs.Reading.{grammar, state, line_number}
+use Rattle.lset_calls.proofs.Loops.{never_memory, not_done, no_memory}
 use Rattle.lset_calls.proofs.reading.read_lines.Goals as goal
 
 pub returns-in_default-clause-exact : goal.returns-in_default-clause-exact
@@ -16,16 +17,16 @@ returns-in_default-clause-exact c = λ other.
 pub returns-in-Err-clause-exact : goal.returns-in-Err-clause-exact
 returns-in-Err-clause-exact c =
     rw c.at-in-Err.ensures
-    (refused c.args.text.now _ c.loop-rest.number (state c.loop-rest.reader) (state c.read_line.new.self)
+    (refused grammar Memory first_line c.args.text.now _ c.loop-rest.number (state c.loop-rest.reader)
     c.loop-rest.rest.now c.in-Some.line.now c.in-Some.after.now c.in-Some.ensures.parts c.loop-rest.invariant c.in-Err.cause
     c.in-Err.ensures)
 
 pub returns-in-Err-clause-memory : goal.returns-in-Err-clause-memory
 returns-in-Err-clause-memory c =
     rw c.at-in-Err.ensures
-    (out_of_memory c.args.text.now _ c.loop-rest.number (state c.loop-rest.reader)
-    (state c.read_line.new.self) c.loop-rest.rest.now c.in-Some.line.now c.in-Some.after.now c.in-Some.ensures.parts
-    c.loop-rest.invariant c.in-Err.cause c.in-Err.ensures)
+    (ran_out grammar Memory first_line c.args.text.now _ c.loop-rest.number (state c.loop-rest.reader)
+    c.loop-rest.rest.now c.in-Some.line.now c.in-Some.after.now c.in-Some.ensures.parts c.loop-rest.invariant c.in-Err.cause
+    line_number (λ n e. refl) (never_memory (state c.loop-rest.reader) c.in-Some.line.now) c.in-Err.ensures)
 
 pub loop-rest-preserved : goal.loop-rest-preserved
 loop-rest-preserved c =

@@ -1,0 +1,77 @@
+-- Sections of a text: lines of one kind that stand together, and tell the items of a list. Once for every text.
+use Rattle.std.proofs.Common.{◌≡◌, ℕ, ◌<◌, ◌≤◌, ◌^◌, List, [], ◌∷◌, ◌++◌, map, length, true, Ok, refl, sym, ap, subst, arith}
+use Rattle.std.proofs.Common.{append_assoc, length-append}
+use Rattle.std.specs.List.{AllByRecursion}
+use Rattle.std.specs.List.Sorted.{IsStrictlyIncreasing}
+use Rattle.std.proofs.lemmas.List.{append-nil, map_push}
+use Rattle.std.proofs.lemmas.List.Elements.{recursion_from_All}
+use Rattle.lset_words.specs.declared.TheConstants.{MOST_OPENING}
+use Rattle.lset_words.specs.Words.{Opening, Opens}
+use Rattle.lset_text.specs.declared.words.Version.{Version}
+use Rattle.lset_text.specs.declared.words.Version.TheVariants.{One, Two}
+use Rattle.lset_text.specs.Lines.{Grammar, Leads}
+use Rattle.lset_text.specs.Openings.{opening_line, opening_lines, is_above, HasOpening}
+use Rattle.lset_text.proofs.OpeningLaws.{above_before}
+use Rattle.lset_text.proofs.LineLaws.{items_lead}
+
+-- ---- an item of a list
+
+at_seam : {X : Type 0} (P : X → Type 0) (front more : List X) (x : X) → AllByRecursion P (front ++ x ∷ more) → P x
+at_seam P [] more x all = all.0
+at_seam P (y ∷ ys) more x all = at_seam P ys more x all.1
+
+pub middle : {X : Type 0} (P : X → Type 0) (front more xs : List X) (x : X) → front ++ x ∷ more ≡ xs → AllByRecursion P xs → P x
+middle P front more xs x is all = at_seam P front more x (subst (AllByRecursion P) (sym is) all)
+
+pub shorter : {X : Type 0} (front more xs : List X) (x : X) → front ++ x ∷ more ≡ xs → length front < length xs
+shorter front more xs x is = let long = ap length is in omega (arith, long, length-append front (x ∷ more))
+
+-- ---- one more line of a section stands behind those of the text where the sections behind it have none
+
+pub push_last : {X : Type 0} (f : List (List ℕ)) (line : X → List ℕ) (xs : List X) (x : X)
+    → f ++ map line (xs ++ x ∷ []) ≡ f ++ map line xs ++ line x ∷ []
+push_last f line xs x = rw (map_push line xs x) (simp append_assoc)
+
+pub push_before : {X : Type 0} (f a : List (List ℕ)) (line : X → List ℕ) (xs : List X) (x : X) → a ≡ []
+    → f ++ map line (xs ++ x ∷ []) ++ a ≡ f ++ map line xs ++ a ++ line x ∷ []
+push_before f a line xs x none = rw (none, map_push line xs x) (simp (append-nil, append_assoc))
+
+pub push_before_two : {X : Type 0} (f a b : List (List ℕ)) (line : X → List ℕ) (xs : List X) (x : X) → a ≡ [] → b ≡ []
+    → f ++ map line (xs ++ x ∷ []) ++ a ++ b ≡ f ++ map line xs ++ a ++ b ++ line x ∷ []
+push_before_two f a b line xs x none no_more = rw (none, no_more, map_push line xs x) (simp (append-nil, append_assoc))
+
+-- ---- the section to which a text has come
+
+-- behind some items it is another
+abbrev pub later : {X T : Type 0} → List X → T → T → T
+later [] s t = s
+later (x ∷ xs) s t = t
+
+pub later_pushed : {X T : Type 0} (xs : List X) (x : X) (s t : T) → t ≡ later (xs ++ x ∷ []) s t
+later_pushed [] x s t = refl
+later_pushed (y ∷ ys) x s t = refl
+
+-- ---- THE LINES OF A SECTION with a greatest number of items: where each of them leads on, so do all
+
+pub section_leads : {S C E X : Type 0} (g : Grammar S C E) (state : List X → S) (line : X → List ℕ) (P : X → Type 0) (most : ℕ)
+    (xs : List X) → length xs ≤ most → AllByRecursion P xs
+    → ((front more : List X) (x : X) → front ++ x ∷ more ≡ xs → length front < most → P x
+    → g.step (state front) (line x) ≡ Ok (state (front ++ x ∷ [])))
+    → Leads g (state []) (map line xs) (state xs)
+section_leads g state line P most xs few are each =
+    items_lead g state (λ n. map line) (λ n. line) (λ n. refl) (λ n x ys. refl) [] xs
+    (λ front more x is. each front more x is (omega (arith, shorter front more xs x is, few)) (middle P front more xs x is are))
+
+-- the opening keys, of which a text of the first version has none
+pub openings_lead : {S C E : Type 0} (g : Grammar S C E) (state : List ℕ → S) (v : Version) (o : Opening) → Opens o
+    → HasOpening v o.keys
+    → ((front : List ℕ) (k : ℕ) → v ≡ Two → length front < MOST_OPENING → k < 2 ^ 32 → is_above front k ≡ true
+    → g.step (state front) (opening_line k) ≡ Ok (state (front ++ k ∷ [])))
+    → Leads g (state []) (opening_lines o.keys) (state o.keys)
+openings_lead g state One o is none each =
+    subst (λ (ks : List ℕ). Leads g (state []) (opening_lines ks) (state ks)) (sym none) refl
+openings_lead g state Two o is some each =
+    section_leads g state opening_line (λ k. k < 2 ^ 32) MOST_OPENING o.keys is.within.opens
+    (recursion_from_All (λ (k : ℕ). k < 2 ^ 32) o.keys is.low)
+    (λ front more k same room low. each front k refl room low
+    (above_before front k more (subst IsStrictlyIncreasing (sym same) is.rising)))
