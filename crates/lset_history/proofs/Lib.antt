@@ -6,7 +6,6 @@ pub mod SetFitting
 pub mod Keys
 pub mod Linearizing
 pub mod Lists
-pub mod OpenCalls
 pub mod Order
 pub mod Placing
 pub mod RunHistories

@@ -21,7 +21,8 @@ use Rattle.lset_judge.specs.Stream.{behind_all, pending_of, no_pending, IsOver, 
 use Rattle.lset_judge.specs.Stream.{IsStreamOf, MayCome}
 use Rattle.lset_judge.specs.Verdict.{is_plain}
 use Rattle.lset_judge.proofs.After.{same_after}
-use Rattle.lset_judge.proofs.Streamed.{same_some, until_end, if_some, for_some, none_or_some, event_before, event_begun, goes_to}
+use Rattle.lset_judge.proofs.Streamed.{same_some, until_end, event_before, event_begun, goes_to}
+use Rattle.lset_judge.proofs.EventLemmas.{if_some, for_some, none_or_some}
 use Rattle.lset_judge.proofs.Streamed.{quiet_before, ends_next, without_next}
 
 some_and : (P : ℕ × Reply → Type 0) (o : Option (ℕ × Reply)) (e : ℕ × Reply) → o ≡ Some e → P e → IsSomeAnd o P

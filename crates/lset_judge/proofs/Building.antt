@@ -18,7 +18,7 @@ use Rattle.lset_judge.specs.Rule.{Event, begins, ends, looks, leaves, idle, Stat
 use Rattle.lset_judge.specs.Rule.{found, entered, ruled, open_changes, opened}
 use Rattle.lset_judge.specs.Events.{Kind, changes, sees, nothing, kind_of, kind_if, event_at, begin_event, end_event, events_on}
 use Rattle.lset_judge.specs.Verdict.{is_plain}
-use Rattle.lset_judge.proofs.EventLemmas.{kind, until, Begins, told, begins_at, ends_there, end_below}
+use Rattle.lset_judge.proofs.EventLemmas.{kind, until, Begins, told, begins_at, ends_there, end_below, none_or_some}
 use Rattle.lset_history.proofs.Histories.{pairs_of}
 use Rattle.lset_judge.proofs.Leading.{at, at_once, later}
 use Rattle.lset_judge.proofs.Counts.{nearest_stands}
@@ -26,7 +26,7 @@ use Rattle.lset_judge.proofs.Ruled.{no_state, settled_none, ruled_none, some_or_
 use Rattle.lset_judge.proofs.Orders.{does_own, other_stays, untils_differ, begins_told, never_left, is_call}
 use Rattle.lset_judge.proofs.Placing.{becomes, NoTwice, not_both, left_in, others_stay, gone, no_twice_left, has_head, has_tail, has_split, until_of}
 use Rattle.lset_judge.proofs.Placed.{legal_push, left_push, map_push, IsPlaced, placed_or_not, placed_at, placed_still}
-use Rattle.lset_judge.proofs.Placed.{placed_new, placed_split, change_replies, look_replies, maybe, open_sees_not, same_flips}
+use Rattle.lset_judge.proofs.Placed.{placed_new, placed_split, change_replies, look_replies, open_sees_not, same_flips}
 use Rattle.lset_judge.proofs.Placed.{same_is, kinds_apart, late_ones, begun_when_placed, plain_kind, not_both_or, below_test}
 
 module _ (threads : ℕ) (calls : List CallRecord) (history : IsHistory threads calls) (quota : ℕ) (start : SetState)
@@ -70,7 +70,7 @@ module _ (threads : ℕ) (calls : List CallRecord) (history : IsHistory threads 
     legal = subst (IsLegal quota start) (sym (map_push (answered calls) o (put n r)))
         (legal_push quota start (map (answered calls) o) (answered calls (put n r)) b.legal replies);
     in_time = all_pairs_push (λ (p r : Placed). Precedes (call_numbered calls r.call) (call_numbered calls p.call) → ⊥) o (put n r) b.in_time
-        (λ k d l before. elim (maybe (x_ n).ended) [
+        (λ k d l before. elim (none_or_some (x_ n).ended) [
           | inl s ↦ none_precedes (x_ n).ended (x_ (get_or o k d).call).begun s before
           | inr s ↦ (let early = some_precedes (x_ n).ended (x_ (get_or o k d).call).begun s.0 s.1 before in
               let low' = b.begun k d l in new (b.ended n s.0 low s.1 (omega (arith, early, low'))))
@@ -152,7 +152,7 @@ module _ (threads : ℕ) (calls : List CallRecord) (history : IsHistory threads 
   look_put : (k m : ℕ) (s : State) (o : List Placed) (n : ℕ) (w : Bool) → Built m o → Link k m s o → n < length calls → key n ≡ k
       → kind (x_ n) ≡ sees w → (x_ n).begun ≤ m → (IsPlaced n o → ⊥) → same w s.there ≡ true
       → (q : Moved k m s o) × IsPlaced n q.order × ((i : ℕ) → IsPlaced i o → IsPlaced i q.order)
-  look_put k m s o n w b l low own is begun new fits = elim (maybe (x_ n).ended) [
+  look_put k m s o n w b l low own is begun new fits = elim (none_or_some (x_ n).ended) [
     | inl e ↦ absurd (open_sees_not (x_ n).call w (subst (λ q. kind_if (x_ n).call q ≡ sees w) e is))
     | inr e ↦ (let r : Reply = e.0.1 in
         let d : kind_of (x_ n).call r ≡ sees w = subst (λ q. kind_if (x_ n).call q ≡ sees w) e.1 is in

@@ -29,7 +29,8 @@ use Rattle.lset_judge.proofs.Leaving.{passes_with, unknown_rise, has_itself}
 use Rattle.lset_judge.proofs.Placed.{same_flips}
 use Rattle.lset_judge.proofs.Refused.{refused_by, refused_left}
 use Rattle.lset_judge.proofs.Ruled.{settled_none}
-use Rattle.lset_judge.proofs.Streamed.{same_some, until_end, if_some, for_some}
+use Rattle.lset_judge.proofs.EventLemmas.{if_some, for_some}
+use Rattle.lset_judge.proofs.Streamed.{same_some, until_end}
 
 -- ---- how a key may be left
 

@@ -25,17 +25,8 @@ keeps_rising quota thread s (Add k) True e r = elim (cases_Bool (has_key k.0 s.k
   | inl h ↦ absurd (let f : False ≡ True = rw h at e in cc)
   | inr h ↦ with_rises k.0 0 s.keys r (omega arith) (has_none k.0 s.keys h)
 ]
-keeps_rising quota thread s (Add k) False e r = r
-keeps_rising quota thread s (Add k) Full e r = r
-keeps_rising quota thread s (Add k) (At x) e r = r
-keeps_rising quota thread s (Add k) Nothing e r = r
 keeps_rising quota thread s (Remove k) True e r = without_rises k.0 0 s.keys r
-keeps_rising quota thread s (Remove k) False e r = r
-keeps_rising quota thread s (Remove k) Full e r = r
-keeps_rising quota thread s (Remove k) (At x) e r = r
-keeps_rising quota thread s (Remove k) Nothing e r = r
-keeps_rising quota thread s (IsIn k) q e r = r
-keeps_rising quota thread s (Ceiling k) q e r = r
+keeps_rising quota thread s c q e r = r
 
 left_rising : (quota : ℕ) (s : SetState) (xs : List Answered) → IsLegal quota s xs → RisesFrom 0 s.keys → RisesFrom 0 (set_left s xs).keys
 left_rising quota s [] l r = r

@@ -1,5 +1,5 @@
 -- The events of a key, and the calls that they tell of.
-use Rattle.std.proofs.Common.{◌≡◌, ◌≢◌, ℕ, zero, suc, ◌<◌, ◌≤◌, List, [], ◌∷◌, true, false, inl, inr, refl, sym, ap, arith}
+use Rattle.std.proofs.Common.{◌≡◌, ◌≢◌, ◌⊎◌, ℕ, zero, suc, ◌<◌, ◌≤◌, List, [], ◌∷◌, true, false, inl, inr, refl, sym, ap, arith}
 use Rattle.std.proofs.Common.{subst, length, get_or}
 use Rattle.std.specs.Prelude.{◌==◌, Option, Some, None, AllPairs, IfSome}
 use Rattle.std.proofs.lemmas.Bool.{cases_Bool, true≢false}
@@ -81,9 +81,22 @@ told last k m (x ∷ xs) = elim (cases_Bool ((key_of x.call).0 == k)) [
   ]
 ]
 
+-- ---- an end, if there is one
+
+pub none_or_some : (o : Option (ℕ × Reply)) → (o ≡ None) ⊎ ((e : ℕ × Reply) × (o ≡ Some e))
+none_or_some None = inl refl
+none_or_some (Some e) = inr (e, refl)
+
+pub if_some : (P : ℕ × Reply → Type 0) (o : Option (ℕ × Reply)) (e : ℕ × Reply) → o ≡ Some e → IfSome o P → P e
+if_some P o e s h = subst (λ q. IfSome q P) s h
+
+pub for_some : (P : ℕ × Reply → Type 0) (o : Option (ℕ × Reply)) → ((e : ℕ × Reply) → o ≡ Some e → P e) → IfSome o P
+for_some P None h = tt
+for_some P (Some e) h = h e refl
+
 -- ---- the event at which a call begins
 
-ends_not : (m : ℕ) (o : Option (ℕ × Reply)) → IfSome o (λ (e : ℕ × Reply). e.0 ≢ m) → ends_at m o ≡ false
+pub ends_not : (m : ℕ) (o : Option (ℕ × Reply)) → IfSome o (λ (e : ℕ × Reply). e.0 ≢ m) → ends_at m o ≡ false
 ends_not m None h = refl
 ends_not m (Some e) h = unequal_test e.0 m h
 
@@ -113,9 +126,6 @@ no_end m (Some e) h = unequal_test e.0 m (λ q. h (sym q))
 own_end : (o : Option (ℕ × Reply)) (e : ℕ × Reply) → o ≡ Some e → ends_at e.0 o ≡ true
 own_end o e s = rw s (equal_test e.0 e.0 refl)
 
-if_end : (P : ℕ × Reply → Type 0) (o : Option (ℕ × Reply)) (e : ℕ × Reply) → o ≡ Some e → IfSome o P → P e
-if_end P o e s h = subst (λ q. IfSome q P) s h
-
 pub ends_there : (last k n : ℕ) (xs : List CallRecord) (e : ℕ × Reply) → n < length xs → AllPairs Follows xs
     → (key_of (get_or xs n no_call).call).0 ≡ k → (get_or xs n no_call).ended ≡ Some e → (get_or xs n no_call).begun < e.0
     → event_at last k xs e.0 ≡ end_event (kind (get_or xs n no_call)) (get_or xs n no_call).begun
@@ -126,7 +136,7 @@ ends_there last k zero (x ∷ xs) e l pairs own s later =
 ends_there last k (suc n) (x ∷ xs) e l pairs own s later =
     let y : CallRecord = get_or xs n no_call in
     let f : Follows x y = pairs_head Follows x xs pairs n no_call (omega arith) in
-    let apart = if_end (λ g. (g.0 ≢ x.begun) × IfSome x.ended (λ (d : ℕ × Reply). g.0 ≢ d.0)) y.ended e s f.ends_alone in
+    let apart = if_some (λ g. (g.0 ≢ x.begun) × IfSome x.ended (λ (d : ℕ × Reply). g.0 ≢ d.0)) y.ended e s f.ends_alone in
     let b : (x.begun == e.0) ≡ false = unequal_test x.begun e.0 (λ q. apart.0 (sym q)) in
     let g : ends_at e.0 x.ended ≡ false = no_end e.0 x.ended apart.1 in
     let rest = ends_there last k n xs e (omega arith) (pairs_tail Follows x xs pairs) own s later in

@@ -28,9 +28,6 @@ module _ (h : HistoryValue) (keys : List ℕ) (part : ℕ → ℕ) (i : ℕ) (to
   abbrev own : List CallRecord
   own = calls_in part i h.calls
 
-  goes : CallRecord → Bool
-  goes x = part (key_of x.call).0 == i
-
   -- ---- the part is a history
 
   pub part_told : IsHistory h.opening.threads own

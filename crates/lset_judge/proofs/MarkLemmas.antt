@@ -14,7 +14,7 @@ use Rattle.lset_history.proofs.Histories.{Follows, IsCall}
 use Rattle.lset_judge.specs.declared.marks.Mark.{Mark}
 use Rattle.lset_judge.specs.Events.{Kind, changes, sees, nothing}
 use Rattle.lset_judge.specs.Marks.{begin_marks, end_marks, marks_of, marks_from}
-use Rattle.lset_judge.proofs.EventLemmas.{kind}
+use Rattle.lset_judge.proofs.EventLemmas.{kind, if_some}
 use Rattle.lset_judge.proofs.Placing.{In}
 
 -- ---- membership
@@ -168,9 +168,6 @@ ends_one : (k n : ℕ) (o : Option (ℕ × Reply)) → length (end_marks k n o) 
 ends_one k n None = omega arith
 ends_one k n (Some e) = omega arith
 
-if_end : (P : ℕ × Reply → Type 0) (o : Option (ℕ × Reply)) (e : ℕ × Reply) → o ≡ Some e → IfSome o P → P e
-if_end P o e s h = subst (λ q. IfSome q P) s h
-
 begin_moment : (k : Kind) (m a : Mark) → In a (begin_marks k m) → a.moment ≡ m.moment
 begin_moment (changes w) m a (inl e) = ap (λ (y : Mark). y.moment) (sym e)
 begin_moment (changes w) m a (inr i) = absurd i
@@ -189,7 +186,7 @@ own_distinct n threads x c =
     (λ a b i j e.
     let one = begin_moment (kind x) first a i in
     let two = end_moment (key_of x.call).0 n x.ended b j in
-    let later = if_end (λ (f : ℕ × Reply). x.begun < f.0) x.ended two.0 two.1 c.ends_later in
+    let later = if_some (λ (f : ℕ × Reply). x.begun < f.0) x.ended two.0 two.1 c.ends_later in
     let at = two.2 in omega (arith, one, at, later, e))
     (at_most_one (end_marks (key_of x.call).0 n x.ended) (ends_one (key_of x.call).0 n x.ended))
 
@@ -197,13 +194,13 @@ own_distinct n threads x c =
 moments_apart : (x y : CallRecord) (a b : ℕ) → Follows x y → IsMoment x a → IsMoment y b → a ≢ b
 moments_apart x y a b f (at_begin w is at) (at_begin v js bt) = λ q. (let low = f.rising in omega (arith, at, bt, q, low))
 moments_apart x y a b f (at_begin w is at) (at_end e s bt) = λ q.
-    let apart = (if_end (λ (g : ℕ × Reply). (g.0 ≢ x.begun) × IfSome x.ended (λ (d : ℕ × Reply). g.0 ≢ d.0)) y.ended e s f.ends_alone).0 in
+    let apart = (if_some (λ (g : ℕ × Reply). (g.0 ≢ x.begun) × IfSome x.ended (λ (d : ℕ × Reply). g.0 ≢ d.0)) y.ended e s f.ends_alone).0 in
     apart (sym bt ∙ sym q ∙ at)
 moments_apart x y a b f (at_end e s at) (at_begin v js bt) = λ q.
-    let apart = if_end (λ (g : ℕ × Reply). g.0 ≢ y.begun) x.ended e s f.begins_alone in apart (sym at ∙ q ∙ bt)
+    let apart = if_some (λ (g : ℕ × Reply). g.0 ≢ y.begun) x.ended e s f.begins_alone in apart (sym at ∙ q ∙ bt)
 moments_apart x y a b f (at_end e s at) (at_end d t bt) = λ q.
-    let apart = (if_end (λ (g : ℕ × Reply). (g.0 ≢ x.begun) × IfSome x.ended (λ (d : ℕ × Reply). g.0 ≢ d.0)) y.ended d t f.ends_alone).1 in
-    if_end (λ (g : ℕ × Reply). d.0 ≢ g.0) x.ended e s apart (sym bt ∙ sym q ∙ at)
+    let apart = (if_some (λ (g : ℕ × Reply). (g.0 ≢ x.begun) × IfSome x.ended (λ (d : ℕ × Reply). g.0 ≢ d.0)) y.ended d t f.ends_alone).1 in
+    if_some (λ (g : ℕ × Reply). d.0 ≢ g.0) x.ended e s apart (sym bt ∙ sym q ∙ at)
 
 pub distinct : (n threads : ℕ) (xs : List CallRecord) → All (IsCall threads) xs → AllPairs Follows xs → IsDistinct same_moment (marks_from n xs)
 unfolding IsDistinct

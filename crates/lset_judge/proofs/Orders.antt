@@ -21,7 +21,7 @@ use Rattle.lset_history.proofs.Histories.{Follows, IsCall, calls_of, pairs_of}
 use Rattle.lset_judge.specs.Rule.{Event, begins, looks, leaves, idle, opened}
 use Rattle.lset_judge.specs.Events.{Kind, changes, sees, nothing, kind_of, open_kind, kind_if, until_if, begin_event, end_event, event_at}
 use Rattle.lset_judge.specs.Events.{key_events, RulePasses}
-use Rattle.lset_judge.proofs.EventLemmas.{kind, until, begun_below, end_below, Begins, Ends, Told, of_nothing, of_begin, of_end, told, begins_at}
+use Rattle.lset_judge.proofs.EventLemmas.{kind, until, begun_below, end_below, Begins, Ends, Told, of_nothing, of_begin, of_end, told, begins_at, if_some, none_or_some}
 use Rattle.lset_judge.proofs.KeyTests.{has_with, has_with_other, has_without, has_without_other}
 use Rattle.lset_judge.proofs.Placing.{In, AllOf, Pairs, Act, act, suits, becomes, TakeTurns, Apart, IsAct, AreEvents, Lists, Ready, timeline, one_of}
 use Rattle.lset_judge.proofs.Leading.{succeeds}
@@ -30,10 +30,6 @@ use Rattle.lset_judge.proofs.Leading.{succeeds}
 
 abbrev pub does : ℕ → Call → Reply → Kind
 does k c r = if (key_of c).0 == k then kind_of c r else nothing
-
-bool_apart : (b : Bool) (r q : Reply) → (if b then r else q) ≡ r → (r ≡ q → ⊥) → b ≡ true
-bool_apart true r q e n = refl
-bool_apart false r q e n = absurd (n (sym e))
 
 pub does_own : (quota thread : ℕ) (s : SetState) (c : Call) (r : Reply) → reply_to quota s thread c ≡ r
     → suits (has_key (key_of c).0 s.keys) (kind_of c r)
@@ -53,38 +49,21 @@ does_own quota thread s c r e = by c r (has_key (key_of c).0 s.keys) refl e
         elim (cases_Bool (count_of s thread == quota)) [ inl t ↦ (let g : Full ≡ False = rw t at f in cc) | inr t ↦ (let g : True ≡ False = rw t at f in cc) ])
     by (Add k) Full true h e = absurd (let f : False ≡ Full = rw h at e in cc)
     by (Add k) Full false h e = (h, refl)
-    by (Add k) (At x) b h e = (tt, refl)
-    by (Add k) Nothing b h e = (tt, refl)
     by (Remove k) True true h e = (h, has_without k.0 s.keys)
     by (Remove k) True false h e = absurd (let f : False ≡ True = rw h at e in cc)
     by (Remove k) False true h e = absurd (let f : True ≡ False = rw h at e in cc)
     by (Remove k) False false h e = (h, refl)
-    by (Remove k) Full b h e = (tt, refl)
-    by (Remove k) (At x) b h e = (tt, refl)
-    by (Remove k) Nothing b h e = (tt, refl)
     by (IsIn k) True true h e = (h, refl)
     by (IsIn k) True false h e = absurd (let f : False ≡ True = rw h at e in cc)
     by (IsIn k) False true h e = absurd (let f : True ≡ False = rw h at e in cc)
     by (IsIn k) False false h e = (h, refl)
-    by (IsIn k) Full b h e = (tt, refl)
-    by (IsIn k) (At x) b h e = (tt, refl)
-    by (IsIn k) Nothing b h e = (tt, refl)
-    by (Ceiling k) r b h e = (tt, refl)
+    by c r b h e = (tt, refl)
 
 pub other_stays : (k thread : ℕ) (s : SetState) (c : Call) (r : Reply) → (key_of c).0 ≢ k
     → has_key k (after_call s thread c r).keys ≡ has_key k s.keys
 other_stays k thread s (Add j) True n = has_with_other k j.0 s.keys n
-other_stays k thread s (Add j) False n = refl
-other_stays k thread s (Add j) Full n = refl
-other_stays k thread s (Add j) (At x) n = refl
-other_stays k thread s (Add j) Nothing n = refl
 other_stays k thread s (Remove j) True n = has_without_other k j.0 s.keys n
-other_stays k thread s (Remove j) False n = refl
-other_stays k thread s (Remove j) Full n = refl
-other_stays k thread s (Remove j) (At x) n = refl
-other_stays k thread s (Remove j) Nothing n = refl
-other_stays k thread s (IsIn j) r n = refl
-other_stays k thread s (Ceiling j) r n = refl
+other_stays k thread s c r n = refl
 
 does_one : (k quota thread : ℕ) (s : SetState) (c : Call) (r : Reply) → reply_to quota s thread c ≡ r
     → suits (has_key k s.keys) (does k c r)
@@ -98,21 +77,9 @@ does_one k quota thread s c r e = elim (cases_Bool ((key_of c).0 == k)) [
 
 open_change : (c : Call) (r : Reply) (w : Bool) → kind_of c r ≡ changes w → open_kind c ≡ changes w
 open_change (Add k) True w e = e
-open_change (Add k) False w e = absurd (cc)
-open_change (Add k) Full w e = absurd (cc)
-open_change (Add k) (At x) w e = absurd (cc)
-open_change (Add k) Nothing w e = absurd (cc)
 open_change (Remove k) True w e = e
-open_change (Remove k) False w e = absurd (cc)
-open_change (Remove k) Full w e = absurd (cc)
-open_change (Remove k) (At x) w e = absurd (cc)
-open_change (Remove k) Nothing w e = absurd (cc)
 open_change (IsIn k) True w e = absurd (cc)
-open_change (IsIn k) False w e = absurd (cc)
-open_change (IsIn k) Full w e = absurd (cc)
-open_change (IsIn k) (At x) w e = absurd (cc)
-open_change (IsIn k) Nothing w e = absurd (cc)
-open_change (Ceiling k) r w e = absurd (cc)
+open_change c r w e = absurd (cc)
 
 -- ---- two calls of a history
 
@@ -133,9 +100,6 @@ module _ (threads : ℕ) (calls : List CallRecord) (history : IsHistory threads 
       → begun < until_if last begun o
   late_end None begun c b h = omega (arith, c, b)
   late_end (Some e) begun c b h = h
-
-  if_some : (P : ℕ × Reply → Type 0) (o : Option (ℕ × Reply)) (e : ℕ × Reply) → o ≡ Some e → IfSome o P → P e
-  if_some P o e s h = subst (λ q. IfSome q P) s h
 
   begins_differ : (i j : ℕ) → i < length calls → j < length calls → i ≢ j → (x_ i).begun ≢ (x_ j).begun
   begins_differ i j a b n same = elim (cases_order i j) [
@@ -162,10 +126,6 @@ module _ (threads : ℕ) (calls : List CallRecord) (history : IsHistory threads 
         (if_some (λ f. (f.0 ≢ (x_ j).begun) × IfSome (x_ j).ended (λ (g : ℕ × Reply). f.0 ≢ g.0)) (x_ i).ended d r (follows j i l a).ends_alone).1
   ]
 
-  maybe : (o : Option (ℕ × Reply)) → (o ≡ None) ⊎ ((e : ℕ × Reply) × (o ≡ Some e))
-  maybe None = inl refl
-  maybe (Some e) = inr (e, refl)
-
   until_open : (n : ℕ) → (x_ n).ended ≡ None → until last (x_ n) ≡ last + (x_ n).begun
   until_open n e = rw e refl
 
@@ -179,13 +139,13 @@ module _ (threads : ℕ) (calls : List CallRecord) (history : IsHistory threads 
   end_low n e h s = end_below calls n no_call e h s
 
   pub untils_differ : (i j : ℕ) → i < length calls → j < length calls → i ≢ j → until last (x_ i) ≢ until last (x_ j)
-  untils_differ i j a b n same = elim (maybe (x_ i).ended) [
-    | inl r ↦ elim (maybe (x_ j).ended) [
+  untils_differ i j a b n same = elim (none_or_some (x_ i).ended) [
+    | inl r ↦ elim (none_or_some (x_ j).ended) [
       | inl s ↦ (let u = until_open i r in let v = until_open j s in begins_differ i j a b n (omega (arith, u, v, same)))
       | inr s ↦ (let u = until_open i r in let v = until_ended j s.0 s.1 in let low = end_low j s.0 b s.1 in
           let c = (is_call i a).counted in omega (arith, u, v, low, c, same))
     ]
-    | inr r ↦ elim (maybe (x_ j).ended) [
+    | inr r ↦ elim (none_or_some (x_ j).ended) [
       | inl s ↦ (let u = until_ended i r.0 r.1 in let v = until_open j s in let low = end_low i r.0 a r.1 in
           let c = (is_call j b).counted in omega (arith, u, v, low, c, same))
       | inr s ↦ (let u = until_ended i r.0 r.1 in let v = until_ended j s.0 s.1 in
@@ -195,7 +155,7 @@ module _ (threads : ℕ) (calls : List CallRecord) (history : IsHistory threads 
 
   in_time : (i j : ℕ) → i < length calls → j < length calls → i ≢ j → (Precedes (x_ j) (x_ i) → ⊥)
       → (x_ i).begun < until last (x_ j)
-  in_time i j a b n not_before = elim (maybe (x_ j).ended) [
+  in_time i j a b n not_before = elim (none_or_some (x_ j).ended) [
     | inl s ↦ (let u = until_open j s in let low = begun_low i a in let c = (is_call j b).counted in omega (arith, u, low, c))
     | inr s ↦ (let u = until_ended j s.0 s.1 in let apart = end_apart i j s.0 a b n s.1 in
         elim (below_or_not s.0.0 (x_ i).begun) [
@@ -335,7 +295,7 @@ module _ (threads : ℕ) (calls : List CallRecord) (history : IsHistory threads 
       kind_there i d w low e =
           let p : Placed = get_or order i d in
           let x : CallRecord = x_ p.call in
-          elim (maybe x.ended) [
+          elim (none_or_some x.ended) [
             | inl s ↦ subst (λ o. kind_if x.call o ≡ changes w) (sym s) (open_change x.call p.reply w e)
             | inr s ↦ subst (λ o. kind_if x.call o ≡ changes w) (sym s.1) (subst (λ r. kind_of x.call r ≡ changes w) (same_reply i d s.0 low s.1) e)
           ]
@@ -377,7 +337,7 @@ module _ (threads : ℕ) (calls : List CallRecord) (history : IsHistory threads 
         begins_to_come = λ i w u f late low.
             let b = begins_told (ev i) i w u f (told last k i calls) in
             let n : ℕ = b.0.number in
-            elim (maybe (x_ n).ended) [
+            elim (none_or_some (x_ n).ended) [
               | inl s ↦ (let o = until_open n s in let q = b.2 in let c = (is_call n b.0.known).counted in absurd (omega (arith, o, q, low, c)))
               | inr s ↦ (let at = stands n s.0 b.0.known s.1 b.0.own in
                   let u_is : s.0.0 ≡ u = sym (until_ended n s.0 s.1) ∙ b.2 in

@@ -68,9 +68,6 @@ placed_split n (x ∷ ps) p (inr q) = elim (placed_split n ps p q) [ inl r ↦ i
 
 -- ---- replies
 
-pub not_of : (w b : Bool) → b ≡ not w → (c : Bool) → c ≡ b → c ≡ not w
-not_of w b e c f = f ∙ e
-
 pub change_replies : (quota thread : ℕ) (s : SetState) (c : Call) (o : Option (ℕ × Reply)) (w : Bool) → kind_if c o ≡ changes w
     → has_key (key_of c).0 s.keys ≡ not w → (w ≡ true → count_of s thread < quota)
     → (reply_to quota s thread c ≡ True) × (kind_of c True ≡ changes w) × IfSome o (λ (e : ℕ × Reply). e.1 ≡ True)
@@ -94,58 +91,23 @@ change_replies quota thread s c (Some e) w d h room = by c e.1 w room d h refl
       refl,
       q,
     )
-    by (Add k) True false room d h q = absurd (cc)
-    by (Add k) False w room d h q = absurd (cc)
-    by (Add k) Full w room d h q = absurd (cc)
-    by (Add k) (At x) w room d h q = absurd (cc)
-    by (Add k) Nothing w room d h q = absurd (cc)
     by (Remove k) True false room d h q = (rw h refl, refl, q)
-    by (Remove k) True true room d h q = absurd (cc)
-    by (Remove k) False w room d h q = absurd (cc)
-    by (Remove k) Full w room d h q = absurd (cc)
-    by (Remove k) (At x) w room d h q = absurd (cc)
-    by (Remove k) Nothing w room d h q = absurd (cc)
     by (IsIn k) True w room d h q = absurd (cc)
-    by (IsIn k) False w room d h q = absurd (cc)
-    by (IsIn k) Full w room d h q = absurd (cc)
-    by (IsIn k) (At x) w room d h q = absurd (cc)
-    by (IsIn k) Nothing w room d h q = absurd (cc)
-    by (Ceiling k) r w room d h q = absurd (cc)
+    by c r w room d h q = absurd (cc)
 
 pub look_replies : (quota thread : ℕ) (s : SetState) (c : Call) (r : Reply) (w : Bool) → is_plain c r ≡ true → kind_of c r ≡ sees w
     → has_key (key_of c).0 s.keys ≡ w → reply_to quota s thread c ≡ r
-look_replies quota thread s (Add k) True w p d h = absurd (cc)
 look_replies quota thread s (Add k) False true p d h = rw h refl
-look_replies quota thread s (Add k) False false p d h = absurd (cc)
-look_replies quota thread s (Add k) Full w p d h = absurd (cc)
-look_replies quota thread s (Add k) (At x) w p d h = absurd (cc)
-look_replies quota thread s (Add k) Nothing w p d h = absurd (cc)
-look_replies quota thread s (Remove k) True w p d h = absurd (cc)
 look_replies quota thread s (Remove k) False false p d h = rw h refl
-look_replies quota thread s (Remove k) False true p d h = absurd (cc)
-look_replies quota thread s (Remove k) Full w p d h = absurd (cc)
-look_replies quota thread s (Remove k) (At x) w p d h = absurd (cc)
-look_replies quota thread s (Remove k) Nothing w p d h = absurd (cc)
 look_replies quota thread s (IsIn k) True true p d h = rw h refl
-look_replies quota thread s (IsIn k) True false p d h = absurd (cc)
 look_replies quota thread s (IsIn k) False false p d h = rw h refl
-look_replies quota thread s (IsIn k) False true p d h = absurd (cc)
-look_replies quota thread s (IsIn k) Full w p d h = absurd (cc)
-look_replies quota thread s (IsIn k) (At x) w p d h = absurd (cc)
-look_replies quota thread s (IsIn k) Nothing w p d h = absurd (cc)
-look_replies quota thread s (Ceiling k) r w p d h = absurd (cc)
+look_replies quota thread s c r w p d h = absurd (cc)
 
 -- ---- an order in the making
 
-pub maybe : (o : Option (ℕ × Reply)) → (o ≡ None) ⊎ ((e : ℕ × Reply) × (o ≡ Some e))
-maybe None = inl refl
-maybe (Some e) = inr (e, refl)
-
 pub open_sees_not : (c : Call) (w : Bool) → open_kind c ≡ sees w → ⊥
 open_sees_not (Add k) w e = cc
-open_sees_not (Remove k) w e = cc
-open_sees_not (IsIn k) w e = cc
-open_sees_not (Ceiling k) w e = cc
+open_sees_not c w e = cc
 
 pub same_flips : (w b : Bool) → same w b ≡ false → same w (not b) ≡ true
 same_flips true true e = absurd (true≢false e)
@@ -175,21 +137,9 @@ begun_when_placed P n (p ∷ ps) h (inr i) = begun_when_placed P n ps (λ k d l.
 
 pub plain_kind : (c : Call) (r : Reply) → is_plain c r ≡ true → kind_of c r ≡ nothing → ⊥
 plain_kind (Add k) True p e = cc
-plain_kind (Add k) False p e = cc
-plain_kind (Add k) Full p e = cc
-plain_kind (Add k) (At x) p e = cc
-plain_kind (Add k) Nothing p e = cc
 plain_kind (Remove k) True p e = cc
-plain_kind (Remove k) False p e = cc
-plain_kind (Remove k) Full p e = cc
-plain_kind (Remove k) (At x) p e = cc
-plain_kind (Remove k) Nothing p e = cc
 plain_kind (IsIn k) True p e = cc
-plain_kind (IsIn k) False p e = cc
-plain_kind (IsIn k) Full p e = cc
-plain_kind (IsIn k) (At x) p e = cc
-plain_kind (IsIn k) Nothing p e = cc
-plain_kind (Ceiling k) r p e = cc
+plain_kind c r p e = cc
 
 pub not_both_or : (a b : Bool) → a ≡ false → b ≡ true → (a || not b) ≡ true → ⊥
 not_both_or true b f t e = true≢false f

@@ -27,13 +27,7 @@ use Rattle.lset_judge.proofs.Placed.{IsPlaced, placed_at, map_push}
 
 abbrev adds : Bool → Call → Reply → ℕ
 adds own (Add j) True = if own then 1 else 0
-adds own (Add j) False = 0
-adds own (Add j) Full = 0
-adds own (Add j) (At x) = 0
-adds own (Add j) Nothing = 0
-adds own (Remove j) r = 0
-adds own (IsIn j) r = 0
-adds own (Ceiling j) r = 0
+adds own c r = 0
 
 abbrev added : ℕ → List Answered → ℕ
 added t [] = 0
@@ -53,17 +47,8 @@ one_call : (t : ℕ) (s : SetState) (thread : ℕ) (c : Call) (r : Reply) → t 
     → (count_of (after_call s thread c r) t ≡ count_of s t + adds (thread == t) c r)
     × (length (after_call s thread c r).counts ≡ length s.counts)
 one_call t s thread (Add j) True inside = (one_add t thread s inside, length-set s.counts thread (count_of s thread + 1))
-one_call t s thread (Add j) False inside = (omega arith, refl)
-one_call t s thread (Add j) Full inside = (omega arith, refl)
-one_call t s thread (Add j) (At x) inside = (omega arith, refl)
-one_call t s thread (Add j) Nothing inside = (omega arith, refl)
 one_call t s thread (Remove j) True inside = (omega arith, refl)
-one_call t s thread (Remove j) False inside = (omega arith, refl)
-one_call t s thread (Remove j) Full inside = (omega arith, refl)
-one_call t s thread (Remove j) (At x) inside = (omega arith, refl)
-one_call t s thread (Remove j) Nothing inside = (omega arith, refl)
-one_call t s thread (IsIn j) r inside = (omega arith, refl)
-one_call t s thread (Ceiling j) r inside = (omega arith, refl)
+one_call t s thread c r inside = (omega arith, refl)
 
 all_calls : (t : ℕ) (s : SetState) (xs : List Answered) → t < length s.counts → count_of (set_left s xs) t ≡ count_of s t + added t xs
 all_calls t s [] inside = omega arith
@@ -114,28 +99,14 @@ of_thread t x = cond (may_add x.call x.ended && x.thread == t) 1 0
 adds_once : (t : ℕ) (c : Call) (o : Option (ℕ × Reply)) → kind_if c o ≡ changes true
     → (adds (t == t) c True ≡ 1) × IfSome o (λ (e : ℕ × Reply). e.1 ≡ True)
 adds_once t (Add k) None d = (rw (equal_test t t refl) refl, tt)
-adds_once t (Remove k) None d = absurd (cc)
-adds_once t (IsIn k) None d = absurd (cc)
-adds_once t (Ceiling k) None d = absurd (cc)
+adds_once t c None d = absurd (cc)
 adds_once t c (Some e) d = by c e.1 d refl
   where
     by : (c : Call) (r : Reply) → kind_of c r ≡ changes true → e.1 ≡ r → (adds (t == t) c True ≡ 1) × (e.1 ≡ True)
     by (Add k) True d q = (rw (equal_test t t refl) refl, q)
-    by (Add k) False d q = absurd (cc)
-    by (Add k) Full d q = absurd (cc)
-    by (Add k) (At x) d q = absurd (cc)
-    by (Add k) Nothing d q = absurd (cc)
     by (Remove k) True d q = absurd (cc)
-    by (Remove k) False d q = absurd (cc)
-    by (Remove k) Full d q = absurd (cc)
-    by (Remove k) (At x) d q = absurd (cc)
-    by (Remove k) Nothing d q = absurd (cc)
     by (IsIn k) True d q = absurd (cc)
-    by (IsIn k) False d q = absurd (cc)
-    by (IsIn k) Full d q = absurd (cc)
-    by (IsIn k) (At x) d q = absurd (cc)
-    by (IsIn k) Nothing d q = absurd (cc)
-    by (Ceiling k) r d q = absurd (cc)
+    by c r d q = absurd (cc)
 
 true_or_open : (r : Reply) (o : Option (ℕ × Reply)) → IfSome o (λ (e : ℕ × Reply). e.1 ≡ r) → is_true r ≡ true → is_true_or_open o ≡ true
 true_or_open r None h t = refl
@@ -144,13 +115,7 @@ true_or_open r (Some e) h t = ap is_true h ∙ t
 adds_most : (own : Bool) (c : Call) (r : Reply) (o : Option (ℕ × Reply)) → IfSome o (λ (e : ℕ × Reply). e.1 ≡ r)
     → adds own c r ≤ cond (may_add c o && own) 1 0
 adds_most own (Add j) True o h = rw (true_or_open True o h refl) (omega arith)
-adds_most own (Add j) False o h = omega arith
-adds_most own (Add j) Full o h = omega arith
-adds_most own (Add j) (At x) o h = omega arith
-adds_most own (Add j) Nothing o h = omega arith
-adds_most own (Remove j) r o h = omega arith
-adds_most own (IsIn j) r o h = omega arith
-adds_most own (Ceiling j) r o h = omega arith
+adds_most own c r o h = omega arith
 
 module _ (calls : List CallRecord) where
   abbrev Replied : Placed → Type 0

@@ -107,23 +107,16 @@ module _ (L d : ℕ) where
   later_options s = elim (cases_Bool s.there) [ inl e ↦ rw e refl | inr e ↦ rw e refl ]
 
   later_fits : (m : ℕ) (v : Event) (s : State) → m ≤ L → fits m (later_event v) (later_state s) ≡ fits m v s
-  later_fits m (begins w end) s l = refl
   later_fits m (ends w) s l =
       let a : changes_to w (later_state s) ≡ map later (changes_to w s) = later_changes w s in
       ap (λ (xs : List ℕ). not_before (suc m) xs == length xs) a
       ∙ ap (λ (n : ℕ). n == length (map later (changes_to w s))) (later_not_before m (changes_to w s) l)
       ∙ ap (λ (n : ℕ). not_before (suc m) (changes_to w s) == n) (length-map (changes_to w s) later)
-  later_fits m (looks w since) s l = refl
-  later_fits m (leaves w) s l = refl
-  later_fits m idle s l = refl
+  later_fits m v s l = refl
 
   later_enters : (v : Event) (s : State) → enters (later_event v) (later_state s) ≡ later_state (enters v s)
   later_enters (begins true end) s = refl
-  later_enters (begins false end) s = refl
-  later_enters (ends w) s = refl
-  later_enters (looks w since) s = refl
-  later_enters (leaves w) s = refl
-  later_enters idle s = refl
+  later_enters v s = refl
 
   later_turned : (m e : ℕ) (s : State) → turned_by m (later e) (later_state s) ≡ later_state (turned_by m e s)
   later_turned m e s = elim (cases_Bool s.there) [

@@ -7,7 +7,7 @@ use Rattle.lset_judge.specs.Rule.{Event, leaves, idle, State, same, options, tak
 use Rattle.lset_judge.specs.Rule.{turned_if, settled, open_changes, found, entered, ruled}
 use Rattle.lset_judge.specs.Events.{events_on}
 use Rattle.lset_judge.proofs.Counts.{taken_length, nearest_stands}
-use Rattle.lset_judge.proofs.Ruled.{ruled_none}
+use Rattle.lset_judge.proofs.Ruled.{ruled_none, settled_none}
 use Rattle.lset_judge.proofs.Shifted.{later, later_state, later_option, later_event, later_found}
 
 -- ---- how the key is left depends neither on moments nor on ends
@@ -66,10 +66,6 @@ turn_alike m n s u a = elim (cases_Bool s.there) [
       let l : length (options s) ≡ length (options u) = ap length g ∙ a.puts ∙ ap length (sym h) in
       turn_from m n s u (options s) (options u) false e f a l refl refl)
 ]
-
-settled_none : (n m : ℕ) (v : Event) → settled n m v None ≡ None
-settled_none zero m v = refl
-settled_none (suc n) m v = refl
 
 settled_alike : (k m n : ℕ) (w : Bool) (s u : State) → Alike s u
     → is_some (settled k m (leaves w) (Some s)) ≡ is_some (settled k n (leaves w) (Some u))

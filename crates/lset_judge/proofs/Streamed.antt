@@ -23,7 +23,7 @@ use Rattle.lset_judge.specs.Events.{kind_if, until_if, ends_at, begin_event, eve
 use Rattle.lset_judge.specs.Stream.{behind_all, state_for, pending_of, no_pending, IsBefore, ArePending, IsJudgedTo}
 use Rattle.lset_judge.specs.Stream.{IsMetBy, IsMet, MayCome}
 use Rattle.lset_judge.proofs.After.{idle_step, quiet_until}
-use Rattle.lset_judge.proofs.EventLemmas.{Told, of_nothing, of_begin, of_end, told, ends_there}
+use Rattle.lset_judge.proofs.EventLemmas.{Told, of_nothing, of_begin, of_end, told, ends_there, if_some, for_some, none_or_some, ends_not}
 
 -- ---- ends
 
@@ -33,22 +33,6 @@ same_some o a b p q = cc
 pub until_end : (last begun : ℕ) (o : Option (ℕ × Reply)) (e : ℕ × Reply) → o ≡ Some e → until_if last begun o ≡ e.0
 until_end last begun o e s = ap (until_if last begun) s
 
-pub if_some : (P : ℕ × Reply → Type 0) (o : Option (ℕ × Reply)) (e : ℕ × Reply) → o ≡ Some e → IfSome o P → P e
-if_some P o e s h = subst (λ q. IfSome q P) s h
-
--- what holds of an end if there is one
-pub for_some : (P : ℕ × Reply → Type 0) (o : Option (ℕ × Reply)) → ((e : ℕ × Reply) → o ≡ Some e → P e) → IfSome o P
-for_some P None h = tt
-for_some P (Some e) h = h e refl
-
-pub none_or_some : (o : Option (ℕ × Reply)) → (o ≡ None) ⊎ ((e : ℕ × Reply) × (o ≡ Some e))
-none_or_some None = inl refl
-none_or_some (Some e) = inr (e, refl)
-
-not_at : (m : ℕ) (o : Option (ℕ × Reply)) → IfSome o (λ (e : ℕ × Reply). e.0 ≢ m) → ends_at m o ≡ false
-not_at m None h = refl
-not_at m (Some e) h = unequal_test e.0 m h
-
 -- ---- one more call
 
 -- what happens before it begins
@@ -56,7 +40,7 @@ pub event_before : (last k j : ℕ) (xs : List CallRecord) (x : CallRecord) → 
     → event_at last k (xs ++ x ∷ []) j ≡ event_at last k xs j
 event_before last k j [] x low later =
     let b : (x.begun == j) ≡ false = unequal_test x.begun j (λ q. omega arith) in
-    let e : ends_at j x.ended ≡ false = not_at j x.ended (for_some (λ (e : ℕ × Reply). e.0 ≢ j) x.ended
+    let e : ends_at j x.ended ≡ false = ends_not j x.ended (for_some (λ (e : ℕ × Reply). e.0 ≢ j) x.ended
     (λ e s q. let l : x.begun < e.0 = if_some (λ (e : ℕ × Reply). x.begun < e.0) x.ended e s later in omega (arith, l, q, low))) in
     elim (cases_Bool ((key_of x.call).0 == k)) [ inl t ↦ rw (t, b, e) refl | inr f ↦ rw f refl ]
 event_before last k j (y ∷ ys) x low later =
@@ -80,7 +64,7 @@ event_begun last k [] x a = elim (cases_Bool ((key_of x.call).0 == k)) [
 ]
 event_begun last k (y ∷ ys) x a =
     let b : (y.begun == x.begun) ≡ false = unequal_test y.begun x.begun a.0.0 in
-    let e : ends_at x.begun y.ended ≡ false = not_at x.begun y.ended a.0.1 in
+    let e : ends_at x.begun y.ended ≡ false = ends_not x.begun y.ended a.0.1 in
     let rest = event_begun last k ys x a.1 in
     elim (cases_Bool ((key_of y.call).0 == k)) [ inl t ↦ rw (t, b, e) rest | inr f ↦ rw f rest ]
 

@@ -5,7 +5,7 @@ use Rattle.std.proofs.lemmas.Bool.{cases_Bool}
 use Rattle.std.proofs.lemmas.List.Elements.{All-filter, All-from_recursion}
 use Rattle.std.proofs.lemmas.List.Kept.{AllPairs-filter}
 use Rattle.lset_words.specs.declared.Call.{Call}
-use Rattle.lset_words.specs.declared.Call.TheVariants.{Add, Remove, Contains, Ceiling}
+use Rattle.lset_words.specs.declared.Call.TheVariants.{Add}
 use Rattle.lset_words.specs.declared.Reply.{Reply}
 use Rattle.lset_words.specs.declared.Reply.TheVariants.{True, False, Full, At, Nothing}
 use Rattle.lset_words.specs.declared.history.CallRecord.{CallRecord}
@@ -32,27 +32,19 @@ abbrev pub without_full : List Placed → List Placed
 without_full order = filter stays order
 
 pub no_full_stays : (reply : Reply) → reply ≢ Full → is_no_full reply ≡ true
-no_full_stays True n = refl
-no_full_stays False n = refl
 no_full_stays Full n = absurd (n refl)
-no_full_stays (At x) n = refl
-no_full_stays Nothing n = refl
+no_full_stays r n = refl
 
 stays_no_full : (reply : Reply) → is_no_full reply ≡ true → reply ≢ Full
 stays_no_full reply e full = absurd (let f : is_no_full Full ≡ true = subst (λ (r : Reply). is_no_full r ≡ true) full e in cc)
 
 unchanged : (s : SetState) (thread : ℕ) (call : Call) → after_call s thread call Full ≡ s
 unchanged s thread (Add k) = refl
-unchanged s thread (Remove k) = refl
-unchanged s thread (Contains k) = refl
-unchanged s thread (Ceiling k) = refl
+unchanged s thread c = refl
 
 full_unchanged : (s : SetState) (thread : ℕ) (call : Call) (reply : Reply) → is_no_full reply ≡ false → after_call s thread call reply ≡ s
-full_unchanged s thread call True e = absurd (cc)
-full_unchanged s thread call False e = absurd (cc)
 full_unchanged s thread call Full e = unchanged s thread call
-full_unchanged s thread call (At x) e = absurd (cc)
-full_unchanged s thread call Nothing e = absurd (cc)
+full_unchanged s thread call r e = absurd (cc)
 
 module _ (calls : List CallRecord) where
   pub left_dropped : (s : SetState) (o : List Placed) → set_left_by s calls (without_full o) ≡ set_left_by s calls o

@@ -9,7 +9,7 @@ use Rattle.std.proofs.lemmas.List.{get_or_default}
 use Rattle.lset_words.specs.declared.Call.{Call}
 use Rattle.lset_words.specs.declared.Call.TheVariants as call
 use Rattle.lset_words.specs.declared.Reply.{Reply}
-use Rattle.lset_words.specs.declared.Reply.TheVariants.{True, False, Full, At, Nothing}
+use Rattle.lset_words.specs.declared.Reply.TheVariants.{True, False}
 use Rattle.lset_words.specs.declared.history.CallRecord.{CallRecord}
 use Rattle.lset_words.specs.declared.history.Placed.{Placed}
 use Rattle.lset_words.specs.SequentialSet.{SetState, IsLegal, reply_to, after_call, has_key, with_key, without_key}
@@ -28,23 +28,11 @@ once_if false = 0
 
 abbrev puts : ℕ → Call → Reply → ℕ
 puts k (call.Add j) True = once_if (j.0 == k)
-puts k (call.Add j) False = 0
-puts k (call.Add j) Full = 0
-puts k (call.Add j) (At x) = 0
-puts k (call.Add j) Nothing = 0
-puts k (call.Remove j) reply = 0
-puts k (call.Contains j) reply = 0
-puts k (call.Ceiling j) reply = 0
+puts k c reply = 0
 
 abbrev takes : ℕ → Call → Reply → ℕ
 takes k (call.Remove j) True = once_if (j.0 == k)
-takes k (call.Remove j) False = 0
-takes k (call.Remove j) Full = 0
-takes k (call.Remove j) (At x) = 0
-takes k (call.Remove j) Nothing = 0
-takes k (call.Add j) reply = 0
-takes k (call.Contains j) reply = 0
-takes k (call.Ceiling j) reply = 0
+takes k c reply = 0
 
 alike : (k : ℕ) (xs ys : List ℕ) → (Contains xs k → Contains ys k) → (Contains ys k → Contains xs k) → has_key k xs ≡ has_key k ys
 alike k xs ys to from = elim (cases_Bool (has_key k ys)) [
@@ -98,18 +86,9 @@ one_call : (k quota : ℕ) (s : SetState) (t : ℕ) (c : Call) (r : Reply) → r
     → once_if (has_key k (after_call s t c r).keys) + takes k c r ≡ once_if (has_key k s.keys) + puts k c r
 one_call k quota s t (call.Add j) True e =
     let a = put_in j.0 k s.keys (was_absent quota s t j.0 e) in omega (arith, a)
-one_call k quota s t (call.Add j) False e = refl
-one_call k quota s t (call.Add j) Full e = refl
-one_call k quota s t (call.Add j) (At x) e = refl
-one_call k quota s t (call.Add j) Nothing e = refl
 one_call k quota s t (call.Remove j) True e =
     let a = taken_out j.0 k s.keys (was_there quota s t j.0 e) in omega (arith, a)
-one_call k quota s t (call.Remove j) False e = refl
-one_call k quota s t (call.Remove j) Full e = refl
-one_call k quota s t (call.Remove j) (At x) e = refl
-one_call k quota s t (call.Remove j) Nothing e = refl
-one_call k quota s t (call.Contains j) r e = refl
-one_call k quota s t (call.Ceiling j) r e = refl
+one_call k quota s t c r e = refl
 
 -- ---- a sum over the places of an order
 
@@ -246,17 +225,8 @@ rises_on : (quota : ℕ) (s : SetState) (thread : ℕ) (call : Call) (reply : Re
     → RisesFrom 0 s.keys → RisesFrom 0 (after_call s thread call reply).keys
 rises_on quota s thread (call.Add k) True e r =
     with_rises k.0 0 s.keys r (omega arith) (has_none k.0 s.keys (was_absent quota s thread k.0 e))
-rises_on quota s thread (call.Add k) False e r = r
-rises_on quota s thread (call.Add k) Full e r = r
-rises_on quota s thread (call.Add k) (At x) e r = r
-rises_on quota s thread (call.Add k) Nothing e r = r
 rises_on quota s thread (call.Remove k) True e r = without_rises k.0 0 s.keys r
-rises_on quota s thread (call.Remove k) False e r = r
-rises_on quota s thread (call.Remove k) Full e r = r
-rises_on quota s thread (call.Remove k) (At x) e r = r
-rises_on quota s thread (call.Remove k) Nothing e r = r
-rises_on quota s thread (call.Contains k) reply e r = r
-rises_on quota s thread (call.Ceiling k) reply e r = r
+rises_on quota s thread c reply e r = r
 
 pub rises_left : (quota : ℕ) (s : SetState) (calls : List CallRecord) (o : List Placed) → IsLegal quota s (map (answered calls) o)
     → RisesFrom 0 s.keys → RisesFrom 0 (set_left_by s calls o).keys

@@ -1,35 +1,32 @@
 -- What replay keeps after the first events of a run: the run's history, what each open call has seen, the places of the calls.
 use Rattle.std.proofs.Common.{◌≡◌, ◌≢◌, ℕ, suc, ◌+◌, ◌<◌, ◌≤◌, ◌⊎◌, Bool, true, false, inl, inr, List, [], ◌∷◌, ◌++◌, length, map}
 use Rattle.std.proofs.Common.{sym, refl, subst, ap, ◌∙◌, arith, length-set, get_or-set_same, get_or-set_other}
-use Rattle.std.specs.Prelude.{All, ◌==◌, Option, Some, None, if◌then◌else◌}
+use Rattle.std.specs.Prelude.{All, Option, Some, None}
 use Rattle.std.proofs.lemmas.List.{length-map, length_push, get_or_push, get_or_append_left, map-append}
 use Rattle.lset_words.specs.declared.Call.{Call}
 use Rattle.lset_words.specs.declared.Reply.{Reply}
 use Rattle.lset_words.specs.declared.history.CallRecord.{CallRecord}
-use Rattle.lset_words.specs.Log.{Log, Entry, Change, TracedCall, calls_at, calls_after, history_at, record_of, last_call}
-use Rattle.lset_words.specs.Log.{begun_at, is_open, has_changed}
+use Rattle.lset_words.specs.Log.{Log, Entry, Change, TracedCall, calls_at, calls_after, history_at, record_of, is_open, has_changed}
 use Rattle.lset_words.specs.Log.Entry.{began}
 use Rattle.lset_words.specs.Account.{Contents, Counts, Enters}
 use Rattle.lset_words.specs.Placement.{traced_at, no_traced, IsLeastFit}
-use Rattle.lset_words.proofs.Numbers.{equal_test, unequal_test, same_or_not}
+use Rattle.lset_words.proofs.Numbers.{same_or_not, below_or_not, if_same, if_other}
 use Rattle.lset_words.specs.Words.{Opening}
-use Rattle.lset_history.proofs.Calls.{open_is, call_is, begun_is, changed_is, new_call}
-use Rattle.lset_history.proofs.OpenCalls.{last_number, number_after, length_began}
+use Rattle.lset_history.proofs.Calls.{open_is, changed_is, new_call}
+use Rattle.lset_replay.proofs.OpenCalls.{OpenNumber, open_new, open_began, length_began}
 use Rattle.lset_replay.specs.declared.places.OpenCall.{OpenCall}
 use Rattle.lset_replay.specs.declared.places.Linearized.{Linearized}
 use Rattle.lset_replay.specs.Trace.{Trace, open_call_at, place_at, number_of, fit, changed_at, settled, begun_on, changed_on, ended_on}
 use Rattle.lset_history.specs.Changes.{is_present, IsBounded}
 use Rattle.lset_history.proofs.ChangeLaws.{all_upto_later}
-use Rattle.lset_replay.proofs.KeyChanges.{Tells, changes_by, quiet_keys}
+use Rattle.lset_replay.proofs.KeyChanges.{Tells, changes_by, quiet_keys, last_or_before}
 
 -- AN OPEN CALL of a thread, at moment k
 pub record IsWatched (log : Log) (contents : Contents) (counts : Counts) (k t : ℕ) (o : OpenCall) : Type 0 where
-  pub number_is : o.number ≡ last_number log t k
-  pub call_is : o.call ≡ last_call log t k
-  pub begun_is : o.begun ≡ begun_at log t k
-  pub since : begun_at log t k ≤ k
+  pub here : OpenNumber (calls_at log k) t o.number o.call o.begun
+  pub since : o.begun ≤ k
   -- until its change the count of its thread stays
-  pub steady : has_changed log t k ≡ false → (m : ℕ) → begun_at log t k ≤ m → m ≤ k → counts m t ≡ counts k t
+  pub steady : has_changed log t k ≡ false → (m : ℕ) → o.begun ≤ m → m ≤ k → counts m t ≡ counts k t
 
 -- THE PLACE of a call
 abbrev pub PlaceBy : ℕ → Contents → Counts → TracedCall → Option ℕ → Option (ℕ × Reply) → Option Linearized → Type 0
@@ -131,40 +128,21 @@ module _ (m t : ℕ) where
   ended_changes (Some x) s = refl
 
 -- ---- A CALL BEGINS
-pub last_number_is : (log : Log) (k : ℕ) (e : Entry) → log k ≡ e → (t : ℕ)
-    → last_number log t (suc k) ≡ number_after (length (calls_at log k)) e t (last_number log t k)
-last_number_is log k e at t = ap (λ z. number_after (length (calls_at log k)) z t (last_number log t k)) at
-
 pub calls_are : (log : Log) (k : ℕ) (e : Entry) → log k ≡ e → calls_at log (suc k) ≡ calls_after (suc k) e (calls_at log k)
 calls_are log k e at = ap (λ z. calls_after (suc k) z (calls_at log k)) at
 
-pub pick : {A : Type 0} (b : Bool) (x y : A) → b ≡ true → (if b then x else y) ≡ x
-pick b x y e = rw e refl
+-- an open call stays watched where the count of its thread stays until its change
+module _ (log : Log) (contents : Contents) (counts : Counts) (k u : ℕ) (o : OpenCall)
+    (quiet : has_changed log u (suc k) ≡ false → (has_changed log u k ≡ false) × (counts (suc k) u ≡ counts k u))
+    (w : IsWatched log contents counts k u o) where
+  pub steady_next : has_changed log u (suc k) ≡ false → (m : ℕ) → o.begun ≤ m → m ≤ suc k → counts m u ≡ counts (suc k) u
+  steady_next f m a b = elim (last_or_before m k b) [
+    | inl e ↦ ap (λ z. counts z u) e
+    | inr y ↦ w.steady (quiet f).0 m a y ∙ sym (quiet f).1
+  ]
 
-pub pick_not : {A : Type 0} (b : Bool) (x y : A) → b ≡ false → (if b then x else y) ≡ y
-pick_not b x y e = rw e refl
-
--- another thread's open call stays watched where its count stays
-module _ (log : Log) (contents : Contents) (counts : Counts) (k u : ℕ) (o : OpenCall) where
-  pub watched_next : last_number log u (suc k) ≡ last_number log u k → last_call log u (suc k) ≡ last_call log u k
-      → begun_at log u (suc k) ≡ begun_at log u k
-      → (has_changed log u (suc k) ≡ false → (has_changed log u k ≡ false) × (counts (suc k) u ≡ counts k u))
-      → IsWatched log contents counts k u o → IsWatched log contents counts (suc k) u o
-  watched_next number call begun quiet w =
-      let l : begun_at log u k ≤ k = w.since in
-      record {
-        number_is = w.number_is ∙ sym number;
-        call_is = w.call_is ∙ sym call;
-        begun_is = w.begun_is ∙ sym begun;
-        since = omega arith;
-        steady = λ f m a b. elim (last_or_before m k b) [
-          | inl e ↦ ap (λ z. counts z u) e
-          | inr y ↦ w.steady (quiet f).0 m (omega arith) y ∙ sym (quiet f).1
-        ];
-      }
-    where
-      last_or_before : (m k : ℕ) → m ≤ suc k → (m ≡ suc k) ⊎ (m ≤ k)
-      last_or_before m k b = grind arith
+  pub watched_next : OpenNumber (calls_at log (suc k)) u o.number o.call o.begun → IsWatched log contents counts (suc k) u o
+  watched_next here = let l : o.begun ≤ k = w.since in record { here = here; since = omega arith; steady = steady_next }
 
 module _ (op : Opening) (log : Log) (contents : Contents) (counts : Counts) (k t : ℕ) (call : Call) (s : Trace)
     (at : log k ≡ began t call) (en : Enters op.threads op.quota log contents counts k (began t call))
@@ -190,10 +168,10 @@ module _ (op : Opening) (log : Log) (contents : Contents) (counts : Counts) (k t
   begun_idle : (u : ℕ) → u < op.threads → is_open log u (suc k) ≡ false →
       open_call_at (begun_on (suc k) t call s).under_way u ≡ None
   begun_idle u l e = elim (same_or_not t u) [
-    | inl y ↦ absurd (let g : true ≡ false = sym (pick (t == u) true (is_open log u k) (equal_test t u y))
+    | inl y ↦ absurd (let g : true ≡ false = sym (if_same t u y true (is_open log u k))
         ∙ sym (open_is log k (began t call) at u) ∙ e in cc)
     | inr d ↦ (get_or-set_other s.under_way t u _ None (λ z. d (sym z))
-        ∙ f.idle u l (sym (pick_not (t == u) true (is_open log u k) (unequal_test t u d))
+        ∙ f.idle u l (sym (if_other t u d true (is_open log u k))
         ∙ sym (open_is log k (began t call) at u) ∙ e))
   ]
 
@@ -201,43 +179,34 @@ module _ (op : Opening) (log : Log) (contents : Contents) (counts : Counts) (k t
       → (o : OpenCall) × (open_call_at (begun_on (suc k) t call s).under_way u ≡ Some o) × IsWatched log contents counts
       (suc k) u o
   begun_busy u l e = elim (same_or_not t u) [
-    | inl y ↦ (let b : (t == u) ≡ true = equal_test t u y in
-        let first : begun_at log u (suc k) ≡ suc k = begun_is log k (began t call) at u
-        ∙ pick (t == u) (suc k) (begun_at log u k) b in
-        let seats : length s.under_way ≡ op.threads = f.seats in (
-          record { number = length s.calls; call = call; begun = suc k },
-          subst (λ z. open_call_at (begun_on (suc k) t call s).under_way z ≡ Some (record {
-            number = length s.calls;
-            call = call;
-            begun = suc k;
-          })) y
-              (get_or-set_same s.under_way t _ None (let th : t < op.threads = en.of_a_thread in omega arith)),
-          record {
-            number_is = count_calls
-                ∙ sym (last_number_is log k (began t call) at u ∙ pick (t == u) (length (calls_at log k)) (last_number log u k)
-                b);
-            call_is = sym (call_is log k (began t call) at u
-                ∙ pick (t == u) call (last_call log u k) b);
-            begun_is = sym first;
-            since = rw first (omega arith);
-            steady = λ g m a b. (let x : begun_at log u (suc k) ≡ suc k = first in ap
-                (λ z. counts z u) (let w : m ≡ suc k = omega arith in w));
-          },
-        ))
-    | inr d ↦ (let b : (t == u) ≡ false = unequal_test t u d in
-        let w = f.busy u l (sym (pick_not (t == u) true (is_open log u k) b) ∙ sym (open_is log k (began t call) at u) ∙ e) in (
-          w.0,
-          get_or-set_other s.under_way t u _ None (λ z. d (sym z)) ∙ w.1,
-          watched_next log contents counts k u w.0
-              (last_number_is log k (began t call) at u ∙ pick_not (t == u) (length (calls_at log k)) (last_number log u k) b)
-              (call_is log k (began t call) at u ∙ pick_not (t == u) call (last_call log u k) b)
-              (begun_is log k (began t call) at u ∙ pick_not (t == u) (suc k) (begun_at log u k) b)
-              (λ g. (
-                sym (changed_is log k (began t call) at u ∙ pick_not (t == u) false (has_changed log u k) b)
-                    ∙ g,
-                en.same_counts u l,
-              )) w.2,
-        ))
+    | inl y ↦ (let seats : length s.under_way ≡ op.threads = f.seats in (
+      record { number = length s.calls; call = call; begun = suc k },
+      subst (λ z. open_call_at (begun_on (suc k) t call s).under_way z ≡ Some (record {
+        number = length s.calls;
+        call = call;
+        begun = suc k;
+      })) y
+          (get_or-set_same s.under_way t _ None (let th : t < op.threads = en.of_a_thread in omega arith)),
+      record {
+        here = subst (λ xs. OpenNumber xs u (length s.calls) call (suc k)) (sym (calls_are log k (began t call) at))
+            (subst (λ z. OpenNumber (calls_at log k ++ new_call k t call ∷ []) u z call (suc k)) (sym count_calls)
+            (subst (λ z. OpenNumber (calls_at log k ++ new_call k t call ∷ []) z (length (calls_at log k)) call (suc k)) y
+            (open_new k t call (calls_at log k))));
+        since = (let now : suc k ≤ suc k = omega arith in now);
+        steady = λ g m a b. ap (λ z. counts z u) (let from : suc k ≤ m = a in let now : m ≡ suc k = omega arith in now);
+      },
+    ))
+    | inr d ↦ (let w = f.busy u l (sym (if_other t u d true (is_open log u k)) ∙ sym (open_is log k (began t call) at u) ∙ e) in (
+      w.0,
+      get_or-set_other s.under_way t u _ None (λ z. d (sym z)) ∙ w.1,
+      watched_next log contents counts k u w.0
+          (λ g. (
+            sym (changed_is log k (began t call) at u ∙ if_other t u d false (has_changed log u k)) ∙ g,
+            en.same_counts u l,
+          )) w.2
+          (subst (λ xs. OpenNumber xs u w.0.number w.0.call w.0.begun) (sym (calls_are log k (began t call) at))
+          (open_began (new_call k t call) (calls_at log k) u w.0.number w.0.call w.0.begun w.2.here)),
+    ))
   ]
 
   begun_placed : (i : ℕ) → i < length (calls_at log (suc k))
@@ -245,20 +214,17 @@ module _ (op : Opening) (log : Log) (contents : Contents) (counts : Counts) (k t
   begun_placed i l =
       let long : length (calls_at log (suc k)) ≡ suc (length (calls_at log k)) = length_began log k t call at in
       let b : length s.places ≡ length (calls_at log k) = f.numbered in
-      elim (last_or_before i (length (calls_at log k)) (omega arith)) [
-        | inl e ↦ subst (λ z. PlaceOf op.quota contents counts z (place_at (begun_on (suc k) t call s).places i))
-            (sym (ap (λ xs. traced_at xs i) (calls_are log k (began t call) at)
-            ∙ get_or_push (calls_at log k) (new_call k t call) no_traced i (sym e)))
-            (get_or_push s.places None None i (omega arith))
+      elim (below_or_not i (length (calls_at log k))) [
         | inr y ↦ subst (λ z. PlaceOf op.quota contents counts z (place_at (begun_on (suc k) t call s).places i))
+            (sym (ap (λ xs. traced_at xs i) (calls_are log k (began t call) at)
+            ∙ get_or_push (calls_at log k) (new_call k t call) no_traced i (omega arith)))
+            (get_or_push s.places None None i (omega arith))
+        | inl y ↦ subst (λ z. PlaceOf op.quota contents counts z (place_at (begun_on (suc k) t call s).places i))
             (sym (ap (λ xs. traced_at xs i) (calls_are log k (began t call) at)
             ∙ get_or_append_left (calls_at log k) (new_call k t call ∷ []) no_traced i y))
             (subst (λ z. PlaceOf op.quota contents counts (traced_at (calls_at log k) i) z) (sym (get_or_append_left s.places
             (None ∷ []) None i (omega arith))) (f.placed i y))
       ]
-    where
-      last_or_before : (i m : ℕ) → i < suc m → (i ≡ m) ⊎ (i < m)
-      last_or_before i m b = grind arith
 
   pub follows_beginning : Follows op log contents counts (suc k) (begun_on (suc k) t call s)
   follows_beginning = record {

@@ -36,7 +36,7 @@ tells_yes b e c = ((λ x. c), (λ x y. absurd (cc)))
 tells_no : {C : Type 0} (b : Bool) → b ≡ false → (C → ⊥) → Tells b C
 tells_no b e n = ((λ x. absurd (cc)), (λ x y. n y))
 
-last_or_before : (m k : ℕ) → m ≤ suc k → (m ≡ suc k) ⊎ (m ≤ k)
+pub last_or_before : (m k : ℕ) → m ≤ suc k → (m ≡ suc k) ⊎ (m ≤ k)
 last_or_before m k b = grind arith
 
 abbrev pub changes_by : Option Change → ℕ → (ℕ → List ℕ) → ℕ → List ℕ

@@ -90,7 +90,6 @@ module _ (q : ℕ) (contents : Contents) (counts : Counts) (first last t : ℕ) 
       → IsFirst (λ m. Passes changes c r m) first last o
       → ((m : ℕ) → first ≤ m → m ≤ last → counts m t ≡ counts last t)
       → FitsSometime q contents counts first last t c r → (k : ℕ) × (o ≡ Some k) × LeastAt (FitsAt c r) first last k
-  fit_least changes (call.Add k) reply.True o bounded keys h steady f = absurd (f.fits)
   fit_least changes (call.Add k) reply.False o bounded keys h steady f =
       least_first (λ m. is_present changes k.0 m ≡ true) (FitsAt (call.Add k) reply.False) first last
       (λ m x y g. told_yes (is_present changes k.0 m) (keys k.0 m y) g)
@@ -100,12 +99,10 @@ module _ (q : ℕ) (contents : Contents) (counts : Counts) (first last t : ℕ) 
       (λ m x y g. told_no (is_present changes k.0 m) (keys k.0 m y) g.0)
       (λ m x y g. ((keys k.0 m y).1 g, steady m x y ∙ sym (steady f.moment f.from f.upto) ∙ f.fits.1)) o h f.moment f.from f.upto
       f.fits
-  fit_least changes (call.Remove k) reply.True o bounded keys h steady f = absurd (f.fits)
   fit_least changes (call.Remove k) reply.False o bounded keys h steady f =
       least_first (λ m. is_present changes k.0 m ≡ false) (FitsAt (call.Remove k) reply.False) first last
       (λ m x y g. told_no (is_present changes k.0 m) (keys k.0 m y) g)
       (λ m x y g. (keys k.0 m y).1 g) o h f.moment f.from f.upto f.fits
-  fit_least changes (call.Remove k) reply.Full o bounded keys h steady f = absurd (f.fits)
   fit_least changes (call.Contains k) reply.True o bounded keys h steady f =
       least_first (λ m. is_present changes k.0 m ≡ true) (FitsAt (call.Contains k) reply.True) first last
       (λ m x y g. told_yes (is_present changes k.0 m) (keys k.0 m y) g)
@@ -114,20 +111,11 @@ module _ (q : ℕ) (contents : Contents) (counts : Counts) (first last t : ℕ) 
       least_first (λ m. is_present changes k.0 m ≡ false) (FitsAt (call.Contains k) reply.False) first last
       (λ m x y g. told_no (is_present changes k.0 m) (keys k.0 m y) g)
       (λ m x y g. (keys k.0 m y).1 g) o h f.moment f.from f.upto f.fits
-  fit_least changes (call.Contains k) reply.Full o bounded keys h steady f = absurd (f.fits)
-  fit_least changes (call.Add k) (reply.At x) o bounded keys h steady f = absurd (f.fits)
-  fit_least changes (call.Add k) reply.Nothing o bounded keys h steady f = absurd (f.fits)
-  fit_least changes (call.Remove k) (reply.At x) o bounded keys h steady f = absurd (f.fits)
-  fit_least changes (call.Remove k) reply.Nothing o bounded keys h steady f = absurd (f.fits)
-  fit_least changes (call.Contains k) (reply.At x) o bounded keys h steady f = absurd (f.fits)
-  fit_least changes (call.Contains k) reply.Nothing o bounded keys h steady f = absurd (f.fits)
-  fit_least changes (call.Ceiling k) reply.True o bounded keys h steady f = absurd (f.fits)
-  fit_least changes (call.Ceiling k) reply.False o bounded keys h steady f = absurd (f.fits)
-  fit_least changes (call.Ceiling k) reply.Full o bounded keys h steady f = absurd (f.fits)
   fit_least changes (call.Ceiling k) (reply.At x) o bounded keys h steady f = ceiling_least changes k (Some x.0) (reply.At x) o
       (λ m e. e) (λ m e. e) bounded keys h f.moment f.from f.upto f.fits
   fit_least changes (call.Ceiling k) reply.Nothing o bounded keys h steady f = ceiling_least changes k None reply.Nothing o
       (λ m e. e) (λ m e. e) bounded keys h f.moment f.from f.upto f.fits
+  fit_least changes c r o bounded keys h steady f = absurd (f.fits)
 
 -- as the place of a traced call
 pub least_of : (q : ℕ) (contents : Contents) (counts : Counts) (x : TracedCall) (first last t : ℕ) (c : Call) (r : Reply) (k : ℕ)

@@ -5,6 +5,7 @@ pub mod ChainsKept
 pub mod Telling
 pub mod KeyChanges
 pub mod LeastFits
+pub mod OpenCalls
 pub mod Following
 pub mod Stepping
 pub mod OpenedChanges

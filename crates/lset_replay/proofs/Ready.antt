@@ -8,7 +8,7 @@ use Rattle.std.proofs.lemmas.List.Elements.{All-from_recursion}
 use Rattle.lset_words.specs.declared.Call.{Call}
 use Rattle.lset_words.specs.declared.Reply.{Reply}
 use Rattle.lset_words.specs.declared.history.CallRecord.{CallRecord}
-use Rattle.lset_words.specs.Log.{Log, Entry, Change, TracedCall, is_under_way, begun_at, calls_at, history_at, record_of, is_open}
+use Rattle.lset_words.specs.Log.{Log, Entry, Change, TracedCall, is_under_way, calls_at, history_at, record_of, is_open}
 use Rattle.lset_words.specs.Log.Entry.{began, stepped}
 use Rattle.lset_words.specs.Account.{Contents, Counts, Enters, Account}
 use Rattle.lset_words.specs.Placement.{no_traced}
@@ -19,7 +19,7 @@ use Rattle.std.proofs.lemmas.Bool.{cases_Bool}
 use Rattle.lset_history.proofs.Lists.{all_imply, all_map, get_or_mapped}
 use Rattle.lset_history.proofs.Calls.{Traced, EndedBy, OpenAt}
 use Rattle.lset_history.proofs.CallSteps.{run_of, calls_of, way_of}
-use Rattle.lset_history.proofs.OpenCalls.{OpenNumber, open_number, last_number, length_began, length_stepped}
+use Rattle.lset_replay.proofs.OpenCalls.{OpenNumber, length_began, length_stepped}
 use Rattle.lset_replay.specs.declared.places.OpenCall.{OpenCall}
 use Rattle.lset_replay.specs.declared.recorder.Recorder.{Recorder}
 use Rattle.lset_replay.specs.Trace.{Trace, open_call_at, trace_at, trace_after, trace_of, MayStep, MayChange}
@@ -125,17 +125,14 @@ module _ (op : Opening) (last : ℕ) (log : Log) (contents : Contents) (counts :
     may_step t change reply en =
         let o : (o : OpenCall) × (open_call_at r.under_way.items t ≡ Some o) × IsWatched log contents counts k t o =
         now.busy t en.of_a_thread en.under_way in
-        let number : OpenNumber (calls_at log k) t (last_number log t k) =
-        open_number op last log contents counts account k below t en.under_way in
-        let inside : last_number log t k < length (calls_at log k) = number.below in
+        let number : OpenNumber (calls_at log k) t o.0.number o.0.call o.0.begun = o.2.here in
+        let inside : o.0.number < length (calls_at log k) = number.below in
         let places : length r.places.items ≡ length (calls_at log k) = now.numbered in
         let records : length r.history.calls ≡ length (calls_at log k) =
         ap (λ (xs : List CallRecord). length xs) now.history ∙ length-map (calls_at log k) record_of in
         let seats : length r.under_way.items ≡ op.threads = now.seats in
         let th : t < op.threads = en.of_a_thread in
-        let e : o.0.number ≡ last_number log t k = o.2.number_is in
-        let begun : o.0.begun ≡ begun_at log t k = o.2.begun_is in
-        let since : begun_at log t k ≤ k = o.2.since in (
+        let since : o.0.begun ≤ k = o.2.since in (
           record {
             of_a_thread = omega arith;
             goes = subst (λ (z : Option OpenCall). IsSomeAnd z (λ y.
@@ -146,9 +143,8 @@ module _ (op : Opening) (last : ℕ) (log : Log) (contents : Contents) (counts :
                     open_call = record {
                       known = omega arith;
                       not_ended = ap (λ (xs : List CallRecord). (call_numbered xs o.0.number).ended) now.history
-                          ∙ ap (λ z. (call_numbered (history_at log k) z).ended) o.2.number_is
-                          ∙ ap (λ (x : CallRecord). x.ended) (get_or_mapped record_of (calls_at log k)
-                          (last_number log t k) no_traced) ∙ number.open_call.1;
+                          ∙ ap (λ (x : CallRecord). x.ended) (get_or_mapped record_of (calls_at log k) o.0.number no_traced)
+                          ∙ number.open_call.1;
                     };
                     later = later;
                   },

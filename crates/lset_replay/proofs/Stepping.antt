@@ -1,33 +1,33 @@
 -- What replay keeps at a step: the history, the open calls, the places and the keys after it.
 use Rattle.std.proofs.Common.{◌≡◌, ◌≢◌, ℕ, suc, ◌<◌, ◌≤◌, Bool, true, false, ◌||◌, inl, inr, List, length, map, set, sym, refl}
 use Rattle.std.proofs.Common.{subst, ap, ◌∙◌, arith, get_or-set_same, get_or-set_other}
-use Rattle.std.specs.Prelude.{All, ◌==◌, ◌-◌, Option, Some, None, is_some}
+use Rattle.std.specs.Prelude.{All, ◌-◌, Option, Some, None, is_some}
 use Rattle.std.proofs.lemmas.List.{map-set, set-get_or}
 use Rattle.lset_words.specs.declared.Reply.{Reply}
-use Rattle.lset_words.specs.Log.{Log, Change, TracedCall, traced_on, changed_by, ended_by, calls_at, history_at, record_of}
+use Rattle.lset_words.specs.Log.{Log, Change, TracedCall, traced_on, changed_by, ended_by, calls_at, calls_after, history_at, record_of}
 use Rattle.lset_words.specs.Log.{last_call, begun_at, is_open, has_changed, is_change, open_after}
 use Rattle.lset_words.specs.Log.Entry.{stepped}
 use Rattle.lset_words.specs.Account.{Contents, Counts, FitsSometime, RightReply, Enters, Account, count_after}
 use Rattle.lset_words.specs.Placement.{traced_at, no_traced, IsLeastFit}
 use Rattle.lset_words.specs.History.{call_numbered, no_call}
 use Rattle.lset_history.specs.History.{ended_with}
-use Rattle.lset_words.proofs.Numbers.{equal_test, unequal_test, same_or_not}
+use Rattle.lset_words.proofs.Numbers.{same_or_not, if_same, if_other}
 use Rattle.lset_words.specs.Words.{Opening}
 use Rattle.lset_history.proofs.Lists.{get_or_mapped, all_at}
-use Rattle.lset_history.proofs.Calls.{Run, Traced, EndedBy, OpenAt, open_is, call_is, begun_is, changed_is}
+use Rattle.lset_history.proofs.Calls.{Run, Traced, EndedBy, OpenAt, open_is, changed_is}
 use Rattle.lset_history.proofs.CallSteps.{run_of, calls_of}
-use Rattle.lset_history.proofs.OpenCalls.{OpenNumber, open_number, last_number, length_stepped, step_sets}
+use Rattle.lset_replay.proofs.OpenCalls.{OpenNumber, open_stepped, length_stepped, step_sets}
 use Rattle.lset_replay.specs.declared.places.OpenCall.{OpenCall}
 use Rattle.lset_replay.specs.declared.places.Linearized.{Linearized}
-use Rattle.lset_replay.specs.Trace.{Trace, open_call_at, place_at, number_of, fit, fit_by, changed_at, read_at, settled}
+use Rattle.lset_replay.specs.Trace.{Trace, open_call_at, place_at, number_of, fit, changed_at, read_at, settled}
 use Rattle.lset_replay.specs.Trace.{changed_on, ended_on}
-use Rattle.lset_history.specs.Changes.{IsFirst, is_present, IsBounded}
+use Rattle.lset_history.specs.Changes.{is_present, IsBounded}
 use Rattle.lset_replay.proofs.KeyChanges.{HoldsKeys, Tells, changes_by, changed_keys, changed_upto, changed_bounded}
-use Rattle.lset_replay.proofs.LeastFits.{fit_least, least_of, Passes, fit_is_first}
+use Rattle.lset_replay.proofs.LeastFits.{fit_least, least_of, fit_is_first}
 use Rattle.lset_replay.proofs.Following.{IsWatched, Follows, PlaceBy, PlaceOf, change_place, end_place, changed_calls}
 use Rattle.lset_replay.proofs.Following.{changed_seats, changed_open, changed_changes, changed_count, changed_other, changed_here}
 use Rattle.lset_replay.proofs.Following.{ended_seats, ended_others, ended_seat, ended_count, ended_other, ended_here}
-use Rattle.lset_replay.proofs.Following.{ended_changes, last_number_is, calls_are, pick, pick_not, watched_next}
+use Rattle.lset_replay.proofs.Following.{ended_changes, calls_are, steady_next, watched_next}
 
 -- the place of the call that steps
 module _ (q : ℕ) (contents : Contents) (counts : Counts) (x : TracedCall) (m : ℕ) (changes : ℕ → List ℕ) (o : OpenCall) where
@@ -53,25 +53,24 @@ module _ (q : ℕ) (contents : Contents) (counts : Counts) (x : TracedCall) (m :
       )
 
 -- the history after an answer
-module _ (m t num : ℕ) (cs : List TracedCall) (ch : Option Change) (o : OpenCall) (s : Trace) where
-  ended_history : (r : Option Reply) → open_call_at s.under_way t ≡ Some o → o.number ≡ num → s.calls ≡ map record_of cs
+module _ (m t : ℕ) (cs : List TracedCall) (ch : Option Change) (o : OpenCall) (s : Trace) where
+  abbrev num : ℕ
+  num = o.number
+
+  ended_history : (r : Option Reply) → open_call_at s.under_way t ≡ Some o → s.calls ≡ map record_of cs
       → (traced_at cs num).ended ≡ None
       → (ended_on m t r s).calls ≡ map record_of (set cs num (traced_on m ch r (traced_at cs num)))
-  ended_history None e f g h =
-      let x : TracedCall = traced_at cs num in
-      g ∙ sym (map-set record_of cs num (traced_on m ch None (traced_at cs num))
+  ended_history None e g h = g ∙ sym (map-set record_of cs num (traced_on m ch None (traced_at cs num))
       ∙ ap (λ z. set (map record_of cs) num (record {
         thread = (traced_at cs num).thread;
-        call =
-            (traced_at cs num).call;
+        call = (traced_at cs num).call;
         begun = (traced_at cs num).begun;
         ended = z;
       })) (sym h)
       ∙ ap (λ z. set (map record_of cs) num z) (sym (get_or_mapped record_of cs num no_traced))
       ∙ set-get_or (map record_of cs) num no_call)
-  ended_history (Some a) e f g h =
+  ended_history (Some a) e g h =
       ap (λ z. set s.calls (number_of z) (ended_with (call_numbered s.calls (number_of z)) (m, a))) e
-      ∙ ap (λ z. set s.calls z (ended_with (call_numbered s.calls z) (m, a))) f
       ∙ ap (λ z. set z num (ended_with (call_numbered z num) (m, a))) g
       ∙ ap (λ z. set (map record_of cs) num (ended_with z (m, a))) (get_or_mapped record_of cs num no_traced)
       ∙ sym (map-set record_of cs num (traced_on m ch (Some a) (traced_at cs num)))
@@ -96,12 +95,21 @@ module _ (op : Opening) (last : ℕ) (log : Log) (contents : Contents) (counts :
   abbrev run : Run
   run = run_of op.threads op.quota log contents counts
 
-  -- the number of the call that steps, and the call
+  abbrev open_now : (o : OpenCall) × (open_call_at s.under_way t ≡ Some o) × IsWatched log contents counts k t o
+  open_now = f.busy t en.of_a_thread en.under_way
+
+  -- the call that steps, its number, and where it is open
+  abbrev watching : OpenCall
+  watching = open_now.0
+
   abbrev number_here : ℕ
-  number_here = last_number log t k
+  number_here = watching.number
 
   abbrev here : TracedCall
   here = traced_at (calls_at log k) number_here
+
+  number : OpenNumber (calls_at log k) t number_here watching.call watching.begun
+  number = open_now.2.here
 
   -- what is kept after its change, and after its end
   abbrev changed : Trace
@@ -110,47 +118,29 @@ module _ (op : Opening) (last : ℕ) (log : Log) (contents : Contents) (counts :
   abbrev kept : Trace
   kept = ended_on (suc k) t r changed
 
-  number : OpenNumber (calls_at log k) t number_here
-  number = open_number op last log contents counts account k below t en.under_way
-
   traced : Traced run k here
   traced = all_at (Traced run k) (calls_at log k) no_traced number_here number.below
       (calls_of op last log contents counts account k below).each
 
-  told : OpenAt run k here.thread here.call
-      here.begun here.changed
-  told = subst (EndedBy run k here.thread here.call
-      here.begun here.changed) number.open_call.1 traced.ends
+  told : OpenAt run k here.thread here.call here.begun here.changed
+  told = subst (EndedBy run k here.thread here.call here.begun here.changed) number.open_call.1 traced.ends
 
   calls_next : calls_at log (suc k) ≡ set (calls_at log k) number_here (traced_on (suc k) ch r here)
-  calls_next = calls_are log k (stepped t ch r) at ∙ step_sets op last log contents counts account k t ch r below en.under_way
-
-  abbrev open_now : (o : OpenCall) × (open_call_at s.under_way t ≡ Some o) × IsWatched log contents counts k t o
-  open_now = f.busy t en.of_a_thread en.under_way
-
-  abbrev watching : OpenCall
-  watching = open_now.0
+  calls_next = calls_are log k (stepped t ch r) at
+      ∙ step_sets op last log contents counts account k t ch r below number_here watching.call watching.begun number
 
   open_next : open_call_at changed.under_way t ≡ Some watching
   open_next = changed_open (suc k) t ch s t (Some watching) open_now.1
 
-  number_next : watching.number ≡ last_number log t k
-  number_next = open_now.2.number_is
-
   quiet_here : has_changed log t (suc k) ≡ false → (has_changed log t k ≡ false) × (counts (suc k) t ≡ counts k t)
   quiet_here e =
       let w : (has_changed log t k ≡ false) × (is_change ch ≡ false) = or_false (has_changed log t k) (is_change ch)
-      (sym (pick (t == t) (has_changed log t k || is_change ch) (has_changed log t k) (equal_test t t refl))
+      (sym (if_same t t refl (has_changed log t k || is_change ch) (has_changed log t k))
       ∙ sym (changed_is log k (stepped t ch r) at t) ∙ e) in
       (w.0, en.own_count ∙ no_count ch (counts k t) w.1)
 
-  watched_here : IsWatched log contents counts (suc k) t watching
-  watched_here = watched_next log contents counts k t open_now.0 (last_number_is log k (stepped t ch r) at t)
-      (call_is log k (stepped t ch r) at t)
-      (begun_is log k (stepped t ch r) at t) quiet_here open_now.2
-
   step_history : kept.calls ≡ history_at log (suc k)
-  step_history = ended_history (suc k) t number_here (calls_at log k) ch watching changed r open_next number_next
+  step_history = ended_history (suc k) t (calls_at log k) ch watching changed r open_next
       (changed_calls (suc k) t ch s ∙ f.history) number.open_call.1 ∙ sym (ap (λ xs. map record_of xs) calls_next)
 
   kept_changes : kept.changes ≡ changes_by ch (suc k) s.changes
@@ -180,87 +170,90 @@ module _ (op : Opening) (last : ℕ) (log : Log) (contents : Contents) (counts :
         ap (λ (xs : List (Option OpenCall)). length xs) (changed_seats (suc k) t ch s) in
         let c : t < length s.under_way = in_seats t en.of_a_thread in omega arith))
     | inr d ↦ (ended_others (suc k) t (Some a) changed u (λ z. d (sym z))
-        ∙ changed_open (suc k) t ch s u None (f.idle u l (sym (pick_not (t == u) false (is_open log u k)
-        (unequal_test t u d)) ∙ e)))
+        ∙ changed_open (suc k) t ch s u None (f.idle u l (sym (if_other t u d false (is_open log u k)) ∙ e)))
   ]
 
   open_other : (a : Option Reply) (u : ℕ) → t ≢ u → open_after (stepped t ch a) u (is_open log u k) ≡ true →
       is_open log u k ≡ true
   open_other None u d e = e
-  open_other (Some a) u d e = sym (pick_not (t == u) false (is_open log u k) (unequal_test t u d)) ∙ e
+  open_other (Some a) u d e = sym (if_other t u d false (is_open log u k)) ∙ e
 
+  -- it stays open unless it answers
   open_here : (a : Option Reply) → open_after (stepped t ch a) t (is_open log t k) ≡ true
-      → open_call_at (ended_on (suc k) t a changed).under_way t ≡ Some watching
-  open_here None e = open_next
-  open_here (Some a) e = absurd (let g : false ≡ true = sym (pick (t == t) false (is_open log t k) (equal_test t t refl))
-      ∙ e in cc)
+      → (open_call_at (ended_on (suc k) t a changed).under_way t ≡ Some watching)
+      × OpenNumber (calls_after (suc k) (stepped t ch a) (calls_at log k)) t number_here watching.call watching.begun
+  open_here None e = (
+    open_next,
+    open_stepped k t t ch None (calls_at log k) number_here watching.call watching.begun (inl refl) number,
+  )
+  open_here (Some a) e = absurd (let g : false ≡ true = sym (if_same t t refl false (is_open log t k)) ∙ e in cc)
 
   step_busy : (u : ℕ) → u < op.threads → is_open log u (suc k) ≡ true
       → (o : OpenCall) × (open_call_at kept.under_way u ≡ Some o) × IsWatched log contents counts (suc k) u o
   step_busy u l e = elim (same_or_not t u) [
     | inl y ↦ subst (λ z. (o : OpenCall) × (open_call_at kept.under_way z ≡ Some o) × IsWatched log contents counts
         (suc k) z o) y (
-          open_now.0,
-          open_here r (sym (open_is log k (stepped t ch r) at t) ∙ subst (λ z. is_open log z (suc k) ≡ true) (sym y) e),
-          watched_here,
+        let stays = open_here r (sym (open_is log k (stepped t ch r) at t)
+        ∙ subst (λ z. is_open log z (suc k) ≡ true) (sym y) e) in (
+          watching,
+          stays.0,
+          watched_next log contents counts k t watching quiet_here open_now.2
+              (subst (λ xs. OpenNumber xs t number_here watching.call watching.begun)
+              (sym (calls_are log k (stepped t ch r) at)) stays.1),
+        )
         )
     | inr d ↦ (let w = f.busy u l (open_other r u d (sym (open_is log k (stepped t ch r) at u) ∙ e)) in (
       w.0,
       ended_others (suc k) t r changed u (λ z. d (sym z)) ∙ changed_open (suc k) t ch s u (Some w.0) w.1,
-      watched_next log contents counts k u w.0 (last_number_is log k (stepped t ch r) at u) (call_is log k
-          (stepped t ch r) at u) (begun_is log k (stepped t ch r) at u)
+      watched_next log contents counts k u w.0
           (λ g. (
-            sym (changed_is log k (stepped t ch r) at u ∙ pick_not (t == u) (has_changed log u k || is_change ch)
-                (has_changed log u k) (unequal_test t u d)) ∙ g,
+            sym (changed_is log k (stepped t ch r) at u ∙ if_other t u d (has_changed log u k || is_change ch)
+                (has_changed log u k)) ∙ g,
             en.other_counts u l (λ z. d (sym z)),
-          )) w.2,
+          )) w.2
+          (subst (λ xs. OpenNumber xs u w.0.number w.0.call w.0.begun) (sym (calls_are log k (stepped t ch r) at))
+          (open_stepped k t u ch r (calls_at log k) w.0.number w.0.call w.0.begun (inr d) w.2.here)),
     ))
   ]
 
   fits_first : here.changed ≡ None → ch ≡ None → (a : Reply) → r ≡ Some a
       → (m : ℕ) × (fit kept.changes watching a (suc k) ≡ Some m) × IsLeastFit op.quota contents counts here (suc k) a m
   fits_first e g a h =
-      let x : TracedCall = traced_at (calls_at log k) number_here in
       let th : here.thread ≡ t = number.open_call.0 in
       let unchanged : has_changed log t k ≡ false = subst (λ z. has_changed log z k ≡ false) th (told.changed_is
       ∙ ap (λ (z : Option ℕ). is_some z) e) in
       let still : has_changed log t (suc k) ≡ false = changed_is log k (stepped t ch r) at t
-      ∙ pick (t == t) (has_changed log t k || is_change ch) (has_changed log t k) (equal_test t t refl)
+      ∙ if_same t t refl (has_changed log t k || is_change ch) (has_changed log t k)
       ∙ ap (λ z. has_changed log t k || is_change z) g ∙ or_nothing (has_changed log t k) unchanged in
-      let sometime : FitsSometime op.quota contents counts (begun_at log t k) (suc k) t (last_call log t k) a =
-      subst (λ z. RightReply z op.quota contents counts (begun_at log t k) (suc k) t (last_call log t k) (Some a)) still
+      let call_same : last_call log t k ≡ watching.call =
+      subst (λ z. last_call log z k ≡ here.call) th told.call_is ∙ number.open_call.2 in
+      let begun_same : begun_at log t k ≡ watching.begun =
+      subst (λ z. begun_at log z k ≡ here.begun) th told.begun_is ∙ number.open_call.3 in
+      let sometime : FitsSometime op.quota contents counts watching.begun (suc k) t watching.call a =
+      subst (λ z. FitsSometime op.quota contents counts z (suc k) t watching.call a) begun_same
+      (subst (λ z. FitsSometime op.quota contents counts (begun_at log t k) (suc k) t z a) call_same
+      (subst (λ z. RightReply z op.quota contents counts (begun_at log t k) (suc k) t (last_call log t k) (Some a)) still
       (subst (λ z. RightReply (has_changed log t (suc k)) op.quota contents counts (begun_at log t k) (suc k) t
-      (last_call log t k) z) h en.right) in
-      let call_same : last_call log t (suc k) ≡ last_call log t k = call_is log k (stepped t ch r) at t in
-      let begun_same : begun_at log t (suc k) ≡ begun_at log t k = begun_is log k (stepped t ch r) at t in
-      let oc : watching.call ≡ last_call log t k = watched_here.call_is ∙ call_same in
-      let sometime' : FitsSometime op.quota contents counts (begun_at log t (suc k)) (suc k) t watching.call a =
-      subst (λ z. FitsSometime op.quota contents counts z (suc k) t watching.call a) (sym begun_same)
-      (subst (λ z. FitsSometime op.quota contents counts (begun_at log t k) (suc k) t z a) (sym oc) sometime) in
-      let since : begun_at log t (suc k) ≤ suc k = watched_here.since in
-      let w = fit_least op.quota contents counts (begun_at log t (suc k)) (suc k) t kept.changes watching.call a
+      (last_call log t k) z) h en.right))) in
+      let since : watching.begun ≤ k = open_now.2.since in
+      let w = fit_least op.quota contents counts watching.begun (suc k) t kept.changes watching.call a
       (fit kept.changes watching a (suc k)) step_bounded step_keys
-      (subst (λ z. IsFirst (λ m. Passes op.quota contents counts z (suc k) t kept.changes watching.call a m) z (suc k)
-      (fit_by kept.changes watching.call a watching.begun (suc k - watching.begun))) watched_here.begun_is
       (fit_is_first op.quota contents counts watching.begun (suc k) t kept.changes watching.call a (suc k - watching.begun)
-      (let e : watching.begun ≡ begun_at log t (suc k) = watched_here.begun_is in omega arith)))
-      (watched_here.steady still) sometime' in (
+      (omega arith))
+      (steady_next log contents counts k t watching quiet_here open_now.2 still) sometime in (
         w.0,
         w.1,
-        least_of op.quota contents counts here (begun_at log t (suc k)) (suc k) t watching.call a w.0
-            (subst (λ z. here.begun ≡ begun_at log z k) th (sym told.begun_is) ∙ sym begun_same)
-            th (subst (λ z. here.call ≡ last_call log z k) th (sym told.call_is) ∙ sym oc) w.2,
+        least_of op.quota contents counts here watching.begun (suc k) t watching.call a w.0 number.open_call.3 th
+            number.open_call.2 w.2,
       )
 
   step_placed : (i : ℕ) → i < length (calls_at log (suc k))
       → PlaceOf op.quota contents counts (traced_at (calls_at log (suc k)) i) (place_at kept.places i)
   step_placed i l =
       let long : length (calls_at log (suc k)) ≡ length (calls_at log k) = length_stepped log k t ch r at in
-      let o : OpenCall = open_now.0 in
-      let same_num : number_of (open_call_at s.under_way t) ≡ last_number log t k =
-      ap number_of open_now.1 ∙ open_now.2.number_is in
+      let same_num : number_of (open_call_at s.under_way t) ≡ number_here = ap number_of open_now.1 in
       let places : length s.places ≡ length (calls_at log k) = f.numbered in
-      let inside : last_number log t k < length (calls_at log k) = number.below in
+      let inside : number_here < length (calls_at log k) = number.below in
       let count1 : length changed.places ≡ length s.places = changed_count (suc k) t ch s in
       elim (same_or_not i number_here) [
         | inl y ↦ subst (λ z. PlaceOf op.quota contents counts (traced_at (calls_at log (suc k)) z) (place_at kept.places z))
@@ -270,13 +263,11 @@ module _ (op : Opening) (last : ℕ) (log : Log) (contents : Contents) (counts :
             (subst (λ z. PlaceOf op.quota contents counts z (place_at kept.places number_here))
             (sym (get_or-set_same (calls_at log k) number_here (traced_on (suc k) ch r here) no_traced inside))
             (subst (λ z. PlaceOf op.quota contents counts (traced_on (suc k) ch r here) z)
-            (sym (ap (λ z. place_at kept.places z) (sym number_next)
-            ∙ ended_here (suc k) t r changed watching open_next
-            (let e : watching.number ≡ last_number log t k = number_next in omega arith)
-            ∙ ap (λ z. end_place changed.changes (suc k) r watching (place_at changed.places z)) (number_next ∙ sym same_num)
+            (sym (ended_here (suc k) t r changed watching open_next (omega arith)
+            ∙ ap (λ z. end_place changed.changes (suc k) r watching (place_at changed.places z)) (sym same_num)
             ∙ ap (λ z. end_place changed.changes (suc k) r watching z) (changed_here (suc k) t ch s (omega arith))
             ∙ ap (λ z. end_place changed.changes (suc k) r watching (change_place ch (suc k) (place_at s.places z))) same_num
-            ∙ ap (λ c. end_place c (suc k) r watching (change_place ch (suc k) (place_at s.places (last_number log t k))))
+            ∙ ap (λ c. end_place c (suc k) r watching (change_place ch (suc k) (place_at s.places number_here)))
             (sym (ended_changes (suc k) t r changed))))
             (place_next op.quota contents counts here (suc k) kept.changes watching
             here.changed (place_at s.places number_here) ch r
@@ -286,7 +277,7 @@ module _ (op : Opening) (last : ℕ) (log : Log) (contents : Contents) (counts :
             (subst (λ z. PlaceOf op.quota contents counts z (place_at kept.places i))
             (sym (get_or-set_other (calls_at log k) number_here i (traced_on (suc k) ch r here) no_traced d))
             (subst (λ z. PlaceOf op.quota contents counts (traced_at (calls_at log k) i) z)
-            (sym (ended_other (suc k) t r changed watching i open_next (λ z. d (z ∙ number_next))
+            (sym (ended_other (suc k) t r changed watching i open_next d
             ∙ changed_other (suc k) t ch s i (λ z. d (z ∙ same_num))))
             (f.placed i (omega arith))))
       ]

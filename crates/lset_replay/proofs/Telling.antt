@@ -12,7 +12,7 @@ use Rattle.lset_words.specs.History.{call_numbered}
 use Rattle.lset_words.specs.Words.{Opening}
 use Rattle.lset_history.proofs.Calls.{new_call}
 use Rattle.lset_history.proofs.Lists.{get_or_mapped}
-use Rattle.lset_history.proofs.OpenCalls.{OpenNumber, open_number, last_number, length_stepped, step_sets}
+use Rattle.lset_replay.proofs.OpenCalls.{OpenNumber, length_stepped, step_sets}
 use Rattle.lset_steps.specs.declared.Event.{Event}
 use Rattle.lset_steps.specs.declared.Event.TheVariants.{Begin, Go}
 use Rattle.lset_steps.specs.declared.world.ChainKey.{ChainKey}
@@ -104,42 +104,28 @@ module _ (T : Table) (accounts : TellsKeys T) (op : Opening) (events : List Line
   ended_there t change reply at en end e =
       let o : (o : OpenCall) × (open_call_at r.under_way.items t ≡ Some o) × IsWatched log contents counts k t o =
       earlier.busy t en.of_a_thread en.under_way in
-      let num : ℕ = last_number log t k in
-      let number : OpenNumber (calls_at log k) t (last_number log t k) =
-      open_number op (suc k) log contents counts account k (omega arith) t en.under_way in
-      let here : TracedCall = traced_at (calls_at log k) (last_number log t k) in
-      let inside : last_number log t k < length (calls_at log k) = number.below in
+      let num : ℕ = o.0.number in
+      let number : OpenNumber (calls_at log k) t num o.0.call o.0.begun = o.2.here in
+      let inside : num < length (calls_at log k) = number.below in
       let long : length (calls_at log (suc k)) ≡ length (calls_at log k) = length_stepped log k t change (Some reply) at in
-      let call : traced_at (calls_at log (suc k)) (last_number log t k)
-      ≡ traced_on (suc k) change (Some reply) (traced_at (calls_at log k) (last_number log t k)) =
-      ap (λ xs. traced_at xs (last_number log t k)) (calls_are log k (stepped t change (Some reply)) at
-      ∙ step_sets op (suc k) log contents counts account k t change (Some reply) (omega arith) en.under_way)
-      ∙ get_or-set_same (calls_at log k) (last_number log t k)
-      (traced_on (suc k) change (Some reply) (traced_at (calls_at log k) (last_number log t k))) no_traced number.below in
-      let ended : (traced_at (calls_at log (suc k)) (last_number log t k)).ended ≡ Some (suc k, reply) =
-      ap (λ (z : TracedCall). z.ended) call in
-      let placed : PlaceOf op.quota contents counts (traced_at (calls_at log (suc k)) (last_number log t k))
-      (place_at r'.places.items (last_number log t k)) =
-      later.placed (last_number log t k) (omega arith) in
-      let there : (p : Linearized) × (place_at r'.places.items (last_number log t k) ≡ Some p) =
-      has_place op.quota contents counts (traced_at (calls_at log (suc k)) (last_number log t k))
-      (traced_at (calls_at log (suc k)) (last_number log t k)).changed
-      (traced_at (calls_at log (suc k)) (last_number log t k)).ended
-      (suc k, reply) (place_at r'.places.items (last_number log t k)) ended placed in
-      let end_is : end ≡ Some (record { call = last_number log t k; reply = reply; moment = there.0.moment }) =
-      e ∙ ap (λ z. end_with (Some reply) (open_number_of z) r'.places.items) o.1
-      ∙ ap (λ z. end_with (Some reply) (Some z) r'.places.items) o.2.number_is
-      ∙ ap (λ z. end_there (last_number log t k) reply z) there.1 in
+      let here : TracedCall = traced_at (calls_at log (suc k)) num in
+      let call : here ≡ traced_on (suc k) change (Some reply) (traced_at (calls_at log k) num) =
+      ap (λ xs. traced_at xs num) (calls_are log k (stepped t change (Some reply)) at
+      ∙ step_sets op (suc k) log contents counts account k t change (Some reply) (omega arith) num o.0.call o.0.begun number)
+      ∙ get_or-set_same (calls_at log k) num
+      (traced_on (suc k) change (Some reply) (traced_at (calls_at log k) num)) no_traced number.below in
+      let ended : here.ended ≡ Some (suc k, reply) = ap (λ (z : TracedCall). z.ended) call in
+      let placed : PlaceOf op.quota contents counts here (place_at r'.places.items num) = later.placed num (omega arith) in
+      let there : (p : Linearized) × (place_at r'.places.items num ≡ Some p) =
+      has_place op.quota contents counts here here.changed here.ended (suc k, reply) (place_at r'.places.items num) ended placed in
+      let end_is : end ≡ Some (record { call = num; reply = reply; moment = there.0.moment }) =
+      e ∙ ap (λ z. end_with (Some reply) (open_number_of z) r'.places.items) o.1 ∙ ap (λ z. end_there num reply z) there.1 in
       subst (λ z. IsSomeAnd z (λ c. EndsCall T op es k t reply c)) (sym end_is) (record {
         of_thread = ap (λ (z : TracedCall). z.thread) call ∙ number.open_call.0;
         ended = ended;
         reply_is = refl;
-        stands = subst (λ z. StandsAt op.quota contents counts (traced_at (calls_at log (suc k)) (last_number log t k))
-            (moment_of z)) there.1
-            (stands_there op.quota contents counts (traced_at (calls_at log (suc k)) (last_number log t k))
-            (traced_at (calls_at log (suc k)) (last_number log t k)).changed
-            (traced_at (calls_at log (suc k)) (last_number log t k)).ended
-            (place_at r'.places.items (last_number log t k)) placed);
+        stands = subst (λ z. StandsAt op.quota contents counts here (moment_of z)) there.1
+            (stands_there op.quota contents counts here here.changed here.ended (place_at r'.places.items num) placed);
       })
 
   by_answer : (t : ℕ) → es k ≡ Go t → (a : Option Reply) → (told T (state_at T op es k) (Go t)).answer ≡ a →
