@@ -2,7 +2,7 @@
 
 From the names in a function's contract and body follow: the definitions of specs/ that their file brings in, and those that these
 name, in all crates; the contracts of the functions that it calls, and the types that it names, with their invariants and models. Comments,
-layout, proofs/ and the bodies of other functions have no part in it. Names are followed by the `use` lines, as rattle does; a method goes by
+layout, proofs/, the bodies of other functions and the sentences of errors have no part in it. Names are followed by the `use` lines, as rattle does; a method goes by
 its name alone, in its crate and in those that the file names, so this takes in more than a verdict depends on, and nothing less that
 has a name.
 """
@@ -17,6 +17,7 @@ from mutants import CRATES, Source, changed_functions, functions
 from rattle_sources import uses
 
 TYPE = re.compile(r"^(?:pub(?:\(crate\))? )?(?:struct|enum|trait|const|static|type) (\w+)")
+SENTENCE = re.compile(r"^ *#\[error\(.*?\)\]\n", re.M | re.S)  # no contract has it
 
 File = collections.namedtuple("File", "source names modules crates")
 
@@ -100,7 +101,7 @@ def types(source):
     for first, line in enumerate(source.lines):
         if found := TYPE.match(line):
             last = next(at for at, it in enumerate(source.lines[first:], first) if re.match(r"[})]|.*[;}]$", it) and not it.startswith(" "))
-            yield found[1], "\n".join(source.lines[first : last + 1])
+            yield found[1], SENTENCE.sub("", "\n".join(source.lines[first : last + 1]))
     for block in source.blocks:
         if block.kind == "impl" and block.ghosts:
             yield block.subject, " ".join([block.head, *block.ghosts])

@@ -14,6 +14,7 @@ import mutants, verdict_sums
 print(json.dumps({f"{crate}/{name}": verdict_sums.sum_of(it) for crate, them in mutants.all_of("planted").items() for name, it in them.items()}))
 """
 CHECKER, HISTORY = "crates/lset_history/src/checker.rt", "crates/lset_history/specs/History.antt"
+FAULTS = "crates/lset_history/src/fault.rt"
 RESULTS = "crates/lset_text/specs/Results.antt"
 
 
@@ -45,6 +46,9 @@ def by_what_they_reach(_case):
     """One edit after another, since all are made in one tree."""
     same(stale_by(CHECKER, "/// The first place whose call the history has not.", "/// Others say so."), set(), "what a comment makes stale")
     same(stale_by(HISTORY, "-- a moment, counted from 1", "-- words"), set(), "what a comment of a definition makes stale")
+    same(stale_by(FAULTS, "call {0} stands twice", "call {0} is there twice"), set(), "what a sentence of an error makes stale")
+    stale = stale_by(FAULTS, "    Twice(u32),", "    Twice(u64),")
+    same("lset_history/check_order_passes_calls_that_stand_twice" in stale, True, f"a variant of a type makes those stale that name it: {stale}")
     stale = stale_by(CHECKER, "ensures explained { OnOk", "ensures is_explained { OnOk")
     same("lset_history/check_order_passes_calls_that_stand_twice" in stale, True, f"a clause makes the mutants of its function stale: {stale}")
     same("lset_history/begin_counts_from_one" in stale, False, "it makes those of another function stale")

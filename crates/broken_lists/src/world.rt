@@ -25,7 +25,7 @@ pub enum BrokenStepError {
     #[error("no call of the thread is open")]
     Idle,
     /// The step names no word of the table, or the thread's numbers are too large: the list is broken beyond running.
-    #[error("the step names no word of the table")]
+    #[error("the step names no word of the table, or the thread's numbers are too large")]
     Lost,
 }
 

@@ -34,7 +34,7 @@ const HISTORY: [(HistoryFault, &str); 5] = [
     (HistoryFault::NotOpen, "no open call has this number"),
     (
         HistoryFault::Time,
-        "the moment is not above every earlier one",
+        "the moment is 0, or not above every earlier one",
     ),
     (HistoryFault::Memory, "out of memory"),
 ];
@@ -56,7 +56,10 @@ const ORDER: [(OrderFault, &str); 7] = [
         OrderFault::TooEarly(7),
         "call 7 stands before a call that it follows",
     ),
-    (OrderFault::WrongSet, "the order leaves another set"),
+    (
+        OrderFault::WrongSet,
+        "the keys are not those that the order leaves, in increasing order",
+    ),
     (OrderFault::Memory, "out of memory"),
 ];
 
@@ -68,12 +71,12 @@ fn a_fault_of_an_order_has_its_sentence(rt: HostRuntime) -> Result<(), Fail> {
 const STREAM: [(StreamFault, &str); 6] = [
     (
         StreamFault::Early,
-        "it begins no later than a call before it, or a moment is too large",
+        "it begins at moment 0 or no later than a call before it, or a moment is too large",
     ),
     (StreamFault::Ends, "it does not end after its begin"),
     (
         StreamFault::NotPlain,
-        "it is a ceiling, or its reply is not true or false",
+        "it is a ceiling that ended, or its reply is not true or false",
     ),
     (
         StreamFault::Taken,
@@ -136,7 +139,10 @@ const BROKEN_STEP: [(BrokenStepError, &str); 4] = [
     (BrokenStepError::NoThread, "no such thread"),
     (BrokenStepError::Busy, "a call of the thread is open"),
     (BrokenStepError::Idle, "no call of the thread is open"),
-    (BrokenStepError::Lost, "the step names no word of the table"),
+    (
+        BrokenStepError::Lost,
+        "the step names no word of the table, or the thread's numbers are too large",
+    ),
 ];
 
 #[test]

@@ -113,7 +113,7 @@ pub fn recording_of(alloc: Global, calls: Calls) -> Result<Recording, ClashFault
     ensures told { IfOk result (λ r. IsHistoryOf (view calls) r.history) }
     ensures keys { IfOk result (λ r. r.keys.items ≡ (view calls).keys) }
     ensures whole { OnOk result ((view calls).cut_off ≡ false) }
-    // Else that the keys are not known; or, if they are, the first line that is refused, and why, or want of memory.
+    // Else that the keys are not known; or, if they are, the first line that is refused, and why, or that an allocation failed.
     ensures refused { IfErr result (IsRefusal (view calls)) }
 {
     if calls.cut_off {
@@ -137,7 +137,7 @@ pub fn report_of(alloc: Global, calls: Calls) -> Result<Report, ClashFault>
     requires { AreCalls (view calls) }
     // What is told is the report of the calls, none of which is refused.
     ensures told { IfOk result (λ r. IsReportOfCalls (view calls) (report.view r)) }
-    // Else that the keys are not known; or, if they are, the first line that is refused, and why, or want of memory.
+    // Else that the keys are not known; or, if they are, the first line that is refused, and why, or that an allocation failed.
     ensures refused { IfErr result (IsRefusal (view calls)) }
 {
     if calls.cut_off {

@@ -17,7 +17,7 @@ pub enum HistoryFault {
     #[error("no open call has this number")]
     NotOpen,
     /// The moment is 0, or not above every earlier one.
-    #[error("the moment is not above every earlier one")]
+    #[error("the moment is 0, or not above every earlier one")]
     Time,
     /// There was no memory for one more call.
     #[error("out of memory")]
@@ -44,7 +44,7 @@ pub enum OrderFault {
     #[error("call {0} stands before a call that it follows")]
     TooEarly(u32),
     /// The keys are not those that the order leaves, in strictly increasing order.
-    #[error("the order leaves another set")]
+    #[error("the keys are not those that the order leaves, in increasing order")]
     WrongSet,
     /// An allocation failed.
     #[error("out of memory")]

@@ -42,14 +42,14 @@ const BEHIND_ALL: u64 = 1 << 63;
 /// Why a call cannot come next. They are looked for in this order.
 #[derive(Clone, Copy, Debug, PartialEq, Eq, Error)]
 pub enum StreamFault {
-    /// It does not begin after each call before it, or a moment of it is above `LAST_MOMENT`.
-    #[error("it begins no later than a call before it, or a moment is too large")]
+    /// It begins at moment 0 or no later than a call before it, or a moment of it is above `LAST_MOMENT`.
+    #[error("it begins at moment 0 or no later than a call before it, or a moment is too large")]
     Early,
     /// It does not end after its begin.
     #[error("it does not end after its begin")]
     Ends,
-    /// It is a `ceiling`, or ended with a reply other than true or false.
-    #[error("it is a ceiling, or its reply is not true or false")]
+    /// It is a `ceiling` that ended, or ended with a reply other than true or false.
+    #[error("it is a ceiling that ended, or its reply is not true or false")]
     NotPlain,
     /// A call before it ends at its begin or at its end.
     #[error("a call before it ends at one of its moments")]
