@@ -9,7 +9,7 @@ from dataclasses import dataclass
 from functools import cached_property
 
 from harness.cases import TOP, Wrong, cases, once, same, test
-from harness.rattle_tokens import (CONTROL, answers_of, arms, block, braces, call_at_end, callee, chain_start, is_pattern, path_start,
+from harness.rattle_tokens import (CONTROL, answers_of, arms, body_of, braces, call_at_end, callee, chain_start, is_pattern, path_start,
                                    takes_all, text_at, text_of, texts, token_of, walk)
 from rattle_sources import Source
 
@@ -295,8 +295,7 @@ class Body:
         self.at_will = next((how for names, (how, _) in AT_WILL.items() if re.fullmatch(names, self.name)), None)
         self.contract, self.answer = function.contract, function.signature.rpartition("-> ")[2]
         self.is_method = re.search(r"\(\s*(&mut |&|mut )?self\b", self.contract) is not None
-        start = sum(len(it) + 1 for it in function.source.lines[: function.first - 1])
-        self.items = block(self.text, self.text.index(self.contract, start) + len(self.contract))
+        self.items = body_of(function)
 
     def said(self, items):
         return squeezed(self.text[items[0].start : items[-1].end]) if items else ""

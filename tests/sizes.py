@@ -1,17 +1,18 @@
 """A body that treats a size, a place, a moment or a key apart keeps a contract that says little. So one that finds no order if more than
 16 calls wait, or draws no picture of more than 1,000, is proved; and a test has few sizes and few keys.
 Here each number above 2 in a body has a row of NUMBERS with what it is for: a literal, the largest or smallest number of a type, a shift,
-a conversion that fails past a size, and each constant that is a number or is made of some. A row gives what a function has, and how often.
-So a number that is new, or is used once more, is an error, and so is a row whose number is gone. It does not notice a number that is
-computed from small ones, or from the length of a text."""
+a conversion that fails or cuts past a size, a sum that wraps or stops at a bound, a small number that makes another of one (`n % 2`,
+`1 + 2`), and each constant that is a number or is made of some. A row gives what a function has, and how often. So a number that is new, or
+is used once more, is an error, and so is a row whose number is gone. WORDS has what the functions of a file look for in a text, for a text
+that is looked for can stand for a number. It does not notice a number that is computed from small ones by their names, or from the length
+of a text that is given."""
 
 import re
-from collections import Counter
-from dataclasses import dataclass
 from functools import cached_property
 
 from harness.cases import TOP, Wrong, cases, once, same, test
-from harness.rattle_tokens import block, text_at, walk
+from harness.function_rows import Found, row_faults
+from harness.rattle_tokens import body_of, callee, text_at, text_of, token_of, walk
 from rattle_sources import Source
 
 # The crates whose contracts do not fix each answer: a function may answer Unknown, None or an allocation failure, may wait for ever, or
@@ -24,7 +25,11 @@ LITERAL = re.compile(r"(0x[\da-fA-F_]+|0b[01_]+|0o[0-7_]+|\d[\d_]*)(?:[ui](?:8|1
 DIGITS = re.compile(r'b?"\d+"')
 OF_TYPE = ("MAX", "MIN", "BITS", "try_from")
 # Methods that set a size apart without a number
-APART = re.compile(r"checked_\w+|overflowing_\w+|pow|try_into|is_power_of_two|(leading|trailing|count)_(zeros|ones)|ilog\w*|isqrt")
+APART = re.compile(r"""
+    (checked|overflowing|wrapping|saturating|unchecked)_\w+|pow|try_into|is_power_of_two|(leading|trailing|count)_(zeros|ones)|ilog\w*|isqrt
+    |abs_diff|(rem|div)_euclid|div_ceil|next_multiple_of|clamp|(to|from)_[bln]e_bytes|swap_bytes|reverse_bits|rotate_\w+|capacity|size_of\w*
+    """, re.X)
+CUT = re.compile(r"u8|u16|i\d+|isize|f\d+")  # types that have not each number of 32 bits, as `as` makes them
 CONSTANT = re.compile(r"^[ \t]*(?:pub(?:\(crate\))? )?(?:const|static) ([A-Z]\w*): ([^=]*?)(?: =\s*(.*?))?;$", re.M | re.S)
 NUMBER_TYPE = re.compile(r"[ui](8|16|32|64|128|size)")
 
@@ -133,19 +138,64 @@ NUMBERS = [
     ("tool_drawing/svg::put_end", "10 4", "the same"),
     ("tool_drawing/svg::put_points", "14", "the same"),
     ("tool_drawing/svg::put_below", "8", "the same"),
+    # Of what sets a size apart without a number: a type that has not each number, a bound on a result, a number in small ones
+    ("lset_history/changes::count_upto", "/2", "the middle"),
+    ("lset_judge/window::shorten", "/=2", "half as many calls are left out at a time"),
+    ("lset_history/changes::first", "%2", "after an even number of changes a key is as it was"),
+    ("lset_live/closed::next_node tool_trace/table_words::put_link lset_loops/(caller::behind|optimistic::validate)", "/2",
+     "the node of a link"),
+    ("lset_live/closed::is_marked tool_trace/table_words::put_link lset_loops/(lazy::validate|lock_free::find|reads::reply_by_mark)", "%2",
+     "its mark"),
+    ("lset_judge/(judging::walk|rule::none_due|stream::meet) lset_judge/window::last_quiet", "saturating_sub",
+     "the moment before: before 0 there is none"),
+    ("lset_judge/window::last_quiet", "saturating_sub saturating_add", "the changes that are pending"),
+    ("lset_judge/window::short_window", "saturating_sub", "the first moment is 0"),
+    ("lset_judge/window::shorten", "saturating_sub saturating_add", "what is left of the budget; the next place"),
+    ("lset_long/judging::(keep_call|put) tool_trace/again::begin", "saturating_add", "a count: no input has as many"),
+    ("tool_trace/streamed::write_events", "saturating_add*2", "the same"),
+    ("lset_schedule/generator::left_by", "saturating_sub", "the calls that are left: of none there is none"),
+    ("lset_schedule/draws::program tool_run/request::life", "wrapping_add", "the seed of a thread, as docs/COMMANDS.md says"),
+    ("tool_serve/tool::listen", "as_u16", "a port: no greater one is read"),
+    ("lset_server/lingering::read", "saturating_sub", "the time that is left"),
+    ("tool_drawing/refusals::put_places_before", "0|1", "one place and none need no number"),
+    ("tool_drawing/(orders::put_cut|svg::put_begin|svg::put_points|text::fill)", "saturating_sub", "where a text or a line is"),
+    ("tool_drawing/orders::put_places", "saturating_add*3", "the same"),
+    ("tool_drawing/(sheet::x_of|svg::put_labels)", "saturating_add", "the same"),
+    ("tool_drawing/svg::put_(end|sheet)", "saturating_add*2", "the same"),
     # Of counts
     ("tool_drawing/refusals::put_unknown", "checked_sub", "the last of no calls"),
     ("tool_parts/kept::judge_next", "checked_add", "more calls than 64 bits count have the finding Late"),
 ]
 
 
-@dataclass(frozen=True)
-class Found:
-    """A number in a body: the function, the number as a row has it, and where it stands."""
-
-    function: str
-    number: str
-    place: str
+# What the functions of a file look for in a text, or print as bytes: the words of the formats that docs/TEXTS.md and the help have. A space
+# is \x20 here.
+WORDS = {
+    "listset/main": r"""b"listset\x20" b"\n" "--version" "--long" """,
+    "lset_calls/lines": r"""b"call" b"opening" b"key" b"cut" b"end" b"-" b'\x20' """,
+    "lset_calls/reading": r"""b'\n' """,
+    "lset_command/command_line":
+        """"judge" "report" "check" "show" "trace" "draft" "example" "gen" "run" "serve" "faults" "svg" "from" "to" "width" "chain" "broken"
+        "lacks" "keys" "true" "-" """,
+    "lset_long/lines": r"""b"call" b"true" b"false" b"opening" b"key" b"cut" b"end" b"-" b'\x20' """,
+    "lset_long/moments": """b'0' """,
+    "lset_long/reader": r"""b'\n' """,
+    "lset_report/lines": r"""b"call" b"open" b"place" b"opening" b"key" b"end" b'\x20' """,
+    "lset_report/reading": r"""b'\n' """,
+    "lset_schedule/body": r"""b"opening" b'\x20' b'\n' """,
+    "lset_schedule/reading": r"""b"go" b"begin" b'\x20' """,
+    "lset_session/requests": r"""b"QUIT" b"ADD" b"REMOVE" b"CONTAINS" b"CEILING" b'\x20' """,
+    "lset_session/sessions": r"""b"BYE\n" b"BAD\n" b"LIMIT\n" b"LONG\n" b'\n' """,
+    "tool_base/checking": r"""b"ok\n" """,
+    "tool_base/values": """b'+' b'0' """,
+    "tool_draft/reading": r"""b"go" b"out" b"to" b'\x20' """,
+    "tool_parts/key_part": """b'/' """,
+    "tool_parts/texts": r"""b"\n" """,
+    "tool_serve/keys": r"""b"listening" b"sessions" b"calls" b"key" b'\x20' b'\n' """,
+    "tool_show/endings": r"""b"\n" """,
+}
+# What looks for a text that it is given
+SEARCHES = re.compile(r"\.(starts_with|ends_with|contains|r?find|r?position|strip_\w+|trim\w*|r?split\w*|matches|eq\w*|ne|cmp)")
 
 
 class Constants:
@@ -199,8 +249,7 @@ class Sources:
 
     def in_body(self, name, file, function):
         text = function.source.text
-        start = sum(len(line) + 1 for line in function.source.lines[: function.first - 1])
-        for items, at in (path[-1] for path in walk(block(text, text.index(function.contract, start) + len(function.contract)))):
+        for items, at in (path[-1] for path in walk(body_of(function))):
             if number := self.number(name, items, at):
                 yield Found(name, number, f"crates/{file}:" + str(text.count("\n", 0, items[at].start) + 1))
 
@@ -209,31 +258,71 @@ class Sources:
         text, left = items[at].text, text_at(items, at - 1)
         if it := LITERAL.fullmatch(text):
             value = int(it[1].replace("_", ""), 0)
-            return str(value) if value > FEW and left != "." else None
+            return (str(value) if value > FEW else few_by(items, at)) if left != "." else None
         if left == "::" and text in OF_TYPE:
             return f"{text_at(items, at - 2)}::{text}"
-        if self.constants.is_number(function.split("/")[0], text) or left == "." and APART.fullmatch(text) or DIGITS.fullmatch(text):
+        is_apart = left in (".", "::") and APART.fullmatch(text) is not None
+        if is_apart or self.constants.is_number(function.split("/")[0], text) or DIGITS.fullmatch(text):
             return text
-        is_right = text == ">" and text_at(items, at + 1) == ">" and items[at].end == items[at + 1].start
+        if text == "as" and CUT.fullmatch(text_at(items, at + 1)):
+            return f"as_{items[at + 1].text}"
+        if text == "len" and left == "." and (text_at(items, at - 2).endswith(('"', "'")) or is_array(items, at - 2)):
+            return "len_of_a_literal"
+        is_right = text == ">" and text_at(items, at + 1) in (">", ">=") and items[at].end == items[at + 1].start
         return text if text == "<<" else ">>" if is_right and is_shift(items, at) else None
+
+    @cached_property
+    def words(self):
+        """What the functions of each file look for, or print as bytes: each such text and where it stands."""
+        found = {}
+        for name, file, function in self.functions:
+            for path in walk(body_of(function)):
+                if is_word(path):
+                    it = token_of(path)
+                    place = f"crates/{file}:" + str(function.source.text.count("\n", 0, it.start) + 1)
+                    found.setdefault((name.partition("::")[0], it.text.replace(" ", r"\x20")), place)
+        return found
+
+    def word_faults(self, rows):
+        """A line for each such text that the row of its file has not, and for each text of a row that no function has."""
+        said = {(file, word) for file, words in rows.items() for word in words.split()}
+        for file, word in sorted(self.words.keys() - said):
+            yield (f"{self.words[file, word]}: {file} looks for {word}, which WORDS has not: if it is a word of a format there, add it; if"
+                   " it stands for a size or a key, take it out of the body")
+        for file, word in sorted(said - self.words.keys()):
+            yield f"WORDS has {word} of {file}, which has it no more: take it out of WORDS"
 
     def faults(self, rows):
         """A line for each number without a row, and for each row without its number."""
-        functions = {name for name, _, _ in self.functions}
-        left = Counter((it.function, it.number) for it in self.found)
-        for names, numbers, _ in rows:
-            for name in names.split():
-                named = [it for it in functions if re.fullmatch(name, it)]
-                if not named:
-                    yield f"a row of NUMBERS is of {name}, and there is no such function: take it out of the row"
-                left.subtract({(it, number): count for it in named for number, count in counts_of(numbers)})
-        for (function, number), count in sorted(left.items()):
-            places = ", ".join(dict.fromkeys(it.place for it in self.found if (it.function, it.number) == (function, number)))
-            if count > 0:
-                yield (f"{places}: {function} has `{number}` {count} more than its rows of NUMBERS say: take it out of the body, or give it"
-                       " a row with what it is for, and see a test fail on a wrong one")
-            elif count < 0:
-                yield f"the rows of NUMBERS say `{number}` {-count} more of {function} than it has: take it out of them"
+        return row_faults("NUMBERS", rows, self.found, {name for name, _, _ in self.functions},
+                          "take it out of the body, or give it a row with what it is for, and see a test fail on a wrong one")
+
+
+def is_word(path):
+    """Whether a token is a text that is looked for, or of bytes."""
+    (items, at), text = path[-1], text_of(path)
+    if re.match("""br?#*["']""", text):
+        return True
+    if not text.endswith(('"', "'")):
+        return False
+    is_told = text_at(items, at - 1) in ("==", "!=") or text_at(items, at + 1) in ("==", "!=", "=>", "|", ".")
+    return is_told or len(path) > 1 and text_of(path[:-1]) == "(" and SEARCHES.fullmatch(callee(*path[-2])[0] or "") is not None
+
+
+def few_by(items, at):
+    """A small number as a row has it, if it makes another one of a number, by its sign: `%2` of `n % 2`, `1+2` of both in `1 + 2`."""
+    left, right = text_at(items, at - 1), text_at(items, at - 2)
+    if left in tuple("+-*/%&|^") and LITERAL.fullmatch(right):
+        return right + left + items[at].text
+    if left in ("/", "%", "&", "|", "^", "/=", "%=", "&=", "|=", "^="):
+        return left + items[at].text
+    return items[at].text + text_at(items, at + 1) if text_at(items, at + 1) in tuple("&^") else None
+
+
+def is_array(items, at):
+    """Whether an array of its own stands at a place: `[0, 1]`, and not `keys[1]`."""
+    before = text_at(items, at - 1)
+    return text_at(items, at) == "[" and not (re.match(r"\w", before) or before in (")", "]", "(", "[", "?"))
 
 
 def is_shift(items, at):
@@ -244,13 +333,6 @@ def is_shift(items, at):
         if it.text in (";", "=", "return"):
             break
     return depth > 0
-
-
-def counts_of(numbers):
-    """The numbers of a row, each with how often."""
-    for it in numbers.split():
-        number, _, count = it.partition("*")
-        yield number, int(count or 1)
 
 
 def sources(_room):
@@ -264,6 +346,12 @@ def sources(_room):
 @test
 def each_number_has_a_row(_case):
     if faults := [*once(sources).faults(NUMBERS)]:
+        raise Wrong("\n".join(faults))
+
+
+@test
+def each_text_that_is_looked_for_is_a_word_of_a_format(_case):
+    if faults := [*once(sources).word_faults(WORDS)]:
         raise Wrong("\n".join(faults))
 
 
@@ -310,7 +398,25 @@ WRONG = {
     "a_shift_down": (TEST, "place >> 2 == 1", "`>>` 1 more"),
     "a_power": (TEST, "place < 2usize.pow(2)", "`pow` 1 more"),
     "a_conversion": (TEST, "u8::try_from(place).is_ok()", "`u8::try_from` 1 more"),
-    "a_key_as_a_text": (TEST, 'text == b"16"', '`b"16"` 1 more'),
+    "a_key_as_a_text": (TEST, 'text == b"16"', '`b"16"` 1 more', 'looks for b"16"'),
+    "a_conversion_that_cuts": (TEST, "place as u16 == 0", "`as_u16` 1 more"),
+    "a_sum_that_wraps": (TEST, "place.wrapping_add(1) == 0", "`wrapping_add` 1 more"),
+    "a_sum_that_wraps_by_its_path": (TEST, "u8::wrapping_add(place, 1) == 0", "`wrapping_add` 1 more"),
+    "a_sum_that_overflows": (TEST, "place.overflowing_add(1).1", "`overflowing_add` 1 more"),
+    "a_bound": (TEST, "place.saturating_sub(2) > 0", "`saturating_sub` 1 more"),
+    "a_sum_of_two_numbers": (TEST, "place == 1 + 2", "`1+2` 1 more"),
+    "a_remainder": (TEST, "place % 2 == 1", "`%2` 1 more"),
+    "a_part": (TEST, "place / 2 / keys.len() == 0", "`/2` 1 more"),
+    "a_bit": (TEST, "place & 1 == 1", "`&1` 1 more"),
+    "a_bit_from_the_left": (TEST, "1 & place == 1", "`1&` 1 more"),
+    "a_shift_of_a_place": ("first.push(key.0)?;", "let mut far = place;\n            far >>= 2;", "`>>` 1 more"),
+    "the_length_of_a_text": (TEST, 'place < "AT 2005".len()', '`len_of_a_literal` 1 more', 'looks for "AT\\x202005"'),
+    "the_length_of_an_array": (TEST, "place < [0, 1, 2, 0].len()", "`len_of_a_literal` 1 more"),
+    "a_text": (TEST, 'begins_with(text, b"FULL")', 'looks for b"FULL"'),
+    "a_text_that_a_method_looks_for": (TEST, 'text.starts_with("FULL")', 'looks for "FULL"'),
+    "a_text_that_is_compared": (TEST, 'text == "FULL"', 'looks for "FULL"'),
+    "a_text_of_an_arm": (TEST, 'match text { "FULL" => true, _ => false }', 'looks for "FULL"'),
+    "a_letter": (TEST, "letter == b'F'", "looks for b'F'"),
     "a_constant_once_more": (TEST, "place < MOST", "`MOST` 1 more"),
     "a_constant_with_a_number_in_it": (TEST, "*key != LAST", "`LAST` 1 more"),
     "a_constant_of_a_constant": ("/// The first keys", "const FEW: Few = Few(MOST);\n\nfn few() -> Few {\n    FEW\n}\n\n/// The first keys",
@@ -321,7 +427,8 @@ WRONG = {
 
 def small(old="", new=""):
     same(SMALL_SOURCE.count(old) > 0, True, f"the small source has `{old}`")
-    return [*Sources({"lset_order/src/small.rt": SMALL_SOURCE.replace(old, new, 1)}).faults(SMALL_ROWS)]
+    found = Sources({"lset_order/src/small.rt": SMALL_SOURCE.replace(old, new, 1)})
+    return [*found.faults(SMALL_ROWS), *found.word_faults({})]
 
 
 @test
@@ -330,6 +437,6 @@ def a_small_source_has_no_fault(_case):
 
 
 @cases(lambda: {f"a_number_that_is_new_is_told/{name}": it for name, it in WRONG.items()})
-def a_number_that_is_new_is_told(_case, old, new, said):
+def a_number_that_is_new_is_told(_case, old, new, *said):
     faults = small(old, new)
-    same(len(faults) == 1 and said in faults[0], True, f"`{said}` is said, in {faults}")
+    same(len(faults) == len(said) and all(any(it in fault for fault in faults) for it in said), True, f"{said} are said, in {faults}")

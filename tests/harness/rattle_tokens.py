@@ -50,6 +50,13 @@ def block(text, start):
     return []
 
 
+def body_of(function):
+    """The tokens of the body of a function that build/rattle_sources.py has read."""
+    text = function.source.text
+    start = sum(len(line) + 1 for line in function.source.lines[: function.first - 1])
+    return block(text, text.index(function.contract, start) + len(function.contract))
+
+
 def drop_clause(items):
     """Takes a clause of a closure off the end of what was read, if one has ended there."""
     for at in (len(items) - 2, len(items) - 3):
