@@ -1,5 +1,5 @@
 """A model of the five lists, written apart from the crates, by docs/TABLES.md alone: the rows of their tables, the nodes' words (key, link,
-lock), a thread's registers (pred, curr, ..), and one step of a thread after another."""
+lock), a thread's registers (pred, curr, ..), and one step of a thread after another. And of the broken lists, each by its rows that differ."""
 
 import collections
 
@@ -92,10 +92,15 @@ LOCK_FREE = READS + """
 Table = collections.namedtuple("Table", "rows reads add remove leave")
 
 
-def table(text, *places):
-    """A table: of each row its step and what follows; whether it has rows that read without locks; where add, remove and leave go."""
+def rows_of(text):
+    """The rows of a text: of each its step and what follows."""
     cells = ([it.strip() for it in line.split("|")] for line in text.strip().splitlines() if line)
-    rows = {int(number): (step.split(), [it.strip() for it in then.split(";")]) for number, step, then in cells}
+    return {int(number): (step.split(), [it.strip() for it in then.split(";")]) for number, step, then in cells}
+
+
+def table(text, *places):
+    """A table: its rows; whether some of them read without locks; where add, remove and leave go."""
+    rows = rows_of(text)
     return Table(rows, 20 in rows, *places)
 
 
@@ -107,12 +112,46 @@ TABLES = {
     "lock-free": table(LOCK_FREE, 5, 8, None),  # (it leaves by answering)
 }
 
+# The broken lists, as the end of docs/CLASSIC.md says what each lacks: its list, and the rows that differ. To `pass` a lock is a try after
+# which the thread goes on; `curr^` is a link to curr with the mark that pkey keeps.
+LACKING = {
+    "lock": ("coarse", "1 | pass list.lock | 2"),
+    "second-lock": ("fine", ""),  # (ROWS_OF_ONE_LOCK)
+    "hand-over-hand": ("fine", """
+ 6 | load curr.link                         | pred = curr, curr = next(s), 14
+14 | store 0 in pred.lock                   | 3
+"""),
+    "second-walk": ("optimistic", "5 | try curr.lock | node = head, 8"),
+    "same-node": ("optimistic", "7 | load node.key | above pkey: reply none, 14; pkey: 8; else 6"),
+    "marks-in-validation": ("lazy", """
+ 6 | load pred.link                         | it leads to curr: 7; else reply none, 13
+ 7 | load curr.link                         | succ = next(s), decide on ckey
+"""),
+    "mark-in-contains": ("lazy", "22 | load curr.link | answers true"),
+    "mark-in-ceiling": ("lazy", "25 | load curr.link | answers the key of ckey"),
+    "mark": ("lock-free", """
+ 8 | load curr.link                         | succ = next(s), 10
+10 | exchange pred.link from curr to succ   | success: -k, answers true; else 1
+"""),
+    "mark-in-add": ("lock-free", """
+ 7 | load pred.link                         | it leads to curr: pkey = mark(s), 11; else 1
+11 | exchange pred.link from curr^ to own^  | success: +k, answers true; else 7
+"""),
+    "mark-in-remove": ("lock-free", "9 | exchange curr.link from succ to succ* | success but for a mark: -k, 10; else 1"),
+    "mark-at-key": ("lock-free", "22 | load curr.link | answers true"),
+    "new-slot": ("lock-free", ""),  # (each add takes the first slot)
+    "last-slot": ("lock-free", ""),  # (an add is full one slot too soon)
+}
+# The row to which a remove comes in place of another, where it holds one lock: it looks at a key first, and locks a node to go past it
+ROWS_OF_ONE_LOCK = {3: 4, 4: 5, 5: 3, 12: 13}
+
 # what the tests of a table ask of a thread, the value s that its step saw, the key word K, and the value that an exchange expects
 TESTS = {
     "below K": lambda it, s, key, old: s < key,
     "K": lambda it, s, key, old: s == key,
     "the tail's": lambda it, s, key, old: s == TAIL_KEY,
     "above pkey": lambda it, s, key, old: s > it.pkey,
+    "pkey": lambda it, s, key, old: s == it.pkey,
     "marked": lambda it, s, key, old: s % 2 == 1,
     "curr, unmarked": lambda it, s, key, old: s == 2 * it.curr,
     "it leads to curr": lambda it, s, key, old: s // 2 == it.curr,
@@ -120,6 +159,7 @@ TESTS = {
     "node is pred": lambda it, s, key, old: it.node == it.pred,
     "without a reply": lambda it, s, key, old: it.reply is None,
     "success": lambda it, s, key, old: s == old,
+    "success but for a mark": lambda it, s, key, old: s // 2 == old // 2,
 }
 
 # ---- the list
@@ -129,7 +169,7 @@ Call = collections.namedtuple("Call", "number thread word key begun")
 
 class Thread:
     def __init__(self):
-        self.pc, self.used, self.reply, self.call = 0, 0, None, None
+        self.pc, self.used, self.reply, self.call, self.change = 0, 0, None, None, None
         for it in REGISTERS:
             setattr(self, it, 0)
 
@@ -137,8 +177,10 @@ class Thread:
 class List:
     """The words of a list and its threads, and one step of a thread after another."""
 
-    def __init__(self, kind, threads, quota, opening):
-        self.table, self.quota, self.threads = TABLES[kind], quota, [Thread() for _ in range(threads)]
+    def __init__(self, kind, threads, quota, opening, lacks=None):
+        self.table, self.quota, self.threads, self.lacks = TABLES[kind], quota, [Thread() for _ in range(threads)], lacks
+        if lacks:
+            self.table = self.table._replace(rows=self.table.rows | rows_of(LACKING[lacks][1]))
         self.first = 2 + threads * quota
         nodes = self.first + len(opening)
         self.words = [0] * (3 + 3 * nodes)
@@ -149,10 +191,11 @@ class List:
             self.words[4 + 3 * node] = 2 * after
 
     def chain(self):
+        """The keys from the head to the tail. (That of a broken list may go round, and have a slot without a key.)"""
         node, told = self.words[4] // 2, []
-        while node != 1:
+        while node > 1 and len(told) < len(self.words) // 3:
             link = self.words[4 + 3 * node]
-            told.append((self.words[3 + 3 * node] - 1, link % 2 == 1))
+            told.append((max(self.words[3 + 3 * node] - 1, 0), link % 2 == 1))
             node = link // 2
         return told
 
@@ -164,7 +207,7 @@ class List:
 
     def node(self, t, name):
         """The node that a word of a row names."""
-        own = 2 + t * self.quota + self.threads[t].used
+        own = 2 + t * self.quota + (0 if self.lacks == "new-slot" else self.threads[t].used)
         return {"head": 0, "own": own}[name] if name in ("head", "own") else getattr(self.threads[t], name)
 
     def index(self, t, name):
@@ -176,14 +219,15 @@ class List:
         """The value of a word that a row stores, or expects."""
         if name in ("0", "K"):
             return 0 if name == "0" else self.threads[t].call.key + 1
-        return 2 * self.node(t, name.rstrip("*")) + name.endswith("*")
+        mark = self.threads[t].pkey if name.endswith("^") else name.endswith("*")
+        return 2 * self.node(t, name.rstrip("*^")) + mark
 
     def action(self, t, step):
         """The access of a row's step."""
         kind, *words = step
         if kind == "load":
             return "load", self.index(t, words[0])
-        if kind == "try":
+        if kind in ("try", "pass"):
             return "exchange", self.index(t, words[0]), 0, t + 1
         if kind == "store":
             return "store", self.index(t, words[2]), self.value(t, words[0])
@@ -192,14 +236,17 @@ class List:
     def go(self, t):
         """One step of a thread: its access, the value that it saw, and its reply where it answers."""
         it = self.threads[t]
+        it.change = None
         step, parts = self.table.rows[it.pc]
         action = self.action(t, step)
         seen = self.words[action[1]] if action[0] != "store" else action[2]
         if action[0] == "store" or action[0] == "exchange" and seen == action[2]:
             self.words[action[1]] = action[-1]
-        if step[0] == "try" and seen:
-            return action, seen, None
-        return action, seen, self.follow(it, parts, seen, action[2] if action[0] == "exchange" else None)
+        is_kept_out = step[0] == "try" and seen
+        reply = None if is_kept_out else self.follow(it, parts, seen, action[2] if action[0] == "exchange" else None)
+        if self.lacks == "second-lock" and it.call.word == "remove":
+            it.pc = ROWS_OF_ONE_LOCK.get(it.pc, it.pc)
+        return action, seen, reply
 
     def follow(self, it, parts, seen, old):
         """Does what follows a step, up to the first part whose test holds; gives the reply where the call answers."""
@@ -215,15 +262,17 @@ class List:
         return reply
 
     def do(self, it, done, seen):
-        """Does one thing; gives the reply where the call answers. (What is put in or taken out is read off the chain.)"""
+        """Does one thing; gives the reply where the call answers. (What is put in or taken out is read off the chain, but of a broken
+        list.)"""
         if done.isdigit():
             it.pc = int(done)
         elif " = " in done:
             name, value = done.split(" = ")
-            values = {"head": 0, "0": 0, "s": seen, "next(s)": seen // 2}
+            values = {"head": 0, "0": 0, "s": seen, "next(s)": seen // 2, "mark(s)": seen % 2}
             setattr(it, name, values[value] if value in values else getattr(it, value))
-        elif done == "+k":
-            it.used += 1
+        elif done in ("+k", "-k"):
+            it.change = "put" if done == "+k" else "took"
+            it.used += done == "+k"
         elif done.startswith("reply "):
             it.reply = {"true": "true", "none": None}[done.removeprefix("reply ")]
         elif done.startswith("decide"):
@@ -236,7 +285,7 @@ class List:
     def decide(self, it, found):
         """Decides on the key word at which a walk has stopped."""
         word, same = it.call.word, found == it.call.key + 1
-        if word == "add" and not same and it.used < self.quota:
+        if word == "add" and not same and it.used + (self.lacks == "last-slot") < self.quota:
             it.pc = self.table.add
         elif word == "remove" and same:
             it.pc = self.table.remove

@@ -1,35 +1,52 @@
-"""A model of the picture that `show` draws of a run (traces_model), as a text and as an SVG, by docs/TEXTS.md alone: a column
-for each moment, a lane for each thread with its begins, ends and points, the set at each change, and the order below."""
+"""A model of the picture that `show` draws, as a text and as an SVG, by docs/TEXTS.md alone: a column for each moment, a lane for each
+thread with its begins, ends and points, the set at each change, and the order below. What is drawn is a Picture: of a run
+(traces_model), or of a report (reports_model)."""
 
+import collections
 import functools
 
+GREATEST = 4294967295
+# A list and the events that were made (None of a report); its calls, and by its number the end and the reply of each; the places of
+# the order; the set at each moment; the keys below; why the order is refused, and which event; None if they are not
+Picture = collections.namedtuple("Picture", "kind threads quota events calls ends order sets keys refusal refused")
+Place = collections.namedtuple("Place", "number reply at change")  # in a refused order it has no moment
+# Why an order is refused: the words for it, the calls that clash, the moment of which the picture begins, and the number that no call has
+Refusal = collections.namedtuple("Refusal", "said clash begun unknown")
 
-def set_text(keys, separator=","):
-    shown = [str(it) for it in sorted(keys)[:8]] + ([f"..+{len(keys) - 8}"] if len(keys) > 8 else [])
+
+def picture_of_run(plan, run):
+    """The picture of the run of a schedule."""
+    order = sorted(run.points, key=lambda it: (run.points[it][0], not run.points[it][1], it))
+    places = [Place(it, "true" if run.points[it][1] else run.ends[it][1], *run.points[it]) for it in order]
+    return Picture(plan.kind, plan.threads, plan.quota, run.events, run.calls, run.ends, places, run.sets, sorted(run.sets[-1]), None, run.refused)
+
+
+def keys_text(keys, separator=","):
+    shown = [str(it) for it in keys[:8]] + ([f"..+{len(keys) - 8}"] if len(keys) > 8 else [])
     return separator.join(shown)
 
 
 class Drawn:
-    """The picture of a run, of the moments from one to another: `columns` of them."""
+    """A picture, of the moments from one to another: `columns` of them."""
 
-    def __init__(self, plan, run, first, last):
-        self.plan, self.run, self.first = plan, run, first
-        order = sorted(run.points, key=lambda it: (run.points[it][0], not run.points[it][1], it))
-        self.order = [(it, *run.points[it]) for it in order]
-        self.all = sorted({it.begun for it in run.calls} | {it[0] for it in run.ends.values()} | {it[0] for it in run.points.values()})
+    def __init__(self, picture, first, last):
+        self.picture, self.first, self.has_points = picture, first, picture.refusal is None
+        self.all = sorted({it.begun for it in picture.calls} | {it[0] for it in picture.ends.values()}
+                          | {it.at for it in picture.order if self.has_points})
         self.columns = [it for it in self.all if first <= it <= last][:64]
         self.last = self.columns[-1] if self.columns else last
 
     @functools.cache
     def signs(self, moment):
-        told = [(it.thread, f"[{it.word} {it.key}-", True) for it in self.run.calls if it.begun == moment]
-        told += [(self.run.calls[n].thread, "*-" if change else "o-", None) for n, at, change in self.order if at == moment]
-        return told + [(self.run.calls[n].thread, f"{reply}] ", False) for n, (at, reply) in sorted(self.run.ends.items()) if at == moment]
+        calls = self.picture.calls
+        told = [(it.thread, f"[{it.word} {it.key}-", True) for it in calls if it.begun == moment]
+        told += [(calls[it.number].thread, "*-" if it.change else "o-", None) for it in self.picture.order if it.at == moment]
+        return told + [(calls[n].thread, f"{reply}] ", False) for n, (at, reply) in sorted(self.picture.ends.items()) if at == moment]
 
     @functools.cache
     def told_set(self, moment):
-        shown = moment == self.columns[0] or any(at == moment and change for _, at, change in self.order)
-        return "{" + set_text(self.run.sets[moment]) + "}" if shown else ""
+        shown = moment == self.columns[0] or any(it.at == moment and it.change for it in self.picture.order)
+        return "{" + keys_text(sorted(self.picture.sets[moment])) + "}" if shown and self.has_points else ""
 
     @functools.cache
     def width(self, moment):
@@ -37,13 +54,15 @@ class Drawn:
         lengths = [len("".join(it[1] for it in self.signs(moment) if it[0] == t)) for t in threads]
         return min(255, max(len(str(moment)) + 1, len(self.told_set(moment)) + 1, *lengths))
 
+    def row_of_moments(self):
+        return ("moment    " + "".join(str(it).ljust(self.width(it)) for it in self.columns)).rstrip()
+
     def rows(self):
-        widths = [self.width(it) for it in self.columns]
-        told = ["moment    " + "".join(str(it).ljust(n) for it, n in zip(self.columns, widths))]
-        for t in range(self.plan.threads):
-            ends = self.run.ends
+        widths, ends = [self.width(it) for it in self.columns], self.picture.ends
+        told = [self.row_of_moments()]
+        for t in range(self.picture.threads):
             drawn = any(it.thread == t and it.begun < self.first and (it.number not in ends or ends[it.number][0] >= self.first)
-                        for it in self.run.calls)
+                        for it in self.picture.calls)
             row = f"thread {t}".ljust(10)
             for at, (moment, width) in enumerate(zip(self.columns, widths)):
                 mine = [it for it in self.signs(moment) if it[0] == t]
@@ -52,7 +71,8 @@ class Drawn:
                     drawn = drawn if it[2] is None else it[2]
                 row += piece.ljust(width, "-" if drawn else " ")
             told.append(row + ">" * drawn)
-        told.append("set       " + "".join(self.told_set(it).ljust(n) for it, n in zip(self.columns, widths)))
+        if self.has_points:
+            told.append("set       " + "".join(self.told_set(it).ljust(n) for it, n in zip(self.columns, widths)))
         return [it.rstrip() for it in told]
 
     def is_cut(self):
@@ -60,77 +80,118 @@ class Drawn:
 
     def cut_text(self):
         before, after = self.is_cut()
-        return (f"moments {self.first} to {self.last} of {self.run.events}" + (f"; --to {self.first - 1} goes before" if before else "")
+        events = "" if self.picture.events is None else f" of {self.picture.events}"
+        return (f"moments {self.first} to {self.last}{events}" + (f"; --to {self.first - 1} goes before" if before else "")
                 + (f"; --from {self.last + 1} goes on" if after else ""))
 
     def heading(self):
         def count(n, word):
             return f"{n} {word}{'' if n == 1 else 's'}"
-        return (f"{self.plan.kind} list, {count(self.plan.threads, 'thread')}, quota {self.plan.quota}: "
-                f"{count(len(self.run.calls), 'call')} in {count(self.run.events, 'event')}")
+        it = self.picture
+        events = "" if it.events is None else f" in {count(it.events, 'event')}"
+        return f"{it.kind} list, {count(it.threads, 'thread')}, quota {it.quota}: {count(len(it.calls), 'call')}{events}"
+
+    def refusal(self):
+        return [f"refused {self.picture.refusal.said}"] if self.picture.refusal else []
+
+    def side(self, place):
+        """Where a place is: before the picture (-1), in it (0) or after it (1), by its point or else its bar. None of a number that no
+        call has."""
+        first = last = place.at
+        if not self.has_points:
+            if place.number >= len(self.picture.calls):
+                return 0 if not any(self.is_cut()) or place.number == self.picture.refusal.unknown else None
+            first, last = self.picture.calls[place.number].begun, self.picture.ends.get(place.number, [GREATEST])[0]
+        return 1 if self.last < first else -1 if last < self.first else 0
+
+    def place_text(self, at, place):
+        told = f"{at:>4}  " + (f"at {place.at:<5} " if self.has_points else " " * 9)
+        if place.number >= len(self.picture.calls):
+            return f"{told}call {place.number} {place.reply}"
+        call = self.picture.calls[place.number]
+        told += f"thread {call.thread}  {call.word} {call.key} {place.reply}"
+        return told + ("  (no change)" if place.change is False else "") + ("" if place.number in self.picture.ends else "  (still open)")
 
     def below(self, legend):
-        told = ["no calls"] if not self.run.calls else ["order"]
-        for place, (number, at, change) in enumerate(self.order, 1):
-            if self.first <= at <= self.last:
-                call = self.run.calls[number]
-                reply = "true" if change else self.run.ends[number][1]
-                told.append(f"{place:>4}  {f'at {at}':<8} thread {call.thread}  {call.word} {call.key} {reply}"
-                            + ("" if change else "  (no change)") + ("" if number in self.run.ends else "  (still open)"))
-        early, late = (sum(test(at) for _, at, _ in self.order) for test in (lambda at: at < self.first, lambda at: at > self.last))
-        told += [f"{early} before, {late} after"] if early or late else []
-        keys = self.run.sets[-1]
-        told.append("keys" + ("  " + set_text(keys, " ") if keys else ""))
-        told += ["", legend] if self.order else []
-        return told + (["", f"refused line {self.run.refused[0]} {self.run.refused[1]}"] if self.run.refused else [])
+        told, order = ["order"] if self.picture.calls else ["no calls"], self.picture.order
+        if self.picture.calls:
+            sides = [self.side(it) for it in order]
+            told += [self.place_text(at, it) for at, (it, side) in enumerate(zip(order, sides), 1) if side == 0]
+            early, late, unknown = (sides.count(it) for it in (-1, 1, None))
+            told += [f"{early} before, {late} after" + (f", {unknown} of unknown calls" if unknown else "")] if early or late or unknown else []
+        keys = self.picture.keys
+        told.append("keys" + ("  " + keys_text(keys, " ") if keys else ""))
+        told += ["", legend] if order and self.has_points else []
+        refused = self.picture.refused
+        return told + (["", f"refused line {refused[0]} {refused[1]}"] if refused else [])
 
     def text(self):
         cut = any(self.is_cut())
         legend = "* changes the set    o changes nothing, its reply fits there    > " + ("goes on    < began before" if cut else "still open")
-        told = [self.heading(), ""]
-        if self.run.calls:
+        told = [self.heading(), *self.refusal(), ""]
+        if self.picture.calls:
             told += [*([self.cut_text()] if cut else []), *self.rows(), ""]
         return [*told, *self.below(legend)]
 
     def x_of(self, moment):
         return 88 + 9 * sum(self.width(it) for it in self.columns if it < moment)
 
+    def bar(self, call):
+        """The elements of a call: its line, its words if it begins in the picture, and its reply if it ends there."""
+        end, reply = self.picture.ends.get(call.number, (None, None))
+        if call.begun > self.last or end is not None and end < self.first:
+            return []
+        clash = " clash" if self.picture.refusal and call.number in self.picture.refusal.clash else ""
+        y, kind = lane(call.thread), f"thread-{call.thread % 8}{clash}"
+        x, x2 = self.x_of(call.begun), self.x_of(1 << 32 if end is None else end)
+        told = [f'<line class="bar {"open " if end is None else ""}{kind}" x1="{x}" y1="{y}" x2="{x2}" y2="{y}"/>']
+        told += [element(x, y - 10, f"{call.word} {call.key}", kind)] if self.first <= call.begun else []
+        return told + ([element(x2 + 10, y + 4, reply, kind)] if end is not None and end <= self.last else [])
+
     def svg(self):
         """The elements between the style sheet and the end."""
-        def text(x, y, told, kind="plain"):
-            return f'<text class="{kind}" xml:space="preserve" x="{x}" y="{y}">{told}</text>'
-
-        def lane(t):
-            return 90 + 40 * t
-
-        n, edge = self.plan.threads, self.x_of(1 << 32)
+        n, edge = self.picture.threads, self.x_of(1 << 32)
         below = self.below("filled: changes the set    open: changes nothing, its reply fits there    dashed: still open")
-        told = [text(8, 20, self.heading())] + ([text(8, 38, self.cut_text())] if any(self.is_cut()) else [])
-        told += [text(8, 60, "moment"), *(text(8, lane(t) + 4, f"thread {t}", f"thread-{t % 8}") for t in range(n)), text(8, lane(n), "set")]
+        above = [self.heading(), *self.refusal()]
+        told = [element(8, y, it) for y, it in zip([20, 34], above)]
+        told += [element(8, 38 if len(above) == 1 else 47, self.cut_text())] if any(self.is_cut()) else []
+        told += [element(8, 60, "moment"), *(element(8, lane(t) + 4, f"thread {t}", f"thread-{t % 8}") for t in range(n))]
+        told += [element(8, lane(n), "set")] if self.has_points else []
         for moment in self.columns:
-            told.append(text(self.x_of(moment), 60, moment))
-            told += [text(self.x_of(moment), lane(n), self.told_set(moment))] if self.told_set(moment) else []
-        dots = [(self.x_of(at), self.run.calls[it].thread, change) for it, at, change in self.order if self.first <= at <= self.last]
+            told.append(element(self.x_of(moment), 60, moment))
+            told += [element(self.x_of(moment), lane(n), self.told_set(moment))] if self.told_set(moment) else []
+        places = [it for it in self.picture.order if self.has_points and self.first <= it.at <= self.last]
+        dots = [(self.x_of(it.at), self.picture.calls[it.number].thread, it.change) for it in places]
         told += [f'<line class="stem" x1="{x}" y1="{lane(t)}" x2="{x}" y2="{lane(n) - 14}"/>' for x, t, _ in dots]
-        for call in self.run.calls:
-            end, reply = self.run.ends.get(call.number, (None, None))
-            if call.begun <= self.last and (end is None or end >= self.first):
-                y, kind = lane(call.thread), f"thread-{call.thread % 8}"
-                x, x2 = self.x_of(call.begun), edge if end is None else self.x_of(end)
-                told.append(f'<line class="bar {"open " if end is None else ""}{kind}" x1="{x}" y1="{y}" x2="{x2}" y2="{y}"/>')
-                told += [text(x, y - 10, f"{call.word} {call.key}", kind)] if self.first <= call.begun else []
-                told += [text(x2 + 10, y + 4, reply, kind)] if end is not None and end <= self.last else []
+        for call in self.picture.calls:
+            told += self.bar(call)
         told += [f'<circle class="point {"change" if change else "fit"} thread-{t % 8}" cx="{x}" cy="{lane(t)}" r="5"/>' for x, t, change in dots]
         height = lane(n) + 36 + 16 * len(below)
-        width = max(edge + 48, 16 + 8 * min(255, max(map(len, [self.heading(), *below]))))
-        told += [text(8, lane(n) + 36 + 16 * at, it) for at, it in enumerate(below)]
-        return width, height, told
+        width = max(edge + 48, 16 + 8 * min(255, max(map(len, [*above, *below]))))
+        return width, height, told + [element(8, lane(n) + 36 + 16 * at, it) for at, it in enumerate(below)]
 
 
-def fitted(plan, run, first, last, width):
-    """The picture with the most columns of which no row is longer than the width, but one at any width."""
-    drawn = Drawn(plan, run, first, last)
-    while len(drawn.columns) > 1 and max(map(len, drawn.rows())) > width:
+def element(x, y, told, kind="plain"):
+    return f'<text class="{kind}" xml:space="preserve" x="{x}" y="{y}">{told}</text>'
+
+
+def lane(t):
+    return 90 + 40 * t
+
+
+def with_rows_of(width, drawn):
+    """A picture with the most columns of which no row is longer than the width, but one at any width. An SVG has no width."""
+    while width and len(drawn.columns) > 1 and (len(drawn.row_of_moments()) > width or max(map(len, drawn.rows())) > width):
         drawn.columns.pop()
         drawn.last = drawn.columns[-1]
+    return drawn
+
+
+def fitted(picture, first, last, width=None):
+    """What is drawn of a picture in a window. Of a refused order it begins at what is refused, if no moments are asked for and some have no
+    room."""
+    drawn = with_rows_of(width, Drawn(picture, first, last))
+    begun = picture.refusal.begun if picture.refusal else None
+    if begun is not None and (first, last) == (1, GREATEST) and drawn.is_cut()[1]:
+        drawn = with_rows_of(width, Drawn(picture, begun, last))
     return drawn

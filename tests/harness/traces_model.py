@@ -57,11 +57,11 @@ def content(chain):
 
 
 class Tracing:
-    """A run under way, and what a Run has of it so far."""
+    """A run under way, and what a Run has of it so far. Of a broken list the set is what its changes make it, whatever the chain is."""
 
-    def __init__(self, plan):
-        self.plan, self.list = plan, List(plan.kind, plan.threads, plan.quota, plan.opening)
-        self.chain, self.counts = self.list.chain(), [0] * plan.threads
+    def __init__(self, plan, lacks):
+        self.plan, self.list = plan, List(plan.kind, plan.threads, plan.quota, plan.opening, lacks)
+        self.chain, self.counts, self.keys = self.list.chain(), [0] * plan.threads, set(plan.opening)
         self.sets, self.tallies = [frozenset(plan.opening)], [tuple(self.counts)]
         self.lines, self.calls, self.ends, self.points = [], [], {}, {}
 
@@ -83,42 +83,51 @@ class Tracing:
             self.lines.append(f"{told}begin {call.word} {call.key} call {call.number} pc {self.list.threads[t].pc}")
         else:
             self.step(told, t, moment)
-        self.sets.append(frozenset(content(self.chain)))
+        self.sets.append(frozenset(self.keys))
         self.tallies.append(tuple(self.counts))
 
+    def changes(self, it, later):
+        """What a step put in and took out: by the chains before it and later, or, of a broken list, by its row."""
+        if self.list.lacks:
+            key = {it.call.key}
+            self.keys = self.keys | key if it.change == "put" else self.keys - key if it.change else self.keys
+            return [(it.change, key)] if it.change else []
+        was, self.keys = self.keys, content(later)
+        return [("put", self.keys - was), ("took", was - self.keys)]
+
     def step(self, told, t, moment):
-        it, was = self.list.threads[t], content(self.chain)
+        it = self.list.threads[t]
         before = dict(vars(it))
         action, seen, reply = self.list.go(t)
         later = self.list.chain()
-        now = content(later)
         told += f"{access_text(action, seen)} pc {it.pc}{changes_text(before, vars(it))}"
-        for word, keys in [("put", now - was), ("took", was - now)]:
+        for word, keys in self.changes(it, later):
             for key in keys:
                 told += f" {word} {key}"
                 self.points[it.call.number] = (moment, True)
                 self.counts[t] += word == "put"
         if reply is not None:
-            self.end(it.call, reply, moment, now)
+            self.end(it.call, reply, moment)
             told += f" answer {reply} call {it.call.number} at {self.points[it.call.number][0]}"
         self.lines.append(told)
         if later != self.chain:
             self.lines.append("chain" + "".join(f" {key}{'*' * mark}" for key, mark in later))
             self.chain = later
 
-    def end(self, call, reply, moment, now):
-        """A call ends: one that has changed nothing has its point at the first moment that its reply fits."""
+    def end(self, call, reply, moment):
+        """A call ends: one that has changed nothing has its point at the first moment that its reply fits. (One of a broken list ends
+        there if none fits, and is full whatever its thread has used.)"""
         self.ends[call.number] = (moment, reply)
         if call.number not in self.points:
-            states = zip([*self.sets, frozenset(now)], [*self.tallies, tuple(self.counts)])
-            fit = next(at for at, (held, tally) in enumerate(states)
-                       if at >= call.begun and fits_without_change(call.word, call.key, reply, held, tally[call.thread] < self.plan.quota))
-            self.points[call.number] = (fit, False)
+            states = zip([*self.sets, frozenset(self.keys)], [*self.tallies, tuple(self.counts)])
+            fits = (at for at, (held, tally) in enumerate(states) if at >= call.begun and fits_without_change(
+                call.word, call.key, reply, held, reply != "full" if self.list.lacks else tally[call.thread] < self.plan.quota))
+            self.points[call.number] = (next(fits, moment) if self.list.lacks else next(fits), False)
 
 
-def run_of(plan):
-    """The run of a schedule, up to the first event that is refused."""
-    run = Tracing(plan)
+def run_of(plan, lacks=None):
+    """The run of a schedule, of a list or of a broken one, up to the first event that is refused."""
+    run = Tracing(plan, lacks)
     events = ((number, pieces) for number, pieces in plan.lines for _ in range(1 if pieces[0] == "begin" else int(pieces[2])))
     refused = None
     for number, pieces in events:
@@ -126,6 +135,7 @@ def run_of(plan):
             refused = (number, cause)
             break
         run.event(number, pieces)
-    head = ["listset-trace 1", f"list {plan.kind}", f"threads {plan.threads}", f"quota {plan.quota}", *(f"opening {it}" for it in plan.opening)]
+    head = ["listset-trace 1", f"list {plan.kind}", *([f"lacks {lacks}"] if lacks else []), f"threads {plan.threads}", f"quota {plan.quota}"]
+    head += [f"opening {it}" for it in plan.opening]
     last = f"refused line {refused[0]} {refused[1]}" if refused else "end"
     return Run([*head, *run.lines, last], run.calls, run.ends, run.sets, run.points, refused, len(run.sets) - 1)
