@@ -1,2 +1,2 @@
-mod Answered
+pub mod Answered
 mod LongAnswered

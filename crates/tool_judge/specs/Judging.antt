@@ -25,7 +25,8 @@ use Rattle.lset_judge.specs.declared.stream.StreamRefusal.{StreamRefusal}
 use Rattle.lset_judge.specs.declared.stream.StreamVerdict.{StreamVerdict}
 use Rattle.lset_judge.specs.declared.stream.StreamVerdict.TheVariants as long
 use Rattle.lset_judge.specs.declared.window.Window.{Window}
-use Rattle.lset_judge.specs.Verdict.{IsRefused, IsVerdictWithoutQuota, IsVerdictCutOff}
+use Rattle.lset_judge.specs.Events.{RulePasses}
+use Rattle.lset_judge.specs.Verdict.{IsExplained, IsJudged, IsRefused, IsVerdictWithoutQuota, IsVerdictCutOff}
 use Rattle.lset_judge.specs.Window.{IsWindowOf}
 use Rattle.lset_judge.specs.Overlap.{overlapped}
 use Rattle.lset_long.specs.declared.fault.LongFault.{LongFault}
@@ -146,6 +147,22 @@ pub record IsJudgedAs (c : CallsValue) (h : HistoryValue) (left : List ℕ) (ver
   pub left_is : AreKeysOf c.keys left
   pub verdict_is : IsVerdictWithoutQuota h left verdict
 
+-- UNDECIDED: the judge does not decide recorded calls: one that ended is a ceiling, or answered neither true nor false; and the judge's
+-- rule fails on no key
+abbrev pub IsUndecided : CallsValue → Type 0
+IsUndecided c = (h : HistoryValue) × (left : List ℕ) × IsJudgedAs c h left Undecided
+
+-- NOT REFUTED: begins and ends alone refute nothing of recorded calls: the judge's rule fails on no key; and if the judge decides their
+-- history, with its quota, some order explains it
+pub record IsUnrefuted (c : CallsValue) : Type 0 where
+  pub whole : c.cut_off ≡ false
+  pub history : HistoryValue
+  pub left : List ℕ
+  pub history_is : IsHistoryOf c history
+  pub left_is : AreKeysOf c.keys left
+  pub passes : RulePasses history left
+  pub explained : IsJudged history → IsExplained history left
+
 -- THE ANSWER ON A REFUSAL: the calls of its key have no order, up to its moment or that leaves the key as it was left; and there is a
 -- window, whose calls alone have none from a state in which the calls before leave the key
 pub record IsRefusedAnswer (h : HistoryValue) (left : List ℕ) (refusal : Refusal) (answer : AnswerValue) : Type 0 where
@@ -190,23 +207,25 @@ IsDecision c (ByPoints left) = (h : HistoryValue) × IsJudgedAs c h left.items U
 
 -- ---- what is made of an input
 
--- of a command that needs the keys left: the first call that cannot stand beside those above it, or that the recording was cut off, or, if
--- the points are asked for, the first change that has none
+-- of a command that needs the keys left: the first call that cannot stand beside those above it, or that the recording was cut off
+abbrev pub IsRefusalOfCalls : CallsValue → Trouble → Type 0
+IsRefusalOfCalls c t = (refusal : ClashFault) × (t ≡ of_clash refusal) × IsRefusal c refusal
+
+-- of one that may need the points: that, or, only of calls of which begins and ends refute nothing, the first change that has none
 abbrev pub IsFaultOfCalls : CallsValue → Trouble → Type 0
 IsFaultOfCalls c t =
-    ((refusal : ClashFault) × (t ≡ of_clash refusal) × IsRefusal c refusal)
-    ⊎ ((fault : CallsFault) × (t ≡ of_calls fault) × PointsAreGiven c (Err fault))
+    IsRefusalOfCalls c t ⊎ ((fault : CallsFault) × (t ≡ of_calls fault) × PointsAreGiven c (Err fault) × IsUnrefuted c)
 
 -- the first fault of the text, or else of its calls
 abbrev pub IsFirstFault : Result CallsValue CallsFault → Trouble → Type 0
 IsFirstFault (Err fault) t = t ≡ of_calls fault
 IsFirstFault (Ok c) t = IsFaultOfCalls c t
 
--- of the judge: it takes a recording that was cut off, and asks for no points of it
+-- of the judge: it takes a recording that was cut off, and asks for points only of calls that it does not decide
 abbrev pub IsFaultOfJudged : CallsValue → Trouble → Type 0
 IsFaultOfJudged c t =
     ((refusal : ClashFault) × (t ≡ of_clash refusal) × IsClash c refusal)
-    ⊎ ((fault : CallsFault) × (t ≡ of_calls fault) × (c.cut_off ≡ false) × PointsAreGiven c (Err fault))
+    ⊎ ((fault : CallsFault) × (t ≡ of_calls fault) × PointsAreGiven c (Err fault) × IsUndecided c)
 
 abbrev pub IsFirstFaultOfJudged : Result CallsValue CallsFault → Trouble → Type 0
 IsFirstFaultOfJudged (Err fault) t = t ≡ of_calls fault

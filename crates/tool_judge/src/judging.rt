@@ -7,7 +7,7 @@ ghost use Rattle.lset_report.specs.Report as reports;
 ghost use Rattle.tool_base.specs.Tools.{Ends, IsTaken};
 ghost use Rattle.tool_base.specs.Tools as tools;
 ghost use Rattle.tool_base.specs.declared.trouble.Trouble.TheVariants.{CannotRead, Memory};
-ghost use Rattle.tool_judge.specs.Judging.{IsAnswerByPoints, IsAnswerCutOff, IsAnswerOnOrder, IsDecision, IsFaultOfJudged, IsFirstFaultOfJudged, IsRefusedAnswer, Judges, JudgesAny};
+ghost use Rattle.tool_judge.specs.Judging.{IsAnswerByPoints, IsAnswerCutOff, IsAnswerOnOrder, IsDecision, IsFaultOfJudged, IsFirstFaultOfJudged, IsRefusedAnswer, IsUndecided, Judges, JudgesAny};
 
 use crate::keys::keys_of;
 use crate::long::{judge_long, judge_long_bytes};
@@ -38,10 +38,10 @@ fn answer_by_order(alloc: Global, report: &Report, left: &[u32]) -> Result<Answe
     }
 }
 
-/// The answer by the points that were recorded.
+/// The answer on calls that begins and ends do not decide, by the points that were recorded.
 fn by_points(alloc: Global, calls: Calls, left: &[u32]) -> Result<Answer, Trouble>
     requires are { AreCalls (view calls) }
-    requires whole { calls.cut_off ≡ false }
+    requires undecided { IsUndecided (view calls) }
     ensures answer { IfOk (tools.view result) (IsAnswerByPoints (view calls) left.now) }
     ensures trouble { IfErr result (λ t. (t ≡ Memory) ⊎ IsFaultOfJudged (view calls) t) }
 {
@@ -141,7 +141,8 @@ fn answer_on(alloc: Global, bytes: &[u8]) -> Result<Answer, Trouble>
 /// more says so. If begins and ends do not decide it the answer is `undecided`, with status 1.
 ///
 /// The error is `TooLong` for more than `LONGEST` bytes, `Line` with the first fault of the text, or with the first line whose call cannot
-/// stand beside those of the lines above, and `Memory` if memory was refused.
+/// stand beside those of the lines above, or, only if begins and ends do not decide the calls, with the first change that has no point;
+/// and `Memory` if memory was refused.
 ///
 /// A text whose first line is `listset-calls 3` is a long recording, and may have more bytes; its answer has no more lines than `ok N calls`,
 /// or than the key and how far its calls have no order.

@@ -11,7 +11,7 @@ use Rattle.lset_parts.proofs.Joining.{all_head}
 use Rattle.tool_base.specs.declared.trouble.Trouble.{Trouble}
 use Rattle.tool_base.specs.declared.trouble.Trouble.TheVariants.{Memory}
 use Rattle.tool_base.specs.Tools.{AnswerValue, IsTaken, IsInputTrouble}
-use Rattle.tool_judge.specs.Judging.{AreKeysOf, IsFaultOfCalls, IsFirstFault, ok_line}
+use Rattle.tool_judge.specs.Judging.{AreKeysOf, IsRefusalOfCalls, ok_line}
 use Rattle.tool_parts.specs.declared.key_part.KeyPart.{KeyPart}
 use Rattle.tool_parts.specs.declared.kept.Finding.{Finding}
 use Rattle.tool_parts.specs.declared.kept.Finding.TheVariants.{Undecided}
@@ -20,7 +20,7 @@ use Rattle.tool_parts.specs.declared.kept.Kept.{Kept}
 use Rattle.tool_parts.specs.Findings.{finding_text}
 use Rattle.tool_parts.specs.KeyParts.{history_asked, keys_asked}
 use Rattle.tool_parts.specs.Parting.{IsPartOf, IsKept, IsFindingNext, IsToldBy, part_behind}
-use Rattle.tool_parts.specs.Parting.{JudgesText, JudgesRead, JudgesInput, JudgesPart, IsTrouble}
+use Rattle.tool_parts.specs.Parting.{IsFirstFault, JudgesText, JudgesRead, JudgesInput, JudgesPart, IsTrouble}
 use Rattle.tool_parts.proofs.Adding.{whole_length}
 
 abbrev part_of_text : (bytes : List ℕ) (c : CallsValue) (asked : Option KeyPart) (h : HistoryValue) (left : List ℕ) (ps : List Part) (p : Part)
@@ -72,7 +72,7 @@ not_judged bytes c asked old new are text (h, left, known, history, keys, none) 
 
 -- a trouble with the calls of a text
 pub trouble_with : (bytes : List ℕ) (c : CallsValue) (t : Trouble) → IsTaken bytes → reading bytes ≡ Ok c
-    → (t ≡ Memory) ⊎ IsFaultOfCalls c t → IsTrouble bytes t
+    → (t ≡ Memory) ⊎ IsRefusalOfCalls c t → IsTrouble bytes t
 trouble_with bytes c t taken e (inl m) = inl (subst (λ (x : Trouble). IsInputTrouble bytes x) (sym m) tt)
 trouble_with bytes c t taken e (inr f) = inr (taken, subst (λ r. IsFirstFault r t) (sym e) f)
 

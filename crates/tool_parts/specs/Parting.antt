@@ -4,6 +4,7 @@ use Rattle.std.specs.Io.KnownBytes.{Keeps}
 use Rattle.std.specs.List.Sorted.{IsStrictlyIncreasing}
 use Rattle.lset_words.specs.declared.history.Placed.{Placed}
 use Rattle.lset_history.specs.History.{HistoryValue, latest_moment}
+use Rattle.lset_calls.specs.declared.fault.CallsFault.{CallsFault}
 use Rattle.lset_calls.specs.Calls.{CallsValue, AreCalls}
 use Rattle.lset_calls.specs.Texts.{calls_text}
 use Rattle.lset_calls.specs.Reading.{reading}
@@ -15,9 +16,9 @@ use Rattle.tool_base.specs.declared.answer.Answer.{Answer}
 use Rattle.tool_base.specs.declared.trouble.Trouble.{Trouble}
 use Rattle.tool_base.specs.declared.trouble.Trouble.TheVariants.{CannotRead, Memory, Bad}
 use Rattle.tool_base.specs.declared.trouble.ValueName.TheVariants.{Keys}
-use Rattle.tool_base.specs.Trouble.{trouble_text, status_of}
+use Rattle.tool_base.specs.Trouble.{of_calls, trouble_text, status_of}
 use Rattle.tool_base.specs.Tools.{AnswerValue, Made, IsTaken, IsInputTrouble, IsDelivered, AppendsFront}
-use Rattle.tool_judge.specs.Judging.{AreKeysOf, IsFirstFault, ok_line}
+use Rattle.tool_judge.specs.Judging.{AreKeysOf, IsRefusalOfCalls, ok_line}
 use Rattle.tool_parts.specs.declared.key_part.KeyPart.{KeyPart}
 use Rattle.tool_parts.specs.declared.kept.Finding.{Finding}
 use Rattle.tool_parts.specs.declared.kept.Finding.TheVariants.{Late, Undecided}
@@ -119,6 +120,12 @@ JudgesBehind asked h ps p new (Some finding) = IsFinding asked h ps p finding
 abbrev pub JudgesText : Option KeyPart → List ℕ → Kept → Kept → Option Finding → Type 0
 JudgesText asked bytes old new found =
     (ps : List Part) → IsKept ps old → (p : Part) × (told : IsPartOf asked ps bytes p) × JudgesBehind asked told.history ps p new found
+
+-- the first fault of the text, or else the first call that cannot stand beside those above it, or that the recording was cut off; points
+-- are never asked for
+abbrev pub IsFirstFault : Result CallsValue CallsFault → Trouble → Type 0
+IsFirstFault (Err fault) t = t ≡ of_calls fault
+IsFirstFault (Ok c) t = IsRefusalOfCalls c t
 
 -- a trouble with an input of these bytes, or its first fault
 abbrev pub IsTrouble : List ℕ → Trouble → Type 0

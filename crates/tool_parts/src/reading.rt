@@ -6,7 +6,7 @@ ghost use Rattle.lset_calls.specs.Calls.{AreCalls, view};
 ghost use Rattle.tool_base.specs.Tools.{Ends, IsTaken};
 ghost use Rattle.tool_base.specs.Tools as tools;
 ghost use Rattle.tool_base.specs.declared.trouble.Trouble.TheVariants.{Memory};
-ghost use Rattle.tool_judge.specs.Judging.{IsFaultOfCalls};
+ghost use Rattle.tool_judge.specs.Judging.{IsRefusalOfCalls};
 ghost use Rattle.tool_parts.specs.Parting.{IsKeysTold, IsToldBy, JudgesInput, JudgesKeys, JudgesPart, JudgesRead};
 
 use crate::kept::{Finding, Kept, Told};
@@ -45,7 +45,7 @@ fn told_by(alloc: Global, calls: Calls, asked: Option<KeyPart>) -> Result<Option
     requires are { AreCalls (view calls) }
     requires below { IfSome asked (λ a. a.part < a.parts) }
     ensures told { IfOk result (IsToldBy (view calls) asked) }
-    ensures trouble { IfErr result (λ t. (t ≡ Memory) ⊎ IsFaultOfCalls (view calls) t) }
+    ensures trouble { IfErr result (λ t. (t ≡ Memory) ⊎ IsRefusalOfCalls (view calls) t) }
 {
     let Recording { history, keys } = recording_of(alloc, calls)?;
     let keys = keys_of(keys);

@@ -84,9 +84,9 @@ fn answer_on(alloc: Global, bytes: &[u8]) -> Result<Answer, Trouble>
 /// # Errors
 ///
 /// `TooLong` if there are more than `LONGEST` bytes. `Line` with the first error of the text; or with the first line whose
-/// call conflicts with a line above; or, if no order is found and none is refuted, as of a `ceiling`, with the first change
-/// that has no point. `LongReport` if the report has more than `LONGEST` bytes, so that `check` could not read it. `Memory`
-/// if an allocation fails.
+/// call conflicts with a line above; or, only if no order is found and begins and ends refute nothing, as of a `ceiling`,
+/// with the first change that has no point. `LongReport` if the report has more than `LONGEST` bytes, so that `check` could
+/// not read it. `Memory` if an allocation fails.
 pub fn report_bytes(alloc: Global, bytes: &[u8]) -> Result<Answer, Trouble>
     ensures reports { Reports bytes.now (view result) }
     ensures read { IfErr result (λ t. t ≢ CannotRead) }

@@ -1,6 +1,6 @@
 -- The picture of a refusal tells a refusal; and of the calls of a text.
-use Rattle.std.proofs.Common.{◌≡◌, ℕ, List, refl, subst}
-use Rattle.std.specs.Prelude.{Bool, true, false, Option, Some, None, IfSome}
+use Rattle.std.proofs.Common.{◌≡◌, ℕ, List, Ok, Err, inr, refl, subst}
+use Rattle.std.specs.Prelude.{Bool, true, false, Option, Some, None, IfSome, Result, IfOk}
 use Rattle.lset_words.specs.declared.Kind.{Kind}
 use Rattle.lset_words.specs.declared.history.Placed.{Placed}
 use Rattle.lset_words.specs.SequentialSet.{has_key}
@@ -11,9 +11,14 @@ use Rattle.lset_judge.specs.declared.verdict.Refusal.{Refusal}
 use Rattle.lset_judge.specs.declared.window.Window.{Window}
 use Rattle.lset_judge.specs.Verdict.{IsRefused}
 use Rattle.lset_judge.specs.Window.{IsWindowOf, alone}
-use Rattle.tool_drawing.specs.Pictures.{PictureValue}
-use Rattle.tool_show.specs.CallPictures.{IsPictureOfRefusal, keys_if, report_with}
+use Rattle.lset_calls.specs.Calls.{CallsValue, AreCalls}
+use Rattle.lset_calls.specs.Texts.{calls_text}
+use Rattle.tool_base.specs.declared.trouble.Trouble.{Trouble}
+use Rattle.tool_drawing.specs.Pictures.{PictureValue, view}
+use Rattle.tool_show.specs.declared.calls.Drawing.{Drawing}
+use Rattle.tool_show.specs.CallPictures.{IsPictureOfRefusal, IsByPoints, keys_if, report_with}
 use Rattle.tool_show.specs.ReportPictures.{IsPictureOfReport, IsJudgement}
+use Rattle.tool_show.specs.Showing.{ShowsCalls}
 
 left_so : (left : Option Bool) (key : ℕ) → IfSome left (λ (l : Bool). has_key key (keys_if left key) ≡ l)
 left_so None key = tt
@@ -37,3 +42,9 @@ refusal_drawn kind h own left keys refusal w order v refused window own_is keys_
           subst (IsJudgement (report_with kind (alone h w) order (keys_if w.left w.key.0))) none is.judged in
           (window.shows h.opening.quota).none (keys_if w.left w.key.0) (left_so w.left w.key.0) order explains;
     }
+
+-- of the calls of a text, by their points
+pub shows_by_points : (bytes : List ℕ) (c : CallsValue) (r : Result Drawing Trouble) → AreCalls c → bytes ≡ calls_text c
+    → IfOk r (λ (d : Drawing). IsByPoints c (view d.picture)) → IfOk r (λ (d : Drawing). ShowsCalls bytes (view d.picture))
+shows_by_points bytes c (Ok d) are text drawn = (c, are, text, inr drawn)
+shows_by_points bytes c (Err t) are text drawn = tt

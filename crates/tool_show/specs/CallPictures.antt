@@ -15,7 +15,7 @@ use Rattle.lset_calls.specs.Clashes.{PointsAreGiven}
 use Rattle.lset_calls.specs.Histories.{IsHistoryOf}
 use Rattle.lset_calls.specs.Reports.{IsReportOfCalls}
 use Rattle.tool_drawing.specs.Pictures.{PictureValue, view}
-use Rattle.tool_judge.specs.Judging.{AreKeysOf}
+use Rattle.tool_judge.specs.Judging.{AreKeysOf, IsUnrefuted}
 use Rattle.tool_show.specs.declared.calls.Drawing.{Drawing}
 use Rattle.tool_show.specs.Endings.{of_key}
 use Rattle.tool_show.specs.ReportPictures.{IsPictureOfReport}
@@ -59,9 +59,10 @@ pub record IsDecided (c : CallsValue) (v : PictureValue) : Type 0 where
   pub picture_is : IsPictureOfOrder c.kind history left v
       ⊎ ((refusal : Refusal) × (window : Window) × IsPictureOfRefusal c.kind history left refusal window v)
 
--- of others: their report by their points
+-- of others, and only if begins and ends refute nothing: their report by their points
 abbrev pub IsByPoints : CallsValue → PictureValue → Type 0
-IsByPoints c v = (r : ReportValue) × IsReportOfCalls c r × PointsAreGiven c (Ok tt) × IsPictureOfReport r v
+IsByPoints c v =
+    IsUnrefuted c × ((r : ReportValue) × IsReportOfCalls c r × PointsAreGiven c (Ok tt) × IsPictureOfReport r v)
 
 -- THE PICTURE OF RECORDED CALLS
 abbrev pub IsPictureOfCalls : CallsValue → PictureValue → Type 0
@@ -70,5 +71,5 @@ IsPictureOfCalls c v = IsDecided c v ⊎ IsByPoints c v
 -- ---- what the functions on the way say
 
 abbrev pub IsDrawnIf : CallsValue → Option Drawing → Type 0
-IsDrawnIf c None = Unit {0}
+IsDrawnIf c None = IsUnrefuted c
 IsDrawnIf c (Some d) = IsDecided c (view d.picture)

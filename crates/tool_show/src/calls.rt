@@ -6,7 +6,7 @@ ghost use Rattle.lset_judge.specs.Verdict.{IsRefused};
 ghost use Rattle.lset_calls.specs.Calls.{AreCalls, view};
 ghost use Rattle.lset_calls.specs.Reading.{reading};
 ghost use Rattle.tool_base.specs.declared.trouble.Trouble.TheVariants.{Memory};
-ghost use Rattle.tool_judge.specs.Judging.{IsFaultOfCalls};
+ghost use Rattle.tool_judge.specs.Judging.{IsFaultOfCalls, IsUnrefuted};
 ghost use Rattle.tool_judge.specs.Judging as judging;
 ghost use Rattle.tool_base.specs.Tools.{IsTaken};
 ghost use Rattle.tool_drawing.specs.Pictures as pictures;
@@ -96,7 +96,8 @@ fn of_refusal(
 
 /// The picture of calls whose begins and ends do not decide, by their points.
 fn by_points(alloc: Global, calls: Calls) -> Result<Drawing, Trouble>
-    requires { AreCalls (view calls) }
+    requires are { AreCalls (view calls) }
+    requires unrefuted { IsUnrefuted (view calls) }
     ensures drawn { IfOk result (λ d. IsByPoints (view calls) (pictures.view d.picture)) }
     ensures trouble { IfErr result (λ t. (t ≡ Memory) ⊎ IsFaultOfCalls (view calls) t) }
 {
@@ -109,7 +110,7 @@ fn by_points(alloc: Global, calls: Calls) -> Result<Drawing, Trouble>
     })
 }
 
-/// The picture of calls that begins and ends decide; none of others.
+/// The picture of calls that begins and ends decide; none only if they refute nothing.
 fn by_order(alloc: Global, calls: Calls) -> Result<Option<Drawing>, Trouble>
     requires { AreCalls (view calls) }
     ensures drawn { IfOk result (IsDrawnIf (view calls)) }

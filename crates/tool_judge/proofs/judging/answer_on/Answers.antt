@@ -1,9 +1,9 @@
-use Rattle.std.proofs.Common.{◌≡◌, ℕ, false, List, subst}
+use Rattle.std.proofs.Common.{ℕ, List, subst}
 use Rattle.std.proofs.lemmas.Result.{err_from_is_err_and}
 use Rattle.std.specs.Prelude.{IfOk}
-use Rattle.lset_calls.specs.Calls.{CallsValue, view}
+use Rattle.lset_calls.specs.Calls.{view}
 use Rattle.tool_base.specs.Tools as tools
-use Rattle.tool_judge.specs.Judging.{IsDecision, IsAnswerByPoints}
+use Rattle.tool_judge.specs.Judging.{IsDecision, IsUndecided, IsAnswerByPoints}
 use Rattle.tool_judge.proofs.Answered.{refused, by_points, read_twice}
 use Rattle.tool_judge.proofs.judging.answer_on.Goals as goal
 
@@ -13,13 +13,14 @@ returns-in_err-decided-clause-judges c =
     rw (p.1, p.2) (refused c.args.bytes.now (view c.in_ok-read_calls.field-0) c.in_err-decided.field-0.0 c.requires
     c.in_ok-read_calls.ensures.exact c.in_err-decided.ensures.trouble)
 
-pub by_points-requires-clause-whole : goal.by_points-requires-clause-whole
-by_points-requires-clause-whole c =
+pub by_points-requires-clause-undecided : goal.by_points-requires-clause-undecided
+by_points-requires-clause-undecided c =
     let first = view c.in_ok-read_calls.field-0 in
     let again = view c.in_ok-read_calls-in-ByPoints.field-0 in
     let decided = subst (IsDecision first) c.in-ByPoints.is c.in_ok-decided.ensures.decided in
-    subst (λ (z : CallsValue). z.cut_off ≡ false)
-    (read_twice c.args.bytes.now first again c.in_ok-read_calls.ensures.exact c.in_ok-read_calls-in-ByPoints.ensures.exact) decided.1.whole
+    subst IsUndecided
+    (read_twice c.args.bytes.now first again c.in_ok-read_calls.ensures.exact c.in_ok-read_calls-in-ByPoints.ensures.exact)
+    (decided.0, c.in-ByPoints.left.items, decided.1)
 
 pub returns-in_ok-read_calls-in-ByPoints-clause-judges : goal.returns-in_ok-read_calls-in-ByPoints-clause-judges
 returns-in_ok-read_calls-in-ByPoints-clause-judges c =
