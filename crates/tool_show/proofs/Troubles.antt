@@ -62,7 +62,7 @@ of_a_clash fault = refl
 in_calls : (r : Result CallsValue CallsFault) (t : Trouble) → judging.IsFirstFault r t → count_of t ≡ 1
 in_calls (Err fault) t e = ap count_of e ∙ of_recorded fault.line fault.cause
 in_calls (Ok c) t (inl (fault, is, refused)) = ap count_of is ∙ of_a_clash fault
-in_calls (Ok c) t (inr (fault, is, lacking)) = ap count_of is ∙ of_recorded fault.line fault.cause
+in_calls (Ok c) t (inr (fault, is, lacking, unrefuted)) = ap count_of is ∙ of_recorded fault.line fault.cause
 
 in_a_text : (window : Window) (bytes : List ℕ) (t : Trouble) → (t ≡ Memory) ⊎ IsWrong window bytes t → count_of t ≡ 1
 in_a_text window bytes t (inl e) = ap count_of e
