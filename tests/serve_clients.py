@@ -3,9 +3,10 @@
 For each list: 64 clients on keys that they share, whose answers have to add up, and 64 clients at once, each on keys of its
 own, so that each of its answers is known, and of a ceiling the few that are right; after them, alone, one more client asks
 for the ceiling of each key, which is then known. For one list: 200 clients on 8 seats; one seat and one client after another,
-10,000 of them too, and 200 where few files may be open at once; clients that send all their lines before they read an answer;
-answers that fill their room, and answers that leave together; a client that reads none; and clients that send bytes past the end
-of their session. On the loopback alone; every wait is bounded, and the server is ended by its own number if it does not end.
+10,000 of them too, and 200 where few files may be open at once; a client that sends thousands of lines, each after the answer to
+the one before; clients that send all their lines before they read an answer; answers that fill their room, and answers that
+leave together; a client that reads none; and clients that send bytes past the end of their session. On the loopback alone; every
+wait is bounded, and the server is ended by its own number if it does not end.
 """
 
 import collections
@@ -317,6 +318,25 @@ def a_port_that_is_asked_for(case):
         with server.connect() as connection:
             asks(connection, b"CONTAINS 7\nQUIT\n", b"FALSE\nBYE\n")
         server.ends(1, 1, 1, [])
+
+
+# ---- one line after another
+
+
+@test
+def one_line_after_another(case):
+    """A client that waits for each answer before it sends its next line has all of them: answers of each kind, keys of each length, and
+    some thousands in all."""
+    keys, rounds = [10**digits for digits in range(10)], 300
+    turns = [(f"CEILING {key}", f"AT {key}") for key in keys]
+    turns += [("ADD 5", "FULL"), ("ADD 1", "FALSE"), ("CONTAINS 1", "TRUE"), (f"CEILING {keys[-1] + 1}", "NONE"), ("MOVE 7", "BAD")]
+    with serving(case.program, ONE_LIST, 1, len(keys), 1) as server:
+        with server.connect() as connection:
+            connection.settimeout(SOON)
+            for line, answer in [(f"ADD {key}", "TRUE") for key in keys] + turns * rounds + [("QUIT", "BYE")]:
+                asks(connection, f"{line}\n".encode(), f"{answer}\n".encode())
+        calls = len(keys) + (len(turns) - 1) * rounds
+        server.ends(1, calls, calls, keys)
 
 
 # ---- answers that wait, and a client that does not read them

@@ -1,8 +1,10 @@
 //! Sets that are full: each slot is used, and each call of some goes past all keys that there may be.
-ghost use Rattle.std.specs.Prelude.{◌≡◌};
+ghost use Rattle.std.specs.Prelude.{◌≡◌, All};
 
+use crate::many::gathered;
 use crate::opened::{keys_left, last_of, make_calls, rising_keys};
 use crate::prelude::*;
+use crate::ways::{WAYS, Way, holding, make_calls_in};
 use lset_live::Added;
 
 /// A seat adds `count` keys, from `first` up, in falling order: each stands right behind the head, where no key below it is
@@ -102,8 +104,8 @@ const PAST_ALL: [(Call, Reply); 5] = [
     (Call::Ceiling(LAST), Reply::Nothing),
 ];
 
-/// The last key is gone: receipts of a seat, and its typed calls.
-fn knows_the_last_is_gone<M: Running, R: Host>(rt: &R, set: &LiveSet<M>, seat: &mut Seat<M>)
+/// A seat gives two receipts of what it has seen, and takes one of them.
+fn takes_its_receipt<M: Machine>(set: &LiveSet<M>, seat: &mut Seat<M>)
     requires { seat.old.set ≡ set.now }
     ensures { seat.new.set ≡ set.now }
 {
@@ -111,6 +113,14 @@ fn knows_the_last_is_gone<M: Running, R: Host>(rt: &R, set: &LiveSet<M>, seat: &
     let copied = set.copied(&mut receipt);
     set.after(seat, copied);
     drop(receipt);
+}
+
+/// The last key is gone: receipts of a seat, and its typed calls.
+fn knows_the_last_is_gone<M: Running, R: Host>(rt: &R, set: &LiveSet<M>, seat: &mut Seat<M>)
+    requires { seat.old.set ≡ set.now }
+    ensures { seat.new.set ≡ set.now }
+{
+    takes_its_receipt(set, seat);
     assert!(rt; !seat.contains(rt, set, LAST) && !seat.remove(rt, set, LAST));
     assert!(rt; seat.add(rt, set, LAST) == Added::Full);
     assert!(rt; seat.ceiling(rt, set, LAST).is_none());
@@ -148,4 +158,131 @@ fn reads_that_do_not_block_go_past_all_keys(rt: HostRuntime) {
 fn lists_with_marks_are_walked_to_their_end(rt: HostRuntime) {
     goes_past_all::<LazyList, HostRuntime>(&rt, rt.alloc());
     goes_past_all::<LockFreeList, HostRuntime>(&rt, rt.alloc());
+}
+
+/// A set that has as many seats, slots and opening keys as it may; a seat of it, which has used all of its slots; and the others.
+fn with_a_full_seat<M: Running, R: Host>(
+    rt: &R,
+    alloc: Global,
+) -> (LiveSet<M>, Seat<M>, Vec<Seat<M>>)
+    ensures seat { result.1.set ≡ result.0 }
+    ensures others { All (λ s. s.set ≡ result.0) result.2.items }
+{
+    let keys = rising_keys(rt, alloc, FIRST);
+    let opened = open_with::<M>(alloc, MOST_THREADS, MOST_QUOTA, &keys);
+    let (set, mut others) = opened.expect(rt, "not opened");
+    let mut seat = last_of(rt, &set, &mut others);
+    fill(rt, &set, &mut seat, 0, MOST_QUOTA);
+    (set, seat, others)
+}
+
+/// A call of each kind, past all keys, from a seat that has no slot left: the set stays as it is.
+const PAST_ALL_KEYS: [(Call, Reply); 4] = [
+    (Call::Contains(LAST), Reply::True),
+    (Call::Add(Key(u32::MAX)), Reply::Full),
+    (Call::Remove(Key(u32::MAX)), Reply::False),
+    (Call::Ceiling(Key(u32::MAX)), Reply::Nothing),
+];
+
+/// A seat calls, and passes receipts, while no seat has been gathered; then it gathers one that holds all others.
+fn calls_among_others<M: Running, R: Host>(rt: &R, alloc: Global) {
+    let (set, mut seat, others) = with_a_full_seat::<M, R>(rt, alloc);
+    for way in WAYS {
+        seat = make_calls_in(rt, &set, seat, &PAST_ALL_KEYS, way);
+    }
+    takes_its_receipt(&set, &mut seat);
+    let others = gathered(&set, others).expect(rt, "no other seat");
+    set.gather(&mut seat, others);
+    let keys = keys_left(rt, set, seat);
+    assert!(rt; keys.len() == (MOST_QUOTA + MOST_OPENING) as usize);
+}
+
+fn reads_among_others<M: RunningReads, R: Host>(rt: &R, alloc: Global) {
+    let (set, mut seat, _others) = with_a_full_seat::<M, R>(rt, alloc);
+    assert!(rt; set.contains_now(&mut seat, LAST));
+    assert!(rt; !set.contains_now(&mut seat, Key(u32::MAX)));
+}
+
+#[test]
+fn a_seat_among_others_reads_past_all(rt: HostRuntime) {
+    reads_among_others::<LazyList, HostRuntime>(&rt, rt.alloc());
+    reads_among_others::<LockFreeList, HostRuntime>(&rt, rt.alloc());
+}
+
+#[test]
+fn a_seat_among_others_calls_past_all(rt: HostRuntime) {
+    at_each_list!(calls_among_others, rt);
+}
+
+/// The most opening keys, and no slot.
+fn opens_without_a_slot<R: Host>(rt: &R, alloc: Global, seats: u32) {
+    let keys = rising_keys(rt, alloc, FIRST);
+    let opened = open_with::<LazyList>(alloc, seats, 0, &keys);
+    let (set, mut seats) = opened.expect(rt, "not opened");
+    let mut seat = last_of(rt, &set, &mut seats);
+    make_calls(rt, &set, &mut seat, &PAST_ALL_KEYS);
+}
+
+#[test]
+fn a_set_without_a_slot_opens_with_most_keys(rt: HostRuntime) {
+    opens_without_a_slot(&rt, rt.alloc(), 1);
+    opens_without_a_slot(&rt, rt.alloc(), MOST_THREADS);
+}
+
+/// Calls on the first key of a list, from a seat that has no slot left: it is found, and goes out.
+fn first_goes_out(key: Key) -> [(Call, Reply); 6] {
+    [
+        (Call::Add(key), Reply::False),
+        (Call::Contains(key), Reply::True),
+        (Call::Ceiling(Key(0)), Reply::At(key)),
+        (Call::Remove(key), Reply::True),
+        (Call::Remove(key), Reply::False),
+        (Call::Contains(key), Reply::False),
+    ]
+}
+
+/// Each slot of a seat takes a key, the greatest first, in a way.
+fn fill_in<M: Running, R: Host>(rt: &R, set: &LiveSet<M>, mut seat: Seat<M>, way: Way) -> Seat<M>
+    requires { seat.set ≡ set.now }
+    ensures { result.set ≡ set.now }
+{
+    for number in (0..MOST_QUOTA).rev() {
+        let adds = [(Call::Add(Key(number)), Reply::True)];
+        seat = make_calls_in(rt, set, seat, &adds, way);
+    }
+    seat
+}
+
+/// Each of these keys goes out again, the least first, in a way.
+fn empty_in<M: Running, R: Host>(rt: &R, set: &LiveSet<M>, mut seat: Seat<M>, way: Way) -> Seat<M>
+    requires { seat.set ≡ set.now }
+    ensures { result.set ≡ set.now }
+{
+    for number in 0..MOST_QUOTA {
+        seat = make_calls_in(rt, set, seat, &first_goes_out(Key(number)), way);
+    }
+    seat
+}
+
+/// A seat that may have so many slots uses all of them in a way, and then has none, though no key is left.
+fn fills_and_empties<M: Running, R: Host>(rt: &R, alloc: Global, seats: u32, way: Way) {
+    let (set, seat) = holding::<M, R>(rt, alloc, seats, MOST_QUOTA, true);
+    let seat = fill_in(rt, &set, seat, way);
+    let seat = empty_in(rt, &set, seat, way);
+    let adds = [(Call::Add(Key(0)), Reply::Full)];
+    let seat = make_calls_in(rt, &set, seat, &adds, way);
+    assert!(rt; keys_left(rt, set, seat).is_empty());
+}
+
+/// A seat alone, and one that has gathered another.
+fn uses_all_its_slots<M: Running, R: Host>(rt: &R, alloc: Global) {
+    for way in WAYS {
+        fills_and_empties::<M, R>(rt, alloc, 1, way);
+        fills_and_empties::<M, R>(rt, alloc, 2, way);
+    }
+}
+
+#[test]
+fn a_seat_uses_all_its_slots_in_each_way(rt: HostRuntime) {
+    at_each_list!(uses_all_its_slots, rt);
 }

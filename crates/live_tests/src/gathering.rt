@@ -1,8 +1,9 @@
-//! Two seats that call, in turn or in two threads, and are gathered.
+//! Two seats that call, in turn or in two threads, and are gathered; and each call of a seat that has gathered others.
 ghost use Rattle.std.specs.Prelude.{◌≡◌};
 
 use crate::opened::{close_with, make_calls, reply, two_seats};
 use crate::prelude::*;
+use crate::ways::{WAYS, holding, make_calls_in};
 
 /// What a seat does with the key 9.
 pub const ADDS: [(Call, Reply); 1] = [(Call::Add(Key(9)), Reply::True)];
@@ -109,4 +110,67 @@ fn finds_what_is_added<M: Running + Send + Sync, R: Host>(rt: &R, alloc: Global)
 #[test]
 fn a_ceiling_while_a_key_is_added(rt: HostRuntime) {
     at_each_list!(finds_what_is_added, rt);
+}
+
+/// Each kind of call with each of its replies, from a seat with one slot, on a set that is empty.
+const EACH_REPLY: [(Call, Reply); 11] = [
+    (Call::Ceiling(Key(9)), Reply::Nothing),
+    (Call::Remove(Key(9)), Reply::False),
+    (Call::Contains(Key(9)), Reply::False),
+    (Call::Add(Key(9)), Reply::True),
+    (Call::Add(Key(9)), Reply::False),
+    (Call::Add(Key(8)), Reply::Full),
+    (Call::Contains(Key(9)), Reply::True),
+    (Call::Ceiling(Key(9)), Reply::At(Key(9))),
+    (Call::Remove(Key(9)), Reply::True),
+    (Call::Remove(Key(9)), Reply::False),
+    (Call::Add(Key(9)), Reply::Full),
+];
+
+/// How many seats a set has, and whether one of them holds all of them, or all but one.
+const HELD: [(u32, bool); 7] = [
+    (1, true),
+    (2, false),
+    (2, true),
+    (3, false),
+    (3, true),
+    (64, false),
+    (64, true),
+];
+
+/// From a seat that holds so many, in each way.
+fn makes_each_call<M: Running, R: Host>(rt: &R, alloc: Global, seats: u32, all: bool) {
+    for way in WAYS {
+        let (set, seat) = holding::<M, R>(rt, alloc, seats, 1, all);
+        let seat = make_calls_in(rt, &set, seat, &EACH_REPLY, way);
+        assert!(rt; seat.held() == seats.wrapping_sub(u32::from(!all)));
+    }
+}
+
+fn make_each_call<M: Running, R: Host>(rt: &R, alloc: Global) {
+    for (seats, all) in HELD {
+        makes_each_call::<M, R>(rt, alloc, seats, all);
+    }
+}
+
+#[test]
+fn a_gathered_seat_makes_each_call(rt: HostRuntime) {
+    at_each_list!(make_each_call, rt);
+}
+
+/// The seat looks for a key that is there, which it adds, and for two that are not.
+fn reads_each_answer<M: RunningReads, R: Host>(rt: &R, alloc: Global) {
+    for (seats, all) in HELD {
+        let (set, mut seat) = holding::<M, R>(rt, alloc, seats, 1, all);
+        assert!(rt; !set.contains_now(&mut seat, Key(9)), "{seats} {all}");
+        assert!(rt; set.add(rt, &mut seat, Key(9)) == Reply::True);
+        assert!(rt; set.contains_now(&mut seat, Key(9)), "{seats} {all}");
+        assert!(rt; !set.contains_now(&mut seat, Key(8)), "{seats} {all}");
+    }
+}
+
+#[test]
+fn a_gathered_seat_reads_each_answer(rt: HostRuntime) {
+    reads_each_answer::<LazyList, HostRuntime>(&rt, rt.alloc());
+    reads_each_answer::<LockFreeList, HostRuntime>(&rt, rt.alloc());
 }

@@ -50,3 +50,5 @@ mod stopping;
 mod typed;
 #[cfg(test)]
 mod waiting;
+#[cfg(test)]
+mod ways;

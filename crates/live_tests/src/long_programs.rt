@@ -1,43 +1,60 @@
 //! Programs as long as they may be, on as many seats as there may be, in any order; and the seats and numbers that a gate gets.
 ghost use Rattle.std.specs.Prelude.{◌≡◌, All};
 
-use crate::opened::{last_of, make_calls, rising_keys};
+use crate::opened::{last_of, rising_keys};
 use crate::prelude::*;
 use crate::programs::{Asked, are_answered, pair, worked};
+use crate::ways::{WAYS, Way, holding, make_calls_in};
 
 /// More calls than a smaller number can count, and so many that the square of them is not made in time.
 const MANY_CALLS: u32 = 2_000_000;
 
-/// Is asked for the calls of one program, which have to come in turn.
+/// Is asked for the calls of up to three programs: those of each have to come in turn.
 #[derive(Drop)]
 struct InTurn {
-    next: AtomicU64,
+    next: [AtomicU64; 3],
     missed: AtomicBool,
 }
 
 impl Gate for InTurn {
     fn pass(&self, seat: u32, call: u32) -> bool {
-        if (seat, u64::from(call)) != (0, self.next.fetch_add(1, Ordering::SeqCst)) {
+        let number = match self.next.get(seat as usize) {
+            Some(next) => next.fetch_add(1, Ordering::SeqCst),
+            None => u64::MAX,
+        };
+        if number != u64::from(call) {
             self.missed.store(true, Ordering::SeqCst);
         }
         true
     }
 }
 
-#[test]
-fn a_program_may_be_long(rt: HostRuntime) {
-    let drawn = programs(rt.alloc(), 1, MANY_CALLS, 8, 7).expect(&rt, "not drawn");
-    let (set, seats) = open::<LockFreeList>(rt.alloc(), 1, 16_384).expect(&rt, "not opened");
+/// So many programs of so many calls are made, and the gate is asked for each call in turn.
+fn may_be_long<R: Host>(rt: &R, alloc: Global, count: u32, calls: u32) {
+    let drawn = programs(alloc, count, calls, 8, 7).expect(rt, "not drawn");
+    let (set, seats) = open::<LockFreeList>(alloc, count, 16_384).expect(rt, "not opened");
     let gate = InTurn {
-        next: AtomicU64::new(0),
+        next: [0; 3].map(AtomicU64::new),
         missed: AtomicBool::new(false),
     };
-    let outcome = worked(&rt, rt.alloc(), set, seats, drawn, &gate);
-    assert!(&rt; outcome.replies.len() == 1);
-    assert!(&rt; outcome.replies[0].len() == MANY_CALLS as usize);
+    let outcome = worked(rt, alloc, set, seats, drawn, &gate);
+    assert!(rt; outcome.replies.len() == count as usize);
+    for (replies, next) in outcome.replies.iter().zip(&gate.next) {
+        assert!(rt; replies.len() == calls as usize);
+        assert!(rt; next.load(Ordering::SeqCst) == u64::from(calls));
+    }
     let is_missed = gate.missed.load(Ordering::SeqCst);
-    assert!(&rt; !is_missed, "a call has another number");
-    assert!(&rt; gate.next.load(Ordering::SeqCst) == u64::from(MANY_CALLS));
+    assert!(rt; !is_missed, "a call has another number");
+}
+
+#[test]
+fn a_program_may_be_long(rt: HostRuntime) {
+    may_be_long(&rt, rt.alloc(), 1, MANY_CALLS);
+}
+
+#[test]
+fn each_of_three_programs_may_be_long(rt: HostRuntime) {
+    may_be_long(&rt, rt.alloc(), 3, MANY_CALLS / 3);
 }
 
 /// Holds the second call of each of 64 seats until all of them are there; and counts which of them were.
@@ -128,34 +145,102 @@ fn seats_may_have_any_order(rt: HostRuntime) {
     at_each_list!(works_in_any_order, rt);
 }
 
-/// Each kind of call with a key, which is the only one.
-fn calls_with<M: Running, R: Host>(rt: &R, alloc: Global, key: Key) {
-    let (set, mut seats) = open::<M>(alloc, 1, 1).expect(rt, "not opened");
-    let mut seat = last_of(rt, &set, &mut seats);
-    let rows = [
-        (Call::Add(key), Reply::True),
+/// So often each call is made: enough that calls which make as many steps as their keys take too long.
+const TIMES: u32 = 10;
+
+/// A seat makes each of these calls so often, in a way.
+fn makes_again<M: Running, R: Host>(
+    rt: &R,
+    set: &LiveSet<M>,
+    mut seat: Seat<M>,
+    rows: &[(Call, Reply)],
+    way: Way,
+) -> Seat<M>
+    requires { seat.set ≡ set.now }
+    ensures { result.set ≡ set.now }
+{
+    for _ in 0..TIMES {
+        seat = make_calls_in(rt, set, seat, rows, way);
+    }
+    seat
+}
+
+/// Each kind of call with a key, which is the only one, and then is gone.
+fn calls_with<M: Running, R: Host>(rt: &R, alloc: Global, key: Key, way: Way) {
+    let (set, seat) = holding::<M, R>(rt, alloc, 1, 1, true);
+    let (add, remove) = (Call::Add(key), Call::Remove(key));
+    let seat = make_calls_in(rt, &set, seat, &[(add, Reply::True)], way);
+    let there = [
+        (add, Reply::False),
         (Call::Contains(key), Reply::True),
         (Call::Ceiling(Key(0)), Reply::At(key)),
         (Call::Ceiling(key), Reply::At(key)),
-        (Call::Remove(key), Reply::True),
-        (Call::Contains(key), Reply::False),
-        (Call::Add(key), Reply::Full),
     ];
-    make_calls(rt, &set, &mut seat, &rows);
+    let seat = makes_again(rt, &set, seat, &there, way);
+    let seat = make_calls_in(rt, &set, seat, &[(remove, Reply::True)], way);
+    let gone = [
+        (add, Reply::Full),
+        (remove, Reply::False),
+        (Call::Contains(key), Reply::False),
+        (Call::Ceiling(key), Reply::Nothing),
+    ];
+    let _seat = makes_again(rt, &set, seat, &gone, way);
 }
 
 /// A key of each number of bits, the least and the greatest of them.
-fn calls_with_each_size<M: Running, R: Host>(rt: &R, alloc: Global) {
+fn keys_of_each_size<R: Abort>(rt: &R, alloc: Global) -> Vec<Key> {
+    let mut keys = Vec::new(alloc);
     for bits in 0..32u32 {
         let least = 1u32 << bits;
-        calls_with::<M, R>(rt, alloc, Key(least));
-        calls_with::<M, R>(rt, alloc, Key(least.wrapping_add(least.wrapping_sub(1))));
+        keys.push(Key(least)).expect(rt, "room");
+        let greatest = least.wrapping_add(least.wrapping_sub(1));
+        keys.push(Key(greatest)).expect(rt, "room");
+    }
+    keys
+}
+
+fn calls_in_each_way<M: Running, R: Host>(rt: &R, alloc: Global, key: Key) {
+    for way in WAYS {
+        calls_with::<M, R>(rt, alloc, key, way);
+    }
+}
+
+fn calls_with_each_size<M: Running, R: Host>(rt: &R, alloc: Global) {
+    for key in &keys_of_each_size(rt, alloc) {
+        calls_in_each_way::<M, R>(rt, alloc, *key);
+    }
+}
+
+/// A seat looks so often for a key, which is there or not.
+fn reads_again<M: RunningReads, R: Abort>(
+    rt: &R,
+    set: &LiveSet<M>,
+    seat: &mut Seat<M>,
+    key: Key,
+    there: bool,
+)
+    requires { seat.old.set ≡ set.now }
+    ensures { seat.new.set ≡ set.now }
+{
+    for _ in 0..TIMES {
+        assert_eq!(rt; set.contains_now(seat, key), there, "{key:?}");
+    }
+}
+
+fn reads_with_each_size<M: RunningReads, R: Host>(rt: &R, alloc: Global) {
+    for key in &keys_of_each_size(rt, alloc) {
+        let (set, mut seat) = holding::<M, R>(rt, alloc, 1, 1, true);
+        reads_again(rt, &set, &mut seat, *key, false);
+        assert!(rt; set.add(rt, &mut seat, *key) == Reply::True);
+        reads_again(rt, &set, &mut seat, *key, true);
     }
 }
 
 #[test]
 fn keys_of_each_size_are_called_with(rt: HostRuntime) {
     at_each_list!(calls_with_each_size, rt);
+    reads_with_each_size::<LazyList, HostRuntime>(&rt, rt.alloc());
+    reads_with_each_size::<LockFreeList, HostRuntime>(&rt, rt.alloc());
 }
 
 /// A program for each seat: it puts a key of its own in, before all others.

@@ -1,6 +1,9 @@
 //! How often a call asks its pause, and of which thread it tells.
+ghost use Rattle.std.specs.Prelude.{◌≡◌};
+
 use crate::opened::two_seats;
 use crate::prelude::*;
+use lset_live::Countless;
 use std::cell::Cell;
 
 /// Counts the steps that do not answer, and those of them that are reported of another thread or as failed.
@@ -90,4 +93,55 @@ fn tells_its_thread<M: Running, R: Host>(rt: &R, alloc: Global) {
 fn a_pause_is_told_the_thread_in_each_kind_of_call(rt: HostRuntime) {
     at_each_list!(tells_its_thread, rt);
     tells_its_thread::<Stepped<LazyList>, HostRuntime>(&rt, rt.alloc());
+}
+
+/// A seat makes a call with this pause, by `call_within` or by `call`.
+fn paused<M: Running, R: Host>(
+    rt: &R,
+    set: &LiveSet<M>,
+    mut seat: Seat<M>,
+    call: Call,
+    count: &Count,
+    within: bool,
+) -> Seat<M>
+    requires { seat.set ≡ set.now }
+    ensures { result.set ≡ set.now }
+{
+    if within {
+        let made = set.call_within::<Count, Countless>(seat, call, count);
+        let (seat, _reply) = made.expect(rt, "a call in any number of rounds gives up");
+        return seat;
+    }
+    let _reply = set.call(rt, &mut seat, call, count);
+    seat
+}
+
+/// How often each of the calls asks its pause, each time with thread 1, from the seat of that thread, which has gathered the
+/// other one or not.
+fn pauses_of<M: Running, R: Host>(rt: &R, alloc: Global, gathers: bool, within: bool) -> Vec<u64> {
+    let (set, zero, mut one) = two_seats::<M, R>(rt, alloc);
+    if gathers {
+        set.gather(&mut one, zero);
+    }
+    let mut pauses = Vec::new(alloc);
+    for call in &OF_EACH_KIND {
+        let count = Count::new(1);
+        one = paused(rt, &set, one, *call, &count, within);
+        assert_eq!(rt; count.wrong.get(), 0, "{call:?}");
+        pauses.push(count.steps.get()).expect(rt, "room");
+    }
+    pauses
+}
+
+fn asks_alike<M: Running, R: Host>(rt: &R, alloc: Global) {
+    let wanted = pauses_of::<M, R>(rt, alloc, false, false);
+    assert!(rt; wanted.iter().all(|steps| *steps > 0));
+    assert!(rt; pauses_of::<M, R>(rt, alloc, true, false) == wanted);
+    assert!(rt; pauses_of::<M, R>(rt, alloc, false, true) == wanted);
+    assert!(rt; pauses_of::<M, R>(rt, alloc, true, true) == wanted);
+}
+
+#[test]
+fn a_gathered_seat_asks_its_pause(rt: HostRuntime) {
+    at_each_list!(asks_alike, rt);
 }

@@ -270,36 +270,57 @@ impl<'a, R: Clock> Pause for Meeting<'a, R> {
 fn at_once<M: Running + Send + Sync, R: Host, P: Pause + Sync>(
     rt: &R,
     set: &LiveSet<M>,
-    zero: Seat<M>,
-    one: Seat<M>,
+    seats: (Seat<M>, Seat<M>),
+    both: (Call, Call),
     pause: &P,
 ) -> (Reply, Reply)
-    requires { (zero.set ≡ set.now) × (one.set ≡ set.now) }
+    requires { (seats.0.set ≡ set.now) × (seats.1.set ≡ set.now) }
 {
+    let (zero, one) = seats;
     let (start, ended) = (AtomicBool::new(true), AtomicBool::new(false));
     let flags = (&start, &ended);
     join(
         rt,
-        move || calls(rt, set, zero, Call::Add(Key(1)), pause, flags),
-        move || calls(rt, set, one, Call::Add(Key(2)), pause, flags),
+        move || calls(rt, set, zero, both.0, pause, flags),
+        move || calls(rt, set, one, both.1, pause, flags),
     )
 }
 
+/// The calls of seats 0 and 1, and their replies.
+type Both = ((Call, Call), (Reply, Reply));
+
+/// Two calls of each kind, on a set that has 3 and 4.
+fn of_each_kind() -> [Both; 4] {
+    let contains = (Call::Contains(Key(3)), Call::Contains(Key(4)));
+    let ceiling = (Call::Ceiling(Key(3)), Call::Ceiling(Key(4)));
+    [
+        ((add(1), add(2)), TRUE),
+        ((remove(3), remove(4)), TRUE),
+        (contains, TRUE),
+        (ceiling, (Reply::At(Key(3)), Reply::At(Key(4)))),
+    ]
+}
+
 /// Two calls meet at their first step: whether one of them reported to its pause that it took a lock for which it had waited.
-fn calls_meet<M: Running + Send + Sync, R: Host>(rt: &R, alloc: Global) -> bool {
-    let (set, zero, one) = two_seats::<M, R>(rt, alloc);
+fn calls_meet<M: Running + Send + Sync, R: Host>(rt: &R, alloc: Global, both: Both) -> bool {
+    let (set, mut zero, one) = two_seats::<M, R>(rt, alloc);
+    let before = [(add(3), Reply::True), (add(4), Reply::True)];
+    make_calls(rt, &set, &mut zero, &before);
+    let (calls, wanted) = both;
     let meeting = Meeting::new(rt);
-    let replies = at_once(rt, &set, zero, one, &meeting);
-    assert!(rt; meeting.was_held() && replies == TRUE);
+    let replies = at_once(rt, &set, (zero, one), calls, &meeting);
+    assert!(rt; meeting.was_held() && replies == wanted);
     meeting.took.load(Ordering::SeqCst)
 }
 
 /// If the first step takes a lock, one of two threads waits for it.
 #[test]
 fn two_calls_meet(rt: HostRuntime) {
-    assert!(rt; calls_meet::<CoarseList, HostRuntime>(&rt, rt.alloc()));
-    assert!(rt; calls_meet::<FineList, HostRuntime>(&rt, rt.alloc()));
-    let _optimistic = calls_meet::<OptimisticList, HostRuntime>(&rt, rt.alloc());
-    let _lazy = calls_meet::<LazyList, HostRuntime>(&rt, rt.alloc());
-    assert!(rt; !calls_meet::<LockFreeList, HostRuntime>(&rt, rt.alloc()));
+    for both in of_each_kind() {
+        assert!(rt; calls_meet::<CoarseList, HostRuntime>(&rt, rt.alloc(), both));
+        assert!(rt; calls_meet::<FineList, HostRuntime>(&rt, rt.alloc(), both));
+        let _optimistic = calls_meet::<OptimisticList, HostRuntime>(&rt, rt.alloc(), both);
+        let _lazy = calls_meet::<LazyList, HostRuntime>(&rt, rt.alloc(), both);
+        assert!(rt; !calls_meet::<LockFreeList, HostRuntime>(&rt, rt.alloc(), both));
+    }
 }

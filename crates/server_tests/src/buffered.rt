@@ -14,12 +14,14 @@ struct Seen {
     in_time: Cell<bool>,
 }
 
-/// Gives a text three times, each in a read of its own, and looks at each read whether all lines that were read before are answered.
+/// A text, and how many bytes the lines are answered by that it ends.
+type Turn<'a> = (&'a [u8], u64);
+
+/// Gives texts, each in a read of its own, and looks at each read whether all lines that were read before are answered.
 #[derive(Drop)]
 struct Asking<'a> {
-    text: &'a [u8],
-    reads: u64,
-    lines: u64,
+    turns: &'a [Turn<'a>],
+    due: u64,
     seen: &'a Seen,
 }
 
@@ -31,19 +33,16 @@ impl Source for Asking<'_> {
     ghost has_failed = { λ _. false };
 
     fn read(&mut self, buffer: &mut [u8]) -> Option<usize> {
-        let answered = self.seen.written.get() == self.lines.wrapping_mul(4);
+        let answered = self.seen.written.get() == self.due;
         self.seen.in_time.set(self.seen.in_time.get() && answered);
-        if self.reads >= 3 {
+        if self.turns.is_empty() {
             return Some(0);
         }
-        self.reads += 1;
-        let count = buffer.len().min(self.text.len());
-        buffer[..count].copy_from_slice(&self.text[..count]);
-        let lines = buffer[..count]
-            .iter()
-            .filter(|byte| **byte == b'\n')
-            .count();
-        self.lines = self.lines.wrapping_add(lines as u64);
+        let (text, answers) = self.turns[0];
+        self.turns = &self.turns[1..];
+        self.due = self.due.wrapping_add(answers);
+        let count = buffer.len().min(text.len());
+        buffer[..count].copy_from_slice(&text[..count]);
         Some(count)
     }
 }
@@ -68,17 +67,22 @@ impl Sink for Counting<'_> {
     }
 }
 
-/// The lines of the text are no calls. Each is answered before the session reads on.
-fn is_answered_in_time<R: Host>(rt: &R, alloc: Global, text: &[u8], buffered: bool) {
+/// The lines of each text are answered before the session reads the next text, and so many of them are calls.
+fn are_answered_in_time<R: Host>(
+    rt: &R,
+    alloc: Global,
+    turns: &[Turn<'_>],
+    calls: u64,
+    buffered: bool,
+) {
     let (set, mut seat) = one_seat(rt, alloc);
     let seen = Seen {
         written: Cell::new(0),
         in_time: Cell::new(true),
     };
     let mut asking = Asking {
-        text,
-        reads: 0,
-        lines: 0,
+        turns,
+        due: 0,
         seen: &seen,
     };
     let mut counting = Counting { seen: &seen };
@@ -87,23 +91,63 @@ fn is_answered_in_time<R: Host>(rt: &R, alloc: Global, text: &[u8], buffered: bo
     } else {
         session(rt, &mut asking, &mut counting, &set, &mut seat)
     };
-    assert!(rt; ended == end(EndReason::End, 0));
+    assert!(rt; ended == end(EndReason::End, calls));
     assert!(rt; seen.in_time.get(), "{buffered}");
-    let lines = text.iter().filter(|byte| **byte == b'\n').count();
-    assert!(rt;
-        seen.written.get() == (lines as u64).wrapping_mul(12),
-        "{buffered}"
-    );
+    let due = turns
+        .iter()
+        .fold(0u64, |due, turn| due.wrapping_add(turn.1));
+    assert!(rt; seen.written.get() == due, "{buffered}");
+}
+
+fn are_answered_in_both<R: Host>(rt: &R, alloc: Global, turns: &[Turn<'_>], calls: u64) {
+    are_answered_in_time(rt, alloc, turns, calls, true);
+    are_answered_in_time(rt, alloc, turns, calls, false);
 }
 
 /// A line, a read that has no room for more, and a read that ends within a line.
 #[test]
 fn answers_leave_before_each_read(rt: HostRuntime) {
-    let texts: &[&[u8]] = &[b"\n", &[b'\n'; 4096], b"\nA"];
-    for text in texts {
-        is_answered_in_time(&rt, rt.alloc(), text, true);
-        is_answered_in_time(&rt, rt.alloc(), text, false);
+    let texts: &[Turn<'_>] = &[(b"\n", 4), (&[b'\n'; 4096], 4 * 4096), (b"\nA", 4)];
+    for turn in texts {
+        are_answered_in_both(&rt, rt.alloc(), &[*turn; 3], 0);
     }
+}
+
+/// As many reads as a session answers lines, but for one.
+const MANY_READS: usize = 999_999;
+
+#[test]
+fn answers_leave_before_each_of_many_reads(rt: HostRuntime) {
+    let line: Turn<'static> = (b"\n", 4);
+    let turns = vec![in rt.alloc(); line; MANY_READS].expect(&rt, "room");
+    are_answered_in_both(&rt, rt.alloc(), &turns, 0);
+}
+
+/// Lines on a set with a quota of 4, by which each kind of answer is asked for; and how long the answers are.
+const OF_EACH_ANSWER: [Turn<'static>; 17] = [
+    (b"CEILING 0\n", 5),
+    (b"ADD 1\n", 5),
+    (b"ADD 1\n", 6),
+    (b"CEILING 0\n", 5),
+    (b"ADD 2\n", 5),
+    (b"ADD 3\n", 5),
+    (b"ADD 4294967295\n", 5),
+    (b"CEILING 4\n", 14),
+    (b"ADD 5\n", 5),
+    (b"ADD 5\n", 5),
+    (b"CONTAINS 5\n", 6),
+    (b"CONTAINS 4294967295\n", 5),
+    (b"REMOVE 5\n", 6),
+    (b"REMOVE 4294967295\n", 5),
+    (b"MOVE 7\n", 4),
+    (b"\n", 4),
+    (b"ADD 6\n", 5),
+];
+
+/// A client that waits for its answer has it, whichever it is.
+#[test]
+fn each_answer_leaves_alone(rt: HostRuntime) {
+    are_answered_in_both(&rt, rt.alloc(), &OF_EACH_ANSWER, 15);
 }
 
 /// The text is answered as without waiting, and the session ends so too.
@@ -146,6 +190,30 @@ fn answers_that_have_room_in_part_leave_whole(rt: HostRuntime) {
         text.extend_from_slice(b"CEILING 0\n").expect(&rt, "room");
     }
     is_answered_alike(&rt, rt.alloc(), &text);
+}
+
+/// A key of each number of digits, and the greatest.
+const OF_EACH_LENGTH: [u32; 11] = [
+    1,
+    10,
+    100,
+    1_000,
+    10_000,
+    100_000,
+    1_000_000,
+    10_000_000,
+    100_000_000,
+    1_000_000_000,
+    4_294_967_295,
+];
+
+#[test]
+fn ceilings_of_each_length_leave(rt: HostRuntime) {
+    for key in OF_EACH_LENGTH {
+        let text = format!(in rt.alloc(); "ADD {key}\nCEILING 0\nCEILING {key}\nADD {key}\n");
+        let text = text.expect(&rt, "room");
+        is_answered_alike(&rt, rt.alloc(), text.as_bytes());
+    }
 }
 
 /// All lines come in one read, and of their answers the write with this number fails: all calls are made.

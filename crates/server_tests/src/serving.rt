@@ -2,8 +2,10 @@
 ghost use Rattle.std.specs.Prelude.{◌≡◌, All};
 
 use crate::clients::{asks, leaves, meets};
-use crate::opened::{ANSWERS, CEILINGS, FOUND, LINES, opened};
+use crate::opened::{ANSWERS, CEILINGS, FOUND, LINES, Set, last_seat, opened};
 use crate::prelude::*;
+use lset_lazy::LazyList;
+use lset_live::Seat;
 use lset_server::{ServeCause, Served, serve};
 use std::sync::atomic::AtomicU64;
 
@@ -11,16 +13,16 @@ fn listening<R: Host + Net<Listener = TcpListener, Stream = TcpStream>>(rt: &R) 
     TcpListener::bind(rt, "127.0.0.1:0").expect(rt, "no port")
 }
 
-/// What a server with so many seats makes of so many sessions, while clients ask at its port, and find what they want.
-fn served_while<
+/// What a server makes of so many sessions on these seats, while clients ask at its port, and find what they want.
+fn served_on<
     R: Host + Net<Listener = TcpListener, Stream = TcpStream>,
     F: FnOnce(u16) -> bool + Send,
->(rt: &R, alloc: Global, seats: u32, sessions: u32, ask: F) -> Served
-    requires { F.IsAlwaysCallable ask }
+>(rt: &R, alloc: Global, set: Set, seats: Vec<Seat<LazyList>>, sessions: u32, ask: F) -> Served
+    requires seats { All (λ s. s.set ≡ set) seats.items }
+    requires ask { F.IsAlwaysCallable ask }
 {
     let listener = listening(rt);
     let port = listener.local_addr().expect(rt, "no port").port();
-    let (set, seats) = opened(rt, alloc, seats);
     let (served, asked) = join(
         rt,
         move ||
@@ -33,6 +35,17 @@ fn served_while<
         Ok(served) => served,
         Err(fault) => panic!(rt; "{:?}", fault.cause),
     }
+}
+
+/// So does a server with so many seats.
+fn served_while<
+    R: Host + Net<Listener = TcpListener, Stream = TcpStream>,
+    F: FnOnce(u16) -> bool + Send,
+>(rt: &R, alloc: Global, seats: u32, sessions: u32, ask: F) -> Served
+    requires { F.IsAlwaysCallable ask }
+{
+    let (set, seats) = opened(rt, alloc, seats);
+    served_on(rt, alloc, set, seats, sessions, ask)
 }
 
 fn made<R: Abort>(rt: &R, served: &Served, sessions: u64, calls: u64, keys: &[u32]) {
@@ -53,6 +66,18 @@ fn no_connection_is_served(rt: HostRuntime) {
     made(&rt, &served, 0, 0, &[]);
 }
 
+/// On each number of seats no session is held, and then one: all workers end.
+#[test]
+fn each_number_of_seats_serves(rt: HostRuntime) {
+    for seats in 1..=64 {
+        let served = served_while(&rt, rt.alloc(), seats, 0, |_port: u16| true);
+        made(&rt, &served, 0, 0, &[]);
+        let ask = |port: u16| asks(&rt, port, LINES, ANSWERS);
+        let served = served_while(&rt, rt.alloc(), seats, 1, ask);
+        made(&rt, &served, 1, 4, &[]);
+    }
+}
+
 #[test]
 fn all_seats_are_wanted(rt: HostRuntime) {
     let (set, mut seats) = opened(&rt, rt.alloc(), 2);
@@ -63,18 +88,44 @@ fn all_seats_are_wanted(rt: HostRuntime) {
     assert!(rt; fault.cause == ServeCause::Seats && fault.back.is_some());
 }
 
+/// Two clients, of which none goes away before both have their answers.
+fn both_meet<R: Host + Net<Listener = TcpListener, Stream = TcpStream>>(rt: &R, port: u16) -> bool {
+    let met = AtomicU64::new(0);
+    let both = join(
+        rt,
+        || meets(rt, port, b"ADD 1\n", &met),
+        || meets(rt, port, b"ADD 2\n", &met),
+    );
+    both.0 && both.1
+}
+
 #[test]
 fn two_sessions_meet(rt: HostRuntime) {
-    let met = AtomicU64::new(0);
-    let ask = |port: u16| {
-        let both = join(
-            &rt,
-            || meets(&rt, port, b"ADD 1\n", &met),
-            || meets(&rt, port, b"ADD 2\n", &met),
-        );
-        both.0 && both.1
-    };
-    let served = served_while(&rt, rt.alloc(), 2, 2, ask);
+    let served = served_while(&rt, rt.alloc(), 2, 2, |port: u16| both_meet(&rt, port));
+    made(&rt, &served, 2, 2, &[1, 2]);
+}
+
+/// A set with four seats, of which two hold two each.
+fn two_pairs<R: Abort>(rt: &R, alloc: Global) -> (Set, Vec<Seat<LazyList>>)
+    ensures { All (λ s. s.set ≡ result.0) result.1.items }
+{
+    let (set, mut seats) = opened(rt, alloc, 4);
+    let three = last_seat(rt, &set, &mut seats);
+    let two = last_seat(rt, &set, &mut seats);
+    let mut one = last_seat(rt, &set, &mut seats);
+    let mut zero = last_seat(rt, &set, &mut seats);
+    set.gather(&mut zero, three);
+    set.gather(&mut one, two);
+    let pairs = vec![in alloc; zero, one].expect(rt, "room");
+    (set, pairs)
+}
+
+/// A worker for each of the gathered seats, and not for each seat of the set.
+#[test]
+fn gathered_seats_serve(rt: HostRuntime) {
+    let (set, pairs) = two_pairs(&rt, rt.alloc());
+    let ask = |port: u16| both_meet(&rt, port);
+    let served = served_on(&rt, rt.alloc(), set, pairs, 2, ask);
     made(&rt, &served, 2, 2, &[1, 2]);
 }
 
