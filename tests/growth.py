@@ -102,6 +102,16 @@ def calls_that_change_nothing(many):
     return Shape(keys, [call for key in keys for call in (("add", key, "false"), ("remove", many + key, "false"))], keys)
 
 
+def keys_that_are_lost(many):
+    """All are put in, and none is left."""
+    return Shape([], calls_of("add", range(many)), [])
+
+
+def keys_that_were_never_there(many):
+    """Each is taken out."""
+    return Shape([], calls_of("remove", range(many)), [])
+
+
 def ceilings_between_changes(many):
     """A key comes and goes, another each time, and the set is empty."""
     return Shape([], [call for key in range(many // 3) for call in (("add", key, "true"), ("remove", key, "true"), ("ceiling", 0, "nothing"))], [])
@@ -133,6 +143,18 @@ def side_by_side(number):
 def beside_a_call(number):
     """The last thread has a call that begins first."""
     return number % (THREADS - 1), *(moment + 1 for moment in in_turn(number)[1:])
+
+
+def two_at_one_moment(number):
+    """Two threads begin a call each at one moment."""
+    begin = number // 2 * 4 + 1
+    return number % 2, begin, begin + 1, begin + 2 + number % 2
+
+
+def two_of_one_thread(number):
+    """A thread begins a call, and another one before that ends."""
+    begin = number // 2 * 4 + 1 + number % 2
+    return 0, begin, begin + 1, begin + 2
 
 
 # ---- recorded calls
@@ -216,13 +238,13 @@ class Tried:
             raise Wrong("; ".join(self.faults))
 
 
-def output(program, *words, text=None, status=0):
-    """What a command prints that ends with this status, and nothing on standard error; it has few seconds of a processor."""
+def output(program, *words, text=None, status=0, error=b""):
+    """What a command prints that ends with this status, and this on standard error; it has few seconds of a processor."""
     done = ran("bash", "-c", 'ulimit -t "$0" && exec "$@"', PROCESSOR_SECONDS, program, *words, text=text if text else b"")
     command = " ".join([*map(str, words), *([f"of {text.split(NEWLINE, 1)[0].decode()}"] if text else [])])
     if done.returncode < 0:
         raise Wrong(f"{command}: signal {-done.returncode}, perhaps by its {PROCESSOR_SECONDS} seconds of a processor")
-    same((done.returncode, done.stderr), (status, b""), f"{command}: status and standard error")
+    same((done.returncode, done.stderr), (status, error), f"{command}: status and standard error")
     return done.stdout
 
 
@@ -269,16 +291,10 @@ def recordings(case, way):
     tried.tell()
 
 
-WRONG = [Way(one_key), Way(keys_shuffled, side_by_side), Way(looks, beside_a_call), Way(opening_keys_removed_from_the_greatest)]
-
-
-@cases(named("refused_recordings", WRONG))
-def refused_recordings(case, way):
-    """`judge` of both versions, `report` and `show`, where the last reply is wrong."""
-    recording, tried = Recording(way, is_wrong=True), Tried()
-    key, end = recording.last_call[1], way.layout(recording.places - 1)[3]
-    said = f"not linearizable\nno order explains the calls of key {key} up to moment {end}\n".encode()
-    text = recording.text()
+def refuses(case, recording, reason):
+    """`judge` of both versions, `report` and `show`, which refuse a recording."""
+    tried, text = Tried(), recording.text()
+    said = f"not linearizable\nno order explains the calls of key {reason}\n".encode()
     with tried:
         same(output(case.program, "judge", text=text, status=1).startswith(said), True, f"that judge says {said}")
     with tried:
@@ -288,6 +304,41 @@ def refused_recordings(case, way):
             same(output(case.program, "report", text=text, status=1), b"no order explains these calls: judge shows why\n", "report")
     with tried:
         same(said in output(case.program, "show", text=text, status=1), True, f"that show says {said}")
+    tried.tell()
+
+
+WRONG = [Way(one_key), Way(keys_shuffled, side_by_side), Way(looks, beside_a_call), Way(opening_keys_removed_from_the_greatest)]
+
+
+@cases(named("refused_recordings", WRONG))
+def refused_recordings(case, way):
+    """The last reply is wrong."""
+    recording = Recording(way, is_wrong=True)
+    refuses(case, recording, f"{recording.last_call[1]} up to moment {way.layout(recording.places - 1)[3]}")
+
+
+@test
+def lost_keys(case):
+    """The calls of each key have orders, but none that leaves it so."""
+    refuses(case, Recording(Way(keys_that_are_lost)), "0 and leaves it as it was left")
+
+
+@test
+def refused_keys(case):
+    """The calls of no key have an order."""
+    refuses(case, Recording(Way(keys_that_were_never_there)), "0 up to moment 3")
+
+
+CLASHING = [Way(looks_in_vain, layout, arranged=arranged) for layout in (two_at_one_moment, two_of_one_thread) for arranged in (list, reversed_lines)]
+
+
+@cases(named("clashing_recordings", CLASHING))
+def clashing_recordings(case, way):
+    """`judge` and `report`, where each second line clashes with the one above it."""
+    tried, text = Tried(), Recording(way).text()
+    for command in ("judge", "report"):
+        with tried:
+            output(case.program, command, text=text, status=1, error=b"listset: line 6: History\n")
     tried.tell()
 
 

@@ -133,16 +133,23 @@ fn the_calls_that_find_a_key_are_left_out(rt: HostRuntime) -> Result<(), Fail> {
 /// So many keys are put in, each by one call, and stay.
 const MANY_KEYS: u32 = 500_000;
 
-#[test]
-fn many_keys_are_put_in_and_stay(rt: HostRuntime) -> Result<(), Fail> {
-    let alloc = rt.alloc();
+/// The threads in turn make a call of each key, which answers true.
+fn of_each_key<F: Fn(Key) -> Call>(alloc: Global, call: F) -> Result<History, AllocError>
+    requires { F.IsAlwaysCallable call }
+{
     let mut calls = Vec::new(alloc);
     for key in 0..MANY_KEYS {
         let thread = key % MOST_THREADS;
-        calls.push(true_call(thread, Call::Add(Key(key)), 2 * key + 1, 2 * key + 2))?;
+        calls.push(true_call(thread, call(Key(key)), 2 * key + 1, 2 * key + 2))?;
     }
+    Ok(history_of(alloc, MOST_QUOTA, calls))
+}
+
+#[test]
+fn many_keys_are_put_in_and_stay(rt: HostRuntime) -> Result<(), Fail> {
+    let alloc = rt.alloc();
+    let history = of_each_key(alloc, Call::Add)?;
     let mut keys = rising_keys(alloc, MANY_KEYS)?;
-    let history = history_of(alloc, MOST_QUOTA, calls);
     assert!(rt; judge(alloc, &history, &keys)? == Verdict::Linearizable);
     assert!(rt; keys.pop() == Some(MANY_KEYS - 1));
     let lost = Refusal {
@@ -150,6 +157,35 @@ fn many_keys_are_put_in_and_stay(rt: HostRuntime) -> Result<(), Fail> {
         moment: None,
     };
     assert!(rt; judge(alloc, &history, &keys)? == Verdict::NotLinearizable(lost));
+    Ok(())
+}
+
+/// All keys are put in, and none is left: the calls of each have orders, but none that leaves it so.
+#[test]
+fn each_of_many_keys_is_lost(rt: HostRuntime) -> Result<(), Fail> {
+    let alloc = rt.alloc();
+    let history = of_each_key(alloc, Call::Add)?;
+    let Verdict::NotLinearizable(refusal) = judge(alloc, &history, &[])? else {
+        return Err(Fail::new("the keys may not be lost"));
+    };
+    assert!(rt; refusal.moment.is_none());
+    assert!(rt; has_no_order(alloc, &history, &[], refusal)?);
+    let window = window_of_refusal(alloc, &history, &[], refusal)?;
+    assert!(rt; window.left == Some(false) && window.calls.is_empty());
+    Ok(())
+}
+
+/// Each key is taken out, and none was there: the calls of none have an order.
+#[test]
+fn each_of_many_keys_is_refused(rt: HostRuntime) -> Result<(), Fail> {
+    let alloc = rt.alloc();
+    let history = of_each_key(alloc, Call::Remove)?;
+    let first = Refusal {
+        key: Key(0),
+        moment: Some(2),
+    };
+    assert!(rt; are_refused(alloc, &history, &[], first)?);
+    assert!(rt; has_no_order(alloc, &history, &[], first)?);
     Ok(())
 }
 

@@ -11,6 +11,8 @@ mod history;
 #[cfg(test)]
 mod judge;
 #[cfg(test)]
+mod laid;
+#[cfg(test)]
 mod large;
 #[cfg(test)]
 mod large_refusals;

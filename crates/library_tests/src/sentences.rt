@@ -1,13 +1,16 @@
-//! What each error of the libraries says: the sentence of each variant, and, of an error of a file, its line and its cause.
+//! What each error of the libraries says: the sentence of each variant, and, of an error of a file, its line and its cause. And what `{:?}`
+//! prints of the types that do not derive it.
 
+use crate::made::in_turn;
 use crate::prelude::*;
 use broken_lists::BrokenStepError;
 use lset_calls::{CallsCause, CallsFault, ClashFault};
 use lset_long::{LongCause, LongFault};
 use lset_parts::PartFault;
-use lset_replay::ReplayFault;
+use lset_replay::{CallEnd, Deed, ReplayFault, TracedEvent};
 use lset_report::{ReportCause, ReportFault};
 use lset_schedule::{Cause, GenFault, ScheduleFault};
+use lset_steps::{Action, Local};
 use lset_text::{HeaderCause, HeaderFault};
 use lset_words::LayoutFault;
 use std::error::Error;
@@ -285,4 +288,92 @@ const CLASH: [(ClashFault, &str); 4] = [
 #[test]
 fn a_fault_of_calls_that_clash_has_its_sentence(rt: HostRuntime) -> Result<(), Fail> {
     say_so(&rt, rt.alloc(), &CLASH)
+}
+
+#[test]
+fn a_history_is_printed_without_what_follows_from_it(rt: HostRuntime) -> Result<(), Fail> {
+    let alloc = rt.alloc();
+    let opened = History::opened(alloc, 2, 1, Vec::from_slice(alloc, &[5])?);
+    let mut history = in_turn(opened, &[(1, Call::Add(Key(6)), Reply::True)])?;
+    history.begin(0, Call::Contains(Key(7)), 3)?;
+    let printed = format!(in alloc; "{history:?}")?;
+    let added = "CallRecord { thread: 1, call: Add(Key(6)), begun: 1, ended: Some((2, True)) }";
+    let pending = "CallRecord { thread: 0, call: Contains(Key(7)), begun: 3, ended: None }";
+    let due = format!(in alloc;
+        "History {{ threads: 2, quota: 1, opening: [5], calls: [{added}, {pending}] }}"
+    )?;
+    assert!(rt; printed.as_str() == due.as_str(), "{printed}");
+    Ok(())
+}
+
+const DEEDS: [(Deed, &str); 4] = [
+    (
+        Deed::Begin(Call::Remove(Key(6)), 3),
+        "Begin(Remove(Key(6)), 3)",
+    ),
+    (
+        Deed::Access(Action::Load(5), 12),
+        "Load { word: 5, seen: 12, .. }",
+    ),
+    (
+        Deed::Access(Action::Store(6, 13), 13),
+        "Store { word: 6, seen: 13, .. }",
+    ),
+    (
+        Deed::Access(Action::Exchange(7, 0, 2), 1),
+        "Exchange { word: 7, seen: 1, .. }",
+    ),
+];
+
+#[test]
+fn a_deed_is_printed_by_its_action(rt: HostRuntime) -> Result<(), Fail> {
+    for &(deed, due) in &DEEDS {
+        let printed = format!(in rt.alloc(); "{deed:?}")?;
+        assert!(rt; printed.as_str() == due, "{printed}");
+    }
+    Ok(())
+}
+
+/// What a thread holds that has come to a row.
+fn at_row(pc: u8) -> Local {
+    Local {
+        thread: 4,
+        quota: 8,
+        used: 1,
+        call: Call::Add(Key(6)),
+        pc,
+        reply: None,
+        pred: 1,
+        curr: 2,
+        succ: 3,
+        node: 4,
+        pkey: 5,
+        ckey: 6,
+    }
+}
+
+#[test]
+fn an_event_of_a_trace_is_printed_with_its_last_row(rt: HostRuntime) -> Result<(), Fail> {
+    let event = TracedEvent {
+        line: LINE,
+        thread: 4,
+        deed: DEEDS[1].0,
+        before: at_row(9),
+        after: at_row(11),
+        change: Some((Key(6), true)),
+        end: Some(CallEnd {
+            call: 3,
+            reply: Reply::True,
+            moment: 17,
+        }),
+        chain: None,
+    };
+    let printed = format!(in rt.alloc(); "{event:?}")?;
+    let (deed, change) = (DEEDS[1].1, "Some((Key(6), true))");
+    let end = "Some(CallEnd { call: 3, reply: True, moment: 17 })";
+    let due = format!(in rt.alloc();
+        "TracedEvent {{ line: {LINE}, thread: 4, deed: {deed}, row: 11, change: {change}, end: {end}, chain: None, .. }}"
+    )?;
+    assert!(rt; printed.as_str() == due.as_str(), "{printed}");
+    Ok(())
 }

@@ -1,8 +1,10 @@
-//! Streams: which fault is named if a call has several, and streams of many pending calls, and of many keys.
+//! Streams: which fault is named if a call has several, and streams of many pending calls, and of many keys; and a long recording in many
+//! pieces.
 
 use crate::made::rising_keys;
 use crate::prelude::*;
 use lset_judge::StreamRefusal;
+use lset_long::{LongAnswer, LongReader};
 
 fn add_of_six(thread: u32, begun: u64, ended: Option<(u64, Reply)>) -> StreamCall {
     StreamCall {
@@ -137,5 +139,50 @@ fn a_stream_of_calls_of_many_keys(rt: HostRuntime) -> Result<(), Fail> {
         }
     }
     assert!(rt; stream.close(&rising_keys(alloc, KEYS_OF_CALLS)?)? == StreamVerdict::Linearizable);
+    Ok(())
+}
+
+/// So many keys are there as a long recording begins, and so many calls look for one.
+const LONG_KEYS: u32 = 200_000;
+
+const LONG_CALLS: u32 = 100_000;
+
+/// The reader takes a line of a call, one byte after another.
+fn feed_call(alloc: Global, reader: &mut LongReader, number: u32) -> Result<(), Fail> {
+    let (thread, key) = (number % 8, number % LONG_KEYS);
+    let begun = 2 * u64::from(number) + 1;
+    let end = begun + 1;
+    let line = format!(in alloc; "call {thread} contains {key} {begun} {end} true\n")?;
+    for byte in line.as_bytes() {
+        reader.feed(&[*byte])?;
+    }
+    Ok(())
+}
+
+/// The reader takes a line of each key, which begins with the word.
+fn feed_keys(alloc: Global, reader: &mut LongReader, word: &str) -> Result<(), Fail> {
+    for key in 0..LONG_KEYS {
+        let line = format!(in alloc; "{word} {key}\n")?;
+        reader.feed(line.as_bytes())?;
+    }
+    Ok(())
+}
+
+#[test]
+fn a_long_recording_of_many_keys_in_pieces_of_a_byte(rt: HostRuntime) -> Result<(), Fail> {
+    let alloc = rt.alloc();
+    let mut reader = LongReader::new(alloc);
+    feed_keys(alloc, &mut reader, "opening")?;
+    for number in 0..LONG_CALLS {
+        feed_call(alloc, &mut reader, number)?;
+    }
+    feed_keys(alloc, &mut reader, "key")?;
+    reader.feed(b"end\n")?;
+    let judged = LongAnswer {
+        verdict: StreamVerdict::Linearizable,
+        calls: u64::from(LONG_CALLS),
+        cut_off: false,
+    };
+    assert!(rt; reader.finish()? == judged);
     Ok(())
 }

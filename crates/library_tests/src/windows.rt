@@ -1,28 +1,65 @@
 //! Windows of refusals: how few of many calls they have.
+ghost use Rattle.std.specs.List.Sorted.{IsStrictlyIncreasing};
 
+use crate::laid::{Sizes, laid};
 use crate::made::{FIVE, ended};
 use crate::prelude::*;
 use lset_judge::Window;
 
-/// The window of calls of key 5, which no order explains, and which leave it.
-fn window_of(alloc: Global, calls: Vec<CallRecord>) -> Result<Window, Fail> {
-    let history = History::from_calls(3, MOST_QUOTA, Vec::new(alloc), calls);
-    let Verdict::NotLinearizable(refusal) = judge(alloc, &history, &[5])? else {
+/// The window of a history that no order explains that leaves the keys.
+fn window_in(alloc: Global, history: &History, keys: &[u32]) -> Result<Window, Fail>
+    requires { IsStrictlyIncreasing keys.now }
+{
+    let Verdict::NotLinearizable(refusal) = judge(alloc, history, keys)? else {
         return Err(Fail::new("the calls are not refused"));
     };
-    Ok(window_of_refusal(alloc, &history, &[5], refusal)?)
+    Ok(window_of_refusal(alloc, history, keys, refusal)?)
 }
 
-/// Calls of key 5, which no order explains, leave it; the window has these.
+/// The key 5, if it is there.
+fn five_if(alloc: Global, there: bool) -> Result<Vec<u32>, AllocError> {
+    let mut keys = Vec::new(alloc);
+    if there {
+        keys.push(FIVE.0)?;
+    }
+    Ok(keys)
+}
+
+/// The window of calls of key 5, which no order explains that leaves it so. The set opens with it, or empty.
+fn window_of(
+    alloc: Global,
+    opening: bool,
+    calls: Vec<CallRecord>,
+    left: bool,
+) -> Result<Window, Fail> {
+    let history = History::from_calls(3, MOST_QUOTA, five_if(alloc, opening)?, calls);
+    window_in(alloc, &history, &five_if(alloc, left)?)
+}
+
+/// Calls of key 5, which no order explains, leave it in a set that opened empty; the window has these.
 fn has_window<R: Abort>(
     rt: &R,
     alloc: Global,
     calls: Vec<CallRecord>,
     wanted: &[u32],
 ) -> Result<(), Fail> {
-    let window = window_of(alloc, calls)?;
+    let window = window_of(alloc, false, calls, true)?;
     assert!(rt; window.calls.as_slice() == wanted, "{:?}", window.calls);
     Ok(())
+}
+
+/// What a call answers that looks for a key.
+fn found_if(there: bool) -> Reply {
+    if there { Reply::True } else { Reply::False }
+}
+
+/// The call that changes whether a key is there.
+fn turning(key: Key, there: bool) -> Call {
+    if there {
+        Call::Remove(key)
+    } else {
+        Call::Add(key)
+    }
 }
 
 /// While a long `add` is pending, a hundred calls do not find the key, then one does, and the next does not.
@@ -39,18 +76,28 @@ fn calls_that_are_not_needed_are_left_out(rt: HostRuntime) -> Result<(), Fail> {
     has_window(&rt, rt.alloc(), calls, &[0, 101, 102])
 }
 
-/// While a long `add` is pending, a hundred calls do not take the key out, then one finds it, and the next does not.
+/// While a long call puts the key in, or takes it out, a hundred calls do not do the other, then one finds the key changed, and the next does
+/// not.
 #[test]
 fn changes_that_were_not_made_are_left_out(rt: HostRuntime) -> Result<(), Fail> {
-    let mut calls = Vec::new(rt.alloc());
-    calls.push(ended(0, Call::Add(FIVE), (1, 1000), Reply::True))?;
-    for number in 1..=100 {
-        let bar = (2 * number, 2 * number + 1);
-        calls.push(ended(1, Call::Remove(FIVE), bar, Reply::False))?;
+    for there in [false, true] {
+        let mut calls = Vec::new(rt.alloc());
+        calls.push(ended(0, turning(FIVE, there), (1, 1000), Reply::True))?;
+        for number in 1..=100 {
+            let bar = (2 * number, 2 * number + 1);
+            calls.push(ended(1, turning(FIVE, !there), bar, Reply::False))?;
+        }
+        for (bar, found) in [((202, 203), !there), ((204, 205), there)] {
+            calls.push(ended(1, Call::Contains(FIVE), bar, found_if(found)))?;
+        }
+        let window = window_of(rt.alloc(), there, calls, !there)?;
+        assert!(rt;
+            window.calls.as_slice() == [0, 101, 102].as_slice(),
+            "{:?}",
+            window.calls
+        );
     }
-    calls.push(ended(1, Call::Contains(FIVE), (202, 203), Reply::True))?;
-    calls.push(ended(1, Call::Contains(FIVE), (204, 205), Reply::False))?;
-    has_window(&rt, rt.alloc(), calls, &[0, 101, 102])
+    Ok(())
 }
 
 /// The key goes in and out. Then it is found by a call that begins before another, which does not find it; so from there on the calls
@@ -122,43 +169,304 @@ fn a_window_begins_before_a_call_that_is_needed(rt: HostRuntime) -> Result<(), F
 #[test]
 fn a_window_begins_not_long_before_a_call_that_is_needed(rt: HostRuntime) -> Result<(), Fail> {
     for (apart, most) in [(1, 60usize), (1 << 18, 80)] {
-        let window = window_of(rt.alloc(), found_early(rt.alloc(), 1_000, 200, apart)?)?;
+        let window = window_of(
+            rt.alloc(),
+            false,
+            found_early(rt.alloc(), 1_000, 200, apart)?,
+            true,
+        )?;
         let count = window.calls.len();
         assert!(rt; 3 < count && count <= most, "{count} calls, {apart} apart");
     }
     Ok(())
 }
 
-/// The key goes in and out so many times, and in. A call that does not find it begins before so many others, which find it, and ends
-/// after a `remove` has begun that does not end. So the `remove` has taken it out, and it cannot be left.
-fn taken_out(alloc: Global, times: u32, looks: u32) -> Result<Vec<CallRecord>, AllocError> {
+/// The key goes in and out so many times, and in if it shall be there. A call that finds it otherwise begins before so many others, which
+/// find it so, and ends after a call has begun that changes it and does not end. So that one has changed it, and it cannot be left as it was.
+fn changed_at_last(
+    alloc: Global,
+    times: u32,
+    looks: u32,
+    there: bool,
+) -> Result<Vec<CallRecord>, AllocError> {
     let mut calls = in_and_out(alloc, times)?;
-    let (at, behind) = (4 * times + 2, 4 * times + 2 * looks + 4);
-    calls.push(ended(0, Call::Add(FIVE), (at - 1, at), Reply::True))?;
-    calls.push(ended(0, Call::Contains(FIVE), (at + 1, behind + 1), Reply::False))?;
+    let mut at = 4 * times;
+    if there {
+        calls.push(ended(0, Call::Add(FIVE), (at + 1, at + 2), Reply::True))?;
+        at += 2;
+    }
+    let behind = at + 2 * looks + 2;
+    let bar = (at + 1, behind + 1);
+    calls.push(ended(0, Call::Contains(FIVE), bar, found_if(!there)))?;
     for number in 0..looks {
         let bar = (at + 2 * number + 2, at + 2 * number + 3);
-        calls.push(ended(1, Call::Contains(FIVE), bar, Reply::True))?;
+        calls.push(ended(1, Call::Contains(FIVE), bar, found_if(there)))?;
     }
     calls.push(CallRecord {
         thread: 2,
-        call: Call::Remove(FIVE),
+        call: turning(FIVE, there),
         begun: behind,
         ended: None,
     })?;
     Ok(calls)
 }
 
-/// The refusal of a key that should not be left has no moment, and its windows too are tried further back. Of one look the second window
-/// has the call that is needed and the `remove`. Of a hundred the ninth begins 57 moments before the call; in these the key goes in and out
-/// with 28 calls.
+/// The refusal of a key that should not be left, or not be lost, has no moment, and its windows too are tried further back. Of one look the
+/// second window has the call that is needed and the pending one. Of a hundred the ninth begins 57 moments before the call; in these the key
+/// goes in and out with 28 calls.
 #[test]
-fn a_window_of_a_key_that_is_left_is_short(rt: HostRuntime) -> Result<(), Fail> {
-    for (looks, most) in [(1, 2usize), (100, 30)] {
-        let window = window_of(rt.alloc(), taken_out(rt.alloc(), 1_000, looks)?)?;
-        let count = window.calls.len();
-        assert!(rt; window.left == Some(true), "{looks} looks");
-        assert!(rt; 1 < count && count <= most, "{count} calls, {looks} looks");
+fn a_window_of_a_key_that_is_left_or_lost_is_short(rt: HostRuntime) -> Result<(), Fail> {
+    for there in [true, false] {
+        for (looks, most) in [(1, 2usize), (100, 30)] {
+            let calls = changed_at_last(rt.alloc(), 1_000, looks, there)?;
+            let window = window_of(rt.alloc(), false, calls, there)?;
+            let count = window.calls.len();
+            assert!(rt; window.left == Some(there), "{looks} looks");
+            assert!(rt; 1 < count && count <= most, "{count} calls, {looks} looks");
+        }
     }
+    Ok(())
+}
+
+/// A key of a history, and a moment at which no call is under way that says something of it: the calls before leave it there, or each not.
+#[derive(Clone, Copy)]
+struct Rest {
+    key: Key,
+    at: u32,
+}
+
+/// Whether a call says something of its key: a `ceiling` does not, nor a pending `contains`.
+fn says_something(call_record: &CallRecord) -> bool {
+    match call_record.call {
+        Call::Ceiling(_) => false,
+        Call::Contains(_) => call_record.ended.is_some(),
+        Call::Add(_) | Call::Remove(_) => true,
+    }
+}
+
+/// Whether a call is under way that says something of the key.
+fn is_under_way(call_record: &CallRecord, rest: Rest) -> bool {
+    let goes_on = match call_record.ended {
+        Some((end, _)) => rest.at < end,
+        None => true,
+    };
+    let is_of_key = call_record.call.key() == rest.key && says_something(call_record);
+    is_of_key && call_record.begun <= rest.at && goes_on
+}
+
+/// A key that no call has.
+const UNUSED: Key = Key(1 << 31);
+
+/// The key of a call that is drawn, at the end of the call, or at the moment that is given; or of the first after it that rests there.
+fn drawn_rest(rng: &mut Pcg32, calls: &[CallRecord], at: Option<u32>) -> Rest {
+    let first = rng.next_u32() as usize;
+    for place in 0..calls.len() {
+        let call_record = calls[(first + place) % calls.len()];
+        if let Some((end, _)) = call_record.ended {
+            let key = call_record.call.key();
+            let rest = Rest {
+                key,
+                at: at.unwrap_or(end),
+            };
+            if !calls.iter().any(|other| is_under_way(other, rest)) {
+                return rest;
+            }
+        }
+    }
+    Rest {
+        key: UNUSED,
+        at: at.unwrap_or(0),
+    }
+}
+
+/// Whether the calls before change the key an odd number of times, and when the last of these changes ends.
+fn changes_before(calls: &[CallRecord], rest: Rest) -> (bool, u32) {
+    let (mut is_odd, mut last) = (false, 0u32);
+    for call_record in calls {
+        let may_change = matches!(call_record.call, Call::Add(_) | Call::Remove(_));
+        if let Some((end, Reply::True)) = call_record.ended {
+            if may_change && call_record.call.key() == rest.key && end <= rest.at {
+                is_odd = !is_odd;
+                last = last.max(end);
+            }
+        }
+    }
+    (is_odd, last)
+}
+
+/// So many threads and so many moments are kept free for calls that are put in.
+const FREE_THREADS: u32 = 7;
+
+const FREE_MOMENTS: u32 = 40;
+
+/// A moment behind all calls that are drawn.
+const LATE: u32 = u32::MAX - FREE_MOMENTS;
+
+/// Calls of a key that rests, of threads from one on; the numbers among them that a window has; and how the key is left, if that is wrong.
+#[derive(Drop)]
+struct Wrong {
+    calls: Vec<CallRecord>,
+    shown: Vec<u32>,
+    left: Option<bool>,
+}
+
+/// A call of the key, of one of the threads, that is not needed: it fits, or says nothing.
+fn needless(rng: &mut Pcg32, key: Key, there: bool, thread: u32, begun: u32) -> CallRecord {
+    let (call, reply) = match rng.next_u32() % 4 {
+        0 => (Call::Contains(key), Some(found_if(there))),
+        1 => (turning(key, !there), Some(Reply::False)),
+        2 => (Call::Ceiling(key), Some(Reply::At(key))),
+        _ => (Call::Contains(key), None),
+    };
+    CallRecord {
+        thread,
+        call,
+        begun,
+        ended: reply.map(|reply| (begun + 1, reply)),
+    }
+}
+
+/// A few calls in the middle of those that are drawn: one that does not fit, or a change, a call that finds the key changed, and one that
+/// does not.
+fn wrong_calls(
+    alloc: Global,
+    rng: &mut Pcg32,
+    rest: Rest,
+    there: bool,
+    thread: u32,
+) -> Result<Wrong, AllocError> {
+    let (kind, many) = (rng.next_u32() % 4, rng.next_u32() % 6);
+    let behind = rest.at + 2 * many + 2;
+    let (call, reply, end) = match kind {
+        0 => (Call::Contains(rest.key), found_if(!there), behind),
+        1 => (turning(rest.key, !there), Reply::True, behind),
+        2 => (turning(rest.key, there), Reply::False, behind),
+        _ => (turning(rest.key, there), Reply::True, behind + 4),
+    };
+    let mut calls = Vec::new(alloc);
+    let mut shown = Vec::from_slice(alloc, &[0])?;
+    calls.push(ended(thread, call, (rest.at + 1, end), reply))?;
+    for number in 0..many {
+        let begun = rest.at + 2 * number + 2;
+        calls.push(needless(rng, rest.key, there, thread + number + 1, begun))?;
+    }
+    if kind == 3 {
+        for (begun, found) in [(behind, !there), (behind + 2, there)] {
+            let (call, bar) = (Call::Contains(rest.key), (begun, begun + 1));
+            shown.push(calls.len() as u32)?;
+            calls.push(ended(thread + 6, call, bar, found_if(found)))?;
+        }
+    }
+    Ok(Wrong {
+        calls,
+        shown,
+        left: None,
+    })
+}
+
+/// A change behind all calls that are drawn, after which the key is left as it was.
+fn change_that_is_lost(
+    alloc: Global,
+    rest: Rest,
+    there: bool,
+    thread: u32,
+) -> Result<Wrong, AllocError> {
+    let bar = (rest.at + 1, rest.at + 2);
+    let mut calls = Vec::new(alloc);
+    calls.push(ended(thread, turning(rest.key, there), bar, Reply::True))?;
+    Ok(Wrong {
+        calls,
+        shown: Vec::new(alloc),
+        left: Some(there),
+    })
+}
+
+fn moment_moved(moment: u32, at: u32) -> u32 {
+    if at < moment {
+        moment + FREE_MOMENTS
+    } else {
+        moment
+    }
+}
+
+/// The call with those of its moments moved that come after a moment.
+fn moved(call_record: &CallRecord, at: u32) -> CallRecord {
+    CallRecord {
+        begun: moment_moved(call_record.begun, at),
+        ended: match call_record.ended {
+            Some((end, reply)) => Some((moment_moved(end, at), reply)),
+            None => None,
+        },
+        ..*call_record
+    }
+}
+
+/// The calls with others after a moment, and how many begin before these. What comes after that moment comes later still.
+fn with_calls_at(
+    alloc: Global,
+    calls: &[CallRecord],
+    others: &[CallRecord],
+    at: u32,
+) -> Result<(Vec<CallRecord>, u32), AllocError> {
+    let mut all = Vec::new(alloc);
+    let place = calls.partition_point(|call_record| call_record.begun <= at);
+    for call_record in &calls[..place] {
+        all.push(moved(call_record, at))?;
+    }
+    for call_record in others {
+        all.push(*call_record)?;
+    }
+    for call_record in &calls[place..] {
+        all.push(moved(call_record, at))?;
+    }
+    Ok((all, place as u32))
+}
+
+/// Among drawn calls of up to 64 threads, with ceilings and with `full`, of a set that opens with up to 64 keys, the calls of one key have no
+/// order, or none that leaves it so: whether the window begins after the last change before them, and has those calls alone that are
+/// needed; and whether there is such a change.
+fn is_short(alloc: Global, rng: &mut Pcg32) -> Result<(bool, bool), Fail> {
+    let quotas = [0, 1, 2, MOST_QUOTA];
+    let sizes = Sizes {
+        threads: 1 + rng.next_u32() % (MOST_THREADS - FREE_THREADS),
+        quota: quotas[(rng.next_u32() % 4) as usize],
+        keys: 1 << (rng.next_u32() % 7),
+        kinds: 3 + rng.next_u32() % 2,
+    };
+    let laid = laid(alloc, rng, sizes)?;
+    let calls = laid.history.calls();
+    let is_lost = rng.next_u32() % 5 == 0;
+    let rest = drawn_rest(rng, calls, if is_lost { Some(LATE) } else { None });
+    let (is_odd, last) = changes_before(calls, rest);
+    let opening = Vec::from_slice(alloc, laid.history.opening())?;
+    let there = opening.iter().any(|key| *key == rest.key.0) != is_odd;
+    let mut wrong = if is_lost {
+        change_that_is_lost(alloc, rest, there, sizes.threads)?
+    } else {
+        wrong_calls(alloc, rng, rest, there, sizes.threads)?
+    };
+    let (all, number) = with_calls_at(alloc, calls, &wrong.calls, rest.at)?;
+    for shown in &mut wrong.shown {
+        *shown += number;
+    }
+    let threads = sizes.threads + FREE_THREADS;
+    let history = History::from_calls(threads, sizes.quota, opening, all);
+    let window = window_in(alloc, &history, &laid.keys)?;
+    let has_calls = window.calls.as_slice() == wrong.shown.as_slice();
+    let is_its = window.key == rest.key && window.left == wrong.left;
+    Ok((is_its && has_calls && last <= window.since, 0 < last))
+}
+
+const HISTORIES: u64 = 300;
+
+#[test]
+fn a_window_is_short_whatever_stands_beside_it(rt: HostRuntime) -> Result<(), Fail> {
+    let mut changed = 0;
+    for seed in 0..HISTORIES {
+        let (is_short, has_changes) = is_short(rt.alloc(), &mut Pcg32::seed_from_u64(seed))?;
+        assert!(rt; is_short, "seed {seed}");
+        changed += u64::from(has_changes);
+    }
+    assert!(rt; HISTORIES / 3 < changed, "{changed} keys had been changed");
     Ok(())
 }
