@@ -66,7 +66,21 @@ fn work_without_programs_says_why(rt: HostRuntime) -> Result<(), Fail> {
     let Err(fault) = work(&rt, rt.alloc(), set, seats, Vec::new(rt.alloc()), &Always) else {
         panic!(rt; "two seats run no program")
     };
+    let shown = format!(in rt.alloc(); "{fault:?}")?;
+    assert!(rt; shown.as_str() == "WorkFault { cause: Programs, .. }");
     let said = sentence(&rt, fault)?;
     assert!(rt; said.as_str() == WORKING[0].1);
+    Ok(())
+}
+
+#[test]
+fn a_closed_set_is_printed_by_its_sizes(rt: HostRuntime) -> Result<(), Fail> {
+    let (set, mut zero, one) = two_seats::<LazyList, HostRuntime>(&rt, rt.alloc());
+    set.gather(&mut zero, one);
+    let Ok(closed) = set.close(zero) else {
+        panic!(rt; "the set is not closed")
+    };
+    let shown = format!(in rt.alloc(); "{closed:?}")?;
+    assert!(rt; shown.as_str() == "Closed { threads: 2, quota: 4, opening: 0, .. }");
     Ok(())
 }

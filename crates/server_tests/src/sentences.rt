@@ -37,6 +37,8 @@ fn a_server_without_seats_says_why(rt: HostRuntime) -> Result<(), Fail> {
     let Err(fault) = serve(&rt, rt.alloc(), listener, set, seats, 1) else {
         panic!(rt; "a seat is missing")
     };
+    let shown = format!(in rt.alloc(); "{fault:?}")?;
+    assert!(rt; shown.as_str() == "ServeFault { cause: Seats, .. }");
     let said = fault.to_string(rt.alloc())?;
     assert!(rt; said.as_str() == CAUSES[0].1);
     Ok(())
