@@ -329,7 +329,7 @@ def refused_keys(case):
     refuses(case, Recording(Way(keys_that_were_never_there)), "0 up to moment 3")
 
 
-CLASHING = [Way(looks_in_vain, layout, arranged=arranged) for layout in (two_at_one_moment, two_of_one_thread) for arranged in (list, reversed_lines)]
+CLASHING = [Way(looks_in_vain, layout, arranged=reversed_lines) for layout in (two_at_one_moment, two_of_one_thread)]
 
 
 @cases(named("clashing_recordings", CLASHING))
