@@ -130,7 +130,8 @@ public:
   seat() = default;
   seat(seat &&other) noexcept : raw(std::exchange(other.raw, listset_seat LISTSET_NONE)) {}
   seat &operator=(seat &&other) noexcept {
-    std::swap(raw, other.raw);
+    seat moved(std::move(other)); // (which lets go of the set that was here)
+    std::swap(raw, moved.raw);
     return *this;
   }
   ~seat() { listset_drop(&raw); }

@@ -174,7 +174,7 @@ def cpp(installed):
     well("g++", *flags, "-c", TESTS / "elsewhere.cpp", installed.include, "-o", elsewhere)
     for name in ("judge.cpp", "sets.cpp", "judged.cpp"):
         well("g++", *flags, TESTS / name, elsewhere, *installed.flags(), "-o", made)
-        well(made)
+        well(made, env=in_room(installed))
     well("g++", *flags, *WRAPPED, TESTS / "refused.cpp", installed.include, installed.library / "liblistset.a", "-o", made)
     well(made)
     well("g++", "-std=c++17", *WARN, installed.page("cpp", "cpp", "listset::open"), *installed.flags(), "-pthread", "-o", first)
@@ -190,10 +190,10 @@ def rust(installed):
     how = {**os.environ, "LISTSET_EXAMPLES": str(EXAMPLES)}
     said = well(*cargo, "test", "--locked", *target, "--manifest-path", crate / "Cargo.toml", env=how)
     passed = [line for line in said.splitlines() if line.startswith("test result: ok.") and " 0 passed" not in line]
-    if len(passed) != 4:
+    if len(passed) != 5:
         raise Wrong(f"cargo ran {len(passed)} kinds of tests:\n{said[-2000:]}")
     manifest, made = installed.room / "Cargo.toml", installed.room / "target" / "debug"
-    how = {"env": {**os.environ, "LISTSET_LIB": str(installed.library)}}
+    how = {"env": {**in_room(installed), "LISTSET_LIB": str(installed.library)}}
     parts = f"[dependencies]\nlistset = {{ path = '{crate}' }}\nlistset_judge = {{ path = '{FORMS / 'rust'}' }}\n"
     for name, source in (("first", installed.page("rust", "rs")), ("judged", TESTS / "judged.rs")):
         parts += f"\n[[bin]]\nname = '{name}'\npath = '{source}'\n"
@@ -201,17 +201,22 @@ def rust(installed):
     well(*cargo, "build", *target, "--manifest-path", manifest, **how)
     installed.first_program("rust", made / "first")
     well(made / "judged")
-    first = ["my_set_is_linearizable", "--", "--nocapture"]
+    first = ["--", "my_set_is_linearizable", "check_then_act_is_refused", "--nocapture"]
     is_judged(well(*cargo, "test", "--locked", *target, "--manifest-path", FORMS / "rust" / "Cargo.toml", *first, **how), installed.proof())
 
 
 @needs("go", "pkg-config", "gcc")
 @test
 def go(installed):
-    how = {**os.environ, "PKG_CONFIG_PATH": str(installed.library / "pkgconfig"), "LD_LIBRARY_PATH": str(installed.library), "GOPROXY": "off"}
+    how = {**in_room(installed), "PKG_CONFIG_PATH": str(installed.library / "pkgconfig"), "LD_LIBRARY_PATH": str(installed.library), "GOPROXY": "off"}
     shutil.copytree(FORMS / "go", installed.room / "go")
-    first = ["go", "test", "-tags", "listset", "-run", "TestIsLinearizable", "-v"]
+    first = ["go", "test", "-tags", "listset", "-run", "TestIsLinearizable|TestCheckThenActIsRefused", "-v"]
     is_judged(well(*first, cwd=installed.room / "go", env={**how, "GOCACHE": str(installed.room / "cache")}), installed.proof())
+
+
+def in_room(installed):
+    """The environment in which what is refused is recorded in the room."""
+    return {**os.environ, "TMPDIR": str(installed.room)}
 
 
 def is_judged(said, proof):
@@ -222,9 +227,10 @@ def is_judged(said, proof):
 
 @test
 def python(installed):
-    how = {"env": {**os.environ, "PYTHONPATH": str(installed.share)}}
+    how = {"env": {**in_room(installed), "PYTHONPATH": str(installed.share)}}
     well(sys.executable, "-B", TESTS / "judge.py", EXAMPLES, **how)
-    first = [sys.executable, "-B", "-m", "unittest", "test_sets.Sets.test_my_set_is_linearizable"]
+    of_library = ("my_set_is_linearizable", "check_then_act_is_refused")
+    first = [sys.executable, "-B", "-m", "unittest", *(f"test_sets.Sets.test_{it}" for it in of_library)]
     is_judged(well(*first, cwd=FORMS / "python", **how), installed.proof())
     well(sys.executable, "-B", TESTS / "sets.py", **how)
     installed.first_program("python", sys.executable, "-B", installed.page("python", "py"), **how)

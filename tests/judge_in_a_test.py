@@ -13,7 +13,7 @@ import shutil
 import sys
 import unittest
 
-from harness.cases import NEEDED_BY_CASES, TOP, Wrong, each, needs
+from harness.cases import NEEDED_BY_CASES, TOP, Wrong, each, needs, same
 from harness.programs import ran, well
 
 FORMS = TOP / "examples" / "in-a-test"
@@ -29,6 +29,7 @@ NO_JUDGES = {
     "before overlaps": ("#!/bin/sh\necho ok 9 calls\n", NO_VERDICT % "ok 9 calls"),
     "ok that fails": ("#!/bin/sh\necho ok 9 calls; echo 3 of them overlap\nexit 1\n", NO_VERDICT % "ok 9 calls"),
     "refusal that passes": ("#!/bin/sh\necho not linearizable\n", NO_VERDICT % "not linearizable"),
+    "ok that is killed": ("#!/bin/sh\necho ok 9 calls; echo 3 of them overlap\nkill -9 $$\n", NO_VERDICT % "ok 9 calls"),
 }
 JUDGES_NOT_IN_PATH = [
     ("listset", None, "there is no listset in PATH: build it, and put it there or name it by LISTSET"),
@@ -149,6 +150,10 @@ def first_said(where, words, language, judge):
     return said
 
 
+def files_of_judging(room):
+    return sorted(it.name for it in room.glob("listset-*"))
+
+
 def proof_of(program):
     """The line in which a program says whether it is proved."""
     return ran(program, "--version", "--long").stdout.splitlines()[3]
@@ -179,7 +184,10 @@ def a_form_judges(case, language):
         raise Wrong(f"nothing says that few calls overlapped: {said[-3000:]}")
     if language in FIRST_TESTS:
         is_judged_in_parts(case, sorted((case.room / "recorded").iterdir()))
+        left = files_of_judging(case.room)
+        same([it for it in left if not it.startswith("listset-seed-")], [], "the files that are left beside recordings")
         tells_judge(first_said(where, words, language, case.room / "judge"), case.room / "judge", proof_of(case.program))
+        same(files_of_judging(case.room), left, "the files that a test which passes leaves")
         judge = judge_script(case.room / "judge of old", KNOWS_NO_CUT)
         _, said = judged(where, first_test_of(words, language, CRASHING_TESTS), judge)
         if f"up to there: {judge} gave no verdict, but said: listset: line 9: Line. Take a newer listset" not in said:

@@ -45,8 +45,17 @@ static void expect_calls() {
   expect(refused.status == LISTSET_WRONG_TEXT && begins(refused.text, "not linearizable\n"), "judged without a key");
 }
 
+// Each value of a generated schedule has its place, and all its bits.
+static void expect_gen() {
+  std::string head = "listset-schedule 1\nlist fine\nthreads 64\nquota 16384\n";
+  expect(listset::gen("fine", 64, 16384, 0, UINT32_MAX, UINT64_MAX).text == head, "the values of a generated schedule");
+  auto of = [](uint64_t seed) { return listset::gen("lazy", 2, 4, 40, 6, seed).text; };
+  expect(of(UINT64_MAX) != of(UINT32_MAX), "the bits of a seed");
+}
+
 int main() {
   expect_own();
+  expect_gen();
   expect_calls();
   const std::vector<std::string> kinds{"coarse", "fine", "optimistic", "lazy", "lock-free"};
   std::vector<int> right(kinds.size());

@@ -65,6 +65,13 @@ def judges_recorded_calls():
         assert fault.status == 1 and fault.text.startswith("not linearizable\n"), fault
 
 
+def gen_has_each_value_in_its_place():
+    head = "listset-schedule 1\nlist fine\nthreads 64\nquota 16384\n"
+    assert listset.gen("fine", 64, 16_384, 0, 2**32 - 1, 2**64 - 1) == head
+    first, second = (listset.gen("lazy", 2, 4, 40, 6, seed) for seed in (2**64 - 1, 2**32 - 1))
+    assert first != second
+
+
 def main():
     examples = list(pairs(pathlib.Path(sys.argv[1])))
     assert len(examples) > 20
@@ -72,6 +79,7 @@ def main():
         for it in [threads.submit(judge, examples) for _ in range(THREADS)]:
             it.result()
     each_says_its_own()
+    gen_has_each_value_in_its_place()
     judges_recorded_calls()
     assert wrong(listset.check, listset.example("snip", is_broken=True)) == (1, "WrongSet")
     assert wrong(listset.example, "none") == (2, "NAME")

@@ -1,4 +1,4 @@
-// The five lists, each shared by eight threads and judged in this process as a set of one's own is (docs/YOUR-SET.md).
+// The five lists, each shared by eight threads and judged in this process as a set of one's own is (docs/YOUR-SET.md); and a wrong set.
 #include "listset.hpp"
 
 #include "listset_judge.hpp"
@@ -19,9 +19,19 @@ template <listset::list KIND> static bool is_right() {
   return verdict && verdict.overlapped > 0 && "liblistset, " + proof.substr(0, proof.find('\n')) == verdict.judge;
 }
 
+struct FindsAll : Shared<listset::list::lazy> {
+  bool contains(uint32_t) { return true; }
+};
+
+static bool is_refused() {
+  listset::verdict verdict = listset::judge<FindsAll>();
+  std::cout << verdict << "\n";
+  return !verdict && verdict.said.rfind("not linearizable\n", 0) == 0;
+}
+
 int main() {
   using listset::list;
   bool is_each = is_right<list::coarse>() & is_right<list::fine>() & is_right<list::optimistic>() & is_right<list::lazy>() &
                  is_right<list::lock_free>();
-  return !is_each;
+  return !(is_each & is_refused());
 }

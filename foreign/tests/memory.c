@@ -51,6 +51,11 @@ static size_t example(const char *given, size_t count, char *to, size_t size, ui
   return listset_example("snip", 4, to, size, status);
 }
 
+static size_t faults(const char *given, size_t count, char *to, size_t size, uint8_t *status) {
+  (void)given, (void)count;
+  return listset_faults(to, size, status);
+}
+
 static int is_said(const char *want, size_t count, size_t found) { return found == count && memcmp(room, want, count) == 0; }
 
 // Makes the call with none refused, and then with each in turn; gives how many it told of, or 0 where something was wrong.
@@ -70,6 +75,29 @@ static size_t tried(const char *name, listset_function *function) {
     }
     if (asked < at) return told;
   }
+}
+
+// The same of `listset_said`, which asks for blocks too: it gives none where one of these is refused. Gives how often it did.
+static size_t tried_said(listset_function *function) {
+  uint8_t due, status;
+  size_t count, found, none = 0;
+  refused_at = 0;
+  char *want = listset_said(function, text, length, &count, &due);
+  for (size_t at = 1;; at++) {
+    refused_at = at, asked = blocks = 0;
+    char *said = listset_said(function, text, length, &found, &status);
+    int is_right = status == due ? said != NULL && found == count && memcmp(said, want, count + 1) == 0
+                                 : status == LISTSET_NO_MEMORY && (said == NULL || strcmp(said, SAYS) == 0);
+    none += said == NULL;
+    free(said);
+    if (!is_right || blocks != 0) {
+      printf("listset_said, allocation %zu refused: status %d, %zu blocks kept\n", at, status, blocks);
+      return 0;
+    }
+    if (asked < at) break;
+  }
+  free(want);
+  return none;
 }
 
 static void read_text(const char *name) {
@@ -96,5 +124,5 @@ int main(int count, char **names) {
     failed += told == 0;
     printf("%s: %zu refusals told\n", CALLS[at].name, told);
   }
-  return failed != 0;
+  return failed != 0 || tried_said(faults) < 2; // (a text that is longer than its first block)
 }

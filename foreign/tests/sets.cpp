@@ -4,12 +4,15 @@
 #include <algorithm>
 #include <cstdio>
 #include <thread>
+#include <type_traits>
 
 using listset::added;
 using listset::list;
 using listset::seat;
 
 seat opened_elsewhere(); // by elsewhere.cpp
+
+static_assert(!std::is_copy_constructible_v<seat> && !std::is_copy_assignable_v<seat>, "a seat is moved and not copied");
 
 static int wrong = 0;
 
@@ -99,7 +102,9 @@ static int full_too_soon() {
 // A set that was closed, or moved from, has no seat.
 static void expect_no_seat() {
   listset::shared closed(list::lazy, 2, 1), moved(list::lazy, 2, 1);
-  closed.close();
+  seat last = listset::open(list::lazy, 1, 1, {7});
+  closed.close(), last.close();
+  expect(thrown([&] { closed.close(); }) == LISTSET_NO_SEAT && thrown([&] { last.close(); }) == LISTSET_NO_SEAT, "a set that is closed twice");
   for (int again = 0; again < 2; again++) expect(thrown([&] { closed.add(1); }) == LISTSET_NO_SEAT, "a call of a closed set");
   listset::shared set = std::move(moved);
   expect(thrown([&] { moved.add(1); }) == LISTSET_NO_SEAT && thrown([&] { moved.close(); }) == LISTSET_NO_SEAT, "a set that was moved from");
@@ -134,6 +139,7 @@ template <typename Set> static void expect_ends(Set set) {
 static void expect_assigned(list kind) {
   seat mine = listset::open(kind, 2, 1, {1}), other = listset::open(kind, 1, 1, {2});
   mine = std::move(other);
+  expect(thrown([&] { other.contains(1); }) == LISTSET_NO_SEAT, "the seat that was moved away");
   seat &same = mine;
   mine = std::move(same);
   expect(mine.contains(2) && !mine.contains(1) && mine.close() == std::vector<uint32_t>({2}), "the seat that was assigned");

@@ -70,7 +70,9 @@ def refusals():
     assert (split.add(7), split.add(8), mine.add(7)) == (True, None, False)
     assert (mine.remove(5), mine.contains(5), mine.ceiling(6), mine.ceiling(10)) == (True, False, 7, None)
     mine.gather(split)
-    assert mine.close() == [7, 9] and code(mine.add, 1) == 255 and other.close() == []
+    assert mine.close() == [7, 9] and code(mine.add, 1) == code(mine.close) == code(other.gather, mine) == 255 and other.close() == []
+    assert raised(listset.open_set, "lock_free", 1, 1)[0] is ValueError
+    assert listset.open_set("lazy", 1, 1, iter([5, 9])).close() == [5, 9]
 
 
 def ends(kind):

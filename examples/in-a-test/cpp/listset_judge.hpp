@@ -293,7 +293,8 @@ struct child : caller {
     bool has_ended() override { return is_over = is_over || waitpid(process, &status, WNOHANG) == process; }
     std::string trouble() override {
         if (WIFSIGNALED(status)) return "the set crashed: " + std::string(strsignal(WTERMSIG(status)));
-        return run.at < ENDED ? "the set ended its process with the status " + std::to_string(WEXITSTATUS(status)) : "";
+        int ended = WEXITSTATUS(status);  // (not 0 if the set ended its process while it was destroyed, as a sanitizer does)
+        return run.at < ENDED || ended != 0 ? "the set ended its process with the status " + std::to_string(ended) : "";
     }
 };
 
@@ -306,7 +307,8 @@ struct here : caller {
     ~here() override {
         bool is_hanging = !*is_over && run->at == GOING;
         run->is_stopping = true;
-        is_hanging ? thread.detach() : thread.join();
+        // (a call may also wait for one that threw, and the set may hang while it is destroyed)
+        is_hanging || !comes_to_end(*run, [&] { return is_over->load(); }) ? thread.detach() : thread.join();
     }
     bool has_ended() override { return *is_over; }
     std::string trouble() override { return ""; }

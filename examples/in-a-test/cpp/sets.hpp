@@ -44,6 +44,20 @@ struct FindsAll : MySet {
     bool contains(unsigned) { return true; }
 };
 
+// Only later calls find all keys.
+struct FindsAllLate : MySet {
+    std::atomic<int> calls{0};
+    bool contains(unsigned key) { return ++calls > 8000 || MySet::contains(key); }
+};
+
+// All replies are right, but for those of `contains` after so many calls.
+template <int due> struct WrongAfter : MySet {
+    std::atomic<int> calls{0};
+    bool add(unsigned key) { return calls++, MySet::add(key); }
+    bool remove(unsigned key) { return calls++, MySet::remove(key); }
+    bool contains(unsigned key) { return MySet::contains(key) != (calls++ >= due); }
+};
+
 // Each half is under the lock, and not the two together.
 struct CheckThenAct : MySet {
     bool add(unsigned key) {
@@ -114,10 +128,23 @@ struct FindsAllAndHangs : Stops<Hangs> {
     bool contains(unsigned) { return true; }
 };
 
+// It goes wrong where it is destroyed.
+template <class Last> struct EndsWrong : MySet {
+    ~EndsWrong() { Last()(); }
+};
+
 struct CannotBeMade : MySet {
     CannotBeMade() { throw std::runtime_error("no room"); }
 };
 
 struct FailsToAdd : MySet {
     bool add(unsigned) { throw std::runtime_error("no memory"); }
+};
+
+// The others wait for the lock of a call that has failed.
+struct FailsWithLock : MySet {
+    bool add(unsigned) {
+        lock.lock();
+        throw std::runtime_error("no memory");
+    }
 };

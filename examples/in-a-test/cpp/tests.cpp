@@ -68,6 +68,39 @@ void is_kept() {
     }
 }
 
+// Each thread of each run has draws of its own, of all calls on all keys.
+void is_drawn() {
+    listset::options how{2, 300, 5, 0, 2, 7};
+    how.record = folder_of("drawn");
+    std::filesystem::remove_all(how.record);
+    is_right<MySet>("two seeds", how);
+    auto files = files_in(how.record);
+    auto name = [&](const char *seed) { return how.record + "/seed-" + seed + "-part-000001.calls"; };
+    expect(files == std::vector<std::string>{name("7"), name("8")}, "each run has a seed");
+    std::set<std::vector<std::string>> drawn;
+    for (auto &file : files)
+        for (const char *thread : {"call 0", "call 1"}) {
+            auto calls = keys_of(text_of(file), thread);
+            for (auto &it : calls) it.resize(it.find(' ', it.find(' ') + 1));  // the operation and the key
+            expect(std::set<std::string>(calls.begin(), calls.end()).size() == 15, "each call of each key");
+            drawn.insert(calls);
+        }
+    expect(drawn.size() == 4, "each thread of each run has draws of its own");
+}
+
+// (by its four opening keys and its calls, a set knows when all calls have ended)
+void is_wrong_at_rest() {
+    auto verdict = listset::judge<WrongAfter<54>>({1, 50, 4, 20, 1, 1});
+    std::cout << verdict << "\n";
+    expect(!verdict && verdict.said.find(" and leaves it as it was left\n") != std::string::npos, "keys at rest");
+}
+
+template <class S> void ends_wrong(const std::string &how) {
+    auto verdict = listset::judge<S>({2, 50, 4, 20, 1, 1});
+    std::cout << verdict << "\n";
+    expect(!verdict && verdict.said == how + "\nunder way:\nup to there: some order explains the calls", how.c_str());
+}
+
 // A run that ends with the part that failed.
 template <class S> void ends_in_part(size_t part, const char *how, bool own_process) {
     listset::options options{8, 8000, 4, 0, 1, 1};
@@ -85,10 +118,10 @@ int open_calls(const std::string &text) {
 }
 
 // A run that comes to no end: how, what was under way, and what the judge says of the calls up to there.
-template <class S> void stops(const char *how, const char *judged, bool own_process = true, unsigned keys = 4) {
+template <class S> void stops(const char *how, const char *judged, bool own_process = true, unsigned keys = 4, bool hangs = false) {
     listset::options options;
     options.keys = keys;
-    options.seconds = std::string(how).find("hung") == std::string::npos ? 10 : 1, options.own_process = own_process;
+    options.seconds = hangs || std::string(how).find("hung") != std::string::npos ? 1 : 10, options.own_process = own_process;
     auto verdict = listset::judge<S>(options);
     std::cout << verdict << "\n";
     expect(!verdict && verdict.said.rfind(how, 0) == 0 && verdict.said.find("\nunder way:\ncall ") != std::string::npos, how);
@@ -107,8 +140,21 @@ template <class S> void says(const char *words, listset::options how) {
     }
 }
 
+void gives_no_verdict() {
+    says<MySet>("threads is 65, and has to be 1 to 64", {65, 9, 4, 20, 1, 1});
+    says<MySet>("threads times calls is 0, and has to be 1 to 1000000", {2, 0, 4, 20, 1, 1});
+    says<MySet>("keys is 0, and has to be 1 to 1048576", {2, 9, 0, 20, 1, 1});
+    says<MySet>("pauses is 101, and has to be 0 to 100", {2, 9, 4, 101, 1, 1});
+    says<MySet>("runs is 0, and has to be 1 to 1000000", {2, 9, 4, 20, 0, 1});
+    says<MySet>("seconds is 3601, and has to be 1 to 3600", {2, 9, 4, 20, 1, 1, 3601});
+    says<MySet>("threads times calls is 1000000002, and has to be 1 to 1000000000", {2, 500000001, 4, 20, 1, 1, 10, true, "."});
+    says<MySet>("record is /dev/null/x, which is no folder and cannot be made one: name another", {2, 9, 4, 20, 1, 1, 10, true, "/dev/null/x"});
+    says<CannotBeMade>("the set could not be made: std::runtime_error: no room", {2, 9, 4, 20, 1, 1});
+}
+
 void all() {
     is_right<MySet>("MySet");
+    is_right<MySet>("64 threads", {64, 50, 4, 20, 1, 1});
     is_right<Standard>("Standard", {4, 200, 4, 20, 3, 1});
     expect(is_right<Slow>("Slow", {8, 200, 4, 20, 3, 1}).overlapped > 0, "calls that wait overlap");
     expect(is_right<MySet>("past a quota", {1, 120000, 1, 0, 1, 1}).overlapped == 0, "calls in turn do not");
@@ -130,22 +176,20 @@ void all() {
     stops<Stops<Crashes>>("the set crashed: Segmentation fault\n", "\nup to there: some order explains the calls");
     stops<Stops<Crashes>>("the set crashed: Segmentation fault\n", "\nup to there: some order explains the calls", true, 64);
     stops<Stops<Exits>>("the set ended its process with the status 3\n", "\nup to there: some order explains the calls");
+    ends_wrong<EndsWrong<Crashes>>("the set crashed: Segmentation fault");
+    ends_wrong<EndsWrong<Exits>>("the set ended its process with the status 3");
+    is_drawn();
+    is_wrong_at_rest();
     is_kept();
     ends_in_part<Stops<Crashes, 10000>>(2, "the set crashed: Segmentation fault\nunder way:\ncall ", true);
+    ends_in_part<FindsAllLate>(2, "not linearizable\n", true);
     ends_in_part<FindsAll>(1, "not linearizable\n", false);
-    says<MySet>("threads is 65, and has to be 1 to 64", {65, 9, 4, 20, 1, 1});
-    says<MySet>("threads times calls is 0, and has to be 1 to 1000000", {2, 0, 4, 20, 1, 1});
-    says<MySet>("keys is 0, and has to be 1 to 1048576", {2, 9, 0, 20, 1, 1});
-    says<MySet>("pauses is 101, and has to be 0 to 100", {2, 9, 4, 101, 1, 1});
-    says<MySet>("runs is 0, and has to be 1 to 1000000", {2, 9, 4, 20, 0, 1});
-    says<MySet>("seconds is 3601, and has to be 1 to 3600", {2, 9, 4, 20, 1, 1, 3601});
-    says<MySet>("threads times calls is 1000000002, and has to be 1 to 1000000000", {2, 500000001, 4, 20, 1, 1, 10, true, "."});
-    says<MySet>("record is /dev/null/x, which is no folder and cannot be made one: name another", {2, 9, 4, 20, 1, 1, 10, true, "/dev/null/x"});
-    says<CannotBeMade>("the set could not be made: std::runtime_error: no room", {2, 9, 4, 20, 1, 1});
+    gives_no_verdict();
     for (bool own_process : {true, false})
         stops<FailsToAdd>("a call of the set threw std::runtime_error: no memory\n", "\nup to there: some order explains the calls", own_process);
     // (last, since its threads stay)
     stops<Stops<Hangs>>("the set hung: no call began or ended for 1 s\n", "\nup to there: some order explains the calls", false);
+    stops<FailsWithLock>("a call of the set threw std::runtime_error: no memory\n", "\nup to there: some order explains the calls", false, 4, true);
 }
 
 int main(int words, char **word) {

@@ -166,8 +166,8 @@ func judged(how Options, callerOf func(*area) (caller, error)) (Verdict, error) 
 		return Verdict{}, err
 	}
 	defer of.stop()
-	for seed := how.Seed; err == nil && seed < how.Seed+int64(how.Runs); seed++ {
-		err = it.judgeParts(seed, of, by, &verdict)
+	for one := 0; err == nil && one < how.Runs; one++ {
+		err = it.judgeParts(how.Seed+int64(one), of, by, &verdict)
 	}
 	if err == nil && verdict.few() != "" {
 		fmt.Fprintln(os.Stderr, verdict) // (a test that passes may show no log)

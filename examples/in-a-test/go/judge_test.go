@@ -2,6 +2,7 @@ package judge
 
 import (
 	"errors"
+	"math"
 	"os"
 	"path/filepath"
 	"reflect"
@@ -86,6 +87,44 @@ func TestASeedGivesTheSameCallsAgain(t *testing.T) {
 	}
 	if of(1).Recording != of(1).Recording || of(1).Recording == of(2).Recording {
 		t.Fatal("other calls")
+	}
+}
+
+func TestTheLastSeedHasRuns(t *testing.T) {
+	var found *NotLinearizable
+	_, err := Judge(func() FindsAll { return FindsAll{NewMySet()} }, Options{Threads: 1, Calls: 50, Keys: 4, Runs: 2, Seed: math.MaxInt64})
+	if !errors.As(err, &found) {
+		t.Fatal(err)
+	}
+}
+
+func TestThreadsMayBe64(t *testing.T) {
+	isRight(t, NewMySet, Options{Threads: 64, Calls: 50, Keys: 4, Pauses: 20, Runs: 1})
+}
+
+// WrongAtRest knows by its four opening keys and its fifty calls when all calls have ended.
+type WrongAtRest struct {
+	*MySet
+	calls int32
+}
+
+func (it *WrongAtRest) Add(key uint32) bool {
+	atomic.AddInt32(&it.calls, 1)
+	return it.MySet.Add(key)
+}
+
+func (it *WrongAtRest) Remove(key uint32) bool {
+	atomic.AddInt32(&it.calls, 1)
+	return it.MySet.Remove(key)
+}
+
+func (it *WrongAtRest) Contains(key uint32) bool { return it.MySet.Contains(key) != (atomic.AddInt32(&it.calls, 1) > 54) }
+
+func TestWhatIsWrongAtRestIsRefused(t *testing.T) {
+	var found *NotLinearizable
+	_, err := Judge(func() *WrongAtRest { return &WrongAtRest{MySet: NewMySet()} }, Options{Threads: 1, Calls: 50, Keys: 4, Runs: 1})
+	if !errors.As(err, &found) || !strings.Contains(found.Said, " and leaves it as it was left\n") {
+		t.Fatal(err)
 	}
 }
 
@@ -305,6 +344,42 @@ func TestALongRunIsKeptInParts(t *testing.T) {
 	}
 }
 
+func TestEachGoroutineOfEachRunDrawsCallsOfItsOwn(t *testing.T) {
+	how := Options{Threads: 2, Calls: 300, Keys: 5, Runs: 2, Seed: 7, Record: t.TempDir()}
+	isRight(t, NewMySet, how)
+	files, drawn := filesIn(t, how.Record), map[string]bool{}
+	begin, end := filepath.Join(how.Record, "seed-"), "-part-000001.calls"
+	if !reflect.DeepEqual(files, []string{begin + "7" + end, begin + "8" + end}) {
+		t.Fatal(files)
+	}
+	for _, file := range files {
+		text, err := os.ReadFile(file)
+		for _, number := range []string{"call 0", "call 1"} {
+			calls, each := "", map[string]bool{}
+			for _, line := range keysOf(string(text), number) {
+				call := strings.Join(strings.Fields(line)[:2], " ")
+				calls, each[call] = calls+call+"\n", true
+			}
+			if drawn[calls] = true; err != nil || len(each) != 15 {
+				t.Fatal(len(each), "operations and keys", err)
+			}
+		}
+	}
+	if len(drawn) != 4 {
+		t.Fatal(len(drawn), "rows of calls")
+	}
+}
+
+// FindsAllLate finds all keys in later calls alone.
+type FindsAllLate struct {
+	*MySet
+	calls int32
+}
+
+func (it *FindsAllLate) Contains(key uint32) bool {
+	return atomic.AddInt32(&it.calls, 1) > 8000 || it.MySet.Contains(key)
+}
+
 // endsIn has a run fail in a part, whose file the failure names.
 func endsIn(t *testing.T, it Failed, how Options, said string, parts int) {
 	files := filesIn(t, how.Record)
@@ -330,6 +405,10 @@ func TestALongRunEndsWithThePartThatFailed(t *testing.T) {
 		t.Fatal(err)
 	}
 	endsIn(t, refused.Failed, how, "not linearizable\n", 1)
+	if _, err := Judge(func() *FindsAllLate { return &FindsAllLate{MySet: NewMySet()} }, how); !errors.As(err, &refused) {
+		t.Fatal(err)
+	}
+	endsIn(t, refused.Failed, how, "not linearizable\n", 2)
 }
 
 func TestACheckThatIsNotComeToAgain(t *testing.T) {

@@ -176,8 +176,8 @@ public final class Judge {
         Caller child = how.ownProcess ? Child.of(calls, how) : null;
         long count = 0, overlapped = 0;
         try (Caller caller = child == null ? new Here<>(calls, new Area(how)) : child) {
-            for (long seed = how.seed; seed < how.seed + how.runs; seed++) {
-                caller.area().begin(seed, caller);
+            for (int one = 0; one < how.runs; one++) {
+                caller.area().begin(how.seed + one, caller);
                 for (int part = 1; part <= caller.area().parts; part++) {
                     if (part > 1) caller.area().goOn();
                     Run run = caller.area().madePart(caller);

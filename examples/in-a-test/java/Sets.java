@@ -94,6 +94,30 @@ final class Sets {
         @Override public boolean contains(Object key) { return true; }
     }
 
+    /** Only later calls find all keys. */
+    static final class FindsAllLate extends ConcurrentSkipListSet<Integer> {
+        private final AtomicInteger calls = new AtomicInteger();
+
+        @Override public boolean contains(Object key) { return calls.getAndIncrement() > 8000 || super.contains(key); }
+    }
+
+    /** By its four opening keys and its fifty calls, it knows when all calls have ended. */
+    static final class WrongAtRest extends ConcurrentSkipListSet<Integer> {
+        private final AtomicInteger calls = new AtomicInteger();
+
+        @Override public boolean add(Integer key) {
+            calls.getAndIncrement();
+            return super.add(key);
+        }
+
+        @Override public boolean remove(Object key) {
+            calls.getAndIncrement();
+            return super.remove(key);
+        }
+
+        @Override public boolean contains(Object key) { return super.contains(key) != (calls.getAndIncrement() >= 54); }
+    }
+
     /** A remove, the thirtieth, does not come back, with the lock of all others. */
     abstract static class Stops extends ConcurrentSkipListSet<Integer> {
         private int removes = 0;

@@ -1,6 +1,7 @@
 import java.io.IOException;
 import java.nio.file.Files;
 import java.nio.file.Path;
+import java.util.HashSet;
 import java.util.List;
 import java.util.Set;
 import java.util.concurrent.ConcurrentHashMap;
@@ -92,6 +93,33 @@ final class Tests {
         }
     }
 
+    /** Each thread of each run has draws of its own, of all calls on all keys. */
+    private static void isDrawn() {
+        Judge.Options how = ALL.ofSize(2, 300, 5).ofRuns(2, 7).ofPauses(0).ofRecord(folder("drawn"));
+        filesIn(how.record()).forEach(it -> Path.of(it).toFile().delete()); // (those of an earlier run)
+        isRight("two seeds", ConcurrentSkipListSet::new, how);
+        List<String> files = filesIn(how.record());
+        String begin = how.record() + "/seed-", end = "-part-000001.calls";
+        if (!files.equals(List.of(begin + 7 + end, begin + 8 + end))) fail("each run has a seed: " + files);
+        Set<List<String>> drawn = new HashSet<>();
+        for (String text : files.stream().map(Tests::textOf).toList()) {
+            for (String thread : List.of("call 0", "call 1")) {
+                List<String> calls = keysOf(text, thread).stream().map(it -> it.substring(0, it.indexOf(' ', it.indexOf(' ') + 1))).toList();
+                if (Set.copyOf(calls).size() != 15) fail("each call of each key");
+                drawn.add(calls);
+            }
+        }
+        if (drawn.size() != 4) fail("each thread of each run has draws of its own");
+    }
+
+    private static void isRefusedAtRest() {
+        try {
+            fail("wrong at rest: " + Judge.judge(Sets.WrongAtRest::new, ALL.ofSize(1, 50, 4).ofRuns(1, 1)));
+        } catch (Judge.NotLinearizable refused) {
+            if (!refused.said.contains(" and leaves it as it was left\n")) fail(refused.said);
+        }
+    }
+
     /** A run that ends with the part that failed. */
     private static void endsIn(int parts, String words, Judge.Make<? extends Set<Integer>> make, boolean ownProcess) {
         Judge.Options how = ALL.ofSize(8, 8000, 4).ofPauses(0).ofOwnProcess(ownProcess).ofRecord(folder(ownProcess ? "exited" : "refused"));
@@ -123,8 +151,24 @@ final class Tests {
         return () -> new ConcurrentSkipListSet<>(it.hashCode() == 0 ? Set.of(1) : Set.of());
     }
 
+    private static void givesNoVerdict() {
+        says("threads is 65, and has to be 1 to 64", ConcurrentSkipListSet::new, FEW.ofSize(65, 9, 4));
+        says("threads times calls is 0, and has to be 1 to 1000000", ConcurrentSkipListSet::new, FEW.ofSize(2, 0, 4));
+        says("keys is 0, and has to be 1 to 1048576", ConcurrentSkipListSet::new, FEW.ofSize(2, 9, 0));
+        says("pauses is 101, and has to be 0 to 100", ConcurrentSkipListSet::new, FEW.ofPauses(101));
+        says("runs is 0, and has to be 1 to 1000000", ConcurrentSkipListSet::new, FEW.ofRuns(0, 1));
+        says("seconds is 0, and has to be 1 to 3600", ConcurrentSkipListSet::new, FEW.ofSeconds(0));
+        Judge.Options tooMany = FEW.ofSize(2, 500_000_001, 4).ofRecord(".");
+        says("threads times calls is 1000000002, and has to be 1 to 1000000000", ConcurrentSkipListSet::new, tooMany);
+        String noFolder = "record is /dev/null/x, which is no folder and cannot be made one: name another";
+        says(noFolder, ConcurrentSkipListSet::new, FEW.ofRecord("/dev/null/x"));
+        says("the set could not be made: java.lang.IllegalStateException: no room", Tests::notMade, FEW);
+    }
+
     private static void all() {
         isRight("ConcurrentSkipListSet", ConcurrentSkipListSet::new, ALL);
+        isRight("64 threads", ConcurrentSkipListSet::new, ALL.ofSize(64, 50, 4).ofRuns(1, 1));
+        isRefused("the last seed", () -> Judge.judge(Sets.FindsAll::new, ALL.ofRuns(2, Long.MAX_VALUE).ofOwnProcess(false)));
         isRight("ConcurrentHashMap", ConcurrentHashMap::newKeySet, ALL.ofRuns(3, 1));
         isRight("OpensWithKeys", Sets.OpensWithKeys::new, ALL.ofRuns(3, 1));
         if (isRight("Slow", Sets.Slow::new, ALL.ofRuns(3, 1)).overlapped() == 0) fail("calls that wait overlap");
@@ -142,22 +186,15 @@ final class Tests {
         stops(Sets.Exits::new, ALL, exited, "some order explains the calls");
         stops(Sets.Exits::new, ALL.ofSize(8, 1000, 64), exited, "some order explains the calls");
         stops(Sets.FindsAllAndExits::new, ALL, exited, "not linearizable\n");
+        isDrawn();
+        isRefusedAtRest();
         isKept();
         endsIn(2, exited + "\nunder way:\ncall ", Sets.ExitsLate::new, true);
+        endsIn(2, "not linearizable\n", Sets.FindsAllLate::new, true);
         endsIn(1, "not linearizable\n", Sets.FindsAll::new, false);
         isRight("that cannot be passed on", notPassedOn(new Object()), ALL.ofRuns(1, 1));
-        says("threads is 65, and has to be 1 to 64", ConcurrentSkipListSet::new, FEW.ofSize(65, 9, 4));
-        says("threads times calls is 0, and has to be 1 to 1000000", ConcurrentSkipListSet::new, FEW.ofSize(2, 0, 4));
-        says("keys is 0, and has to be 1 to 1048576", ConcurrentSkipListSet::new, FEW.ofSize(2, 9, 0));
-        says("pauses is 101, and has to be 0 to 100", ConcurrentSkipListSet::new, FEW.ofPauses(101));
-        says("runs is 0, and has to be 1 to 1000000", ConcurrentSkipListSet::new, FEW.ofRuns(0, 1));
-        says("seconds is 0, and has to be 1 to 3600", ConcurrentSkipListSet::new, FEW.ofSeconds(0));
-        Judge.Options tooMany = FEW.ofSize(2, 500_000_001, 4).ofRecord(".");
-        says("threads times calls is 1000000002, and has to be 1 to 1000000000", ConcurrentSkipListSet::new, tooMany);
-        String noFolder = "record is /dev/null/x, which is no folder and cannot be made one: name another";
-        says(noFolder, ConcurrentSkipListSet::new, FEW.ofRecord("/dev/null/x"));
+        givesNoVerdict();
         stops(Sets.Overflows::new, ALL, "a call of the set threw java.lang.StackOverflowError", "some order explains the calls");
-        says("the set could not be made: java.lang.IllegalStateException: no room", Tests::notMade, FEW);
         String threw = "a call of the set threw java.lang.IllegalStateException: no memory";
         for (boolean own : List.of(true, false)) stops(Sets.FailsToAdd::new, ALL.ofOwnProcess(own), threw, "some order explains the calls");
     }

@@ -234,12 +234,13 @@ class Run:
             yield "" if self.comes_to_end(lambda: self.at == RESTING or has_ended()) else self.hung()
 
     def crash(self, status):
-        """How the process of the run ended, if it was too soon."""
-        if not status or self.at == ENDED:
+        """How the process of the run ended, if it was too soon or went wrong."""
+        if not status:
             return ""
         if os.WIFSIGNALED(status[0]):
             return f"the set crashed: {signal.Signals(os.WTERMSIG(status[0])).name}"
-        return f"the set ended its process with the status {os.WEXITSTATUS(status[0])}"
+        ended = os.WEXITSTATUS(status[0])  # (not 0 if the set ended its process while it was deleted)
+        return f"the set ended its process with the status {ended}" if ended or self.at != ENDED else ""
 
     def hung(self):
         return f"the set hung: no call began or ended for {self.seconds} s"

@@ -103,6 +103,43 @@ class FindsAll(MySet):
         return True
 
 
+class FindsAllLate(MySet):
+    calls = 0
+
+    def __contains__(self, key):
+        self.calls += 1
+        return self.calls > 8000 or super().__contains__(key)
+
+
+class WrongAtRest(MySet):
+    """By its four opening keys and its fifty calls, it knows when all calls have ended."""
+
+    calls = 0
+
+    def called(self, reply):
+        self.calls += 1
+        return reply
+
+    def add(self, key):
+        return self.called(super().add(key))
+
+    def remove(self, key):
+        return self.called(super().remove(key))
+
+    def __contains__(self, key):
+        return self.called(super().__contains__(key)) != (self.calls > 54)
+
+
+class EndsWrong(MySet):
+    def __del__(self):
+        os._exit(3)
+
+
+class CrashesAtItsEnd(MySet):
+    def __del__(self):
+        signal.raise_signal(signal.SIGSEGV)
+
+
 class Stops(MySet):
     """Its thirtieth remove does not come back."""
 
@@ -119,6 +156,14 @@ class Hangs(Stops):
     def last(self):
         with self.lock:
             time.sleep(self.forever)
+
+
+class HangsForNow(Stops):
+    goes_on = threading.Event()
+
+    def last(self):
+        with self.lock:
+            self.goes_on.wait()
 
 
 class Crashes(Stops):
@@ -218,6 +263,28 @@ class Sets(unittest.TestCase):
             self.assertTrue(said.startswith("a call of the set raised MemoryError: no memory\nunder way:\ncall "), said)
             self.assertTrue(said.endswith("\nup to there: some order explains the calls"), said)
 
+    def test_a_set_that_is_wrong_at_rest_is_refused(self):
+        with self.assertRaisesRegex(listset_judge.NotLinearizable, " and leaves it as it was left\n"):
+            listset_judge.judge(WrongAtRest, threads=1, calls=50, runs=1)
+
+    def test_a_set_that_goes_wrong_at_its_end_is_judged_up_to_there(self):
+        for make, how in ((EndsWrong, "the set ended its process with the status 3"), (CrashesAtItsEnd, "the set crashed: SIGSEGV")):
+            with self.subTest(how), self.assertRaises(listset_judge.NotEnded) as found:
+                listset_judge.judge(make, threads=2, calls=50, runs=1)
+            self.assertEqual(found.exception.said, f"{how}\nunder way:\nup to there: some order explains the calls")
+
+    def test_what_hangs_in_this_process_is_judged_up_to_there(self):
+        with self.assertRaisesRegex(listset_judge.NotEnded, "the set hung: no call began or ended for 1 s\nunder way:\ncall "):
+            listset_judge.judge(HangsForNow, own_process=False, seconds=1, **FEW)
+        HangsForNow.goes_on.set()
+        for it in threading.enumerate():  # (with a thread left, no other run would have a process of its own)
+            if it is not threading.current_thread():
+                it.join(60)
+        self.assertEqual(threading.active_count(), 1)
+
+    def test_threads_may_be_64(self):
+        self.assertEqual(listset_judge.judge(MySet, threads=64, calls=50, runs=1).calls, 3200)
+
     def test_each_recording_has_its_file(self):
         files = set()
         for _ in range(2):
@@ -239,9 +306,23 @@ class Sets(unittest.TestCase):
         self.assertEqual([len(it) for it in calls], [20_000, 20_000, 4000])
         self.assertEqual(opening, [[], *left[:-1]])
 
+    def test_each_thread_of_each_run_draws_calls_of_its_own(self):
+        drawn = set()
+        with tempfile.TemporaryDirectory() as folder:
+            listset_judge.judge(MySet, threads=2, calls=300, keys=5, pauses=0, runs=2, seed=7, record=folder)
+            names = sorted(os.listdir(folder))
+            self.assertEqual(names, ["seed-7-part-000001.calls", "seed-8-part-000001.calls"])
+            for text in [pathlib.Path(folder, name).read_text() for name in names]:
+                for number in ("0", "1"):
+                    calls = tuple(tuple(it[2:4]) for it in map(str.split, text.splitlines()) if it[:2] == ["call", number])
+                    self.assertEqual(len(set(calls)), 15, "operations and keys")
+                    drawn.add(calls)
+        self.assertEqual(len(drawn), 4)
+
     def test_a_long_run_ends_with_the_part_that_failed(self):
         for make, raised, said, parts in (
             (CrashesLate, listset_judge.NotEnded, "the set crashed: SIGSEGV\nunder way:\ncall ", 2),
+            (FindsAllLate, listset_judge.NotLinearizable, "not linearizable", 2),
             (FindsAll, listset_judge.NotLinearizable, "not linearizable", 1),
         ):
             with self.subTest(said), tempfile.TemporaryDirectory() as folder:

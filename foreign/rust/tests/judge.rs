@@ -53,6 +53,14 @@ fn each_function_says_its_own() {
     assert!(examples().unwrap().contains("snip") && faults().unwrap().contains("listset: line L:"));
 }
 
+#[test]
+fn each_value_of_a_generated_schedule_has_its_place() {
+    let head = "listset-schedule 1\nlist fine\nthreads 64\nquota 16384\n";
+    assert_eq!(generated("fine", 64, 16_384, 0, u32::MAX, u64::MAX).as_deref(), Ok(head));
+    let of = |seed| generated("lazy", 2, 4, 40, 6, seed).unwrap();
+    assert_ne!(of(u64::MAX), of(u64::from(u32::MAX)));
+}
+
 const CALLS: &str = "listset-calls 2
 list lock-free
 threads 2

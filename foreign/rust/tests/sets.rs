@@ -11,6 +11,14 @@ const THREADS: u32 = 4;
 const CALLS: u32 = 5000;
 const OWN: u32 = 32;
 
+/// A seat is no copy: with `Clone`, both would have this function.
+trait Once<T> {
+    fn is_once() {}
+}
+impl<S> Once<()> for S {}
+impl<S: Clone> Once<u8> for S {}
+const _: fn() = <Seat as Once<_>>::is_once;
+
 /// Calls on keys that no other thread uses, and the keys that are left of them.
 fn calls_of(seat: &mut Seat, thread: u32) -> BTreeSet<u32> {
     let (mut left, mut drawn) = (BTreeSet::new(), u64::from(thread) + 88172645463325252);

@@ -166,7 +166,8 @@ impl Area {
         match catch_unwind(AssertUnwindSafe(make)) {
             Err(why) => self.fail(format!("{NOT_MADE}{}", words_of(why))),
             Ok(set) => {
-                let called = catch_unwind(AssertUnwindSafe(|| self.call_from_threads(&set, calls_of, at_rest)));
+                // (`move`: where it is dropped it may panic too)
+                let called = catch_unwind(AssertUnwindSafe(move || self.call_from_threads(&set, calls_of, at_rest)));
                 called.unwrap_or_else(|why| self.fail(format!("a call of the set panicked: {}", words_of(why))));
             }
         }

@@ -78,6 +78,30 @@ fn a_seed_gives_the_same_calls_again() {
     assert!(first.0 == again.0 && first.0 != other.0 && first.1 != again.1);
 }
 
+#[test]
+fn threads_may_be_64() {
+    let verdict = judge!(MySet, Options { threads: 64, calls: 50, runs: 1, ..Options::default() }).unwrap();
+    assert_eq!(verdict.calls, 3200);
+}
+
+/// (by its four opening keys and its calls, a set knows when all calls have ended)
+#[test]
+fn a_set_that_is_wrong_at_rest_is_refused() {
+    let calls = AtomicU64::new(0);
+    let called = |reply| (calls.fetch_add(1, SeqCst), reply);
+    let judged = listset_judge::judge(
+        MySet::new,
+        |set, key| called(set.add(key)).1,
+        |set, key| called(set.remove(key)).1,
+        |set, key| matches!(called(set.contains(key)), (..=53, true) | (54.., false)),
+        Options { threads: 1, calls: 50, runs: 1, ..Options::default() },
+    );
+    match judged {
+        Err(Failure::NotLinearizable(it)) => assert!(it.said.contains(" and leaves it as it was left\n"), "{}", it.said),
+        other => panic!("{other:?}"),
+    }
+}
+
 fn is_refused(judged: Result<listset_judge::Verdict, Failure>) {
     match judged {
         Err(refused @ Failure::NotLinearizable(_)) => println!("{refused}"),
@@ -197,6 +221,32 @@ fn what_hangs_or_crashes_is_judged_up_to_there() {
     assert!(ended.contains("\nup to there: not linearizable\n"), "{ended}");
 }
 
+/// It goes wrong where it is dropped.
+#[cfg(target_os = "linux")]
+struct EndsWrong(MySet, fn());
+
+#[cfg(target_os = "linux")]
+impl Drop for EndsWrong {
+    fn drop(&mut self) { (self.1)() }
+}
+
+#[cfg(target_os = "linux")]
+#[test]
+fn a_set_that_goes_wrong_where_it_is_dropped_is_judged_up_to_there() {
+    let said = |at_end: fn()| {
+        let make = move || EndsWrong(MySet::new(), at_end);
+        let options = Options { threads: 2, calls: 50, runs: 1, ..Options::default() };
+        match listset_judge::judge(make, |it, key| it.0.add(key), |it, key| it.0.remove(key), |it, key| it.0.contains(key), options) {
+            Err(Failure::NotEnded(it)) => it.said,
+            other => panic!("{other:?}"),
+        }
+    };
+    let up_to_there = "\nunder way:\nup to there: some order explains the calls";
+    assert_eq!(said(|| std::process::abort()), format!("the set crashed: signal 6, SIGABRT{up_to_there}"));
+    assert_eq!(said(|| std::process::exit(3)), format!("the set ended its process with the status 3{up_to_there}"));
+    assert_eq!(said(|| panic!("no end")), format!("a call of the set panicked: no end{up_to_there}"));
+}
+
 #[test]
 fn a_set_may_be_called_in_this_process() {
     judge!(MySet, Options { runs: 2, own_process: false, ..Options::default() }).unwrap();
@@ -228,6 +278,25 @@ fn a_long_run_is_kept_in_parts() {
     let opening: Vec<_> = texts.iter().map(|it| keys_of(it, "opening")).collect();
     let left: Vec<_> = texts.iter().map(|it| keys_of(it, "key")).collect();
     assert!(opening[0].is_empty() && opening[1..] == left[..2], "{opening:?} {left:?}");
+}
+
+#[test]
+fn each_thread_of_each_run_draws_calls_of_its_own() {
+    let folder = std::env::temp_dir().join("drawn");
+    let _ = fs::remove_dir_all(&folder); // (that of an earlier run, if there was one)
+    judge!(MySet, Options { threads: 2, keys: 5, runs: 2, seed: 7, ..long(300, "drawn", true) }).unwrap();
+    let files = files_in(&folder);
+    let names: Vec<_> = files.iter().map(|it| it.file_name().unwrap().to_str().unwrap()).collect();
+    assert_eq!(names, ["seed-7-part-000001.calls", "seed-8-part-000001.calls"]);
+    let mut drawn = BTreeSet::new();
+    for text in files.iter().map(|it| fs::read_to_string(it).unwrap()) {
+        for thread in ["call 0", "call 1"] {
+            let calls: Vec<Vec<String>> = keys_of(&text, thread).iter().map(|it| it.split(' ').take(2).map(str::to_string).collect()).collect();
+            assert_eq!(BTreeSet::from_iter(&calls).len(), 15, "operations and keys");
+            drawn.insert(calls);
+        }
+    }
+    assert_eq!(drawn.len(), 4);
 }
 
 /// A run fails in its last part, whose file the failure names.
