@@ -66,18 +66,6 @@ fn no_connection_is_served(rt: HostRuntime) {
     made(&rt, &served, 0, 0, &[]);
 }
 
-/// On each number of seats no session is held, and then one: all workers end.
-#[test]
-fn each_number_of_seats_serves(rt: HostRuntime) {
-    for seats in 1..=64 {
-        let served = served_while(&rt, rt.alloc(), seats, 0, |_port: u16| true);
-        made(&rt, &served, 0, 0, &[]);
-        let ask = |port: u16| asks(&rt, port, LINES, ANSWERS);
-        let served = served_while(&rt, rt.alloc(), seats, 1, ask);
-        made(&rt, &served, 1, 4, &[]);
-    }
-}
-
 #[test]
 fn all_seats_are_wanted(rt: HostRuntime) {
     let (set, mut seats) = opened(&rt, rt.alloc(), 2);
@@ -103,6 +91,18 @@ fn both_meet<R: Host + Net<Listener = TcpListener, Stream = TcpStream>>(rt: &R, 
 fn two_sessions_meet(rt: HostRuntime) {
     let served = served_while(&rt, rt.alloc(), 2, 2, |port: u16| both_meet(&rt, port));
     made(&rt, &served, 2, 2, &[1, 2]);
+}
+
+/// On each number of seats no session is held, and then two meet: no worker has held both, so each waits until it is told that no
+/// more come.
+#[test]
+fn each_number_of_seats_serves(rt: HostRuntime) {
+    for seats in 2..=64 {
+        let served = served_while(&rt, rt.alloc(), seats, 0, |_port: u16| true);
+        made(&rt, &served, 0, 0, &[]);
+        let served = served_while(&rt, rt.alloc(), seats, 2, |port: u16| both_meet(&rt, port));
+        made(&rt, &served, 2, 2, &[1, 2]);
+    }
 }
 
 /// A set with four seats, of which two hold two each.
