@@ -118,7 +118,9 @@ func (it *WrongAtRest) Remove(key uint32) bool {
 	return it.MySet.Remove(key)
 }
 
-func (it *WrongAtRest) Contains(key uint32) bool { return it.MySet.Contains(key) != (atomic.AddInt32(&it.calls, 1) > 54) }
+func (it *WrongAtRest) Contains(key uint32) bool {
+	return it.MySet.Contains(key) != (atomic.AddInt32(&it.calls, 1) > 54)
+}
 
 func TestWhatIsWrongAtRestIsRefused(t *testing.T) {
 	var found *NotLinearizable

@@ -55,7 +55,11 @@ unsafe extern "C" fn malloc(size: usize) -> *mut c_void {
 
 #[no_mangle]
 unsafe extern "C" fn realloc(block: *mut c_void, size: usize) -> *mut c_void {
-    if is_refused() { null_mut() } else { __libc_realloc(block, size) }
+    if is_refused() {
+        null_mut()
+    } else {
+        __libc_realloc(block, size)
+    }
 }
 
 #[no_mangle]
