@@ -1,18 +1,24 @@
 """All forms of the program print the same on the same words: standard output, standard error and status are the same bytes.
 
 The forms are the program, and those that `--beside` names; without it that of the page, page/listset.js. One whose name ends in .js
-is run by node, on the words that it has. The words: each text of examples/schedules/, replayed, checked, told and drawn; each draft
-and each text of calls of tests/transcripts/data; the examples, right and broken; and schedules that are generated.
+is run by node, on the words that it has, many times in one process (page/tests/one_node.py); page/test runs it in processes of its own
+too. The words: each text of examples/schedules/, replayed, checked, told and drawn; each draft and each text of calls of
+tests/transcripts/data; the examples, right and broken; and schedules that are generated.
 """
 
+import atexit
 import os
 import shutil
+import sys
 import unittest
 
 from classic import sections
 from harness.cases import NEEDED_BY_CASES, TOP, Wrong, cases, given, once, usable
 from harness.cases import KINDS as LISTS
 from harness.programs import ran, well
+
+sys.path.append(str(TOP / "page/tests"))
+from one_node import Nodes  # noqa: E402
 
 KINDS = [*LISTS, "no-such-list"]
 OF_BOTH = ["show", "show --svg", "show --from 2 --to 9 --width 60"]
@@ -25,12 +31,14 @@ class Program:
 
     def __init__(self, name):
         path = os.path.realpath(name)
-        self.name, self.command, self.has = name, [path], None
+        self.name, self.command, self.has, self.nodes = name, [path], None, None
         if name.endswith(".js"):
-            self.command = ["node", path]
-            self.has = well(*self.command, "--words").split()
+            self.has, self.nodes = well("node", path, "--words").split(), Nodes(path, TOP)
+            atexit.register(self.nodes.close)
 
     def said(self, words, text):
+        if self.nodes:
+            return self.nodes.said(words, text)
         done = ran(*self.command, *words, text=text, cwd=TOP, seconds=SECONDS)
         return done.stdout, done.stderr, done.returncode
 

@@ -1,6 +1,9 @@
 """Compares page/listset.js, in node, with the program on the same words and input (schedules, also generated ones, and other texts):
 both outputs and the status. Of wrong words the status is the same, nothing is on the output, and the script says what is wrong in one
-line; and of those that the program has alone, by which ./listset builds it."""
+line; and of those that the program has alone, by which ./listset builds it.
+
+The first run of each command with the same options and as many values is a process of its own, and so is each of wrong words. The further
+ones are many in one process of node (one_node.py), since a start of node takes some seven times what a run takes."""
 
 import os
 import pathlib
@@ -8,11 +11,14 @@ import random
 import subprocess
 from concurrent.futures import ThreadPoolExecutor
 
+from one_node import Nodes
+
 TOP = pathlib.Path(__file__).resolve().parent.parent.parent
 DATA = TOP / "tests" / "transcripts" / "data"
 GENERATED = 2  # of each list
 REFUSED = 20
 SECONDS = 120
+LARGE = 1_000_000  # bytes of a text that is given to a process of its own
 WRONG = """
     no-such | --chain | -x | replay a b | replay --chain | replay --chain a | replay -x | check --broken | check a b
     check --from 1 | trace --chain --chain | trace --chain a b | trace --chain=true | trace --broken a | trace -- a b
@@ -51,12 +57,22 @@ def said(words, text, output=subprocess.PIPE):
     return done.stdout, done.stderr, done.returncode
 
 
-def compared(program, script, words, text):
+def compared(program, said_by_script, words, text):
     """A line that tells how the two differ, or None."""
-    ours, due = said([*script, *words], text), said([*program, *words], text)
+    ours, due = said_by_script(words, text), said([*program, *words], text)
     if ours != due:
         return f"listset.js {' '.join(words)} on {text[:200]}: {ours}, not {due}"[:2000]
     return None
+
+
+def with_process(words_and_texts):
+    """Words and texts, each with whether it is run in a process of its own: a large text, and the first of each command with the same
+    options and as many values."""
+    known = set()
+    for words, text in words_and_texts:
+        form = (*words[:1], *(word if word.startswith("-") else "VALUE" for word in words[1:]))
+        yield words, text, form not in known or len(text) > LARGE
+        known.add(form)
 
 
 def compared_wrong(program, script, words):
@@ -152,8 +168,11 @@ def asked(program, names, folder):
 
 def in_node(program, script, names, folder):
     """How many passed, and a line for each that failed."""
-    with ThreadPoolExecutor(os.cpu_count()) as pool:
-        found = [*pool.map(lambda it: compared(program, script, *it), [*asked(program, names, folder)])]
+    with ThreadPoolExecutor(os.cpu_count()) as pool, Nodes(script[-1]) as nodes:
+        def compared_by(words, text, is_alone):
+            return compared(program, (lambda *it: said([*script, *it[0]], it[1])) if is_alone else nodes.said, words, text)
+
+        found = [*pool.map(lambda it: compared_by(*it), [*with_process(asked(program, names, folder))])]
         found += pool.map(lambda words: compared_wrong(program, script, words), rows(WRONG))
         found += pool.map(lambda words: passed_by(script, words), rows(OF_THE_PROGRAM))
     written = (["example"], ["example", "snip"], ["faults"])
