@@ -41,7 +41,13 @@ class Program:
 
     def case(self, function, text, words, is_read=True, options=b"", before=()):
         """A text for a function of the module, and what the program prints for the words, with the text on its input."""
-        output, status = self.program_answers(*words, text=text if is_read else b"")
+        answer = self.program_answers(*words, text=text if is_read else b"")
+        return self.answered_case(function, text, words, answer, options, before)
+
+    @staticmethod
+    def answered_case(function, text, words, answer, options=b"", before=()):
+        """The same, of what the program has answered."""
+        output, status = answer
         texts = [base64.b64encode(given).decode() for given in (*before, text, options)]
         return {"function": function, "words": words, "texts": texts, "status": status,
                 "length": len(output), "sum": hashlib.sha256(output).hexdigest()}
@@ -110,9 +116,9 @@ def broken(dice, texts):
 
 def cases_of_text(program, text):
     """A text given to each function that takes one; its report, where it has one, is checked too."""
-    made = [program.case("listset_replay", text, ["replay"]), program.case("listset_trace", text, ["trace"]),
-            program.case("listset_trace_with_chains", text, ["trace", "--chain"]), program.case("listset_check", text, ["check"])]
     report, status = program.program_answers("replay", text=text)
+    made = [program.answered_case("listset_replay", text, ["replay"], (report, status)), program.case("listset_trace", text, ["trace"]),
+            program.case("listset_trace_with_chains", text, ["trace", "--chain"]), program.case("listset_check", text, ["check"])]
     return made + ([program.case("listset_check", report, ["check"])] if status == 0 else [])
 
 
