@@ -1,17 +1,20 @@
-"""Each command that CONTRIBUTING.md names runs. Those that a step of `./gate` or `./gate --quick` makes are left to that step; those of
-`rt` are made in a small crate, and the others in a copy of the repository.
+"""Each command that CONTRIBUTING.md names runs. Those that a step of `./gate` or `./gate --quick` makes, alone or with more, are left to
+that step; those of `rt` are made in a small crate, and the others in a copy of the repository. What `page/test --parts` tries in node is a
+part of the step `page/test --node`, so here it is run without node.
 """
 
+import os
 import re
 import shutil
 
 from harness.cases import TOP, Wrong, cases, once, same
 from harness.programs import LONG, ran, well
-from harness.small_clone import small_clone
+from harness.small_clone import bare_path, small_clone
 
 COMMAND = re.compile(r"`(rt \w[^`]*|git grep [^`]*|(?:\./gate|\./listset|(?:build|docs/make|mutants|page|tests)/\w+)(?: [^`]+)?)`")
 # what needs a folder with all proofs, and which test has one
 TRIED_ELSEWHERE = {"build/check_over": "tests/other_toolchains.py"}
+WITHOUT_NODE = {"page/test --parts": "page/test --node"}
 # what stands in the page for what a reader has
 GIVEN = {"FUNCTION": "half", "WORDS": "example", "PAGE": "words", "--list NAME": "--list transcripts", "the text": "out of memory"}
 SMALL = """//! A small crate.
@@ -35,8 +38,20 @@ def commands():
 
 
 def steps(_room):
-    """What the two gates run."""
-    return "".join(well(TOP / "gate", *quick, "--steps") for quick in ([], ["--quick"]))
+    """The words of each step of the two gates."""
+    told = "".join(well(TOP / "gate", *quick, "--steps") for quick in ([], ["--quick"]))
+    return [line.partition(": ")[2].split() for line in told.splitlines()]
+
+
+def is_of_a_step(command):
+    """Whether a step makes a command of a script, but for a last word that stands for what a reader has; the step may name more."""
+    words = re.sub(r" [A-Z/]+$", "", command).split()
+    return words[0] != "./gate" and any(set(words) <= set(step) for step in once(steps))
+
+
+def without_node(room):
+    """A PATH that has no node."""
+    return bare_path(room / "without node")
 
 
 def copy(room):
@@ -64,7 +79,7 @@ def with_program(tree, program):
 @cases(commands)
 def command_of_the_page_runs(case, command):
     script = command.split()[0]
-    if re.sub(r" [A-Z/]+$", "", command) in once(steps) and script != "./gate":
+    if is_of_a_step(command):
         return
     if script in TRIED_ELSEWHERE:
         same(script in (TOP / TRIED_ELSEWHERE[script]).read_text(), True, f"{TRIED_ELSEWHERE[script]} tries {script}")
@@ -74,6 +89,10 @@ def command_of_the_page_runs(case, command):
     if command.startswith("./gate"):
         command += " --steps"
     folder = once(small) if command.startswith("rt ") else TOP if command.startswith("git ") else with_program(once(copy), case.program)
-    done = ran("bash", "-c", command, cwd=folder, seconds=LONG)
+    environment = dict(os.environ)
+    if step := WITHOUT_NODE.get(command):
+        same(is_of_a_step(step), True, f"a step of the gate makes {step}")
+        environment["PATH"] = str(once(without_node))
+    done = ran("bash", "-c", command, cwd=folder, env=environment, seconds=LONG)
     if done.returncode:
         raise Wrong(f"status {done.returncode}: {done.stdout[-1000:]}{done.stderr[-1000:]}")
