@@ -12,8 +12,9 @@ A mutant is a wrong body of a function, which the prover has to refuse. Those of
 `guards:` names the wrong body of the references, or the promise, that a mutant of the gate stands for. Each `old:` text stands in its
 file exactly once. Further pairs may follow, also of another file. A line that begins with # is a comment.
 
-A proof knows of what its function calls the contract alone, so the goals of a function hang on its own mutant; and so mutants of
-functions of which none leads to another are tried in one check, from nothing, of these functions alone.
+A proof knows of what its function calls the contract alone, so the goals of a function hang on its own mutant, also where a function
+that it calls is changed too; and so mutants of several functions are tried in one check, from nothing, of these functions and what they
+call. Each has to be refused by a goal of its own function there; one that is not is tried alone.
 """
 
 import collections
@@ -155,36 +156,17 @@ def changed_functions(mutant, folder, all_functions):
     return found
 
 
-def reached_names(all_functions):
-    """For each name of a function the names of functions that its body may lead to. What a body calls without its name, by a
-    `?`, an operator or a macro, goes by the names of the methods that stand for them."""
-    named = {it.name for it in all_functions}
-    unsaid = named & {"from", "fmt", "eq", "drop", "next", "into_iter", "clone"}
-    leads = {name: set() for name in named}
-    for it in all_functions:
-        leads[it.name] |= (named & set(re.findall(r"\w+", it.text.partition(f"fn {it.name}")[2]))) | unsaid
-    for _ in named:
-        for name, to in leads.items():
-            leads[name] = to.union(*(leads[it] for it in to))
-    return leads
-
-
 def groups(mutants, folder):
     """These mutants of a crate in groups to be tried together, each as pairs of a mutant and its function, or of one and None, which
-    is tried alone: those of a group change functions of different names of which none leads to another."""
+    is tried alone: those of a group change functions of different names."""
     all_functions = functions(folder)
-    leads, together, alone = reached_names(all_functions), [], []
+    together, alone = [], []
     for mutant in mutants:
         changed = changed_functions(mutant, folder, all_functions)
         it = changed.pop() if len(changed) == 1 else None
         if it is None:
             alone.append([(mutant, None)])
-            continue
-
-        def is_apart(group):
-            return all(it.name not in leads[o.name] | {o.name} and o.name not in leads[it.name] for _, o in group)
-
-        if group := next(filter(is_apart, together), None):
+        elif group := next((them for them in together if all(it.name != other.name for _, other in them)), None):
             group.append((mutant, it))
         else:
             together.append([(mutant, it)])
