@@ -13,7 +13,7 @@ import shutil
 import sys
 import unittest
 
-from harness.cases import NEEDED_BY_CASES, TOP, Wrong, each, needs, same
+from harness.cases import NEEDED_BY_CASES, TOP, Wrong, each, given, needs, once, same
 from harness.programs import ran, well
 
 FORMS = TOP / "examples" / "in-a-test"
@@ -59,18 +59,34 @@ def judge_script(path, script):
     return path
 
 
-# ---- of each language what builds its tests; it gives where they are run, and by which words
+# ---- of each language what builds its tests, once for all cases, and where a case of this room runs them, by which words
+
+
+def folder_in(room, name):
+    """A new folder."""
+    (room / name).mkdir()
+    return room / name
+
+
+def built_rust(room):
+    target = room / "built rust"
+    build_tests(room, "cargo", "test", "--no-run", "--offline", "--locked", "--target-dir", target, "--manifest-path", FORMS / "rust/Cargo.toml")
+    (tests,) = (it for it in (target / "debug/deps").glob("sets-*") if not it.suffix)
+    return tests
 
 
 def rust(room):
-    build_tests(room, "cargo", "test", "--no-run", "--offline", "--locked", "--target-dir", room / "target", "--manifest-path", FORMS / "rust/Cargo.toml")
-    (tests,) = (it for it in (room / "target/debug/deps").glob("sets-*") if not it.suffix)
-    return room, [tests]
+    return room, [once(built_rust)]
+
+
+def built_cpp(room):
+    built = room / "built cpp"
+    build_tests(FORMS / "cpp", "g++", "-O1", "-Wall", "-Wextra", "-Wshadow", "-Werror", "-std=c++17", "-pthread", "tests.cpp", "-o", built)
+    return built
 
 
 def cpp(room):
-    build_tests(FORMS / "cpp", "g++", "-O1", "-Wall", "-Wextra", "-Wshadow", "-Werror", "-std=c++17", "-pthread", "tests.cpp", "-o", room / "tests")
-    return room, [room / "tests"]
+    return room, [once(built_cpp)]
 
 
 def googletest(room):
@@ -86,9 +102,14 @@ def pytest(_):
     return FORMS / "python", [sys.executable, "-B", "-m", "pytest", "-q", "-p", "no:cacheprovider", "test_sets.py"]
 
 
+def built_java(room):
+    classes = folder_in(room, "built java")
+    build_tests(FORMS / "java", "javac", "-Xlint:all,-serial", "-Werror", "-d", classes, "Judge.java", "Sets.java", "Tests.java")
+    return classes
+
+
 def java(room):
-    build_tests(FORMS / "java", "javac", "-Xlint:all,-serial", "-Werror", "-d", room, "Judge.java", "Sets.java", "Tests.java")
-    return room, [shutil.which("java"), f"-Djava.io.tmpdir={room}", "-cp", room, "Tests"]
+    return room, [shutil.which("java"), f"-Djava.io.tmpdir={room}", "-cp", once(built_java), "Tests"]
 
 
 def junit(room):
@@ -96,10 +117,19 @@ def junit(room):
     return room, ["java", f"-Djava.io.tmpdir={room}", "-jar", JUNIT, "-cp", room, "--scan-classpath", "--disable-banner"]
 
 
+def go_words(*words):
+    """A command of go that looks for nothing in the network, and keeps what it compiles for the other tests of this run."""
+    return ["env", "GOPROXY=off", f"GOCACHE={given.room / 'go cache'}", "go", *words]
+
+
+def built_go(room):
+    sources = shutil.copytree(FORMS / "go", room / "built go")
+    build_tests(sources, *go_words("test", "-c", "-o", sources / "tests"))
+    return sources / "tests"
+
+
 def go(room):
-    shutil.copytree(FORMS / "go", room / "go")
-    build_tests(room / "go", "env", "GOPROXY=off", f"GOCACHE={room / 'cache'}", "go", "test", "-c", "-o", room / "tests")
-    return room, [room / "tests"]
+    return room, [once(built_go)]
 
 
 LANGUAGES = {"Rust": rust, "C++": cpp, "GoogleTest": googletest, "Python": python, "pytest": pytest, "Java": java, "JUnit": junit, "Go": go}

@@ -9,7 +9,7 @@ import sys
 
 from harness.cases import TOP, each, same
 from harness.programs import well
-from judge_in_a_test import FORMS, look_for
+from judge_in_a_test import FORMS, go_words, look_for
 
 PAGE = TOP / "docs" / "YOUR-SET.md"
 CPP = """#include "listset_judge.hpp"
@@ -162,7 +162,7 @@ def go(room):
     shutil.copytree(FORMS / "go", room / "judge", ignore=shutil.ignore_patterns("go.mod", "judge_test.go"))
     (room / "go.mod").write_text("module own\n\ngo 1.18\n")
     (room / "own_test.go").write_text(GO % (line_of("Go")[0], options_of("Go")))
-    return ["env", "GOPROXY=off", f"GOCACHE={room / 'cache'}", "go", "test", "./..."]
+    return go_words("test", "./...")
 
 
 LANGUAGES = {"GoogleTest": cpp, "Rust": rust, "Java": java, "Python": python, "Go": go}

@@ -23,7 +23,7 @@ NEEDED_BY_CASES = dict(it.split(": ", 1) for it in (TOP / "build/needs.txt").rea
 # What the run is asked: its `program`, other forms of it (`beside`), whether a tenth will do (`few`), whether tests are named; and its
 # `room` for files.
 given = types.SimpleNamespace(program=None, beside=[], few=False, is_named=False, room=None, is_ending=False)
-_made, _lock = {}, threading.Lock()
+_made, _locks, _lock = {}, {}, threading.Lock()
 
 
 class Wrong(AssertionError):
@@ -126,8 +126,10 @@ def lacking(why):
 
 
 def once(make):
-    """What a call makes, given the run's room, once for all cases."""
+    """What a call makes, given the run's room, once for all cases. (Others are made meanwhile.)"""
     with _lock:
+        of_make = _locks.setdefault(make, threading.Lock())
+    with of_make:
         if make not in _made:
             _made[make] = make(given.room)
         return _made[make]
