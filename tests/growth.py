@@ -123,6 +123,13 @@ def ceilings_of_keys_that_go(many):
     return Shape(range(half + 1), [call for key in range(half) for call in (("remove", key, "true"), ("ceiling", 0, f"at-{key + 1}"))], [half])
 
 
+def adds_past_the_quota(many):
+    """One thread puts in as many keys as it may; then each second add answers full, and each other one finds its key."""
+    opening, added = range(0, 2 * many, 2), range(1, 2 * QUOTA, 2)
+    later = [call for key in range(many, 2 * many - QUOTA, 2) for call in (("add", key + 1, "full"), ("add", key, "false"))]
+    return Shape(opening, calls_of("add", added) + later, sorted([*opening, *added]))
+
+
 # ---- layouts of calls: of the one with this number the thread, and the moments at which it begins, takes effect and ends
 
 def in_turn(number):
@@ -185,6 +192,7 @@ WAYS = [
     Way(opening_keys_removed_from_the_least, side_by_side),
     Way(looks, of_one_thread, shown="report"), Way(calls_that_change_nothing, side_by_side),
     Way(ceilings_between_changes, in_turn, True), Way(ceilings_of_keys_that_go, beside_a_call, True, shown="calls"),
+    Way(adds_past_the_quota, of_one_thread, True),
 ]
 
 

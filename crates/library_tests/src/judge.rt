@@ -270,6 +270,21 @@ fn is_apart(history: &History, window: &Window) -> bool {
     })
 }
 
+/// Whether a window has each call that changes its key, or may, and begins after its moment, by that of the refusal.
+fn has_changes(history: &History, window: &Window, refusal: Refusal) -> bool {
+    let end = refusal.moment.unwrap_or(u32::MAX);
+    for (number, call) in history.calls().iter().enumerate() {
+        let is_change = !matches!(call.call, Call::Contains(_))
+            && call.ended.is_none_or(|(_, reply)| reply == Reply::True);
+        let is_within = window.since < call.begun && call.begun <= end;
+        let is_wanted = is_change && is_within && call.call.key() == window.key;
+        if is_wanted && !window.calls.contains(&(number as u32)) {
+            return false;
+        }
+    }
+    true
+}
+
 /// How many calls the window of a refusal has, which is right.
 fn window_size<R: Abort>(
     rt: &R,
@@ -283,6 +298,7 @@ fn window_size<R: Abort>(
     assert!(rt; is_right(alloc, history, &window)?);
     assert!(rt; is_forced(alloc, history, &window)?);
     assert!(rt; is_apart(history, &window));
+    assert!(rt; has_changes(history, &window, refusal));
     Ok(window.calls.len())
 }
 
