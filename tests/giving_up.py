@@ -2,7 +2,7 @@
 Here each place of the sources that answers so stands directly under the failure of a call that can fail so: the `else` of
 `let Ok(..) = call`, `if call.is_err()`, an arm `Err(_)` of `match call`, or an arm that names such a failure. ODD_PLACES has all others,
 each with what decides it. ASKED has what is asked of std by a number, for a number that no machine has is refused as well. Where contracts
-say little, STEPS_OF, LOOPS_OF, SESSIONS_OF, ROUNDS_OF and LINGERS have what a function does."""
+say little, STEPS_OF, LOOPS_OF, SESSIONS_OF, TOLD_OF, ROUNDS_OF and LINGERS have what a function does."""
 
 import re
 from dataclasses import dataclass
@@ -205,6 +205,9 @@ STEPS_OF = {
     "lset_server/workers::start": "let let let let let Snapshot::of Snapshot::of Snapshot::of u64::from .spawn_with work .ok",
     "lset_server/workers::work": "let let while u64::from let next else hold",  # no number of calls ends it
     "lset_server/serving::accept_all": "for let .accept else let u64::from if send .is_err",  # nor has a stream
+    "lset_server/serving::send_all": "accept_all close_all",  # no number of sessions spares it a worker
+    "lset_server/serving::close_all": "for if send .is_err",
+    "lset_work/workers::make_calls": "let .thread for .iter .enumerate if .pass let .call Spin::new let .push else unreachable!",
     "lset_server/lingering::read": "let .elapsed let Duration::from_secs .saturating_sub .set_read_timeout let .read",
     "ffi_sets/yielding::failed": "let .get let match for hint::spin_loop if .set else libc::sched_yield",
     "lset_server/lingering::take_leave": "match let Instant::now else if .shutdown .is_err drop_rest Device::new",
@@ -229,6 +232,20 @@ SESSIONS_OF = {
     "lset_server/workers::start": ("move || work(rt, from, pass, set, seat, most)", "most", ["most = self.sessions"]),
     "lset_server/workers::work": ("while sessions < u64::from(most) {", "most", []),
     "lset_server/serving::serve_in": ("let workers = seats.len()", "workers", ["workers = seats.len()"]),  # not as many as the set has
+}
+# How many workers are told to end, when a gate is asked, and what the pause of a call that waits is told. Contracts do not say it; so here
+# is what each of these says, and what gives a name its value.
+TOLD_OF = {
+    "lset_server/serving::serve_in": ("send_all(pool.rt, listener, &pool.to, &mut pass, pool.sessions, workers)?", "pass", []),
+    "lset_server/serving::send_all":
+        ("accept_all(rt, listener, to, pass, sessions)?; close_all(rt, to, pass, workers)", "workers", []),
+    "lset_server/serving::close_all": ("for _ in 0..workers { if send(rt, to, pass, Message::Close).is_err() {", "workers", []),
+    "lset_work/workers::make_calls":
+        ("for (number, call) in calls.iter().enumerate() { if !gate.pass(thread, number as u32) { return false; } let reply ="
+         " set.call(rt, seat, *call, &Spin::new());", "thread", ["thread = seat.thread()"]),
+    "lset_loops/steps::wait_for":
+        ("if seen == 0 { self.pause.taken(self.slots.thread); return Some(()); } self.pause.failed(self.slots.thread); } None", "seen",
+         ["seen = exchange_on::<M>(self.table, place, word, 0, own)"]),
 }
 # The bound on its rounds that a call is given: that of its caller, `N`, but where the caller has none. A call that may wait has to take
 # as many rounds as it needs: its contract lets it wait for ever instead, past any bound, and that of a call from C lets it answer nothing.
@@ -643,12 +660,22 @@ def a_server_has_no_other_loops(_case):
     same(found, LOOPS_OF, "the loops of the server")
 
 
-@test
-def a_worker_holds_as_many_sessions_as_it_may(_case):
-    for name, (text, number, values) in SESSIONS_OF.items():
+def says_so(rows):
+    """Each function of the rows has its text once, and what gives a name its value."""
+    for name, (text, number, values) in rows.items():
         body = next(it for it in once(sources).bodies if it.name == name)
         same(body.said(body.items).count(text), 1, f"how often {name} says `{text}`")
         same(body.values.get(number, []), values, f"what gives `{number}` of {name} its value")
+
+
+@test
+def a_worker_holds_as_many_sessions_as_it_may(_case):
+    says_so(SESSIONS_OF)
+
+
+@test
+def each_worker_each_gate_and_each_pause_is_told(_case):
+    says_so(TOLD_OF)
 
 
 @test

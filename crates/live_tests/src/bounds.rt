@@ -17,7 +17,7 @@ impl<const N: u64> Rounds for UpTo<N> {
 }
 
 /// The keys that a set opens with. A walk to a key looks at each key below it and at the first that is not.
-const KEYS: [u32; 5] = [10, 20, 30, 40, 50];
+pub const KEYS: [u32; 5] = [10, 20, 30, 40, 50];
 
 /// A set with two seats, and these.
 pub fn opened<M: Bounded, R: Abort>(rt: &R, alloc: Global) -> (LiveSet<M>, Seat<M>, Seat<M>)

@@ -113,7 +113,7 @@ fn a_ceiling_while_a_key_is_added(rt: HostRuntime) {
 }
 
 /// Each kind of call with each of its replies, from a seat with one slot, on a set that is empty.
-const EACH_REPLY: [(Call, Reply); 11] = [
+pub const EACH_REPLY: [(Call, Reply); 11] = [
     (Call::Ceiling(Key(9)), Reply::Nothing),
     (Call::Remove(Key(9)), Reply::False),
     (Call::Contains(Key(9)), Reply::False),

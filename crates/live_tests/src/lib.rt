@@ -49,6 +49,8 @@ mod stopping;
 #[cfg(test)]
 mod typed;
 #[cfg(test)]
+mod waiters;
+#[cfg(test)]
 mod waiting;
 #[cfg(test)]
 mod ways;

@@ -1,19 +1,42 @@
 //! Programs as long as they may be, on as many seats as there may be, in any order; and the seats and numbers that a gate gets.
 ghost use Rattle.std.specs.Prelude.{◌≡◌, All};
 
+use crate::gathering::EACH_REPLY;
 use crate::opened::{last_of, rising_keys};
 use crate::prelude::*;
-use crate::programs::{Asked, are_answered, pair, worked};
+use crate::programs::{Asked, alone, are_answered, pair, tried, worked};
 use crate::ways::{WAYS, Way, holding, make_calls_in};
+use lset_work::WorkCause;
 
 /// More calls than a smaller number can count, and so many that the square of them is not made in time.
 const MANY_CALLS: u32 = 2_000_000;
 
-/// Is asked for the calls of up to three programs: those of each have to come in turn.
+/// No call of a program has this number.
+const NEVER: u32 = u32::MAX;
+
+/// Is asked for the calls of up to three programs: those of each have to come in turn. It answers false at those of one number.
 #[derive(Drop)]
 struct InTurn {
+    shut_at: u32,
     next: [AtomicU64; 3],
     missed: AtomicBool,
+}
+
+impl InTurn {
+    fn new(shut_at: u32) -> InTurn {
+        InTurn {
+            shut_at,
+            next: [0; 3].map(AtomicU64::new),
+            missed: AtomicBool::new(false),
+        }
+    }
+
+    /// Each call came in turn, and so many did of each program.
+    fn was_asked(&self, wanted: [u64; 3]) -> bool {
+        let counts = self.next.iter().zip(&wanted);
+        let mut are_there = counts.map(|(next, wanted)| next.load(Ordering::SeqCst) == *wanted);
+        are_there.all(|is_there| is_there) && !self.missed.load(Ordering::SeqCst)
+    }
 }
 
 impl Gate for InTurn {
@@ -25,7 +48,7 @@ impl Gate for InTurn {
         if number != u64::from(call) {
             self.missed.store(true, Ordering::SeqCst);
         }
-        true
+        call != self.shut_at
     }
 }
 
@@ -33,10 +56,7 @@ impl Gate for InTurn {
 fn may_be_long<R: Host>(rt: &R, alloc: Global, count: u32, calls: u32) {
     let drawn = programs(alloc, count, calls, 8, 7).expect(rt, "not drawn");
     let (set, seats) = open::<LockFreeList>(alloc, count, 16_384).expect(rt, "not opened");
-    let gate = InTurn {
-        next: [0; 3].map(AtomicU64::new),
-        missed: AtomicBool::new(false),
-    };
+    let gate = InTurn::new(NEVER);
     let outcome = worked(rt, alloc, set, seats, drawn, &gate);
     assert!(rt; outcome.replies.len() == count as usize);
     for (replies, next) in outcome.replies.iter().zip(&gate.next) {
@@ -55,6 +75,80 @@ fn a_program_may_be_long(rt: HostRuntime) {
 #[test]
 fn each_of_three_programs_may_be_long(rt: HostRuntime) {
     may_be_long(&rt, rt.alloc(), 3, MANY_CALLS / 3);
+}
+
+/// The calls of these rows, and their replies.
+fn calls_and_replies<R: Abort>(
+    rt: &R,
+    alloc: Global,
+    rows: &[(Call, Reply)],
+) -> (Vec<Call>, Vec<Reply>) {
+    let (mut calls, mut replies) = (Vec::new(alloc), Vec::new(alloc));
+    for (call, reply) in rows {
+        calls.push(*call).expect(rt, "room");
+        replies.push(*reply).expect(rt, "room");
+    }
+    (calls, replies)
+}
+
+/// How often the seat that holds all of so many is asked, which is the last.
+fn of_the_last(seats: u32, calls: u64) -> [u64; 3] {
+    match seats {
+        1 => [calls, 0, 0],
+        2 => [0, calls, 0],
+        _ => [0, 0, calls],
+    }
+}
+
+/// A seat that holds all of so many makes each kind of call with each of its replies.
+fn asks_at_each_call<R: Host>(rt: &R, alloc: Global, seats: u32) {
+    let (calls, replies) = calls_and_replies(rt, alloc, &EACH_REPLY);
+    let (set, seat) = holding::<LockFreeList, R>(rt, alloc, seats, 1, true);
+    let (held, programs) = alone(rt, alloc, seat, &calls);
+    let gate = InTurn::new(NEVER);
+    let outcome = worked(rt, alloc, set, held, programs, &gate);
+    assert!(rt; are_answered(&outcome, &[replies.as_slice()]));
+    assert!(rt;
+        gate.was_asked(of_the_last(seats, calls.len() as u64)),
+        "{seats}"
+    );
+}
+
+/// The gate answers false at a call of it, and so no more is made.
+fn ends_at_its_call<R: Host>(rt: &R, alloc: Global, seats: u32, shut_at: u32) {
+    let (calls, _replies) = calls_and_replies(rt, alloc, &EACH_REPLY);
+    let (set, seat) = holding::<LockFreeList, R>(rt, alloc, seats, 1, true);
+    let (held, programs) = alone(rt, alloc, seat, &calls);
+    let gate = InTurn::new(shut_at);
+    let Err(fault) = tried(rt, alloc, set, held, programs, &gate) else {
+        panic!(rt; "not refused at {shut_at} of {seats}")
+    };
+    let asked = u64::from(shut_at).wrapping_add(1);
+    assert!(rt; fault.cause == WorkCause::Gate && gate.was_asked(of_the_last(seats, asked)));
+}
+
+#[test]
+fn a_gate_is_asked_at_each_kind_of_call(rt: HostRuntime) {
+    for seats in 1..=3 {
+        asks_at_each_call(&rt, rt.alloc(), seats);
+        for shut_at in 0..EACH_REPLY.len() as u32 {
+            ends_at_its_call(&rt, rt.alloc(), seats, shut_at);
+        }
+    }
+}
+
+/// Three seats make calls of each kind at once.
+#[test]
+fn each_of_three_seats_asks_at_each_kind_of_call(rt: HostRuntime) {
+    let (set, seats) = open::<LockFreeList>(rt.alloc(), 3, 1).expect(&rt, "not opened");
+    let mut programs = Vec::new(rt.alloc());
+    for _ in 0..3 {
+        let (calls, _replies) = calls_and_replies(&rt, rt.alloc(), &EACH_REPLY);
+        programs.push(calls).expect(&rt, "room");
+    }
+    let gate = InTurn::new(NEVER);
+    let _outcome = worked(&rt, rt.alloc(), set, seats, programs, &gate);
+    assert!(&rt; gate.was_asked([EACH_REPLY.len() as u64; 3]));
 }
 
 /// Holds the second call of each of 64 seats until all of them are there; and counts which of them were.

@@ -1,7 +1,7 @@
 //! How often a call asks its pause, and of which thread it tells.
 ghost use Rattle.std.specs.Prelude.{◌≡◌};
 
-use crate::opened::two_seats;
+use crate::opened::{last_of, two_seats};
 use crate::prelude::*;
 use lset_live::Countless;
 use std::cell::Cell;
@@ -116,21 +116,46 @@ fn paused<M: Running, R: Host>(
     seat
 }
 
-/// How often each of the calls asks its pause, each time with thread 1, from the seat of that thread, which has gathered the
-/// other one or not.
+/// How often each of the calls asks its pause, each time with this thread, from the seat of that thread.
+fn pauses_from<M: Running, R: Host>(
+    rt: &R,
+    alloc: Global,
+    set: &LiveSet<M>,
+    mut seat: Seat<M>,
+    thread: u32,
+    within: bool,
+) -> Vec<u64>
+    requires { seat.set ≡ set.now }
+{
+    let mut pauses = Vec::new(alloc);
+    for call in &OF_EACH_KIND {
+        let count = Count::new(thread);
+        seat = paused(rt, set, seat, *call, &count, within);
+        assert_eq!(rt; count.wrong.get(), 0, "{call:?}");
+        pauses.push(count.steps.get()).expect(rt, "room");
+    }
+    pauses
+}
+
+/// So do those of seat 1, which has gathered the other one or not.
 fn pauses_of<M: Running, R: Host>(rt: &R, alloc: Global, gathers: bool, within: bool) -> Vec<u64> {
     let (set, zero, mut one) = two_seats::<M, R>(rt, alloc);
     if gathers {
         set.gather(&mut one, zero);
     }
-    let mut pauses = Vec::new(alloc);
-    for call in &OF_EACH_KIND {
-        let count = Count::new(1);
-        one = paused(rt, &set, one, *call, &count, within);
-        assert_eq!(rt; count.wrong.get(), 0, "{call:?}");
-        pauses.push(count.steps.get()).expect(rt, "room");
-    }
-    pauses
+    pauses_from(rt, alloc, &set, one, 1, within)
+}
+
+/// So do those of the last of so many seats.
+fn pauses_of_last<M: Running, R: Host>(
+    rt: &R,
+    alloc: Global,
+    seats: u32,
+    within: bool,
+) -> Vec<u64> {
+    let (set, mut all) = open::<M>(alloc, seats, 4).expect(rt, "not opened");
+    let last = last_of(rt, &set, &mut all);
+    pauses_from(rt, alloc, &set, last, seats.wrapping_sub(1), within)
 }
 
 fn asks_alike<M: Running, R: Host>(rt: &R, alloc: Global) {
@@ -144,4 +169,17 @@ fn asks_alike<M: Running, R: Host>(rt: &R, alloc: Global) {
 #[test]
 fn a_gathered_seat_asks_its_pause(rt: HostRuntime) {
     at_each_list!(asks_alike, rt);
+}
+
+fn asks_from_each<M: Running, R: Host>(rt: &R, alloc: Global) {
+    let wanted = pauses_of::<M, R>(rt, alloc, false, false);
+    for seats in [1, 3, 4, 64] {
+        assert!(rt; pauses_of_last::<M, R>(rt, alloc, seats, false) == wanted);
+        assert!(rt; pauses_of_last::<M, R>(rt, alloc, seats, true) == wanted);
+    }
+}
+
+#[test]
+fn the_last_of_many_seats_asks_its_pause(rt: HostRuntime) {
+    at_each_list!(asks_from_each, rt);
 }

@@ -20,7 +20,7 @@ fn are_short(programs: &[Vec<Call>]) -> bool
 }
 
 /// `work`, once it is seen that the programs are short.
-fn tried<M: Running + Send + Sync, R: Host, G: Gate + Sync>(
+pub fn tried<M: Running + Send + Sync, R: Host, G: Gate + Sync>(
     rt: &R,
     alloc: Global,
     set: LiveSet<M>,
@@ -325,7 +325,7 @@ fn a_program_may_be_empty(rt: HostRuntime) {
     assert!(rt; are_as_wanted(&outcome, &[&[Reply::True], &[]], &[5]));
 }
 
-fn alone<M: Running, R: Abort>(
+pub fn alone<M: Running, R: Abort>(
     rt: &R,
     alloc: Global,
     seat: Seat<M>,

@@ -49,6 +49,31 @@ pub fn meets<R: Host + Net<Listener = TcpListener, Stream = TcpStream>>(
     has_asked && both_come(rt, met) && is_answered(&mut stream, b"QUIT\n", b"BYE\n")
 }
 
+/// So many clients, of which none goes away before all have their answers.
+pub fn all_meet<R: Host + Net<Listener = TcpListener, Stream = TcpStream>>(
+    rt: &R,
+    alloc: Global,
+    port: u16,
+    clients: u32,
+) -> bool {
+    let mut streams = Vec::new(alloc);
+    for _ in 0..clients {
+        let Ok(mut stream) = TcpStream::connect(rt, ("127.0.0.1", port)) else {
+            return false;
+        };
+        if !is_answered(&mut stream, b"CONTAINS 5\n", b"FALSE\n") {
+            return false;
+        }
+        streams.push(stream).expect(rt, "room");
+    }
+    while let Some(mut stream) = streams.pop() {
+        if !is_answered(&mut stream, b"QUIT\n", b"BYE\n") {
+            return false;
+        }
+    }
+    true
+}
+
 /// Sends the text and goes away.
 pub fn leaves<R: Host + Net<Listener = TcpListener, Stream = TcpStream>>(
     rt: &R,

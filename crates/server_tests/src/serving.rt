@@ -1,7 +1,7 @@
 //! Servers on the loopback, and their clients.
 ghost use Rattle.std.specs.Prelude.{◌≡◌, All};
 
-use crate::clients::{asks, leaves, meets};
+use crate::clients::{all_meet, asks, leaves, meets};
 use crate::opened::{ANSWERS, CEILINGS, FOUND, LINES, Set, last_seat, opened};
 use crate::prelude::*;
 use lset_lazy::LazyList;
@@ -102,6 +102,34 @@ fn each_number_of_seats_serves(rt: HostRuntime) {
         made(&rt, &served, 0, 0, &[]);
         let served = served_while(&rt, rt.alloc(), seats, 2, |port: u16| both_meet(&rt, port));
         made(&rt, &served, 2, 2, &[1, 2]);
+    }
+}
+
+/// On each of these seats a session is held at once, as long as there are sessions; and then those that are left.
+fn meets_on_each_seat<R: Host + Net<Listener = TcpListener, Stream = TcpStream>>(
+    rt: &R,
+    alloc: Global,
+    seats: u32,
+    sessions: u32,
+) {
+    let first = sessions.min(seats);
+    let rest = sessions.saturating_sub(first);
+    let served = served_while(rt, alloc, seats, sessions, |port: u16| {
+        all_meet(rt, alloc, port, first) && all_meet(rt, alloc, port, rest)
+    });
+    made(rt, &served, u64::from(sessions), u64::from(sessions), &[]);
+}
+
+/// Fewer sessions than seats, as many, and more.
+#[test]
+fn each_number_of_sessions_meets(rt: HostRuntime) {
+    for seats in 2..=8u32 {
+        for sessions in 1..=seats.saturating_add(2) {
+            meets_on_each_seat(&rt, rt.alloc(), seats, sessions);
+        }
+    }
+    for sessions in [40, 62, 63, 64, 65] {
+        meets_on_each_seat(&rt, rt.alloc(), 64, sessions);
     }
 }
 
