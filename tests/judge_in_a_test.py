@@ -9,6 +9,7 @@ bounded.
 import importlib.util
 import os
 import pathlib
+import re
 import shutil
 import sys
 import unittest
@@ -203,6 +204,13 @@ def is_judged_in_parts(case, parts):
         raise Wrong(f"of {len(parts)} parts: {said}")
 
 
+def says_its_threads(recording):
+    """Whether a recording says as many threads as its calls have numbers, so that `show` draws a row for no other."""
+    text = recording.read_text()
+    numbers = {int(it) for it in re.findall(r"^call (\d+) ", text, re.M)}
+    same(re.findall(r"^threads (\d+)$", text, re.M), [str(max(numbers, default=0) + 1)], f"the threads of {recording.name}")
+
+
 @each(LANGUAGES)
 def a_form_judges(case, language):
     look_for(language)
@@ -213,7 +221,10 @@ def a_form_judges(case, language):
     if FEW_OVERLAPS.get(language, "") not in said:
         raise Wrong(f"nothing says that few calls overlapped: {said[-3000:]}")
     if language in FIRST_TESTS:
-        is_judged_in_parts(case, sorted((case.room / "recorded").iterdir()))
+        parts = sorted((case.room / "recorded").iterdir())
+        is_judged_in_parts(case, parts)
+        for it in [*parts, *case.room.glob("listset-seed-*")]:
+            says_its_threads(it)
         left = files_of_judging(case.room)
         same([it for it in left if not it.startswith("listset-seed-")], [], "the files that are left beside recordings")
         tells_judge(first_said(where, words, language, case.room / "judge"), case.room / "judge", proof_of(case.program))

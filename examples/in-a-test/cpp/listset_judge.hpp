@@ -364,17 +364,19 @@ inline std::string call_line(unsigned thread, const row &it) {
 
 // A thread whose quota is used goes on under another number.
 inline std::string run::text() const {
-    std::string text = "listset-calls 2\nlist lazy\nthreads 64\nquota " + std::to_string(QUOTA) + "\n";
+    std::string calls;
     std::unordered_map<unsigned, std::pair<unsigned, unsigned>> numbers;  // of each thread its number, and the adds of that
     unsigned next = 0;
-    for (unsigned key : opening) text += "opening " + std::to_string(key) + "\n";
     for (auto *of : {&rows, &pending})
         for (auto &it : *of) {
             auto &[number, added] = numbers.try_emplace(it.thread, 0, QUOTA).first->second;
             if (added == QUOTA) number = next++, added = 0;
             added += it.call == ADD && it.reply;
-            text += call_line(number, it) + "\n";
+            calls += call_line(number, it) + "\n";
         }
+    std::string text = "listset-calls 2\nlist lazy\nthreads " + std::to_string(std::max(next, 1u)) + "\nquota " + std::to_string(QUOTA) + "\n";
+    for (unsigned key : opening) text += "opening " + std::to_string(key) + "\n";
+    text += calls;
     if (!trouble.empty()) return text + "cut\n";
     for (unsigned key : left) text += "key " + std::to_string(key) + "\n";
     return text + "end\n";

@@ -23,8 +23,7 @@ import (
 )
 
 const (
-	quota   = 16384 // the most adds that answered true, of one thread number of a recording
-	numbers = 64    // of threads, of a recording
+	quota = 16384 // the most adds that answered true, of one thread number of a recording
 )
 
 // Set is what is called from many goroutines at once.
@@ -330,11 +329,7 @@ func kept(recording string, seed int64) string {
 
 // text is the recording that `listset judge` reads. A goroutine whose quota is used goes on under another number.
 func (it *run) text() string {
-	var text strings.Builder
-	fmt.Fprintf(&text, "listset-calls 2\nlist lazy\nthreads %d\nquota %d\n", numbers, quota)
-	for _, key := range it.opening {
-		fmt.Fprintf(&text, "opening %d\n", key)
-	}
+	var text, calls strings.Builder
 	next, number, left := 0, map[int]int{}, map[int]int{}
 	for _, call := range append(append([]row{}, it.rows...), it.pending...) {
 		if left[call.thread] == 0 {
@@ -344,8 +339,16 @@ func (it *run) text() string {
 		if call.call == "add" && call.reply {
 			left[call.thread]--
 		}
-		text.WriteString(call.line(number[call.thread]))
+		calls.WriteString(call.line(number[call.thread]))
 	}
+	if next == 0 { // (a recording has a thread, also without a call)
+		next = 1
+	}
+	fmt.Fprintf(&text, "listset-calls 2\nlist lazy\nthreads %d\nquota %d\n", next, quota)
+	for _, key := range it.opening {
+		fmt.Fprintf(&text, "opening %d\n", key)
+	}
+	text.WriteString(calls.String())
 	if it.trouble != "" {
 		return text.String() + "cut\n"
 	}

@@ -565,10 +565,9 @@ public final class Judge {
 
         /** The recording that the judge reads. A thread whose quota is used goes on under another number. */
         String text() {
-            StringBuilder text = new StringBuilder("listset-calls 2\nlist lazy\nthreads 64\nquota " + QUOTA + "\n");
+            StringBuilder text = new StringBuilder(), head = new StringBuilder("listset-calls 2\nlist lazy\nthreads ");
             int[] number = new int[NUMBERS], adds = new int[NUMBERS];
             int next = 0;
-            for (int key : opening) text.append("opening ").append(key).append('\n');
             for (Row it : all()) {
                 if (adds[it.thread] == 0) {
                     number[it.thread] = next++;
@@ -577,9 +576,11 @@ public final class Judge {
                 if (it.isAdd()) adds[it.thread]--;
                 text.append(it.line(number[it.thread]));
             }
-            if (trouble != null) return text.append("cut\n").toString();
+            head.append(Math.max(next, 1)).append("\nquota ").append(QUOTA).append('\n');
+            for (int key : opening) head.append("opening ").append(key).append('\n');
+            if (trouble != null) return head.append(text).append("cut\n").toString();
             for (int key : left) text.append("key ").append(key).append('\n');
-            return text.append("end\n").toString();
+            return head.append(text).append("end\n").toString();
         }
     }
 

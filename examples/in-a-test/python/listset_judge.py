@@ -360,15 +360,15 @@ class Run:
 
     def text(self):
         """The recording that `listset judge` reads. A thread whose quota is used goes on under another number."""
-        lines = ["listset-calls 2", "list lazy", "threads 64", f"quota {QUOTA}", *(f"opening {key}" for key in self.opening)]
-        numbers, added, number = itertools.count(), collections.Counter(), {}
+        calls, threads, added, number = [], 0, collections.Counter(), {}
         for it in itertools.chain(self.rows, self.pending):
             if it.thread not in number or added[it.thread] == QUOTA:
-                number[it.thread], added[it.thread] = next(numbers), 0
+                number[it.thread], added[it.thread], threads = threads, 0, threads + 1
             added[it.thread] += it.call == ADD and it.reply
-            lines.append(line_of(number[it.thread], it))
+            calls.append(line_of(number[it.thread], it))
+        head = ["listset-calls 2", "list lazy", f"threads {max(threads, 1)}", f"quota {QUOTA}"]
         rest = ["cut"] if self.trouble else [*(f"key {key}" for key in self.left), "end"]
-        return "\n".join([*lines, *rest, ""])
+        return "\n".join([*head, *(f"opening {key}" for key in self.opening), *calls, *rest, ""])
 
 
 def end_with_parent():

@@ -82,17 +82,18 @@ impl Run {
 
     /// The recording that `listset judge` reads. A thread whose quota is used goes on under another number.
     fn text(&self) -> String {
-        let mut text = format!("listset-calls 2\nlist lazy\nthreads 64\nquota {QUOTA}\n");
-        let (mut numbers, mut next) = (HashMap::<usize, (usize, u32)>::new(), 0);
-        self.opening.iter().for_each(|key| writeln!(text, "opening {key}").unwrap());
+        let (mut numbers, mut next, mut calls) = (HashMap::<usize, (usize, u32)>::new(), 0, String::new());
         for it in self.rows.iter().chain(&self.pending) {
             let (number, added) = numbers.entry(it.thread).or_insert((0, QUOTA));
             if *added == QUOTA {
                 (*number, *added, next) = (next, 0, next + 1);
             }
             *added += u32::from(it.has_added());
-            text += &it.line(*number);
+            calls += &it.line(*number);
         }
+        let mut text = format!("listset-calls 2\nlist lazy\nthreads {}\nquota {QUOTA}\n", next.max(1));
+        self.opening.iter().for_each(|key| writeln!(text, "opening {key}").unwrap());
+        text += &calls;
         if self.trouble.is_some() {
             return text + "cut\n";
         }
