@@ -39,6 +39,9 @@ ASKED = """
 1 replay refused.schedule
 1 replay version-1-opening.schedule
 1 report ../../tests/transcripts/data/recorded/seen.calls
+3 report ../../tests/transcripts/data/recorded/found.calls
+1 judge ../../tests/transcripts/data/recorded/found.calls
+5 show ../../tests/transcripts/data/recorded/found.calls
 2 check one-add.report
 2 check opens-with-keys.report
 1 check ceiling-left-in-chain.broken.report
