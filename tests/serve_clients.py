@@ -339,6 +339,21 @@ def one_line_after_another(case):
         server.ends(1, calls, calls, keys)
 
 
+@test
+def a_client_that_says_nothing_is_waited_for(case):
+    """A client may say nothing for some seconds, also within a line, and then goes on: no read of a session has a time."""
+    with serving(case.program, ONE_LIST, 1, 1, 1) as server:
+        with server.connect() as connection:
+            connection.settimeout(SOON)
+            asks(connection, b"ADD 7\n", b"TRUE\n")
+            time.sleep(LATE)
+            connection.sendall(b"CONT")
+            time.sleep(LATE)
+            asks(connection, b"AINS 7\n", b"TRUE\n")
+            asks(connection, b"QUIT\n", b"BYE\n")
+        server.ends(1, 2, 2, [7])
+
+
 # ---- answers that wait, and a client that does not read them
 
 

@@ -32,7 +32,7 @@ EVENT_LINES = "for (index, line) in lines.iter().enumerate()"
 # Calls of std that may wait, and calls that may go over all of a slice, a text or a tree
 MAY_WAIT = re.compile(r"""
     (\.|\w+::)?((try_)?(recv|send|lock|accept|connect|select|ready)(_as|_timeout|_deadline|_until)?|read(_exact|_to_\w+|_until)?
-    |write(_all)?|flush|shutdown|incoming|join|scope|sleep\w*|park\w*|wait\w*|block_on|spin\w*|snooze|yield_now|sched_yield|call_once
+    |write(_all)?|set_(read|write)_timeout|flush|shutdown|incoming|join|scope|sleep\w*|park\w*|wait\w*|block_on|spin\w*|snooze|yield_now|sched_yield|call_once
     |get_or_init)""", re.X)
 MAY_GO_OVER = re.compile(r"""
     (\.|\w+::)(all|any|r?position|r?find|find_map|contains|starts_with|ends_with|count|sum|product|(min|max)_by\w*|(try_)?(fold|for_each)
@@ -55,7 +55,7 @@ WAITS = [
     ("lset_server/channel::receive", ".recv_as", "the next connection, or the message that there is none"),
     ("own_threads/main::look_up", ".recv", "the answer to a question"),
     ("lset_session/(sessions::session|(buffered|devices)::read) lset_server/lingering::drop_rest", ".read", "what the client sends next"),
-    ("lset_server/lingering::read", ".read", "the same, for a second at most"),
+    ("lset_server/lingering::read", ".set_read_timeout .read", "the same, for a second at most"),
     ("lset_session/buffered::(write|flush)", ".flush", "the client takes answers"),
     ("lset_session/(buffered::write|devices::(write|write_all))", ".write", "the same"),
     ("lset_server/lingering::take_leave", ".shutdown", "the system"),
@@ -87,7 +87,7 @@ GOES_OVER = [
 CHEAP_OF_STD = set("""
     .absorb .another .as_bytes .as_slice .as_str .checked_sub .compare_exchange .debug_struct .elapsed .enumerate .field
     .finish_non_exhaustive .forever .format .get .into_iter .is_ascii_digit .is_empty .is_err .is_none .is_some .iter .join_seat
-    .learn_as .len .load .map_err .ok .ok_or .pop .reset .saturating_sub .set .set_nodelay .set_read_timeout .spawn_with .split_seat
+    .learn_as .len .load .map_err .ok .ok_or .pop .reset .saturating_sub .set .set_nodelay .spawn_with .split_seat
     .store .take .try_borrow_mut .unwrap_or Arc::new Arc::try_clone Arc::try_unwrap ArrayString::new Backoff::new Box::from_raw
     Box::into_raw_with_allocator Box::new Cell::new Duration::from_secs Instant::now RefCell::new Snapshot::of Vec::new
     Vec::with_capacity ends_or_pauses! ptr::null_mut replace thread::scope_env u32::try_from u64::from unreachable! write!
