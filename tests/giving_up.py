@@ -233,8 +233,8 @@ SESSIONS_OF = {
     "lset_server/workers::work": ("while sessions < u64::from(most) {", "most", []),
     "lset_server/serving::serve_in": ("let workers = seats.len()", "workers", ["workers = seats.len()"]),  # not as many as the set has
 }
-# How many workers are told to end, when a gate is asked, and what the pause of a call that waits is told. Contracts do not say it; so here
-# is what each of these says, and what gives a name its value.
+# How many workers get the message to end, when a gate is called, and with which thread a pause is called at a lock. Contracts do not say
+# it; so here is what each of these says, and what gives a name its value.
 TOLD_OF = {
     "lset_server/serving::serve_in": ("send_all(pool.rt, listener, &pool.to, &mut pass, pool.sessions, workers)?", "pass", []),
     "lset_server/serving::send_all":

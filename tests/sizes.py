@@ -320,7 +320,7 @@ def few_by(items, at):
 
 
 def is_array(items, at):
-    """Whether an array of its own stands at a place: `[0, 1]`, and not `keys[1]`."""
+    """Whether an array literal begins at a place: `[0, 1]`, and not `keys[1]`."""
     before = text_at(items, at - 1)
     return text_at(items, at) == "[" and not (re.match(r"\w", before) or before in (")", "]", "(", "[", "?"))
 

@@ -1,4 +1,4 @@
-"""Many runs of page/listset.js in few processes of node (one_node.js): each is told as a process of its own would tell it."""
+"""Many runs of page/listset.js in few processes of node (one_node.js), each with the output and status of a process of its own."""
 
 import base64
 import json

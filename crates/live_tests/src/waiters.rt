@@ -1,4 +1,4 @@
-//! What the pause of a seat that waits at a lock is told: of which thread, also where the seat has no slot.
+//! The thread with which a pause is called while its seat waits at a lock, also if the seat has no slot.
 ghost use Rattle.std.specs.Prelude.{◌≡◌};
 
 use crate::bounds::KEYS;
@@ -8,8 +8,8 @@ use crate::prelude::*;
 use crate::waiting::comes;
 use std::cell::Cell;
 
-/// Counts the tries of a thread at a lock that fail, those that take it after them, and what is told of another thread. It says when
-/// three have failed.
+/// Counts a thread's tries at a lock that fail, those that take it after them, and the calls with another thread. It says when three
+/// have failed.
 #[derive(Drop)]
 struct Waiter<'a> {
     thread: u32,
@@ -30,7 +30,7 @@ impl<'a> Waiter<'a> {
         }
     }
 
-    /// Whether it was told of failures, and that the lock was taken, and each time of its thread.
+    /// Whether tries failed, the lock was taken, and each call had its thread.
     fn has_waited(&self) -> bool {
         self.failed.get() >= 3 && self.taken.get() > 0 && self.wrong.get() == 0
     }
@@ -136,7 +136,7 @@ const TAKES_OUT: Call = Call::Remove(Key(20));
 
 /// At the lock of the list; at that of the head, with which a call begins; and at that of the first node.
 #[test]
-fn a_pause_is_told_which_thread_waits_at_a_first_lock(rt: HostRuntime) {
+fn a_pause_is_called_with_the_thread_that_waits_at_a_first_lock(rt: HostRuntime) {
     for call in [LOOKS, TAKES_OUT] {
         each_waits::<CoarseList, HostRuntime>(&rt, rt.alloc(), 0, call);
         each_waits::<FineList, HostRuntime>(&rt, rt.alloc(), 0, call);
@@ -146,7 +146,7 @@ fn a_pause_is_told_which_thread_waits_at_a_first_lock(rt: HostRuntime) {
 
 /// The lock of 20 is the first that a call that takes 30 out takes, and the second of those that wait.
 #[test]
-fn a_pause_is_told_which_thread_waits_at_a_later_lock(rt: HostRuntime) {
+fn a_pause_is_called_with_the_thread_that_waits_at_a_later_lock(rt: HostRuntime) {
     each_waits::<OptimisticList, HostRuntime>(&rt, rt.alloc(), 6, LOOKS);
     each_waits::<OptimisticList, HostRuntime>(&rt, rt.alloc(), 6, TAKES_OUT);
     each_waits::<LazyList, HostRuntime>(&rt, rt.alloc(), 6, TAKES_OUT);

@@ -93,8 +93,8 @@ fn two_sessions_meet(rt: HostRuntime) {
     made(&rt, &served, 2, 2, &[1, 2]);
 }
 
-/// On each number of seats no session is held, and then two meet: no worker has held both, so each waits until it is told that no
-/// more come.
+/// On each number of seats no session is held, and then two meet: no worker has held both, so each waits for the message that no more
+/// come.
 #[test]
 fn each_number_of_seats_serves(rt: HostRuntime) {
     for seats in 2..=64 {
