@@ -3,6 +3,7 @@
 
 ghost use Rattle.std.specs.Prelude.{⊤};
 
+use crate::laid::Stand;
 use crate::prelude::*;
 use broken_lists::{ALL, BrokenList, BrokenMachine, BrokenWorld, Task, on_broken, run_broken};
 use lset_replay::{Listener, TracedEvent};
@@ -159,14 +160,6 @@ fn no_list_is_refuted(rt: HostRuntime) -> Result<(), Fail> {
     assert_not_refuted::<OptimisticList, _>(&rt, alloc)?;
     assert_not_refuted::<LazyList, _>(&rt, alloc)?;
     assert_not_refuted::<LockFreeList, _>(&rt, alloc)
-}
-
-/// The state of a thread: between two calls, in a call that has not taken effect, or in one that has.
-#[derive(Clone, Copy)]
-enum Stand {
-    AtRest,
-    Begun(u32, Call),
-    Done(u32, Reply),
 }
 
 /// Whether `claim_of` says that no order explains a history of three threads, each call of which takes effect at once, at some moment

@@ -29,7 +29,7 @@ pub struct Laid {
 
 /// The state of a thread: between two calls, in a call that has not taken effect, or in one that has.
 #[derive(Clone, Copy)]
-enum Stand {
+pub enum Stand {
     AtRest,
     Begun(u32, Call),
     Done(u32, Reply),
