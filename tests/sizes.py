@@ -2,24 +2,26 @@
 16 calls wait, or draws no picture of more than 1,000, is proved; and a test has few sizes and few keys.
 Here each number above 2 in a body has a row of NUMBERS with what it is for: a literal, the largest or smallest number of a type, a shift,
 a conversion that fails or cuts past a size, a sum that wraps or stops at a bound, a small number that makes another of one (`n % 2`,
-`1 + 2`), and each constant that is a number or is made of some. A row gives what a function has, and how often. So a number that is new, or
-is used once more, is an error, and so is a row whose number is gone. WORDS has what the functions of a file look for in a text, for a text
-that is looked for can stand for a number. It does not notice a number that is computed from small ones by their names, or from the length
-of a text that is given."""
+`1 + 2`), and each constant that is a number or is made of some: tests/values.py has its value. A row gives what a function has, and how
+often. So a number that is new, or is used once more, is an error, and so is a row whose number is gone. WORDS has what the functions of a
+file look for in a text, for a text that is looked for can stand for a number. It does not notice a number that is computed from small ones
+by their names, or from the length of a text that is given."""
 
 import re
 from functools import cached_property
 
+from giving_up import OF_TESTS
 from harness.cases import TOP, Wrong, cases, once, same, test
 from harness.function_rows import Found, row_faults
 from harness.rattle_tokens import body_of, callee, text_at, text_of, token_of, walk
 from rattle_sources import Source
 
 # The crates whose contracts do not fix each answer: a function may answer Unknown, None or an allocation failure, may wait for ever, or
-# returns a text of which no clause says more than that it is one. In the others (the lists and their steps, words, texts, broken lists)
-# clauses are equations with tables and numbers, and a body with another number is not proved; those of sets for C pass calls on.
+# returns a text of which no clause says more than that it is one; and programs of which a contract says nothing. In the others (the lists
+# and their steps, words, texts, broken lists) clauses are equations with tables and numbers, and a body with another number is not proved;
+# of these the functions without a clause are looked at.
 OF_CRATES = re.compile(r"lset_(order|claims|judge|history|parts|points|replay|report|calls|long|schedule|session|server|work|live|loops)"
-                       r"|lset_(rule|command|dispatch)|listset|tool_\w+")
+                       r"|lset_(rule|command|dispatch)|listset|tool_\w+|ffi_\w+|first_program|own_threads")
 FEW = 2  # numbers up to this one have no row: a test has cases of such sizes
 LITERAL = re.compile(r"(0x[\da-fA-F_]+|0b[01_]+|0o[0-7_]+|\d[\d_]*)(?:[ui](?:8|16|32|64|128|size))?")
 DIGITS = re.compile(r'b?"\d+"')
@@ -30,7 +32,7 @@ APART = re.compile(r"""
     |abs_diff|(rem|div)_euclid|div_ceil|next_multiple_of|clamp|(to|from)_[bln]e_bytes|swap_bytes|reverse_bits|rotate_\w+|capacity|size_of\w*
     """, re.X)
 CUT = re.compile(r"u8|u16|i\d+|isize|f\d+")  # types that have not each number of 32 bits, as `as` makes them
-CONSTANT = re.compile(r"^[ \t]*(?:pub(?:\(crate\))? )?(?:const|static) ([A-Z]\w*): ([^=]*?)(?: =\s*(.*?))?;$", re.M | re.S)
+CONSTANT = re.compile(r"^[ \t]*(?:pub(?:\([^)]*\))? )?(?:const|static) (?:mut )?(?!_:)(\w+): ([^=]*?)(?: =\s*(.*?))?;$", re.M | re.S)
 NUMBER_TYPE = re.compile(r"[ui](8|16|32|64|128|size)")
 
 # Functions, the numbers that each of them has (`N*4`: four times), and what these are for
@@ -162,6 +164,24 @@ NUMBERS = [
     ("tool_drawing/orders::put_places", "saturating_add*3", "the same"),
     ("tool_drawing/(sheet::x_of|svg::put_labels)", "saturating_add", "the same"),
     ("tool_drawing/svg::put_(end|sheet)", "saturating_add*2", "the same"),
+    # Of sets for C, and programs
+    ("ffi_sets/yielding::failed", "6 240 3 1024 3072 4", "how often it pauses: up to three times as often as Spin"),
+    ("ffi_sets/each::open_held", "3 4", "the kinds of lists"),
+    ("ffi_sets/(each::keys_held|lib::give_keys)", "usize::MAX", "no number of keys"),
+    ("ffi_sets/answers::reply_code", "3 4 NO_SEAT", "the answers in C, as foreign/listset.h names them"),
+    ("ffi_sets/answers::fault_code", "BAD_SEATS BAD_QUOTA BAD_KEYS OUT_OF_MEMORY", "the same"),
+    ("ffi_sets/(answers::call_from_seat|each::close_held|lib::(ceiling_at|close_set|split_seat))", "NO_SEAT", "the same"),
+    ("ffi_sets/lib::gather_seats", "DONE NO_GATHER NO_SEAT*2", "the same"),
+    ("ffi_sets/lib::split_seat", "DONE IS_SEAT NO_MORE OUT_OF_MEMORY", "the same"),
+    ("ffi_sets/(answers::put_new|holding::split)", "OUT_OF_MEMORY", "the same"),
+    ("ffi_sets/(answers::put_new|lib::close_set)", "DONE", "the same"),
+    ("ffi_sets/(each::split_held|holding::split)", "NO_MORE", "the same"),
+    ("ffi_sets/holding::close", "OUT_OF_MEMORY*2 SEATS_OUT", "the same"),
+    ("ffi_sets/lib::open_set", "BAD_KIND IS_SEAT", "the same"),
+    ("ffi_sets/holding::has_all", "checked_sub", "the seats that are out"),
+    ("first_program/main::one_thread", "5*2 7", "its keys"),
+    ("first_program/main::two_lives", "5*2 6 7*2 9*3", "the same"),
+    ("own_threads/main::main", "3 5*2 8*3 9", "its numbers"),
     # Of counts
     ("tool_drawing/refusals::put_unknown", "checked_sub", "the last of no calls"),
     ("tool_parts/kept::judge_next", "checked_add", "more calls than 64 bits count have the finding Late"),
@@ -171,6 +191,7 @@ NUMBERS = [
 # What the functions of a file look for in a text, or print as bytes: the words of the formats that docs/TEXTS.md and the help have. A space
 # is \x20 here.
 WORDS = {
+    "ffi_page/words": r"""'=' '\0' """,
     "listset/main": r"""b"listset\x20" b"\n" "--version" "--long" """,
     "lset_calls/lines": r"""b"call" b"opening" b"key" b"cut" b"end" b"-" b'\x20' """,
     "lset_calls/reading": r"""b'\n' """,
@@ -206,7 +227,7 @@ class Constants:
         self.crates = {}
         for crate, name in found:
             self.crates.setdefault(name, []).append(crate)
-        self.numbers = {it for it, (kind, value) in found.items() if NUMBER_TYPE.fullmatch(kind) or has_number(value)}
+        self.numbers = {it for it, (kind, value) in found.items() if is_number(kind, value)}
         while more := {it for it, (_, value) in found.items() if it not in self.numbers and self.names_one(it[0], value)}:
             self.numbers |= more
 
@@ -223,8 +244,9 @@ def without_texts(value):
     return re.sub(r'b?"(?:\\.|[^"\\])*"', "", value, flags=re.S)
 
 
-def has_number(value):
-    return re.search(r"\d|::(MAX|MIN|BITS)\b", without_texts(value)) is not None
+def is_number(kind, value):
+    """Whether a constant of a type and with a value is a number, or has one in it that is in no text."""
+    return bool(NUMBER_TYPE.fullmatch(kind) or re.search(r"\d|::(MAX|MIN|BITS)\b", without_texts(value)))
 
 
 class Sources:
@@ -239,8 +261,9 @@ class Sources:
         found = []
         for file, text in self.files.items():
             crate, module = file.split("/")[0], file.split("/")[-1].removesuffix(".rt")
-            if OF_CRATES.fullmatch(crate):
-                found += ((f"{crate}/{module}::{it.name}", file, it) for it in Source(text).functions)
+            if not OF_TESTS.fullmatch(crate):
+                found += ((f"{crate}/{module}::{it.name}", file, it) for it in Source(text).functions
+                          if OF_CRATES.fullmatch(crate) or "ensures" not in it.contract)
         return found
 
     @cached_property
