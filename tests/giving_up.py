@@ -233,8 +233,8 @@ SESSIONS_OF = {
     "lset_server/workers::work": ("while sessions < u64::from(most) {", "most", []),
     "lset_server/serving::serve_in": ("let workers = seats.len()", "workers", ["workers = seats.len()"]),  # not as many as the set has
 }
-# How many workers get the message to end, when a gate is called, and with which thread a pause is called at a lock. Contracts do not say
-# it; so here is what each of these says, and what gives a name its value.
+# How many workers get the message to end, when a gate is called, with which thread a pause is called at a lock, and how long one from C
+# is. Contracts do not say it; so here is what each of these says, and what gives a name its value.
 TOLD_OF = {
     "lset_server/serving::serve_in": ("send_all(pool.rt, listener, &pool.to, &mut pass, pool.sessions, workers)?", "pass", []),
     "lset_server/serving::send_all":
@@ -246,6 +246,9 @@ TOLD_OF = {
     "lset_loops/steps::wait_for":
         ("if seen == 0 { self.pause.taken(self.slots.thread); return Some(()); } self.pause.failed(self.slots.thread); } None", "seen",
          ["seen = exchange_on::<M>(self.table, place, word, 0, own)"]),
+    "ffi_sets/yielding::failed":
+        ("match failures { 0 => 1, 1 => 6, 2 => 240, 3 => 1024, _ => 3072, }; for _ in 0..pauses { hint::spin_loop(); } if failures < 4 {",
+         "failures", ["failures = self.failures.get()"]),
 }
 # The bound on its rounds that a call is given: that of its caller, `N`, but where the caller has none. A call that may wait has to take
 # as many rounds as it needs: its contract lets it wait for ever instead, past any bound, and that of a call from C lets it answer nothing.

@@ -37,13 +37,13 @@ VALUES = [
     ("broken_lists/world::MOST_PKEY", "1 << 62", "more than any word of a key"),
     # Of a call: how long it waits and tries
     ("lset_rule/rounds::MOST", "u64::MAX", "a call makes as many rounds as it needs"),
-    ("lset_rule/pause::MOST_WAITS", "16", "16 waits of Backoff: 1,024 pauses, as the measurements of a lock have it"),
+    ("lset_rule/pause::MOST_WAITS", "16", "how often it backs off before it yields too"),
     # Of judges: moments, and how long a short window is searched for
     ("lset_judge/stream::LAST_MOMENT", "(1 << 63) - 1", "what a moment of a long recording may be"),
     ("lset_(judge/stream::BEHIND_ALL|parts/parts::LAST_CLOCK)", "1 << 63", "the next one; the sum of two is below 2^64"),
     ("lset_long/moments::LAST_WITH_A_DIGIT", "922_337_203_685_477_580", "a tenth of LAST_MOMENT"),
-    ("lset_judge/window::MOST_TRIED", "1 << 22", "a second at most to leave out calls"),
-    ("lset_judge/window::MOST_WINDOWS", "32", "each is twice as long: more than 32 bits of moments"),
+    ("lset_judge/window::MOST_TRIED", "1 << 22", "how many calls are looked at for superfluous ones"),
+    ("lset_judge/window::MOST_WINDOWS", "32", "each begins twice as far back: 32 go back over all moments"),
     # Of texts: their lines, and how much of each there may be
     ("lset_(calls/(clashes|reading)|schedule/lib)::FIRST_LINE", "5", "the line below a header"),
     ("lset_report/reading::FIRST_LINE", "LAST_OF_HEADER + 1", "the same"),
@@ -141,7 +141,7 @@ OF_ERRORS = re.compile(r"\.(ok_or|map_err)")  # what a contract says of an error
 ARGUMENTS = [
     ("lset_server/workers::hold", ".set_nodelay(true)", "an answer leaves at once"),
     ("lset_server/lingering::take_leave", ".shutdown(Shutdown::Write)", "no more answers come, and its bytes are still read"),
-    ("lset_server/lingering::read", ".set_read_timeout(Some(left)) Duration::from_secs(MOST_SECONDS)", "for how long"),
+    ("lset_server/lingering::read", ".set_read_timeout(Some(left)) Duration::from_secs(MOST_SECONDS)", "how long it reads"),
     ("tool_serve/tool::listen", "TcpListener::bind(rt,(Ipv4Addr::LOCALHOST,portasu16))", "it is reached from this machine alone"),
     ("lset_rule/pause::new", "Cell::new(1)", "it waits once after the first failure"),
     ("lset_rule/pause::failed", ".set(2*waits)", "twice as often after the next one"),
@@ -186,14 +186,14 @@ class Sources:
 
     def value_faults(self, rows, fixed):
         """A line for each constant of another value than its row, each without a row, and each row without a constant."""
-        left = {it[0]: it for it in self.values}
+        left = {it[3]: it for it in self.values}
         for names, value in [(it[0], it[1]) for it in rows] + [(it[0], None) for it in fixed]:
             for pattern in names.split():
                 found = [it for it in self.values if re.fullmatch(pattern, it[0]) and (value or not is_number(*it[1:3]))]
                 if not found:
                     yield f"a row is of {pattern}, and there is no such constant: take it out of the row"
                 for name, _, is_now, place in found:
-                    left.pop(name, None)
+                    left.pop(place, None)
                     if value not in (None, is_now):
                         yield f"{place}: {name} is `{is_now}`, and its row of VALUES says `{value}`: see a test fail on the wrong one"
         for name, _, value, place in left.values():
