@@ -233,8 +233,8 @@ SESSIONS_OF = {
     "lset_server/workers::work": ("while sessions < u64::from(most) {", "most", []),
     "lset_server/serving::serve_in": ("let workers = seats.len()", "workers", ["workers = seats.len()"]),  # not as many as the set has
 }
-# How many workers get the message to end, when a gate is called, with which thread a pause is called at a lock, and how long one from C
-# is. Contracts do not say it; so here is what each of these says, and what gives a name its value.
+# How many workers get the message to end, when a gate is called, with which thread a pause is called at a lock, and how long one is.
+# Contracts do not say it; so here is what each of these says, and what gives a name its value.
 TOLD_OF = {
     "lset_server/serving::serve_in": ("send_all(pool.rt, listener, &pool.to, &mut pass, pool.sessions, workers)?", "pass", []),
     "lset_server/serving::send_all":
@@ -246,6 +246,10 @@ TOLD_OF = {
     "lset_loops/steps::wait_for":
         ("if seen == 0 { self.pause.taken(self.slots.thread); return Some(()); } self.pause.failed(self.slots.thread); } None", "seen",
          ["seen = exchange_on::<M>(self.table, place, word, 0, own)"]),
+    "lset_rule/pause::failed":
+        ("for _ in 0..waits { self.backoff.spin(); } if waits < MOST_WAITS { self.waits.set(2 * waits); } else { self.backoff.snooze(); }",
+         "waits", ["waits = self.waits.get()"]),
+    "lset_rule/pause::taken": ("self.backoff.reset(); self.waits.set(1);", "waits", []),
     "ffi_sets/yielding::failed":
         ("match failures { 0 => 1, 1 => 6, 2 => 240, 3 => 1024, _ => 3072, }; for _ in 0..pauses { hint::spin_loop(); } if failures < 4 {",
          "failures", ["failures = self.failures.get()"]),
@@ -664,10 +668,11 @@ def a_server_has_no_other_loops(_case):
 
 
 def says_so(rows):
-    """Each function of the rows has its text once, and what gives a name its value."""
+    """One function by each name of the rows has its text, once, and what gives a name its value."""
     for name, (text, number, values) in rows.items():
-        body = next(it for it in once(sources).bodies if it.name == name)
-        same(body.said(body.items).count(text), 1, f"how often {name} says `{text}`")
+        found = [(it, it.said(it.items).count(text)) for it in once(sources).bodies if it.name == name]
+        same([count for _, count in found if count], [1], f"how often {name} says `{text}`")
+        body = next(it for it, count in found if count)
         same(body.values.get(number, []), values, f"what gives `{number}` of {name} its value")
 
 
