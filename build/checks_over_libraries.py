@@ -18,7 +18,8 @@ class Checks:
     """Checks of crates with other texts in some of their files.
 
     The libraries below stand in out/ of the repository `root`, where `rt ci` has left them. Where this kit has not what a check over
-    them takes, or they are not there, `rt check` makes it, in a copy of the repository, one at a time."""
+    them takes, or they are not there, `rt check` makes it, in a copy of the repository, one at a time. Checks of one crate may share a
+    folder `kept`, in turn: what one proves the next takes from there, if it is the same."""
 
     def __init__(self, root=toolchain.TOP):
         self.root, self.lock, self.room, self.crates = root, threading.Lock(), None, {}
@@ -32,16 +33,16 @@ class Checks:
     def is_over_libraries(self, name):
         return name in self.crates and all(self.library(it).is_dir() for it in crates_txt.below([name], self.root) if it != name)
 
-    def check(self, name, texts, only=()):
+    def check(self, name, texts, only=(), kept=None):
         """Checks a crate, or of its functions these alone; gives the status of rattle and what it said."""
         if self.is_over_libraries(name):
-            return self._over_libraries(name, texts, only)
+            return self._over_libraries(name, texts, only, kept)
         with self.lock:
             return self._by_rt(name, texts, only)
 
-    def _over_libraries(self, name, texts, only):
+    def _over_libraries(self, name, texts, only, kept):
         crate = self.crates[name]
-        flags = ["--jobs", "1", *(flag for it in only for flag in ("--only", it))]
+        flags = ["--jobs", "1", *(flag for it in only for flag in ("--only", it)), *(["--incremental", kept] if kept else [])]
         with tempfile.TemporaryDirectory(prefix=f"check-{os.getpid()}-") as room:
             for part in crates_txt.PARTS:
                 if os.path.isdir(f"{crate.folder}/{part}"):

@@ -232,8 +232,9 @@ def verdict_of(status, said, texts):
     return Verdict(UNSURE, f"its check ended with status {status}: {lines[-1]}")
 
 
-def try_together(checks, crate, group):
-    """Of mutants that are tried together, those that are refused by a goal of their own function, each with that goal."""
+def try_together(checks, crate, group, kept):
+    """Of mutants that are tried together, those that are refused by a goal of their own function, each with that goal. The check takes
+    what earlier ones have proved from the folder `kept`."""
     texts, folder = {}, checks.root / "crates" / crate
     try:
         for mutant, _ in group:
@@ -244,7 +245,7 @@ def try_together(checks, crate, group):
     only = words_of([it for _, it in group], functions(folder))
     if not only:
         return {}
-    status, said = checks.check(crate, texts, only)
+    status, said = checks.check(crate, texts, only, kept)
     lines = said.rstrip("\n").split("\n")
     is_told = last_line(lines).startswith(("logic=not-proved", "only="))
     if status != 1 or not is_told or any(is_unread(it, texts) for it in lines):
@@ -253,7 +254,7 @@ def try_together(checks, crate, group):
     return {mutant: Verdict(CLAUSE, goal) for mutant, goal in goals.items() if goal}
 
 
-def try_whole(checks, crate, mutant):
+def try_whole(checks, crate, mutant, kept):
     """The verdict of a check of the whole crate with a mutant."""
     texts = texts_with(mutant, checks.root / "crates" / crate)
-    return verdict_of(*checks.check(crate, texts), texts)
+    return verdict_of(*checks.check(crate, texts, kept=kept), texts)
