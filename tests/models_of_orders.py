@@ -1,0 +1,222 @@
+"""The order that `report` and `show` find of calls without points, and the key and the moment that `judge` names if there is none, are
+those of a model (tests/harness/orders_model.py), which tries all orders of each key: contracts say only that an order explains the calls, and that
+a refusal is true.
+
+800 recordings of up to 14 calls are drawn as in long_recordings.py, with refused calls, pending ones, wrong replies and keys that are left
+otherwise (--few: 80), and their whole reports are compared; of 400 more (40) what `show` draws. 800 others (80) have several keys that are
+wrong, with calls and without, and each is judged as a text of version 2 and as a long recording. Small recordings say besides, one by one, what
+stands where.
+"""
+
+import collections
+import random
+
+from harness.cases import Wrong, cases, each, given, same
+from harness.orders_model import Refusals, changes, found_order
+from harness.programs import ran
+from long_recordings import KEYS, THREADS, Call, call_line, drawn, long_text, short_text, text_of
+
+SEEDS = range(1, 5)
+REPORTS, RECORDINGS = (20, 20) if given.few else (200, 200)  # of each seed
+MOST_QUOTA = 16384
+HEADER = 4  # lines
+NO_ORDER = "no order explains these calls: judge shows why\n"
+
+def with_pending(rng, calls):
+    """The calls, of which some last ones of their threads have not ended."""
+    last, share = {it.thread: it for it in calls}, rng.choice([0, 0.3, 0.9])
+    pending = {it.begin for it in last.values() if rng.random() < share}
+    return [it._replace(end=None, reply=None) if it.begin in pending else it for it in calls]
+
+
+# ---- the order that is found
+
+
+def head(title, quota, opening):
+    return [f"listset-{title} 2", "list lazy", f"threads {THREADS + 1}", f"quota {quota}", *(f"opening {it}" for it in opening)]
+
+
+def lacks_point(it):
+    return changes(it) and it.reply is not None
+
+
+class Recording:
+    """Calls of which some have points, but not each that changed the set, unless all are to have one; what the set opens with and leaves."""
+
+    def __init__(self, rng, points):
+        calls, self.opening, keys = drawn(rng, rng.randrange(1, 15))
+        calls = [it._replace(word="ceiling") if it.word == "contains" and not it.end and rng.random() < 0.3 else it for it in with_pending(rng, calls)]
+        self.keys = sorted(set(keys) ^ {rng.randrange(KEYS)}) if rng.random() < 0.1 else keys
+        if not any(lacks_point(it) for it in calls):
+            last = max(it.end or it.begin for it in calls)
+            calls, self.keys = [*calls, Call(THREADS, "add", KEYS, last + 1, last + 2, "true")], [*self.keys, KEYS]
+        self.calls = [it._replace(begin=3 * it.begin, end=it.end and 3 * it.end) for it in calls]  # (which leaves room for points)
+        self.order = found_order(self.calls, self.opening, self.keys)
+        without = rng.choice([it for it in self.calls if lacks_point(it)])
+        has_point = {it.begin for it in self.calls if points == "all" or points == "some" and it is not without and rng.random() < 0.5}
+        self.lines = [call_line(it, it.begin + 1 if it.begin in has_point else "-") for it in self.calls]
+        rng.shuffle(self.lines)
+        adds = collections.Counter(it.thread for it in self.order or [] if it.word == "add" and changes(it))
+        self.needed = max(adds.values(), default=0)
+
+    def text(self, rng, quota):
+        keys = [*self.keys, *rng.sample(self.keys, rng.randrange(len(self.keys) + 1))]
+        rng.shuffle(keys)
+        return text_of([*head("calls", quota, self.opening), *self.lines, *(f"key {it}" for it in keys), "end"])
+
+    def report(self, quota):
+        numbers = {it.begin: number for number, it in enumerate(self.calls)}
+        calls = [f"call {numbers[it.begin]} {it.thread} {it.word} {it.key} {it.begin} " + (f"{it.end} {it.reply}" if it.end else "open") for it in self.calls]
+        places = [f"place {numbers[it.begin]} {it.reply or 'true'}" for it in self.order]
+        return text_of([*head("report", quota, self.opening), *calls, *places, *(f"key {it}" for it in self.keys), "end"])
+
+    def due(self, quota):
+        """The status of `report`, what it prints and its error."""
+        if self.order is None:
+            return 1, NO_ORDER, ""
+        if quota >= self.needed:
+            return 0, self.report(quota), ""
+        lines = (n for n, it in enumerate(self.lines) if it.endswith(" true") and it.split()[2] != "contains" and it.split()[5] == "-")
+        return 1, "", f"listset: line {HEADER + len(self.opening) + next(lines) + 1}: Point\n"
+
+
+@each(SEEDS)
+def a_report_has_the_order_of_the_model(case, seed):
+    rng, found = random.Random(f"reports {seed}"), collections.Counter()
+    for _ in range(REPORTS):
+        points = rng.choice(["no", "no", "some"])
+        it = Recording(rng, points)
+        quota = rng.choice([MOST_QUOTA, it.needed, max(it.needed - 1, 0)]) if points == "no" else MOST_QUOTA
+        text = it.text(rng, quota)
+        done, due = ran(case.program, "report", text=text), it.due(quota)
+        same((done.returncode, done.stdout, done.stderr), due, f"of {text!r}")
+        found[due[0], bool(due[1])] += 1
+    if not given.few and (found[0, True] < REPORTS // 3 or len(found) < 3):
+        raise Wrong(f"by status, and whether a text is printed, there are {found}")
+
+
+@each(SEEDS)
+def a_picture_of_recorded_calls_has_the_order_of_the_model(case, seed):
+    """Also if the calls have points that say another order."""
+    rng, shown = random.Random(f"pictures {seed}"), 0
+    for _ in range(REPORTS // 2):
+        it = Recording(rng, rng.choice(["no", "some", "all"]))
+        text = it.text(rng, MOST_QUOTA)
+        if it.order is not None:
+            of_calls, of_report = (ran(case.program, "show", text=it) for it in (text, it.report(MOST_QUOTA)))
+            same((of_calls.returncode, of_calls.stdout), (0, of_report.stdout), f"of {text!r}")
+            shown += 1
+    if not given.few and shown < REPORTS // 8:
+        raise Wrong(f"{shown} recordings have an order")
+
+
+# Recordings, and their order: each call by its number, and its reply.
+CHANGE = "call 9 add 9 90 - 91 true"  # (without a change that lacks its point calls are not ordered by a rule)
+ORDERS = {
+    "a call that changes nothing comes as it begins": (
+        ["call 0 contains 5 1 - 10 false", "call 1 contains 6 2 - 3 false", CHANGE, "key 9"], "0 false, 1 false, 2 true"),
+    "an add and a remove that change nothing come as they begin": (
+        ["opening 5", "call 0 add 5 1 - 10 false", "call 1 remove 6 2 - 11 false", "call 2 contains 5 3 - 4 true", CHANGE, "key 5", "key 9"],
+        "0 false, 1 false, 2 true, 3 true"),
+    "a call that changes nothing comes right after the change that it saw": (
+        ["call 0 contains 5 1 - 10 true", "call 1 add 5 2 - 3 true", "call 2 contains 6 4 - 5 false", "key 5"], "1 true, 0 true, 2 false"),
+    "calls that waited for one change come in the order of their begins": (
+        ["call 0 contains 5 1 - 12 true", "call 1 add 5 2 - 13 false", "call 2 add 5 3 - 10 true", "call 3 contains 5 4 - 11 true", "key 5"],
+        "2 true, 0 true, 1 false, 3 true"),
+    "a change comes as the first call ends that needs it": (
+        ["call 0 add 5 1 - 9 true", "call 1 add 6 2 - 7 true", "call 2 contains 5 3 - 5 true", "key 5", "key 6"], "0 true, 2 true, 1 true"),
+    "a change comes before a call that does not need it": (
+        ["call 0 add 5 1 - 6 true", "call 1 contains 5 2 - 9 false", "call 2 contains 5 3 - 10 true", "key 5"], "1 false, 0 true, 2 true"),
+    "of two changes the one that ends first comes first": (
+        ["opening 5", "call 0 remove 5 1 - 10 true", "call 1 remove 5 2 - 9 true", "call 2 add 5 3 - 12 true", "call 3 contains 5 4 - 5 false"],
+        "1 true, 3 false, 2 true, 0 true"),
+    "an open change comes behind one that ends": (
+        ["opening 5", "call 0 remove 5 1 - - -", "call 1 remove 5 2 - 9 true", "call 2 contains 5 3 - 4 false"], "1 true, 2 false"),
+    "of two open changes the one that began first comes first": (
+        ["call 0 add 9 1 - 2 true", "call 1 add 5 3 - - -", "call 2 add 5 4 - - -", "call 3 contains 5 5 - 6 true", "key 5", "key 9"],
+        "0 true, 1 true, 3 true"),
+    "an open call that nothing needs has no place": (
+        ["call 0 contains 5 1 - - -", "call 1 add 5 2 - 3 true", "call 2 add 6 4 - - -", "call 3 remove 5 5 - - -", "call 4 ceiling 5 6 - - -", "key 5"],
+        "1 true"),
+    "what the keys left need comes last, the removes before the adds": (
+        ["opening 6", "opening 7", "call 0 add 4 1 - - -", "call 1 remove 7 2 - - -", "call 2 add 3 3 - - -", "call 3 remove 6 4 - - -", CHANGE,
+         "key 3", "key 4", "key 9"], "4 true, 3 true, 1 true, 2 true, 0 true"),
+}
+
+
+@cases(lambda: {f"orders/{name.replace(' ', '_')}": order for name, order in ORDERS.items()})
+def an_order_is_the_one_that_is_known(case, lines, order):
+    done = ran(case.program, "report", text=text_of(["listset-calls 2", "list lazy", "threads 10", "quota 4", *lines, "end"]))
+    same((done.stderr, ", ".join(it[6:] for it in done.stdout.splitlines() if it.startswith("place"))), ("", order), "the order")
+
+
+# ---- what is said if there is none
+
+
+def spread(rng, calls, opening, keys):
+    """The calls on other keys, of a set with more of them, some of which are lost or come from nowhere."""
+    names = rng.sample(range(3 * KEYS), 3 * KEYS)
+    others = [it for it in names[KEYS:] if rng.random() < 0.5]
+    opened = [names[it] for it in opening] + others
+    left = {names[it] for it in keys} | {*others}
+    for wrong in rng.sample(names, rng.choice([0, 1, 2, 4, 6])):
+        left ^= {wrong}
+    return [it._replace(key=names[it.key]) for it in with_pending(rng, calls)], sorted(opened), sorted(left)
+
+
+def kind_of(refusals):
+    if not refusals.left_wrong:
+        return "by a moment" if refusals.is_refused() else "ok"
+    return "with and without calls" if len({refusals.by_version_2(key)[0] for key in refusals.left_wrong}) > 1 else "left wrong"
+
+
+@each(SEEDS)
+def a_refusal_names_the_key_and_the_moment_of_the_model(case, seed):
+    rng, found = random.Random(f"refusals {seed}"), collections.Counter()
+    for _ in range(RECORDINGS):
+        calls, opening, keys = spread(rng, *drawn(rng, rng.randrange(1, 12)))
+        is_cut = rng.random() < 0.2
+        refusals = Refusals(calls, opening, None if is_cut else keys)
+        short, long = refusals.lines(refusals.by_version_2) + refusals.lines_without_calls(), refusals.lines(refusals.by_version_3)
+        for text, due in ((short_text, short), (long_text, long)):
+            made = text(calls, opening, keys, is_cut)
+            done = ran(case.program, "judge", text=made)
+            same((done.returncode, done.stdout.splitlines()[:len(due)]), (int(refusals.is_refused()), due), f"of {made!r}")
+        found[kind_of(refusals)] += 1
+    if not given.few and min(found.values()) < RECORDINGS // 20 or len(found) < 4:
+        raise Wrong(f"by kind there are {found}")
+
+
+def no_order(key, moment=None):
+    return f"no order explains the calls of key {key} " + (f"up to moment {moment}" if moment else "and leaves it as it was left")
+
+
+# Recordings, as of version 2, and what is said of them in both versions, or in one and the other.
+REFUSALS = {
+    "the calls that have no order first are named": (
+        ["call 0 add 3 5 - 8 true", "call 1 add 3 6 - 7 true", "call 2 remove 9 9 - 10 true", "call 3 contains 5 11 - 12 true"], [no_order(3, 8)]),
+    "an open change is known from its begin on": (
+        ["call 0 add 3 1 - - -", "call 1 contains 3 2 - 3 true", "call 2 contains 3 4 - 5 false", "call 3 remove 3 6 - - -"], [no_order(3, 5)]),
+    "a change that ends later is known from its begin on": (
+        ["call 0 remove 3 1 - 2 false", "call 1 add 3 3 - 9 true", "call 2 contains 3 4 - 5 true", "call 3 add 3 6 - 8 true"], [no_order(3, 8)]),
+    "of a call that ends later without a change nothing is known": (["call 0 add 3 1 - 9 false", "call 1 contains 3 2 - 3 true"], [no_order(3, 3)]),
+    "a call that has no order by a moment is named before a smaller key that is left wrong": (
+        ["opening 1", "call 0 contains 5 1 - 2 true", "key 0", "key 2"], [no_order(5, 2)]),
+    "of keys with calls the smallest is named": (
+        ["call 0 add 5 1 - 2 true", "call 1 add 3 3 - 4 true", "call 2 contains 4 5 - 6 false", "key 4"], [no_order(3)]),
+    "of keys without calls the smallest that is lost is named": (["opening 7", "opening 8", "key 2", "key 5"], [no_order(7)]),
+    "of keys that come from nowhere the smallest is named": (["key 5", "key 9"], [no_order(5)]),
+    "a key with calls that is lost is named before one that comes from nowhere": (["call 0 add 5 1 - 2 true", "key 3"], [no_order(5)]),
+    "a key with calls that comes from nowhere is named before one without": (["call 0 contains 5 1 - 2 false", "key 3", "key 5"], [no_order(5)]),
+    "a lost key without calls and a greater one with calls": (["opening 3", "call 0 add 5 1 - 2 true"], [no_order(5), no_order(3)]),
+    "a lost key and a smaller one of which only a look is pending": (["opening 7", "call 0 contains 5 1 - - -", "key 5"], [no_order(7), no_order(5)]),
+    "a key of which only a look is pending and a smaller one without calls": (["call 0 contains 5 1 - - -", "key 3", "key 5"], [no_order(3), no_order(5)]),
+}
+
+
+@cases(lambda: {f"refusals/{name.replace(' ', '_')}": refusal for name, refusal in REFUSALS.items()})
+def a_refusal_is_the_one_that_is_known(case, lines, said):
+    long_lines = [" ".join([*it.split()[:5], *it.split()[6:]]) if it.startswith("call") else it for it in lines]
+    for title, its_lines, due in (("listset-calls 2\nlist lazy\nthreads 4\nquota 0", lines, said[0]), ("listset-calls 3", long_lines, said[-1])):
+        answer = ran(case.program, "judge", text=text_of([title, *its_lines, "end"])).stdout
+        same(answer.splitlines()[:2], ["not linearizable", due], title.splitlines()[0])
