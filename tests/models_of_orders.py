@@ -4,8 +4,8 @@ a refusal is true.
 
 800 recordings of up to 14 calls are drawn as in long_recordings.py, with refused calls, pending ones, wrong replies and keys that are left
 otherwise (--few: 80), and their whole reports are compared; of 400 more (40) what `show` draws. 800 others (80) have several keys that are
-wrong, with calls and without, and each is judged as a text of version 2 and as a long recording. Small recordings say besides, one by one, what
-stands where.
+wrong, with calls and without, and each is judged as a text of version 2, as a long recording, and by half of its keys. Small recordings say
+besides, one by one, what stands where.
 """
 
 import collections
@@ -20,7 +20,10 @@ SEEDS = range(1, 5)
 REPORTS, RECORDINGS = (20, 20) if given.few else (200, 200)  # of each seed
 MOST_QUOTA = 16384
 HEADER = 4  # lines
+GREATEST = 2**32 - 1  # key and moment
+NAMES = [0, 1, 5, 6, GREATEST - 1, GREATEST]  # of keys
 NO_ORDER = "no order explains these calls: judge shows why\n"
+
 
 def with_pending(rng, calls):
     """The calls, of which some last ones of their threads have not ended."""
@@ -36,28 +39,37 @@ def head(title, quota, opening):
     return [f"listset-{title} 2", "list lazy", f"threads {THREADS + 1}", f"quota {quota}", *(f"opening {it}" for it in opening)]
 
 
-def lacks_point(it):
+def needs_point(it):
+    """Whether calls are ordered by a rule if this one has no point."""
     return changes(it) and it.reply is not None
 
 
 class Recording:
-    """Calls of which some have points, but not each that changed the set, unless all are to have one; what the set opens with and leaves."""
+    """Calls of a set, what it opens with and leaves, and the order by the model; "no", "some" or "all" points. If only some calls have one, a call
+    that changed the set has none."""
 
     def __init__(self, rng, points):
-        calls, self.opening, keys = drawn(rng, rng.randrange(1, 15))
+        calls, opening, keys = drawn(rng, rng.randrange(1, 15))
         calls = [it._replace(word="ceiling") if it.word == "contains" and not it.end and rng.random() < 0.3 else it for it in with_pending(rng, calls)]
-        self.keys = sorted(set(keys) ^ {rng.randrange(KEYS)}) if rng.random() < 0.1 else keys
-        if not any(lacks_point(it) for it in calls):
-            last = max(it.end or it.begin for it in calls)
-            calls, self.keys = [*calls, Call(THREADS, "add", KEYS, last + 1, last + 2, "true")], [*self.keys, KEYS]
-        self.calls = [it._replace(begin=3 * it.begin, end=it.end and 3 * it.end) for it in calls]  # (which leaves room for points)
+        keys = sorted(set(keys) ^ {rng.randrange(KEYS)}) if rng.random() < 0.1 else keys
+        last = max(it.end or it.begin for it in calls)
+        if not any(needs_point(it) for it in calls):
+            last += 2
+            calls, keys = [*calls, Call(THREADS, "add", KEYS, last - 1, last, "true")], [*keys, KEYS]
+        names, far = sorted(rng.sample(NAMES, KEYS + 1)), rng.choice([0, 0, GREATEST - 3 * last - 1])
+        self.calls = [it._replace(key=names[it.key], begin=far + 3 * it.begin, end=it.end and far + 3 * it.end) for it in calls]
+        self.opening, self.keys = ([names[it] for it in some] for some in (opening, keys))
         self.order = found_order(self.calls, self.opening, self.keys)
-        without = rng.choice([it for it in self.calls if lacks_point(it)])
-        has_point = {it.begin for it in self.calls if points == "all" or points == "some" and it is not without and rng.random() < 0.5}
-        self.lines = [call_line(it, it.begin + 1 if it.begin in has_point else "-") for it in self.calls]
+        self.lines = [*self.lines_with(rng, points)]
         rng.shuffle(self.lines)
         adds = collections.Counter(it.thread for it in self.order or [] if it.word == "add" and changes(it))
         self.needed = max(adds.values(), default=0)
+
+    def lines_with(self, rng, points):
+        without = rng.choice([it for it in self.calls if needs_point(it)])
+        for it in self.calls:
+            has_point = points == "all" or points == "some" and it != without and rng.random() < 0.5
+            yield call_line(it, it.begin + 1 if has_point else "-")
 
     def text(self, rng, quota):
         keys = [*self.keys, *rng.sample(self.keys, rng.randrange(len(self.keys) + 1))]
@@ -170,19 +182,26 @@ def kind_of(refusals):
     return "with and without calls" if len({refusals.by_version_2(key)[0] for key in refusals.left_wrong}) > 1 else "left wrong"
 
 
+def ways_to_ask(rng, calls, opening, keys, is_cut):
+    """What `judge` is asked of a recording: words, a text, and the model of its answer in a version; at first the whole in version 2."""
+    whole = Refusals(calls, opening, None if is_cut else keys)
+    text, rest = short_text(calls, opening, keys, is_cut), rng.randrange(2)
+    yield [], text, whole, 2
+    yield [], long_text(calls, opening, keys, is_cut), whole, 3
+    if not is_cut:
+        opened, left = ([it for it in part if it % 2 == rest] for part in (opening, keys))
+        yield ["--keys", f"{rest}/2"], text, Refusals([it for it in calls if it.key % 2 == rest], opened, left), 2
+
+
 @each(SEEDS)
 def a_refusal_names_the_key_and_the_moment_of_the_model(case, seed):
     rng, found = random.Random(f"refusals {seed}"), collections.Counter()
     for _ in range(RECORDINGS):
-        calls, opening, keys = spread(rng, *drawn(rng, rng.randrange(1, 12)))
-        is_cut = rng.random() < 0.2
-        refusals = Refusals(calls, opening, None if is_cut else keys)
-        short, long = refusals.lines(refusals.by_version_2) + refusals.lines_without_calls(), refusals.lines(refusals.by_version_3)
-        for text, due in ((short_text, short), (long_text, long)):
-            made = text(calls, opening, keys, is_cut)
-            done = ran(case.program, "judge", text=made)
-            same((done.returncode, done.stdout.splitlines()[:len(due)]), (int(refusals.is_refused()), due), f"of {made!r}")
-        found[kind_of(refusals)] += 1
+        asked = [*ways_to_ask(rng, *spread(rng, *drawn(rng, rng.randrange(1, 12))), rng.random() < 0.2)]
+        for words, text, refusals, version in asked:
+            done, due = ran(case.program, "judge", *words, text=text), refusals.lines(version)
+            same((done.returncode, done.stdout.splitlines()[:len(due)]), (int(refusals.is_refused()), due), f"{words} of {text!r}")
+        found[kind_of(asked[0][2])] += 1
     if not given.few and min(found.values()) < RECORDINGS // 20 or len(found) < 4:
         raise Wrong(f"by kind there are {found}")
 

@@ -126,20 +126,17 @@ class Refusals:
     def is_refused(self):
         return self.moment < END or bool(self.left_wrong)
 
-    def lines(self, named):
-        """The first two lines of the answer, where of several keys that are left wrong that one is named of which `named` is the least."""
+    def lines(self, version):
+        """The first lines of what `judge` says of them as a text of a version; all lines if it names a key without calls."""
         if not self.is_refused():
             return [f"ok {len(self.calls)} calls"]
         if self.moment < END:
             return ["not linearizable", f"no order explains the calls of key {self.key} up to moment {self.moment}"]
-        return ["not linearizable", f"no order explains the calls of key {min(self.left_wrong, key=named)} and leaves it as it was left"]
-
-    def lines_without_calls(self):
-        """The last two lines of version 2, if the key that is named has no call."""
-        key = min(self.left_wrong, key=self.by_version_2, default=None)
-        if key is None or any(it.key == key for it in self.calls):
-            return []
-        return [f"key {key} is {'' if key in self.opening else 'not '}there at moment 0", "no later call changes it"]
+        key = min(self.left_wrong, key=self.by_version_2 if version == 2 else self.by_version_3)
+        said = ["not linearizable", f"no order explains the calls of key {key} and leaves it as it was left"]
+        if version == 3 or any(it.key == key for it in self.calls):
+            return said
+        return [*said, f"key {key} is {'' if key in self.opening else 'not '}there at moment 0", "no later call changes it"]
 
     def by_version_2(self, key):
         """A key with a call that has ended or may change it; then one that was there as the set opened; each time the least."""
