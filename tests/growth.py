@@ -331,6 +331,30 @@ def lost_keys(case):
     refuses(case, Recording(Way(keys_that_are_lost)), "0 and leaves it as it was left")
 
 
+BLOCKS = 10_000
+
+
+def block_of(number):
+    """The lines of two changes of a key, which end in the next block, and of two looks, for each of which one of them takes effect. So a change
+    is pending at each moment, but none is left for a further look."""
+    at = 8 * number
+    return [f"call {number % 2} add 5 {at + 1} - {at + 15} true\n", f"call {2 + number % 2} remove 5 {at + 2} - {at + 16} true\n",
+            f"call 4 contains 5 {at + 3} - {at + 4} true\n", f"call 4 contains 5 {at + 5} - {at + 6} false\n"]
+
+
+@test
+def looks_that_are_all_needed(case):
+    """`judge` shows all calls of a key: where any look is left out, one more finds the key at the end. It has not looked at all of them for each."""
+    last = 8 * BLOCKS + 1
+    calls = [*itertools.chain.from_iterable(map(block_of, range(BLOCKS))), f"call 4 contains 5 {last} - {last + 1} true\n"]
+    text = whole("listset-calls 2\nlist lazy\nthreads 5\nquota 0\n", [], "".join(calls), [])
+    said = output(case.program, "judge", text=text, status=1)
+    first = f"not linearizable\nno order explains the calls of key 5 up to moment {last + 1}\n".encode()
+    same((said.startswith(first), said.count(b"\ncall ")), (True, len(calls)), f"that judge says {first}, and the calls that it shows")
+    fewer = text.replace(block_of(BLOCKS // 2)[2].encode(), b"")
+    same(output(case.program, "judge", text=fewer).split(NEWLINE)[0], f"ok {len(calls) - 1} calls".encode(), "judge of one look fewer")
+
+
 @test
 def refused_keys(case):
     """The calls of no key have an order."""
