@@ -1,0 +1,182 @@
+"""What the program holds in memory does not grow with what it has done with, of which no contract speaks. A command is given an address
+space of which it leaves a third, and that it would need twice if it kept what it need not: of `judge` the calls of a long recording, or the
+parts before the one that it reads; of `trace` its text; of `draft`, `replay` and `show` each event. A server that has served thousands
+of sessions, and millions of calls, has at no time had more memory than after some hundred.
+"""
+
+import contextlib
+import pathlib
+import re
+import socket
+
+from harness.cases import Wrong, each, same, test
+from harness.programs import printed, ran
+from harness.serve_client import SOON, asks, resets, serving
+
+LITTLE = 7_000  # kilobytes: the program takes 4,000 for itself and the C library, and up to 800 for what it holds
+
+
+def printed_within(kilobytes, program, *words, text=b""):
+    """What a command prints that has so much address space, and ends with the status 0."""
+    done = ran("bash", "-c", 'ulimit -v "$0" && exec "$@"', kilobytes, program, *words, text=text)
+    same((done.returncode, done.stderr), (0, b""), f"{' '.join(map(str, words[:3]))} within {kilobytes} KB: status and standard error")
+    return done.stdout
+
+
+# ---- long recordings
+
+ROUNDS, KEYS = 160_000, 120
+# Of each call of a round its thread, its word, which of two keys, when it begins and ends, and its reply
+CALLS_OF_ROUND = [
+    (0, "add", 0, 1, 4, "true"), (1, "contains", 0, 2, 6, "true"), (2, "add", 0, 3, 5, "false"), (0, "contains", 0, 7, 8, "true"),
+    (1, "remove", 0, 9, 12, "true"), (2, "remove", 0, 10, 14, "false"), (0, "contains", 0, 11, 13, "true"),
+    (2, "contains", 0, 15, 16, "false"), (0, "add", 1, 17, 18, "true"), (1, "remove", 1, 19, 20, "true"),
+]
+MOMENTS_OF_ROUND = 20
+
+
+def round_of(number):
+    """The lines of a round: changes, calls that change nothing, and looks that find the key or not, of which some overlap."""
+    thread, key, before = number % 17 * 1000, number % KEYS, 1 + MOMENTS_OF_ROUND * number
+    return "".join(f"call {thread + of} {word} {key + KEYS * second} {before + begin} {before + end} {reply}\n"
+                   for of, word, second, begin, end, reply in CALLS_OF_ROUND)
+
+
+@test
+def long_recordings(case):
+    """`judge` keeps nothing of a call that has ended but the state of its key, be it read from a file or from the input."""
+    file = case.room / "long.calls"
+    with open(file, "w", encoding="ascii") as out:
+        out.write("listset-calls 3\nopening 4294967295\ncall 9 remove 4294967295 1 - -\n")
+        out.writelines(map(round_of, range(ROUNDS)))
+        out.write("end\n")
+    for words, given in (((file,), b""), ((), file.read_bytes())):
+        said = printed_within(LITTLE, case.program, "judge", *words, text=given)
+        same(said, b"ok %d calls\n" % (1 + ROUNDS * len(CALLS_OF_ROUND)), "judge of a long recording")
+
+
+# ---- parts
+
+PARTS, CALLS_OF_PART = 60, 5_000
+
+
+def part_of(number):
+    """Calls of version 2: a thread puts keys in and takes them out. Each part has its own keys, so that no two texts are one."""
+    first = 1_000_000 * number
+    calls = "".join(f"call {at % 4} {('add', 'remove')[at % 2]} {first + at // 2} {2 * at + 1} - {2 * at + 2} true\n" for at in range(CALLS_OF_PART))
+    return f"listset-calls 2\nlist lazy\nthreads 4\nquota 16384\n{calls}end\n"
+
+
+@test
+def parts(case):
+    """`judge` holds one part in memory at a time."""
+    files = [case.room / f"{number}.calls" for number in range(PARTS)]
+    for number, file in enumerate(files):
+        file.write_text(part_of(number))
+    said = printed_within(LITTLE, case.program, "judge", *files)
+    same(said.split(b"\n")[0], b"ok %d parts, %d calls" % (PARTS, PARTS * CALLS_OF_PART), "judge of parts")
+
+
+# ---- events
+
+OPENING, WALKS = 2_000, 100
+
+
+def long_walks():
+    """A draft of calls that walk past all keys, each by one line: of few lines its schedule makes many events."""
+    opening = "".join(f"opening {key}\n" for key in range(OPENING))
+    calls = f"begin 0 contains {OPENING}\ngo 0 out\n" * WALKS
+    return f"listset-draft 2\nlist lazy\nthreads 1\nquota 1\n{opening}{calls}".encode()
+
+
+def events_of(schedule):
+    """How many events a schedule of walks has."""
+    many = WALKS + sum(map(int, re.findall(rb"^go 0 (\d+)$", schedule, re.M)))
+    same(many > 2 * OPENING * WALKS, True, f"that {many} events go past all keys")
+    return many
+
+
+@test
+def drafts(case):
+    """`draft` of hundreds of thousands of events."""
+    events_of(printed_within(LITTLE, case.program, "draft", text=long_walks()))
+
+
+@test
+def traces(case):
+    """`trace` of as many: their text has tens of megabytes."""
+    schedule = printed(case.program, "draft", text=long_walks())
+    trace = printed_within(LITTLE, case.program, "trace", text=schedule)
+    same((trace.count(b"\nevent "), trace[-5:]), (events_of(schedule), b"\nend\n"), "the events of the trace, and its end")
+
+
+@each(["replay", "show", "show --from 400000", "show --svg --from 400000"])
+def events(case, words):
+    """Commands that execute as many, and print only calls."""
+    schedule = printed(case.program, "draft", text=long_walks())
+    same(events_of(schedule) > 400_000, True, "that a picture has few moments from 400000 on")
+    said = printed_within(LITTLE, case.program, *words.split(), text=schedule)
+    due = [b"call %d " % (WALKS - 1), b"place %d " % (WALKS - 1)] if "replay" in words else [b": %d calls" % WALKS]
+    same([it for it in due if it not in said], [], f"what {words} does not print")
+
+
+# ---- a server
+
+SEATS, CALLS = 4, 4_000  # (calls of a session that sends them at once)
+FEW, MANY, LONG_LINES = 60, 600, 9  # rounds of sessions, before the memory is looked at and after that; and sessions
+GROWTH = 1_000  # kilobytes: a page for each session of MANY rounds would be 7,200, and eight bytes for each call 18,000
+
+
+def most_resident(server):
+    """The most kilobytes of memory that a server has had."""
+    return int(re.search(r"^VmHWM:\s+(\d+) kB$", pathlib.Path(f"/proc/{server.process.pid}/status").read_text(), re.M)[1])
+
+
+def sends_all_at_once(connection):
+    asks(connection, b"CONTAINS 7\n" * CALLS + b"QUIT\n", b"FALSE\n" * CALLS + b"BYE\n")
+
+
+def sends_bytes(connection):
+    connection.setsockopt(socket.IPPROTO_TCP, socket.TCP_NODELAY, 1)
+    for byte in b"ADD 7\nREMOVE 7\n":
+        connection.sendall(bytes([byte]))
+    asks(connection, b"QUIT\n", b"TRUE\nTRUE\nBYE\n")
+
+
+def goes_away(connection):
+    asks(connection, b"ADD 7\nREMOVE 7\n", b"TRUE\nTRUE\n")
+    resets(connection)
+
+
+def sends_a_long_line(connection):
+    """(The server lets it go before it has read all of it.)"""
+    with contextlib.suppress(ConnectionError):
+        connection.sendall(b"?" * 4_000_000)
+
+
+SESSIONS = [sends_all_at_once, sends_bytes, goes_away]
+CALLS_OF_SESSIONS = CALLS + 2 + 2
+
+
+def serves(server, sessions):
+    """Sessions, one after another."""
+    for speak in sessions:
+        with server.connect() as connection:
+            connection.settimeout(SOON)
+            speak(connection)
+
+
+@test
+def served_sessions(case):
+    """The memory of a server does not grow with the sessions and calls that it has served, nor with a line, beside a client that says nothing."""
+    rounds = FEW + MANY
+    sessions, calls = 1 + len(SESSIONS) * rounds + LONG_LINES, CALLS_OF_SESSIONS * rounds
+    with serving(case.program, "lazy", SEATS, 2 * rounds, sessions) as server:
+        with server.connect() as idle:
+            serves(server, SESSIONS * FEW)
+            before = most_resident(server)
+            serves(server, [sends_a_long_line] * LONG_LINES + SESSIONS * MANY)
+            if (grown := most_resident(server) - before) > GROWTH:
+                raise Wrong(f"the server has grown by {grown} KB, from {before} KB")
+            asks(idle, b"QUIT\n", b"BYE\n")
+        server.ends(sessions, calls, calls, [])
