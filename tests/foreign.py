@@ -190,7 +190,7 @@ def rust(installed):
     how = {**os.environ, "LISTSET_EXAMPLES": str(EXAMPLES)}
     said = well(*cargo, "test", "--locked", *target, "--manifest-path", crate / "Cargo.toml", env=how)
     passed = [line for line in said.splitlines() if line.startswith("test result: ok.") and " 0 passed" not in line]
-    if len(passed) != 5:
+    if len(passed) != 6:
         raise Wrong(f"cargo ran {len(passed)} kinds of tests:\n{said[-2000:]}")
     manifest, made = installed.room / "Cargo.toml", installed.room / "target" / "debug"
     how = {"env": {**in_room(installed), "LISTSET_LIB": str(installed.library)}}

@@ -2,7 +2,9 @@
 #include "listset.hpp"
 
 #include <algorithm>
+#include <chrono>
 #include <cstdio>
+#include <future>
 #include <thread>
 #include <type_traits>
 
@@ -99,6 +101,33 @@ static int full_too_soon() {
   return full;
 }
 
+// The places of a shared set, which are its own alone; but an explicit instantiation may name them.
+static auto &places_of(listset::shared &set);
+template <auto Places> struct reach {
+  friend auto &places_of(listset::shared &set) { return set.*Places; }
+};
+template struct reach<&listset::shared::places>;
+
+// Whether a thread's calls end while others have all seats but one. (Those that wait for another seat go on when these are let go.)
+static bool end_by_one_seat(size_t free, size_t seats) {
+  listset::shared set(list::lock_free, static_cast<uint32_t>(seats), 1);
+  std::vector<std::unique_lock<std::mutex>> taken;
+  for (size_t at = 0; at < seats; at++)
+    if (at != free) taken.emplace_back(places_of(set)[at].lock);
+  auto calls = [&] { return set.add(7) == added::is_new && set.contains(7) && set.ceiling(0) == 7u && set.remove(7); };
+  std::future<bool> made = std::async(std::launch::async, calls);
+  bool is_soon = made.wait_for(std::chrono::seconds(20)) == std::future_status::ready;
+  taken.clear();
+  return made.get() && is_soon;
+}
+
+// Of two threads, one after the other, at most one has the free seat at its own place.
+static bool take_the_free_seat(size_t seats) {
+  for (size_t free = 0; free < seats; free++)
+    if (!end_by_one_seat(free, seats) || !end_by_one_seat(free, seats)) return false;
+  return true;
+}
+
 // A set that was closed, or moved from, has no seat.
 static void expect_no_seat() {
   listset::shared closed(list::lazy, 2, 1), moved(list::lazy, 2, 1);
@@ -122,6 +151,7 @@ static void expect_shared() {
   int full = 0;
   for (int round = 0; round < 20; round++) full += full_too_soon();
   expect(full == 0, "no add is full while a seat has quota");
+  for (size_t seats : {2, 3, 8}) expect(take_the_free_seat(seats), "a call takes a seat that no other uses");
   expect_no_seat();
 }
 

@@ -82,3 +82,31 @@ impl Shared {
 fn taken(seat: &Mutex<Seat>) -> MutexGuard<'_, Seat> {
     seat.lock().unwrap_or_else(PoisonError::into_inner)
 }
+
+#[cfg(test)]
+mod tests {
+    use std::sync::{mpsc, Arc};
+    use std::time::Duration;
+
+    use super::*;
+
+    /// What a thread's calls answer, one of each kind, if they end while others use seats.
+    fn calls_in_a_thread(set: &Arc<Shared>) -> Option<(Added, bool, Option<u32>, bool)> {
+        let (set, (told, heard)) = (Arc::clone(set), mpsc::channel());
+        std::thread::spawn(move || told.send((set.add(7), set.contains(7), set.ceiling(0), set.remove(7))));
+        heard.recv_timeout(Duration::from_secs(20)).ok()
+    }
+
+    /// Others use all seats but one. Of two threads, one after the other, at most one has the free seat at its own place.
+    #[test]
+    fn a_call_takes_a_seat_that_no_other_uses() {
+        for (seats, free) in [2, 3, 8].into_iter().flat_map(|seats| (0..seats).map(move |free| (seats, free))) {
+            let set = Arc::new(Shared::open(List::LockFree, seats as u32, 2, &[]).unwrap());
+            let others = set.seats.iter().enumerate().filter(|(at, _)| *at != free);
+            let _held: Vec<_> = others.map(|(_, seat)| taken(seat)).collect();
+            for _ in 0..2 {
+                assert_eq!(calls_in_a_thread(&set), Some((Added::True, true, Some(7), true)), "{free} of {seats}");
+            }
+        }
+    }
+}
