@@ -2,7 +2,7 @@
 Here each place of the sources that answers so stands directly under the failure of a call that can fail so: the `else` of
 `let Ok(..) = call`, `if call.is_err()`, an arm `Err(_)` of `match call`, or an arm that names such a failure. ODD_PLACES has all others,
 each with what decides it. ASKED has what is asked of std by a number, for a number that no machine has is refused as well. Where contracts
-say little, STEPS_OF, LOOPS_OF, SESSIONS_OF, TOLD_OF, ROUNDS_OF and LINGERS have what a function does."""
+say little, STEPS_OF, LOOPS_OF, SESSIONS_OF, TOLD_OF and ROUNDS_OF have what a function does."""
 
 import re
 from dataclasses import dataclass
@@ -265,9 +265,6 @@ ROUNDS_OF = {
         " lock_free_change_within N, interpret_within N",
 }
 BOUNDS = ["const MOST: u64", "Rounds for Countless", "const MOST: u64 = u64::MAX"]  # the trait, and its only type
-# How long and how far the server reads after its last answer, as docs/TEXTS.md says: that it reads so far no client sees for certain
-LINGERS = "MOST_DROPPED: usize = 1_048_576;", "MOST_SECONDS: u64 = 1;"
-LINGERS_SAID = "the server still reads and drops input, for at most one second and 1,048,576 bytes,"
 
 
 # ---- what stands in the sources
@@ -704,13 +701,6 @@ def each_variant_is_answered_somewhere(_case):
     text = "\n".join(it.text for it in found.files.values())
     may_be = {f"{name}::{it}" for name, variants in enums_of(text) for it in variants if it in VARIANTS and f"{it}(#[from]" not in text}
     same(sorted(may_be - {it.what for it in found.places}), [], "variants that no place answers")
-
-
-@test
-def a_server_reads_on_as_far_as_is_said(_case):
-    text = once(sources).files["lset_server/src/lingering.rt"].text
-    same([it for it in LINGERS if f"\nconst {it}\n" not in text], [], "constants that lingering.rt has not")
-    same((TOP / "docs" / "TEXTS.md").read_text().count(LINGERS_SAID), 1, "the lines of docs/TEXTS.md that say so")
 
 
 # ---- the test itself: a small source, and bodies that give up

@@ -129,6 +129,7 @@ SAID = [
     ("lset_session/buffered::ROOM", "crates/lset_session/src/buffered.rt", "and buffers its answers: up to {:,} bytes of them,"),
     ("lset_server/lingering::MOST_DROPPED", "crates/lset_server/src/lingering.rt", "for a second and {:,} bytes at most,"),
     ("lset_server/lingering::MOST_DROPPED", "docs/DECISIONS.md", "One second and {:,} bytes bound this reading;"),
+    ("lset_server/lingering::MOST_DROPPED", "docs/TEXTS.md", "drops input, for at most one second and {:,} bytes,"),
     ("tool_drawing/lib::MOST_COLUMNS", "docs/TEXTS.md", "At most {} columns are drawn,"),
     ("tool_drawing/lib::MOST_KEYS_SHOWN", "docs/TEXTS.md", "of more than {} keys it has the first 8 and"),
     *((f"ffi_sets/codes::{it}", "foreign/listset.h", f"LISTSET_{it} = {{}}") for it in [*CODES][1:]),
