@@ -254,8 +254,9 @@ TOLD_OF = {
         ("match failures { 0 => 1, 1 => 6, 2 => 240, 3 => 1024, _ => 3072, }; for _ in 0..pauses { hint::spin_loop(); } if failures < 4 {",
          "failures", ["failures = self.failures.get()"]),
 }
-# The bound on its rounds that a call is given: that of its caller, `N`, but where the caller has none. A call that may wait has to take
-# as many rounds as it needs: its contract lets it wait for ever instead, past any bound, and that of a call from C lets it answer nothing.
+# The bound on its rounds that each call is given: that of its caller, `N`, but where the caller has none. A call that may wait has to
+# take as many rounds as it needs: its contract lets it wait for ever instead, past any bound, and that of a call from C lets it answer
+# nothing. And of a call that has rounds no contract says that it makes no more.
 ROUNDS_OF = {
     "ffi_sets/holding::call": "call_within Countless",
     "lset_live/running::make_on": "make_within Countless",
@@ -263,7 +264,19 @@ ROUNDS_OF = {
     "lset_live/bounded::make_within":
         "interpret_within N, coarse_within N, fine_within N, optimistic_within N, lazy_change_within N, interpret_within N,"
         " lock_free_change_within N, interpret_within N",
-}
+    "lset_loops/coarse::make": "begin_locked N, walk N",
+    "lset_loops/fine::make": "begin_locked N, walk N",
+    "lset_loops/fine::walk": "lock N",
+    "lset_loops/lazy::make": "walk N, lock N, lock N",
+    "lset_loops/lock_free::make": "find N",
+    "lset_loops/optimistic::make": "walk N, lock N, lock N, validate N",
+    "lset_loops/optimistic::validate": "reaches N",
+    "lset_loops/steps::begin_locked": "wait_for N",
+    "lset_loops/steps::lock": "take N",
+    "lset_loops/steps::take": "wait_for N",
+} | {f"lset_loops/{it}_within": "make N" for it in
+     ("coarse::coarse", "fine::fine", "lazy::lazy_change", "lock_free::lock_free_change", "optimistic::optimistic")}
+HAS_ROUNDS = re.compile(r"fn \w+<[^()]*\bN: Rounds>\(")
 BOUNDS = ["const MOST: u64", "Rounds for Countless", "const MOST: u64 = u64::MAX"]  # the trait, and its only type
 
 
@@ -683,13 +696,26 @@ def each_worker_each_gate_and_each_pause_is_told(_case):
     says_so(TOLD_OF)
 
 
+def bounds_given(found, body):
+    """The calls of functions that have rounds, each with its bound. A name is that of the nearest functions that have it."""
+    for name, given in re.findall(r"\b(\w+)(?:::<([^()]*)>)?\(", body.said(body.items)):
+        named = found.named.get(name, [])
+        near = [it for it in named if it.file == body.file] or [it for it in named if it.crate == body.crate or CALLED_ABOVE.fullmatch(name)]
+        if any(HAS_ROUNDS.search(squeezed(it.contract)) for it in near):
+            yield f"{name} {given.rpartition(', ')[2]}"
+
+
 @test
-def a_call_that_may_wait_has_countless_rounds(_case):
-    found, text = {}, "\n".join(it.text for it in once(sources).files.values())
-    for it in once(sources).bodies:
-        for name, bound in re.findall(r"(\w+_within)::<[^()]*?(\w+)>\(", it.said(it.items)):
-            found.setdefault(it.name, []).append(f"{name} {bound}")
-    same({name: ", ".join(it) for name, it in found.items()}, ROUNDS_OF, "the bounds that are passed on")
+def each_call_has_the_rounds_of_its_caller_or_countless_ones(_case):
+    found, text = once(sources), "\n".join(it.text for it in once(sources).files.values())
+    others = [it.name for it in found.bodies if "Rounds" in it.contract and not HAS_ROUNDS.search(squeezed(it.contract))]
+    same(others, [], "functions whose bound is not their last parameter, `N`")
+    given = {}
+    for it in found.bodies:
+        given.setdefault(it.name, []).extend(bounds_given(found, it))
+    rows = {(name, ", ".join(it)) for name, it in given.items() if it}
+    same(sorted(rows - ROUNDS_OF.items()), [], "the bounds that are passed on beside those of ROUNDS_OF")
+    same(sorted(ROUNDS_OF.items() - rows), [], "rows of ROUNDS_OF that no function has")
     bounds = re.findall(r"\bRounds for \w+|\bconst MOST: [^;]*|\b(?:Rounds|Countless) as \w+|\btype [^;]*\bCountless\b", text)
     same(bounds, BOUNDS, "what is said of bounds")
 
