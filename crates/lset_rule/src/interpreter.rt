@@ -30,7 +30,8 @@ macro_rules! ends_or_pauses {
 /// Makes a whole call, step by step, in at most `N::MOST` rounds of four steps each; `None` where it has not answered then.
 ///
 /// `place` is the place of an idle seat of these words, and `slots` are those of its thread, as the last call left them.
-/// `pause` is asked after each step that does not answer.
+/// `pause` is asked after each step that does not answer: `failed` where the step has failed, and else `moved`, also after a lock
+/// that was waited for is taken. It is never asked `taken`.
 ///
 /// An answer is the slots as this call leaves them, and the reply: of a call of the machine, begun after all that the place
 /// had seen, by which the record of the place grew. After `None` the call has made at least `N::MOST` steps and is still under

@@ -16,7 +16,8 @@ pub trait Pause {
     /// at a lock that is taken. `thread` is the number of the caller's thread.
     fn failed(&self, thread: u32);
 
-    /// Asked in place of `moved` after a lock that was waited for is taken at last. `thread` is the number of the caller's thread.
+    /// Asked by the loops of the four lists with locks, in place of `moved`, after a lock that was waited for is taken at last; the
+    /// interpreter (`interpret_within`) asks `moved` then too. `thread` is the number of the caller's thread.
     fn taken(&self, thread: u32) {
         self.moved(thread)
     }
