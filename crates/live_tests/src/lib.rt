@@ -25,6 +25,8 @@ mod full;
 #[cfg(test)]
 mod gathering;
 #[cfg(test)]
+mod interference;
+#[cfg(test)]
 mod long_programs;
 #[cfg(test)]
 mod long_waits;

@@ -6,7 +6,7 @@ use crate::prelude::*;
 use lset_live::Countless;
 use std::cell::Cell;
 
-/// Counts the steps that do not answer, and those of them that are reported of another thread or as failed.
+/// Counts the steps that do not answer, and those of them that are reported of another thread, as failed, or as the end of a wait.
 #[derive(Drop)]
 pub struct Count {
     thread: u32,
@@ -15,7 +15,7 @@ pub struct Count {
 }
 
 impl Count {
-    /// For the calls of a thread of whose exchanges none is to fail.
+    /// For the calls of a thread of whose exchanges none is to fail, so that it waits for no lock.
     pub fn new(thread: u32) -> Count {
         Count {
             thread,
@@ -38,6 +38,10 @@ impl Pause for Count {
     }
 
     fn failed(&self, _thread: u32) {
+        self.count(true);
+    }
+
+    fn taken(&self, _thread: u32) {
         self.count(true);
     }
 }

@@ -133,25 +133,35 @@ fn both_call<M: Running + Send + Sync, R: Host>(
     )
 }
 
-/// Seat 1 has a lock that seat 0 tries, three times at least: its step `locks_at` takes that of the list or of the head.
-fn waits_at_a_lock<M: Running + Send + Sync, R: Host>(rt: &R, alloc: Global, locks_at: u64) {
+/// Seat 1 has a lock that seat 0 tries, three times at least: its step `locks_at` takes that of the list or of the head. So many steps of
+/// seat 0 did not fail.
+fn waits_at_a_lock<M: Running + Send + Sync, R: Host>(rt: &R, alloc: Global, locks_at: u64) -> u64 {
     let (set, zero, one) = two_seats::<M, R>(rt, alloc);
     let stopping = Stopping::new(rt, NEVER, locks_at);
     let replies = both_call(rt, &set, (zero, one), (add(2), add(1)), &stopping);
     assert!(rt; replies == TRUE);
     assert!(rt; stopping.was_held() && stopping.zero.has_failed_thrice());
     assert!(rt; stopping.one.failed.load(Ordering::SeqCst) == 0);
+    let steps = stopping.zero.steps.load(Ordering::SeqCst);
+    steps.wrapping_sub(stopping.zero.failed.load(Ordering::SeqCst))
+}
+
+/// By its loops and by its table, `S`, as many steps of seat 0 do not fail: its pause is told of the one that takes a lock at last.
+fn both_wait<M: Running + Send + Sync, S: Running + Send + Sync, R: Host>(
+    rt: &R,
+    alloc: Global,
+    locks_at: u64,
+) {
+    let by_loops = waits_at_a_lock::<M, R>(rt, alloc, locks_at);
+    assert_eq!(rt; by_loops, waits_at_a_lock::<S, R>(rt, alloc, locks_at));
 }
 
 #[test]
 fn a_pause_is_told_of_each_try_at_a_lock_that_another_seat_has(rt: HostRuntime) {
-    waits_at_a_lock::<CoarseList, HostRuntime>(&rt, rt.alloc(), 0);
-    waits_at_a_lock::<FineList, HostRuntime>(&rt, rt.alloc(), 0);
-    waits_at_a_lock::<OptimisticList, HostRuntime>(&rt, rt.alloc(), 2);
-    waits_at_a_lock::<LazyList, HostRuntime>(&rt, rt.alloc(), 2);
-    waits_at_a_lock::<Stepped<CoarseList>, HostRuntime>(&rt, rt.alloc(), 0);
-    waits_at_a_lock::<Stepped<FineList>, HostRuntime>(&rt, rt.alloc(), 0);
-    waits_at_a_lock::<Stepped<LazyList>, HostRuntime>(&rt, rt.alloc(), 2);
+    both_wait::<CoarseList, Stepped<CoarseList>, HostRuntime>(&rt, rt.alloc(), 0);
+    both_wait::<FineList, Stepped<FineList>, HostRuntime>(&rt, rt.alloc(), 0);
+    both_wait::<OptimisticList, Stepped<OptimisticList>, HostRuntime>(&rt, rt.alloc(), 2);
+    both_wait::<LazyList, Stepped<LazyList>, HostRuntime>(&rt, rt.alloc(), 2);
 }
 
 /// A key that is there before, the calls of seats 0 and 1, the steps after which they stop, their replies, and of the call of

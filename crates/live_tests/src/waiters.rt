@@ -8,14 +8,15 @@ use crate::prelude::*;
 use crate::waiting::comes;
 use std::cell::Cell;
 
-/// Counts a thread's tries at a lock that fail, those that take it after them, and the calls with another thread. It says when three
-/// have failed.
+/// Counts a thread's tries at a lock that fail, and those that take it after them; and what is wrong: calls with another thread, `taken`
+/// where no try has failed, and `moved` where one has. It says when three have failed.
 #[derive(Drop)]
 struct Waiter<'a> {
     thread: u32,
     failed: Cell<u64>,
     taken: Cell<u64>,
     wrong: Cell<u64>,
+    is_waiting: Cell<bool>,
     tried: &'a AtomicBool,
 }
 
@@ -26,13 +27,20 @@ impl<'a> Waiter<'a> {
             failed: Cell::new(0),
             taken: Cell::new(0),
             wrong: Cell::new(0),
+            is_waiting: Cell::new(false),
             tried,
         }
     }
 
-    /// Whether tries failed, the lock was taken, and each call had its thread.
+    /// Whether tries failed, and each lock was taken after them, once, and each call had its thread.
     fn has_waited(&self) -> bool {
         self.failed.get() >= 3 && self.taken.get() > 0 && self.wrong.get() == 0
+    }
+
+    fn is_called(&self, thread: u32, is_wrong: bool) {
+        if is_wrong || thread != self.thread {
+            count(&self.wrong);
+        }
     }
 }
 
@@ -42,13 +50,12 @@ fn count(counter: &Cell<u64>) {
 
 impl<'a> Pause for Waiter<'a> {
     fn moved(&self, thread: u32) {
-        if thread != self.thread {
-            count(&self.wrong);
-        }
+        self.is_called(thread, self.is_waiting.get());
     }
 
     fn failed(&self, thread: u32) {
-        self.moved(thread);
+        self.is_called(thread, false);
+        self.is_waiting.set(true);
         count(&self.failed);
         if self.failed.get() == 3 {
             self.tried.store(true, Ordering::SeqCst);
@@ -56,7 +63,8 @@ impl<'a> Pause for Waiter<'a> {
     }
 
     fn taken(&self, thread: u32) {
-        self.moved(thread);
+        self.is_called(thread, !self.is_waiting.get());
+        self.is_waiting.set(false);
         count(&self.taken);
     }
 }
