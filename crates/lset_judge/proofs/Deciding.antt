@@ -4,9 +4,9 @@ use Rattle.std.specs.Prelude.{Contains, Some, IfSome, length, ◌<◌, false}
 use Rattle.std.specs.List.Sorted.{IsStrictlyIncreasing}
 use Rattle.std.proofs.lemmas.Bool.{cases_Bool, true≢false}
 use Rattle.lset_words.specs.declared.Call.{Call}
-use Rattle.lset_words.specs.declared.Call.TheVariants.{Add, Remove, Contains as IsIn, Ceiling}
+use Rattle.lset_words.specs.declared.Call.TheVariants.{Add, Remove}
 use Rattle.lset_words.specs.declared.Reply.{Reply}
-use Rattle.lset_words.specs.declared.Reply.TheVariants.{True, False, Full, At, Nothing}
+use Rattle.lset_words.specs.declared.Reply.TheVariants.{True, False}
 use Rattle.lset_words.specs.SequentialSet.{SetState, Answered, opening_set, has_key, reply_to, after_call, IsLegal, set_left}
 use Rattle.lset_words.specs.History.{IsHistory, call_numbered, answered, no_call}
 use Rattle.lset_words.proofs.RisingLists.{RisesFrom, same_rising, rises_from_increasing}

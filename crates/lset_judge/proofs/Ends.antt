@@ -5,7 +5,7 @@ use Rattle.std.proofs.lemmas.Bool.{true≢false}
 use Rattle.lset_words.proofs.Numbers.{equal_test, unequal_test, below_or_not}
 use Rattle.lset_judge.specs.Rule.{Event, State, not_before, take_out, nearest, turned_if, turned_by, options, settled, open_changes, fits}
 use Rattle.lset_judge.proofs.Leading.{at, later}
-use Rattle.lset_judge.proofs.Ruled.{no_state, settled_none}
+use Rattle.lset_judge.proofs.Ruled.{no_state}
 use Rattle.lset_judge.proofs.Counts.{counts_one, counts_not, counts_most, at_most_all, taken_length, nearest_stands}
 
 all_from : (d : ℕ) (xs : List ℕ) → ((k : ℕ) → k < length xs → d ≤ get_or xs k 0) → not_before d xs ≡ length xs
@@ -106,8 +106,3 @@ pub settles_on : (m : ℕ) (v : Event) (s g : State) → fits (suc m) v s ≡ fa
 settles_on m v s g f e =
     ap (λ n. settled n m v (Some s)) (one_fewer m s.there s.turned s.puts s.takes g e) ∙ later (open_changes g) m v s f
     ∙ ap (settled (open_changes g) m v) e
-
-pub settles_not : (n m : ℕ) (v : Event) (s : State) → fits (suc m) v s ≡ false → turned_if m s (options s) ≡ None
-    → settled n m v (Some s) ≡ None
-settles_not zero m v s f e = rw f refl
-settles_not (suc n) m v s f e = later n m v s f ∙ ap (settled n m v) e ∙ settled_none n m v

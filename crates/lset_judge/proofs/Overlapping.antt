@@ -8,7 +8,7 @@ use Rattle.std.proofs.lemmas.Bool.Decides.{nat_tests}
 use Rattle.std.proofs.lemmas.List.{drop_more, drop_all, get_or-drop, get_or-take, take-append-drop, length-drop, length-take, length-take-le, take_more, get_or_default}
 use Rattle.std.proofs.lemmas.List.Elements.{filter-append}
 use Rattle.std.proofs.lemmas.List.Folds.{list_any-append, list_any_none}
-use Rattle.std.proofs.lemmas.List.Sums.{sum_by_more, count_by-le-length}
+use Rattle.std.proofs.lemmas.List.Sums.{sum_by_more}
 use Rattle.lset_words.specs.declared.Reply.{Reply}
 use Rattle.lset_words.specs.declared.history.CallRecord.{CallRecord}
 use Rattle.lset_words.specs.History.{IsHistory, call_numbered, no_call}
@@ -183,6 +183,3 @@ module _ (calls : List CallRecord) (i : ℕ) (low : i < length calls) (earlier l
   pub counted_same : (count : ℕ) → count ≡ counted i → (earlier || later) ≡ false → count ≡ counted (i + 1)
   counted_same count is t = let e = sum_by_more (λ (x : CallRecord). cond (overlaps calls x) 1 0) calls i no_call low in
       let f = ap (λ b. ◌+◌ (counted i) (cond b 1 0)) (here ∙ t) in omega (arith, is, e, f)
-
-pub counted_few : (calls : List CallRecord) (i : ℕ) → count_by (overlaps calls) (take i calls) ≤ i
-counted_few calls i = let most = count_by-le-length (overlaps calls) (take i calls) in let long = length-take i calls in omega (arith, most, long)

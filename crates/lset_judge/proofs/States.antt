@@ -13,7 +13,7 @@ use Rattle.lset_history.proofs.KeySets.{same_test}
 use mathlib.Core.Bool.{cond}
 use Rattle.lset_judge.specs.declared.rule.KeyState.{KeyState}
 use Rattle.lset_judge.specs.Code.{state_of}
-use Rattle.lset_judge.specs.Rule.{State, opened, found}
+use Rattle.lset_judge.specs.Rule.{opened}
 use Rattle.lset_judge.specs.Stream.{state_or, state_for}
 use Rattle.lset_judge.proofs.Scanned.{has_more}
 
@@ -28,9 +28,6 @@ module _ (m n : BTreeMap ℕ KeyState) (key : ℕ) (w : KeyState) (up : UpdatesB
 
 pub state_found : (m : BTreeMap ℕ KeyState) (k : ℕ) (s : KeyState) → get nat_cmp m k ≡ Some s → state_for m k ≡ state_of s
 state_found m k s e = ap state_or e
-
-pub state_missing : (m : BTreeMap ℕ KeyState) (k : ℕ) → get nat_cmp m k ≡ None → state_for m k ≡ opened false
-state_missing m k e = ap state_or e
 
 -- one more opening key
 pub opened_more : (m n : BTreeMap ℕ KeyState) (keys : List ℕ) (i : ℕ) (w : KeyState) → i < length keys → state_of w ≡ opened true

@@ -1,5 +1,5 @@
 -- The calls of a stream: what happens up to the next pending end, at it, and at the next begin.
-use Rattle.std.proofs.Common.{◌≡◌, ◌≢◌, ℕ, suc, ◌+◌, ◌-◌, ◌<◌, ◌≤◌, ◌⊎◌, Bool, false, List, [], ◌∷◌, ◌++◌, refl, sym, ap, ◌∙◌, arith, subst}
+use Rattle.std.proofs.Common.{◌≡◌, ◌≢◌, ℕ, suc, ◌+◌, ◌-◌, ◌<◌, ◌≤◌, false, List, [], ◌∷◌, ◌++◌, refl, sym, ap, ◌∙◌, arith, subst}
 use Rattle.std.proofs.Common.{inl, inr, length, get_or}
 use Rattle.std.specs.Prelude.{◌==◌, if◌then◌else◌, Option, Some, None, IfSome, All, Contains}
 use Rattle.std.specs.List.{AllByRecursion, remove}
@@ -21,7 +21,7 @@ use Rattle.lset_judge.specs.declared.stream.Pending.{Pending}
 use Rattle.lset_judge.specs.Rule.{Event, State, idle, found, entered, stepped, state_after}
 use Rattle.lset_judge.specs.Events.{kind_if, until_if, ends_at, begin_event, event_at}
 use Rattle.lset_judge.specs.Stream.{behind_all, state_for, pending_of, no_pending, IsBefore, ArePending, IsJudgedTo}
-use Rattle.lset_judge.specs.Stream.{IsMetBy, IsMet, MayCome}
+use Rattle.lset_judge.specs.Stream.{IsMetBy, MayCome}
 use Rattle.lset_judge.proofs.After.{idle_step, quiet_until}
 use Rattle.lset_judge.proofs.EventLemmas.{Told, of_nothing, of_begin, of_end, told, ends_there, if_some, for_some, none_or_some, ends_not}
 

@@ -1,8 +1,8 @@
 -- The law of receipts: an ended call stays in the history of a run as it goes on, and each order that linearizes a history has it before
 -- the calls that began later.
-use Rattle.std.proofs.Common.{◌≡◌, ◌≢◌, ◌⊎◌, inl, inr, ⊎_elim, ℕ, zero, suc, ◌+◌, ◌<◌, ◌≤◌, ◌==◌, Bool, true, false, List, [], ◌∷◌}
+use Rattle.std.proofs.Common.{◌≡◌, ◌⊎◌, ⊎_elim, ℕ, zero, suc, ◌+◌, ◌<◌, ◌≤◌, ◌==◌, Bool, true, false, List, [], ◌∷◌}
 use Rattle.std.proofs.Common.{◌++◌, map, length, get_or, Option, Some, None, refl, sym, ap, ◌∙◌, subst, arith, length-append}
-use Rattle.std.proofs.Common.{append-nil, append_assoc, if◌then◌else◌}
+use Rattle.std.proofs.Common.{append_assoc, if◌then◌else◌}
 use Rattle.std.specs.Prelude.{◌&&◌, is_none, Contains, IsSomeAnd}
 use Rattle.std.proofs.lemmas.List.{map-append}
 use Rattle.std.proofs.lemmas.Bool.{cases_order}
@@ -12,10 +12,10 @@ use Rattle.lset_words.specs.declared.Call.{Call}
 use Rattle.lset_words.specs.declared.Reply.{Reply}
 use Rattle.lset_words.specs.declared.history.CallRecord.{CallRecord}
 use Rattle.lset_words.specs.declared.history.Placed.{Placed}
-use Rattle.lset_words.specs.History.{Linearizes, Precedes, answered, call_numbered, no_call}
+use Rattle.lset_words.specs.History.{Linearizes, Precedes, answered, call_numbered}
 use Rattle.lset_words.specs.Log.{Log, Entry, Change, TracedCall, is_under_way, traced_on, calls_after, calls_at, record_of, history_at}
 use Rattle.lset_words.specs.Log.Entry.{began, stepped}
-use Rattle.lset_words.specs.SequentialSet.{SetState, Answered, opening_set}
+use Rattle.lset_words.specs.SequentialSet.{SetState, opening_set}
 use Rattle.lset_words.specs.Words.{Opening}
 use Rattle.lset_steps.specs.declared.Event.{Event}
 use Rattle.lset_steps.specs.declared.Event.TheVariants.{Begin, Go}
@@ -174,9 +174,6 @@ module _ (q : ℕ) (s : SetState) (H : List CallRecord) (P : List Placed) (L : L
               reply = e.1;
             } ∷ map f t.2))));
       }
-
-pub starts_self : (l : List Event) → StartsWith l l
-starts_self l = ([], sym (append-nil l))
 
 pub starts_on : (a b c : List Event) → StartsWith a b → StartsWith b c → StartsWith a c
 starts_on a b c (x, is) (y, so) = (y ++ x, is ∙ (ap (λ l. l ++ x) so ∙ append_assoc c y x))

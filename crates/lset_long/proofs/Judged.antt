@@ -16,7 +16,7 @@ use Rattle.lset_long.specs.declared.lines.Line.TheVariants as told
 use Rattle.lset_long.specs.declared.lines.Section.{Section}
 use Rattle.lset_long.specs.declared.lines.Section.TheVariants as part
 use Rattle.lset_long.specs.Texts.{LongValue}
-use Rattle.lset_long.specs.Reading.{SoFar, Comes, is_done, section_after, with_line, with_told}
+use Rattle.lset_long.specs.Reading.{SoFar, Comes, is_done, with_told}
 use Rattle.lset_long.specs.Kept.{AreKeys, IsFirst, IsJudging, IsKept, IsStreamKept, count_if, lines_of}
 
 -- ---- one key more
@@ -100,33 +100,3 @@ one_call_more opening calls x s n m kept counted next =
     let few = few_calls opening (calls ++ x ∷ []) (Some s) kept in
     let long = length_push calls x in
     omega (arith, few, long, counted, next)
-
-pub line_put : (s : SoFar) (l : Line) (j k q : Judging) → IsJudging s j → Comes s.section l → IsKept (with_line s.told l) k
-    → IsFirst (section_after l) k.stream → k.number ≡ j.number → q.section ≡ section_after l
-    → q.number ≡ min (k.number + 1) (2 ^ 64 - 1) → q.opening ≡ k.opening → q.stream ≡ k.stream → q.calls ≡ k.calls → q.keys ≡ k.keys
-    → q.cut_off ≡ k.cut_off → IsJudging (with_told s l) q × (q.number ≡ j.number + 1)
-line_put s l j k q judging comes kept first same section number opening stream calls keys cut =
-    let now = judging.kept in
-    let few = few_calls s.told.opening s.told.calls j.stream now.stream in
-    let opens = now.opens.few in
-    let left = now.left.few in
-    let at = judging.number in
-    let still = ap count_if (still_open s.section l comes) in
-    let next : q.number ≡ j.number + 1 = omega (arith, number, same, at, few, opens, left, still) in
-    let more = lines_more s l comes in (
-      record {
-        kept = record {
-          opening = ap (λ v. v.items) opening ∙ kept.opening;
-          opens = kept.opens;
-          stream = subst (IsStreamKept (with_line s.told l).opening (with_line s.told l).calls) (sym stream) kept.stream;
-          calls = calls ∙ kept.calls;
-          keys = ap (λ v. v.items) keys ∙ kept.keys;
-          left = kept.left;
-          cut_off = cut ∙ kept.cut_off;
-        };
-        section = section;
-        first = subst (IsFirst (section_after l)) (sym stream) first;
-        number = omega (arith, next, at, more);
-      },
-      next,
-    )
