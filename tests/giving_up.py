@@ -233,8 +233,8 @@ SESSIONS_OF = {
     "lset_server/workers::work": ("while sessions < u64::from(most) {", "most", []),
     "lset_server/serving::serve_in": ("let workers = seats.len()", "workers", ["workers = seats.len()"]),  # not as many as the set has
 }
-# How many workers get the message to end, when a gate is called, with which thread a pause is called at a lock, and how long one is.
-# Contracts do not say it; so here is what each of these says, and what gives a name its value.
+# How many workers get the message to end, when a gate is called, with which thread a pause is called at a lock, how long one is, and which
+# one calls have that are given none. Contracts do not say it; so here is what each of these says, and what gives a name its value.
 TOLD_OF = {
     "lset_server/serving::serve_in": ("send_all(pool.rt, listener, &pool.to, &mut pass, pool.sessions, workers)?", "pass", []),
     "lset_server/serving::send_all":
@@ -243,6 +243,8 @@ TOLD_OF = {
     "lset_work/workers::make_calls":
         ("for (number, call) in calls.iter().enumerate() { if !gate.pass(thread, number as u32) { return false; } let reply ="
          " set.call(rt, seat, *call, &Spin::new());", "thread", ["thread = seat.thread()"]),
+    **{f"lset_live/set::{it.lower()}": (f"self.call(rt, seat, Call::{it}(key), &Spin::new())", "key", []) for it in ("Add", "Remove", "Contains", "Ceiling")},
+    "lset_live/set_calls::make_call": ("self.call(rt, seat, call, &Spin::new())", "call", []),
     "lset_loops/steps::wait_for":
         ("if seen == 0 { self.pause.taken(self.slots.thread); return Some(()); } self.pause.failed(self.slots.thread); } None", "seen",
          ["seen = exchange_on::<M>(self.table, place, word, 0, own)"]),

@@ -89,6 +89,12 @@ def looks(many):
     return Shape(there, [("contains", key, "false" if key % 2 else "true") for key in shuffled(range(many))], there)
 
 
+def keys_that_are_looked_for(many):
+    """Each add has a look beside it that finds its key."""
+    keys = range(many // 2)
+    return Shape([], [(word, key, "true") for key in keys for word in ("add", "contains")], keys)
+
+
 def looks_at_the_least(many):
     return Shape(range(many), calls_of("contains", [0] * many), range(many))
 
@@ -190,7 +196,7 @@ WAYS = [
     Way(two_keys, beside_a_call, shown="calls"), Way(two_keys, side_by_side, True, shuffled),
     Way(opening_keys_removed_from_the_greatest), Way(opening_keys_removed_from_the_greatest, of_one_thread, True),
     Way(opening_keys_removed_from_the_least, side_by_side),
-    Way(looks, of_one_thread, shown="report"), Way(calls_that_change_nothing, side_by_side),
+    Way(looks, of_one_thread, shown="report"), Way(calls_that_change_nothing, side_by_side), Way(keys_that_are_looked_for, side_by_side),
     Way(ceilings_between_changes, in_turn, True), Way(ceilings_of_keys_that_go, beside_a_call, True, shown="calls"),
     Way(adds_past_the_quota, of_one_thread, True),
 ]
@@ -456,10 +462,9 @@ def events_of(schedule):
     return len(re.findall(b"^begin ", schedule, re.M)) + sum(map(int, re.findall(b"^go [0-9]+ ([0-9]+)$", schedule, re.M)))
 
 
-@test
-def chains(case):
-    """`trace --chain` of calls that change nothing of many keys."""
-    plan = Plan("lazy", looks_at_the_least, 64_000)
+@cases(named("chains", [Plan(kind, looks_at_the_least, 64_000) for kind in ("lazy", "coarse")]))
+def chains(case, plan):
+    """`trace --chain` of calls that change nothing of many keys, without a lock and with one."""
     schedule = output(case.program, "draft", text=draft_of(plan, plan.shape(plan.calls)))
     trace = output(case.program, "trace", "--chain", text=schedule)
     same((trace.count(b"\nevent "), trace.count(b"\nchain ")), (events_of(schedule), 0), "the events of the trace, and the chains")

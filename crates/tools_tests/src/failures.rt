@@ -1,8 +1,8 @@
 //! Each read and each write of each run of the tools, in turn.
-use crate::devices::{Failure, Plan, WHOLE, Way, planned};
+use crate::devices::{Failure, NEVER, Plan, WHOLE, Way, planned};
 use crate::prelude::*;
 use crate::row_texts::{CANNOT_READ, CANNOT_WRITE};
-use crate::rows::{Row, Run, example_rows, first_row, ran, row_of, rows};
+use crate::rows::{Row, Run, Tool, example_rows, first_row, ran, row_of, rows};
 
 const READS: [Way; 6] = [
     (Failure::Interrupted, 1),
@@ -160,6 +160,36 @@ fn a_read_and_the_line_about_it_fail(rt: HostRuntime) -> Result<(), Fail> {
 fn a_write_and_the_line_about_it_fail(rt: HostRuntime) -> Result<(), Fail> {
     for call in 0..first_row().output.len() {
         both_fail(&rt, rt.alloc(), Device::Output, call)?;
+    }
+    Ok(())
+}
+
+/// A schedule in which a thread tries for a lock that another one has: its trace is written in some pieces of 15,360 bytes.
+const TRIES: Row = Row {
+    tool: Tool::Trace,
+    input: "listset-schedule 1\nlist coarse\nthreads 2\nquota 4\n\
+        begin 0 add 5\ngo 0 1\nbegin 1 add 7\ngo 1 2000\n",
+    status: 0,
+    output: "",
+    faults: "",
+};
+
+/// Runs it on an output that takes up to 4,096 bytes a call, and whose call with this number fails.
+fn tries_on<R: Host>(rt: &R, alloc: Global, fails_at: usize) -> Result<Run, AllocError> {
+    let plan = planned((Failure::Interrupted, 4096), fails_at);
+    ran(rt, alloc, TRIES, [WHOLE, plan, WHOLE])
+}
+
+/// What was written up to a failing call is a front of the text, and nothing is written behind it.
+#[test]
+fn each_write_of_a_long_trace_fails_in_turn(rt: HostRuntime) -> Result<(), Fail> {
+    let whole = tries_on(&rt, rt.alloc(), NEVER)?;
+    assert!(rt; whole.status == 0 && whole.output.taken.len() > 4 * 15_360);
+    for call in 0..whole.output.calls {
+        let run = tries_on(&rt, rt.alloc(), call)?;
+        let front = whole.output.taken.starts_with(&run.output.taken);
+        assert!(rt; front && run.status == 1 && run.output.calls == call.saturating_add(1));
+        assert!(rt; run.faults.taken.as_slice() == CANNOT_WRITE.as_bytes());
     }
     Ok(())
 }
