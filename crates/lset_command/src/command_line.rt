@@ -652,30 +652,19 @@ fn no_options() -> Options
 fn command_named(name: &str) -> Command
     ensures { result ≡ command_named name.now }
 {
-    if name == "judge" {
-        Command::Judge
-    } else if name == "report" {
-        Command::Report
-    } else if name == "check" {
-        Command::Check
-    } else if name == "show" {
-        Command::Show
-    } else if name == "trace" {
-        Command::Trace
-    } else if name == "draft" {
-        Command::Draft
-    } else if name == "example" {
-        Command::Example
-    } else if name == "gen" {
-        Command::Gen
-    } else if name == "run" {
-        Command::Run
-    } else if name == "serve" {
-        Command::Serve
-    } else if name == "faults" {
-        Command::Faults
-    } else {
-        Command::Replay
+    match name {
+        "judge" => Command::Judge,
+        "report" => Command::Report,
+        "check" => Command::Check,
+        "show" => Command::Show,
+        "trace" => Command::Trace,
+        "draft" => Command::Draft,
+        "example" => Command::Example,
+        "gen" => Command::Gen,
+        "run" => Command::Run,
+        "serve" => Command::Serve,
+        "faults" => Command::Faults,
+        _ => Command::Replay,
     }
 }
 
