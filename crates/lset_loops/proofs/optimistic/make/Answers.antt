@@ -1,11 +1,33 @@
 use Rattle.std.proofs.Common.{refl, ap, arith}
 use Rattle.lset_words.specs.Words.{link_index}
+use Rattle.lset_words.proofs.Numbers.{if_other}
 use Rattle.lset_steps.specs.declared.Action.TheVariants.{Load}
+use Rattle.lset_steps.specs.ReadRows.{continued}
 use Rattle.lset_loops.proofs.Calling.{no_rest}
 use Rattle.lset_loops.proofs.optimistic.make.Goals as goal
 
 pub loop-round-init : goal.loop-round-init
 loop-round-init g c = ((no_rest, c.begin_at_head-link.ensures), omega arith)
+
+pub lock-requires-in-loop-round : goal.lock-requires-in-loop-round
+lock-requires-in-loop-round g c =
+    record {
+      held = _;
+      holds = c.in_ok-lock.ensures.leads _ c.in_ok-stopped.ensures.0.1;
+      acts = refl;
+      again = λ n ne. ap continued (if_other n 0 ne _ _);
+      goes_on = refl;
+    }
+
+pub validate-requires : goal.validate-requires
+validate-requires g c =
+    (c.in_ok-stopped.ensures.0.0, c.in_ok-lock-2.ensures.leads _ (c.in_ok-lock.ensures.leads _ c.in_ok-stopped.ensures.0.1))
+
+pub act-answer-requires : goal.act-answer-requires
+act-answer-requires g c = rw c.if-branch.true at c.in_ok-validate.ensures.0
+
+pub unlock-requires : goal.unlock-requires
+unlock-requires g c = record { held = _; holds = c.act-answer.ensures.1; acts = refl; goes_on = λ n. refl }
 
 pub unlock_last-requires : goal.unlock_last-requires
 unlock_last-requires g c = record { held = _; holds = c.unlock.ensures.leads _ c.act-answer.ensures.1; acts = refl }
@@ -16,6 +38,10 @@ returns-then-branch g c = (
   c.unlock_last.ensures _ (c.unlock.ensures.leads _ c.act-answer.ensures.1) _ refl,
   refl,
 )
+
+pub unlock-requires-in-loop-round : goal.unlock-requires-in-loop-round
+unlock-requires-in-loop-round g c = let left = rw c.if-branch.false at c.in_ok-validate.ensures.0 in
+    record { held = _; holds = left.1; acts = refl; goes_on = λ n. refl }
 
 pub unlock-requires-in-loop-round-2 : goal.unlock-requires-in-loop-round-2
 unlock-requires-in-loop-round-2 g c = let left = rw c.if-branch.false at c.in_ok-validate.ensures.0 in
