@@ -103,17 +103,26 @@ pub fn close_held(alloc: Global, held: Held) -> Result<Vec<u32>, (Held, u8)>
     ensures refused { IfErr result (λ r. RefusesToClose (set_in held) (seat_in held) (spare_in held) r.1 × IsKept held r.0) }
 {
     match held {
-        Held::Coarse(of) => of
-            .close(alloc)
-            .map_err(|(of, code)| (Held::Coarse(of), code)),
-        Held::Fine(of) => of.close(alloc).map_err(|(of, code)| (Held::Fine(of), code)),
-        Held::Optimistic(of) => of
-            .close(alloc)
-            .map_err(|(of, code)| (Held::Optimistic(of), code)),
-        Held::Lazy(of) => of.close(alloc).map_err(|(of, code)| (Held::Lazy(of), code)),
-        Held::LockFree(of) => of
-            .close(alloc)
-            .map_err(|(of, code)| (Held::LockFree(of), code)),
+        Held::Coarse(of) => match of.close(alloc) {
+            Ok(keys) => Ok(keys),
+            Err((of, code)) => Err((Held::Coarse(of), code)),
+        },
+        Held::Fine(of) => match of.close(alloc) {
+            Ok(keys) => Ok(keys),
+            Err((of, code)) => Err((Held::Fine(of), code)),
+        },
+        Held::Optimistic(of) => match of.close(alloc) {
+            Ok(keys) => Ok(keys),
+            Err((of, code)) => Err((Held::Optimistic(of), code)),
+        },
+        Held::Lazy(of) => match of.close(alloc) {
+            Ok(keys) => Ok(keys),
+            Err((of, code)) => Err((Held::Lazy(of), code)),
+        },
+        Held::LockFree(of) => match of.close(alloc) {
+            Ok(keys) => Ok(keys),
+            Err((of, code)) => Err((Held::LockFree(of), code)),
+        },
         other => Err((other, NO_SEAT)),
     }
 }
