@@ -5,11 +5,12 @@ a refusal is true.
 800 recordings of up to 14 calls are drawn as in long_recordings.py, with refused calls, pending ones, wrong replies and keys that are left
 otherwise (--few: 80), and their whole reports are compared; of 400 more (40) what `show` draws. 800 others (80) have several keys that are
 wrong, with calls and without, and each is judged as a text of version 2, as a long recording, and by half of its keys. Small recordings say
-besides, one by one, what stands where.
+besides, one by one, what stands where. Of the calls that `judge` shows each that changes nothing is needed.
 """
 
 import collections
 import random
+import re
 
 from harness.cases import Wrong, cases, each, given, same
 from harness.orders_model import Refusals, changes, found_order
@@ -135,6 +136,8 @@ ORDERS = {
     "calls that waited for one change come in the order of their begins": (
         ["call 0 contains 5 1 - 12 true", "call 1 add 5 2 - 13 false", "call 2 add 5 3 - 10 true", "call 3 contains 5 4 - 11 true", "key 5"],
         "2 true, 0 true, 1 false, 3 true"),
+    "calls that waited for a change behind it come in the order of their begins": (
+        ["call 0 add 5 1 - 9 true", "call 1 contains 5 2 - 7 true", "call 2 contains 5 3 - 8 true", "key 5"], "0 true, 1 true, 2 true"),
     "a change comes as the first call ends that needs it": (
         ["call 0 add 5 1 - 9 true", "call 1 add 6 2 - 7 true", "call 2 contains 5 3 - 5 true", "key 5", "key 6"], "0 true, 2 true, 1 true"),
     "a change comes before a call that does not need it": (
@@ -180,6 +183,26 @@ def spread(rng, calls, opening, keys):
     return [it._replace(key=names[it.key]) for it in with_pending(rng, calls)], sorted(opened), sorted(left)
 
 
+# What version 2 says of a refusal below its first lines: the state of the key before some calls, and these
+WINDOW = re.compile(r"key ([0-9]+) is (not )?there at moment [0-9]+\n(no later call changes it\n|these calls alone have no order.*:\n)((call .*\n)*)\Z")
+
+
+def read_call(line):
+    """The call of a line of version 2."""
+    thread, word, key, begin, _point, end, reply = line.split()[1:]
+    end, reply = (None, None) if end == "-" else (int(end), reply)
+    return Call(int(thread), word, int(key), int(begin), end, reply)
+
+
+def shows_few(said, refusals):
+    """The calls that are shown of a refusal are not to be ordered, and each of them that changes nothing is needed for that."""
+    window = WINDOW.search(said)
+    if not window:
+        raise Wrong(f"no calls are shown, in {said!r}")
+    shown = [*map(read_call, window[4].splitlines())]
+    same(refusals.fault_of_window(int(window[1]), not window[2], shown), None, f"the fault of the calls that are shown in {said!r}")
+
+
 def kind_of(refusals):
     if not refusals.left_wrong:
         return "by a moment" if refusals.is_refused() else "ok"
@@ -205,6 +228,8 @@ def a_refusal_names_the_key_and_the_moment_of_the_model(case, seed):
         for words, text, refusals, version in asked:
             done, due = ran(case.program, "judge", *words, text=text), refusals.lines(version)
             same((done.returncode, done.stdout.splitlines()[:len(due)]), (int(refusals.is_refused()), due), f"{words} of {text!r}")
+            if version == 2 and refusals.is_refused():
+                shows_few(done.stdout, refusals)
         found[kind_of(asked[0][2])] += 1
     if not given.few and min(found.values()) < RECORDINGS // 20 or len(found) < 4:
         raise Wrong(f"by kind there are {found}")
@@ -243,3 +268,10 @@ def a_refusal_is_the_one_that_is_known(case, lines, said):
     for title, its_lines, due in (("listset-calls 2\nlist lazy\nthreads 4\nquota 0", lines, said[0]), ("listset-calls 3", long_lines, said[-1])):
         answer = ran(case.program, "judge", text=text_of([title, *its_lines, "end"])).stdout
         same(answer.splitlines()[:2], ["not linearizable", due], title.splitlines()[0])
+
+
+@each(["contains", "ceiling"])
+def a_pending_look_is_not_shown(case, word):
+    lines = ["listset-calls 2", "list lazy", "threads 4", "quota 4", "call 0 add 5 1 - 2 true", f"call 1 {word} 5 3 - - -", "end"]
+    due = ["not linearizable", no_order(5), "key 5 is there at moment 2", "no later call changes it"]
+    same(ran(case.program, "judge", text=text_of(lines)).stdout.splitlines(), due, "judge")

@@ -116,7 +116,7 @@ class Refusals:
     """Where the calls of keys have no order that leaves these keys; or none, whatever it leaves, if no keys are given."""
 
     def __init__(self, calls, opening, keys):
-        self.calls, self.opening = calls, opening
+        self.calls, self.opening, self.keys = calls, opening, keys
         by_key = of_keys(calls, opening, keys or [])
         self.moment, self.key = min(((first_without_order(its_calls, key in opening), key) for key, its_calls in by_key.items()), default=(END, None))
         self.left_wrong = []
@@ -125,6 +125,17 @@ class Refusals:
 
     def is_refused(self):
         return self.moment < END or bool(self.left_wrong)
+
+    def fault_of_window(self, key, is_there, shown):
+        """What is wrong with these calls of a key as those that show why it is refused, of a set that has the key before them or not; None
+        if nothing is. They have no order, but have one if any call that changes nothing is left out."""
+        left = None if self.moment < END else key in self.keys
+        if OrdersOfKey(shown, left).first(is_there) is not None:
+            return "they have an order"
+        for it in shown:
+            if not changes(it) and OrdersOfKey([other for other in shown if other != it], left).first(is_there) is None:
+                return f"{it} is not needed"
+        return None
 
     def lines(self, version):
         """The first lines of what `judge` says of them as a text of a version; all lines if it names a key without calls."""

@@ -76,6 +76,35 @@ fn calls_that_are_not_needed_are_left_out(rt: HostRuntime) -> Result<(), Fail> {
     has_window(&rt, rt.alloc(), calls, &[0, 101, 102])
 }
 
+/// A look that is pending says nothing: the window of a key that is lost has no call.
+#[test]
+fn a_pending_look_is_left_out(rt: HostRuntime) -> Result<(), Fail> {
+    for call in [Call::Contains(FIVE), Call::Ceiling(FIVE)] {
+        let mut calls = Vec::new(rt.alloc());
+        calls.push(ended(0, Call::Add(FIVE), (1, 2), Reply::True))?;
+        calls.push(CallRecord {
+            thread: 1,
+            call,
+            begun: 3,
+            ended: None,
+        })?;
+        let window = window_of(rt.alloc(), false, calls, false)?;
+        assert!(rt; window.calls.is_empty() && window.since == 2 && window.there);
+    }
+    Ok(())
+}
+
+/// The key comes and goes beside a long look that ends last, and then a call finds it: that one alone is shown.
+#[test]
+fn a_window_does_not_begin_before_a_longer_look(rt: HostRuntime) -> Result<(), Fail> {
+    let mut calls = Vec::new(rt.alloc());
+    calls.push(ended(0, Call::Contains(FIVE), (1, 100), Reply::True))?;
+    calls.push(ended(1, Call::Add(FIVE), (2, 3), Reply::True))?;
+    calls.push(ended(1, Call::Remove(FIVE), (4, 5), Reply::True))?;
+    calls.push(ended(2, Call::Contains(FIVE), (6, 7), Reply::True))?;
+    has_window(&rt, rt.alloc(), calls, &[3])
+}
+
 /// While a long call puts the key in, or takes it out, a hundred calls do not do the other, then one finds the key changed, and the next does
 /// not.
 #[test]
