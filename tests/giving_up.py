@@ -248,6 +248,7 @@ TOLD_OF = {
     "lset_loops/steps::wait_for":
         ("if seen == 0 { self.pause.taken(self.slots.thread); return Some(()); } self.pause.failed(self.slots.thread); } None", "seen",
          ["seen = exchange_on::<M>(self.table, place, word, 0, own)"]),
+    "lset_rule/row_steps::other_step": ("failed: has_failed(action, seen)", "seen", ["seen = step_on::<M>(table, place, action)"]),
     "lset_rule/pause::failed":
         ("for _ in 0..waits { self.backoff.spin(); } if waits < MOST_WAITS { self.waits.set(2 * waits); } else { self.backoff.snooze(); }",
          "waits", ["waits = self.waits.get()"]),

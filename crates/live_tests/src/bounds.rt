@@ -78,6 +78,14 @@ fn a_read_has_rounds(rt: HostRuntime) {
     at_each_list!(reads_in_rounds, rt);
 }
 
+/// A round of the interpreter makes four steps: two rounds are enough for a ceiling that looks at three nodes.
+#[test]
+fn a_ceiling_makes_four_steps_in_a_round(rt: HostRuntime) {
+    let (call, found) = (Call::Ceiling(Key(25)), Some(Reply::At(Key(30))));
+    assert!(rt; reply_of::<LazyList, HostRuntime, UpTo<2>>(&rt, rt.alloc(), call) == found);
+    assert!(rt; reply_of::<LockFreeList, HostRuntime, UpTo<2>>(&rt, rt.alloc(), call) == found);
+}
+
 /// In a list that marks, a `contains` has no rounds: it walks to the last key, and past it, under any bound.
 fn walks_on<M: Bounded, R: Abort>(rt: &R, alloc: Global) {
     let (last, none) = (Call::Contains(Key(50)), Call::Contains(Key(55)));

@@ -2,6 +2,7 @@
 //! them.
 use crate::opened::{end, one_seat};
 use crate::prelude::*;
+use lset_server::Sink;
 
 /// Gives as many bytes at once as there is room for, and counts the reads.
 #[derive(Drop)]
@@ -77,4 +78,16 @@ fn a_session_makes_few_reads_and_writes(rt: HostRuntime) {
     let text = many_lines(&rt, rt.alloc());
     makes_few(&rt, rt.alloc(), &text, false);
     makes_few(&rt, rt.alloc(), &text, true);
+}
+
+/// A device that is given nothing to write has not failed.
+#[test]
+fn a_device_takes_an_empty_text(rt: HostRuntime) {
+    let mut device = Device::new(GreedyWriter {
+        bytes: 0,
+        writes: 0,
+    });
+    let of_nothing = device.write(b"");
+    let of_a_letter = device.write(b"A");
+    assert!(rt; of_nothing == Some(0) && of_a_letter == Some(1));
 }
