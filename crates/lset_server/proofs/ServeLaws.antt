@@ -120,6 +120,11 @@ joined_next f hs rest rest' h s s' end end' v u u' w n m k c step (done, split, 
 pub bound_none : (most n total : ℕ) → n ≡ total → 0 + most * n ≤ most * total
 bound_none most n total e = let same : most * n ≡ most * total = ap (λ k. most * k) e in omega (arith, same)
 
+pub bound_next : (s d most n n' total : ℕ) → s + most * n ≤ total → n ≡ n' + 1 → d ≤ most → s + d + most * n' ≤ total
+bound_next s d most n n' total h e small =
+    let full : s + most * (n' + 1) ≤ total = subst (λ x. s + most * x ≤ total) e h in
+    omega (arith, full, small)
+
 pub bound_next' : (s d most n n' total : ℕ) → s + MOST_LINES * (most * n) ≤ total → n ≡ n' + 1 → d ≤ MOST_LINES * most →
     s + d + MOST_LINES * (most * n') ≤ total
 bound_next' s d most n n' total h e small =
