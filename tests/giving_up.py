@@ -233,8 +233,8 @@ SESSIONS_OF = {
     "lset_server/workers::work": ("while sessions < u64::from(most) {", "most", []),
     "lset_server/serving::serve_in": ("let workers = seats.len()", "workers", ["workers = seats.len()"]),  # not as many as the set has
 }
-# How many workers get the message to end, when a gate is called, with which thread a pause is called at a lock, how long one is, and which
-# one calls have that are given none. Contracts do not say it; so here is what each of these says, and what gives a name its value.
+# How many workers get the message to end, when a gate is called, with which thread a pause is called at a lock, how long one is, which
+# one calls have that are given none, and that a schedule is drawn no further than to its end. Contracts do not say it; so here is what each of these says, and what gives a name its value.
 TOLD_OF = {
     "lset_server/serving::serve_in": ("send_all(pool.rt, listener, &pool.to, &mut pass, pool.sessions, workers)?", "pass", []),
     "lset_server/serving::send_all":
@@ -248,6 +248,8 @@ TOLD_OF = {
     "lset_loops/steps::wait_for":
         ("if seen == 0 { self.pause.taken(self.slots.thread); return Some(()); } self.pause.failed(self.slots.thread); } None", "seen",
          ["seen = exchange_on::<M>(self.table, place, word, 0, own)"]),
+    "lset_schedule/generator::generated_lines":
+        ("if is_over(&world, threads, lines.len(), left) { break; }", "left", ["left = calls", "left = left_by(left, event)"]),
     "lset_rule/row_steps::other_step": ("failed: has_failed(action, seen)", "seen", ["seen = step_on::<M>(table, place, action)"]),
     "lset_rule/pause::failed":
         ("for _ in 0..waits { self.backoff.spin(); } if waits < MOST_WAITS { self.waits.set(2 * waits); } else { self.backoff.snooze(); }",

@@ -36,15 +36,16 @@ MOMENTS_OF_ROUND = 20
 
 
 def round_of(number):
-    """The lines of a round: changes, calls that change nothing, and looks that find the key or not, of which some overlap."""
-    thread, key, before = number % 17 * 1000, number % KEYS, 1 + MOMENTS_OF_ROUND * number
+    """The lines of a round: changes, calls that change nothing, and looks that find the key or not, of which some overlap; of three threads
+    that make no others."""
+    thread, key, before = 100 + 3 * number, number % KEYS, 1 + MOMENTS_OF_ROUND * number
     return "".join(f"call {thread + of} {word} {key + KEYS * second} {before + begin} {before + end} {reply}\n"
                    for of, word, second, begin, end, reply in CALLS_OF_ROUND)
 
 
 @test
 def long_recordings(case):
-    """`judge` keeps nothing of a call that has ended but the state of its key, be it read from a file or from the input."""
+    """`judge` keeps nothing of a call that has ended but the state of its key, nor of its thread, be it read from a file or from the input."""
     file = case.room / "long.calls"
     with open(file, "w", encoding="ascii") as out:
         out.write("listset-calls 3\nopening 4294967295\ncall 9 remove 4294967295 1 - -\n")
