@@ -125,7 +125,11 @@ impl<'a, R: Clock> Pause for Player<'a, R> {
         self.note(FAILED, thread);
     }
 
+    /// The interpreter never asks it.
     fn taken(&self, thread: u32) {
+        if self.turns.by_table {
+            self.turns.missed.store(true, Ordering::SeqCst);
+        }
         self.note(TAKEN, thread);
     }
 }

@@ -216,20 +216,33 @@ fn ceilings_of_each_length_leave(rt: HostRuntime) {
     }
 }
 
+/// Lines, their answers, and how many calls they make.
+type Lines = (&'static [u8], &'static [u8], u64);
+
+/// Calls that end by `QUIT`; a line that is too long; and lines of which none makes a call.
+const OF_EACH_END: [Lines; 3] = [
+    (LINES, ANSWERS, 4),
+    (&[b'A'; 65], b"LONG\n", 0),
+    (b"\nQUIT\n", b"BAD\nBYE\n", 0),
+];
+
 /// All lines come in one read, and of their answers the write with this number fails: all calls are made.
-fn write_fails<R: Host>(rt: &R, alloc: Global, at: u64) {
+fn write_fails<R: Host>(rt: &R, alloc: Global, lines: Lines, at: u64) {
+    let (text, answers, calls) = lines;
     let (set, mut seat) = one_seat(rt, alloc);
     let mut writer = FailingWriter::new(alloc, at);
-    let (lines, answers) = (Device::new(LINES), Device::new(&mut writer));
-    let ended = buffered_session(rt, lines, answers, &set, &mut seat);
-    assert!(rt; ended == end(EndReason::WriteFault, 4), "{at}");
-    stopped_at(rt, &writer, ANSWERS, at);
+    let (from, to) = (Device::new(text), Device::new(&mut writer));
+    let ended = buffered_session(rt, from, to, &set, &mut seat);
+    assert!(rt; ended == end(EndReason::WriteFault, calls), "{at}");
+    stopped_at(rt, &writer, answers, at);
 }
 
 #[test]
 fn a_write_of_answers_that_fails_is_the_last(rt: HostRuntime) {
-    for at in 1..=29u64 {
-        write_fails(&rt, rt.alloc(), at);
+    for lines in OF_EACH_END {
+        for at in 1..=lines.1.len() as u64 {
+            write_fails(&rt, rt.alloc(), lines, at);
+        }
     }
 }
 
