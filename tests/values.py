@@ -1,6 +1,6 @@
 """A clause that names a constant changes with it, and no test comes to each limit. So with another value of a constant all else may pass.
 Here each constant of the sources has a row of VALUES, with its value and what it is for; FIXED has those without a number whose value other
-texts fix. SAID has the pages that say such a value. ARGUMENTS has what calls are told by a number, a constant or a variant where no
+texts fix. SAID has the pages that say such a value. ARGUMENTS has the arguments of calls that are a number, a constant or a variant where no
 clause speaks of it: calls of std, and of functions without a clause, in crates whose contracts say little of devices and time. It does not
 notice a number up to 2 in a body that is no argument of a call."""
 
@@ -138,7 +138,7 @@ SAID = [
 # The crates whose calls are looked at
 OF_CRATES = re.compile(r"lset_(server|session|work|live|loops|rule)|ffi_\w+|listset|tool_(run|serve)")
 OF_ERRORS = re.compile(r"\.(ok_or|map_err)")  # what a contract says of an error
-# Functions, their calls with what these are told, and what that is for
+# Functions, their calls with such arguments, and what these are for
 ARGUMENTS = [
     ("lset_server/workers::hold", ".set_nodelay(true)", "an answer leaves at once"),
     ("lset_server/lingering::take_leave", ".shutdown(Shutdown::Write)", "no more answers come, and its bytes are still read"),
@@ -174,7 +174,7 @@ def is_told(items, at):
 
 
 class Sources:
-    """Sources by their file, below crates/: their constants, and what their calls are told."""
+    """Sources by their file, below crates/: their constants, and such arguments of their calls."""
 
     def __init__(self, files):
         self.files = files
@@ -217,7 +217,7 @@ class Sources:
 
     @cached_property
     def arguments(self):
-        """The calls that are told something, with all their arguments."""
+        """The calls with such an argument, with all their arguments."""
         return [it for name, file, function in self.functions if OF_CRATES.fullmatch(name.split("/")[0])
                 for it in self.in_body(name, file, function)]
 
@@ -236,7 +236,7 @@ class Sources:
 
     def argument_faults(self, rows):
         return row_faults("ARGUMENTS", rows, self.arguments, {name for name, _, _ in self.functions},
-                          "if a right call is told so, give it a row with what it is for")
+                          "if a right call has it, give it a row with what it is for")
 
 
 def module_of(file):

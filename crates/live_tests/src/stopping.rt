@@ -146,7 +146,7 @@ fn waits_at_a_lock<M: Running + Send + Sync, R: Host>(rt: &R, alloc: Global, loc
     steps.wrapping_sub(stopping.zero.failed.load(Ordering::SeqCst))
 }
 
-/// By its loops and by its table, `S`, as many steps of seat 0 do not fail: its pause is told of the one that takes a lock at last.
+/// By its loops and by its table, `S`, as many steps of seat 0 do not fail: its pause is called for the one that takes a lock at last.
 fn both_wait<M: Running + Send + Sync, S: Running + Send + Sync, R: Host>(
     rt: &R,
     alloc: Global,

@@ -1,13 +1,13 @@
-"""A failure is told as what it is: contracts say that memory, a thread, a connection or a device may be refused at any time, and seldom which of
-them is told. So here each kind of failure that is not of memory has the calls under which it stands, and no other failure stands under
-these. It reads the places that tests/giving_up.py finds, in which a function answers so."""
+"""A function reports the failure that it met: contracts say that memory, a thread, a connection or a device may be refused at any time, and
+seldom which of them is reported. So here each kind of failure that is not of memory has the calls under which it stands, and no other failure
+stands under these. It reads the places that tests/giving_up.py finds, in which a function answers so."""
 
 import re
 
 from giving_up import VARIANTS, last_word, sources
 from harness.cases import once, same, test
 
-# What may be answered, and the calls whose failure it tells
+# What may be answered, and the calls whose failure it reports
 UNDER = {
     "Accept": r"\.accept\(",
     "CannotListen": r"TcpListener::bind\(|\.local_addr\(",
@@ -17,7 +17,7 @@ UNDER = {
     "Spawn": r"\.start(_all)?\(",
     "WriteFault": r"(?<![.\w])(flush|write_all|answer)\(",
 }
-PASSED_ON = "a failure for a failure"  # how a place is told in which a failure is given another type
+PASSED_ON = "a failure for a failure"  # the form of a place that gives a failure another type
 
 
 def kinds(place):
