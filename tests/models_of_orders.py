@@ -235,6 +235,38 @@ def a_refusal_names_the_key_and_the_moment_of_the_model(case, seed):
         raise Wrong(f"by kind there are {found}")
 
 
+def with_full(rng, calls):
+    """The calls, of which some looks are `add`s that answered `full`, seldom where the key was there, and others are ceilings."""
+    for it in calls:
+        share = rng.random() if it.word == "contains" else 1
+        if it.reply and share < (0.5 if it.reply == "false" else 0.05):
+            yield it._replace(word="add", reply="full")
+        elif share < 0.2:
+            yield it._replace(word="ceiling", reply=it.reply and rng.choice(["nothing", f"at-{it.key}"]))
+        else:
+            yield it
+
+
+@each(SEEDS)
+def a_refusal_beside_full_and_ceilings_is_that_of_the_model(case, seed):
+    """Of a ceiling begins and ends say nothing, and of a `full` that its key was not there."""
+    rng, found = random.Random(f"full {seed}"), collections.Counter()
+    for _ in range(RECORDINGS):
+        calls, opening, keys = spread(rng, *drawn(rng, rng.randrange(1, 12)))
+        calls, is_cut = [*with_full(rng, calls)], rng.random() < 0.2
+        refusals, text = Refusals(calls, opening, None if is_cut else keys), short_text(calls, opening, keys, is_cut)
+        done, due = ran(case.program, "judge", text=text), refusals.lines(2)
+        said = done.stdout.splitlines()[:len(due)]
+        if refusals.is_refused():
+            same((done.returncode, said), (1, due), f"judge of {text!r}")
+            shows_few(done.stdout, refusals)
+        elif said[:1] == ["not linearizable"]:
+            raise Wrong(f"{said} of {text!r}")
+        found[refusals.is_refused(), " full\n" in done.stdout] += 1
+    if not given.few and (found[True, True] < RECORDINGS // 20 or found[False, False] < RECORDINGS // 5):
+        raise Wrong(f"by whether they are refused, and show a full, there are {found}")
+
+
 def no_order(key, moment=None):
     return f"no order explains the calls of key {key} " + (f"up to moment {moment}" if moment else "and leaves it as it was left")
 

@@ -13,12 +13,14 @@ def changes(it):
 
 
 def has_place(it):
-    """Whether a call has a place in an order, or may have one."""
-    return it.reply is not None or it.word in CHANGES
+    """Whether a call has a place in an order, or may have one. Of ceilings nothing is asked."""
+    return it.word in CHANGES or it.word != "ceiling" and it.reply is not None
 
 
 def fits(it, is_there):
-    """Whether a call answers as it did where its key is there, or is not; an open one changes it."""
+    """Whether a call answers as it did where its key is there, or is not; an open one changes it, and one that answered `full` would."""
+    if it.reply == "full":
+        return not is_there
     return reply_of(it.word, it.key, [it.key] * is_there) == (it.reply or "true")
 
 

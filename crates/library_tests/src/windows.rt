@@ -341,10 +341,11 @@ struct Wrong {
 
 /// A call of the key, of one of the threads, that is not needed: it fits, or says nothing.
 fn needless(rng: &mut Pcg32, key: Key, there: bool, thread: u32, begun: u32) -> CallRecord {
-    let (call, reply) = match rng.next_u32() % 4 {
+    let (call, reply) = match rng.next_u32() % 5 {
         0 => (Call::Contains(key), Some(found_if(there))),
         1 => (turning(key, !there), Some(Reply::False)),
         2 => (Call::Ceiling(key), Some(Reply::At(key))),
+        3 => (Call::Add(key), Some(if there { Reply::False } else { Reply::Full })),
         _ => (Call::Contains(key), None),
     };
     CallRecord {
@@ -364,12 +365,13 @@ fn wrong_calls(
     there: bool,
     thread: u32,
 ) -> Result<Wrong, AllocError> {
-    let (kind, many) = (rng.next_u32() % 4, rng.next_u32() % 6);
+    let (kind, many) = (rng.next_u32() % 5, rng.next_u32() % 6);
     let behind = rest.at + 2 * many + 2;
     let (call, reply, end) = match kind {
         0 => (Call::Contains(rest.key), found_if(!there), behind),
         1 => (turning(rest.key, !there), Reply::True, behind),
         2 => (turning(rest.key, there), Reply::False, behind),
+        3 => (Call::Add(rest.key), if there { Reply::Full } else { Reply::False }, behind),
         _ => (turning(rest.key, there), Reply::True, behind + 4),
     };
     let mut calls = Vec::new(alloc);
@@ -379,7 +381,7 @@ fn wrong_calls(
         let begun = rest.at + 2 * number + 2;
         calls.push(needless(rng, rest.key, there, thread + number + 1, begun))?;
     }
-    if kind == 3 {
+    if kind == 4 {
         for (begun, found) in [(behind, !there), (behind + 2, there)] {
             let (call, bar) = (Call::Contains(rest.key), (begun, begun + 1));
             shown.push(calls.len() as u32)?;
