@@ -127,6 +127,13 @@ def serve(case, kind):
 
 
 @each(KINDS)
+def serve_without_a_set(case, kind):
+    """The largest set has no room in 40 MB: no line says that the server is ready."""
+    made = ran(*limited(40_000, [case.program, "serve", kind, "64", "16384", "0", "1"]), seconds=SECONDS)
+    same((made.returncode, made.stdout, made.stderr), (3, "", "listset: out of memory\n"), "its status, its output and its fault")
+
+
+@each(KINDS)
 def serve_without_files(case, kind):
     """The system refuses the first connection before a client comes."""
     words = [case.program, "serve", kind, "2", "4", "0", "1"]

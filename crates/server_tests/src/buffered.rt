@@ -246,6 +246,20 @@ fn a_write_of_answers_that_fails_is_the_last(rt: HostRuntime) {
     }
 }
 
+/// All lines come in one read, and of their answers the front alone has room: the first write fails, and no call follows.
+#[test]
+fn no_call_is_made_after_a_write_that_failed(rt: HostRuntime) {
+    let mut text = Vec::from_slice(rt.alloc(), b"ADD 4294967295\n").expect(&rt, "room");
+    for _ in 0..408 {
+        text.extend_from_slice(b"CEILING 0\n").expect(&rt, "room");
+    }
+    let (set, mut seat) = one_seat(&rt, rt.alloc());
+    let mut writer = FailingWriter::new(rt.alloc(), 1);
+    let (from, to) = (Device::new(text.as_slice()), Device::new(&mut writer));
+    let ended = buffered_session(&rt, from, to, &set, &mut seat);
+    assert!(rt; ended == end(EndReason::WriteFault, 294));
+}
+
 /// Each read gives one byte, and the write with this number fails: no read follows.
 fn write_fails_between<R: Host>(rt: &R, alloc: Global, at: u64, reads: u64, calls: u64) {
     let (set, mut seat) = one_seat(rt, alloc);
