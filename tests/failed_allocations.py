@@ -28,8 +28,9 @@ HARNESS = pathlib.Path(__file__).resolve().parent / "harness"
 EXAMPLES = TOP / "examples" / "schedules"
 CALLS = "crates/memory_calls/out/memory_calls", "crates/memory_calls/out/unproved/memory_calls"
 
-# What PROGRAM is asked of files in examples/, of a drawn one (DRAWN) and of one with many opening keys (OPENING). The number tells
-# how many growths are passed over: one as the words are read, and where std asks for less room than it guessed.
+# What PROGRAM is asked of files in examples/, of a drawn one (DRAWN) and of one with many opening keys, which goes past the end of its
+# call (OPENING) or not (ENDED). The number tells how many growths are passed over: one as the words are read, and where std asks for less
+# room than it guessed.
 ASKED = """
 1 replay one-add.schedule
 1 replay opens-with-keys.schedule
@@ -61,6 +62,13 @@ ASKED = """
 3 trace --chain marked-in-chain.schedule
 1 trace refused.schedule
 1 trace version-1-opening.schedule
+1 trace OPENING
+2 trace --chain OPENING
+1 show --svg --from 2 OPENING
+2 trace --lacks lock OPENING
+3 replay --lacks lock ENDED
+5 show --lacks lock ENDED
+2 show ../recorders/both-true.calls
 1 draft ../../tests/transcripts/data/drafts/ceiling-meets-mark.draft
 1 draft one-add.schedule
 1 example
@@ -196,13 +204,14 @@ def commands():
 
 
 def texts(case):
-    """The drawn schedule, and that with many opening keys, in the case's room."""
-    opening = case.room / "opening.schedule"
+    """The drawn schedule, and those with many opening keys, in the case's room."""
+    opening, ended = case.room / "opening.schedule", case.room / "ended.schedule"
     keys = "".join(f"opening {key}\n" for key in range(1, 13))
-    opening.write_text(f"listset-schedule 2\nlist coarse\nthreads 1\nquota 5\n{keys}begin 0 remove 4\ngo 0 14\n")
+    for file, steps in ((opening, 14), (ended, 12)):
+        file.write_text(f"listset-schedule 2\nlist coarse\nthreads 1\nquota 5\n{keys}begin 0 remove 4\ngo 0 {steps}\n")
     with open(case.room / "drawn.schedule", "w") as drawn:
         subprocess.run([case.program, *"gen coarse 1 40 60 2 1".split()], stdout=drawn, check=True)
-    return {"OPENING": str(opening), "DRAWN": drawn.name}
+    return {"OPENING": str(opening), "ENDED": str(ended), "DRAWN": drawn.name}
 
 
 @cases(commands)
