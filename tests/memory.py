@@ -111,9 +111,10 @@ def traces(case):
     same((trace.count(b"\nevent "), trace[-5:]), (events_of(schedule), b"\nend\n"), "the events of the trace, and its end")
 
 
-@each(["replay", "show", "show --from 400000", "show --svg --from 400000"])
+@each(["replay", "show", "show --from 400000", "show --svg --from 400000", "replay --lacks mark-in-contains",
+       "show --lacks mark-in-contains --from 400000"])
 def events(case, words):
-    """Commands that execute as many, and print only calls."""
+    """Commands that execute as many, also on a broken list, and print only calls."""
     schedule = printed(case.program, "draft", text=long_walks())
     same(events_of(schedule) > 400_000, True, "that a picture has few moments from 400000 on")
     said = printed_within(LITTLE, case.program, *words.split(), text=schedule)
