@@ -444,6 +444,7 @@ PLANS = [
     Plan("lock-free", keys_that_fall, 128_000), Plan("lazy", opening_keys_removed_from_the_least, 64_000),
     Plan("optimistic", looks_at_the_least, 96_000), Plan("lazy", looks_in_vain, 192_000, True),
     Plan("lock-free", ceilings_between_changes, 128_000), Plan("fine", ceilings_of_keys_that_go, 96_000),
+    Plan("coarse", keys_that_fall, 32_000, words=("--lacks", "lock")),
 ]
 
 
@@ -462,11 +463,17 @@ def events_of(schedule):
     return len(re.findall(b"^begin ", schedule, re.M)) + sum(map(int, re.findall(b"^go [0-9]+ ([0-9]+)$", schedule, re.M)))
 
 
-@cases(named("chains", [Plan(kind, looks_at_the_least, 64_000) for kind in ("lazy", "coarse")]))
+# (a `contains` of a broken list makes the same steps; of a fine or an optimistic list it takes the locks of two nodes)
+CHAINS = [*(Plan(kind, looks_at_the_least, 32_000) for kind in ("lazy", "coarse", "fine", "optimistic", "lock-free")),
+          Plan("coarse", looks_at_the_least, 32_000, words=("--lacks", "lock")),
+          Plan("fine", looks_at_the_least, 32_000, words=("--lacks", "second-lock"))]
+
+
+@cases(named("chains", CHAINS))
 def chains(case, plan):
-    """`trace --chain` of calls that change nothing of many keys, without a lock and with one."""
+    """`trace --chain` of calls that change nothing of many keys: without a lock, with one, and with one of each node; also of broken lists."""
     schedule = output(case.program, "draft", text=draft_of(plan, plan.shape(plan.calls)))
-    trace = output(case.program, "trace", "--chain", text=schedule)
+    trace = output(case.program, "trace", "--chain", *plan.words, text=schedule)
     same((trace.count(b"\nevent "), trace.count(b"\nchain ")), (events_of(schedule), 0), "the events of the trace, and the chains")
 
 
