@@ -630,9 +630,10 @@ def each_worker_each_gate_and_each_pause_is_told(_case):
 
 @test
 def there_is_one_spin(_case):
-    """TOLD_OF has which pause a call gets by this name, which no other type has, nor a module or an import."""
+    """TOLD_OF has a pause by the name `Spin`, and by `Backoff` what that waits by, which the kit has: nothing else has either name, neither
+    a type nor a module nor an import."""
     texts_of = {file: re.sub(r"//[^\n]*", "", it.text) for file, it in once(sources).files.items()}
-    found = [f"{file}: {it}" for file, text in texts_of.items() for it in re.findall(r"\b\w+!?\s+Spin\b", text)]
+    found = [f"{file}: {it}" for file, text in texts_of.items() for it in re.findall(r"\b\w+!?\s+(?:Spin|Backoff)\b", text)]
     same(found, [f"lset_rule/src/pause.rt: {it} Spin" for it in ("struct", "impl", "for")], "what gives the name to something")
 
 
