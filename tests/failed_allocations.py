@@ -92,7 +92,7 @@ GUESSING = {"Oracle::keys"}
 WITHOUT_GROWTH = {
     "World::step", "History::end", "LiveSet::add", "LiveSet::remove", "LiveSet::contains", "LiveSet::ceiling",
     "LiveSet::contains_now", "LiveSet::call_within", "LiveSet::receipt", "LiveSet::copied", "LiveSet::after",
-    "LiveSet::gather", "LiveSet::close", "session",
+    "LiveSet::gather", "LiveSet::close", "Seat::add", "Seat::remove", "Seat::contains", "Seat::ceiling", "session",
 }
 BLOCKS = WITHOUT_GROWTH | {"Oracle::keys"}
 BACK = "work (Memory, all comes back)"

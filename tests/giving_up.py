@@ -2,13 +2,14 @@
 Here each place of the sources that answers so stands directly under the failure of a call that can fail so: the `else` of
 `let Ok(..) = call`, `if call.is_err()`, an arm `Err(_)` of `match call`, or an arm that names such a failure. ODD_PLACES has all others,
 each with what decides it. ASKED has what is asked of std by a number, for a number that no machine has is refused as well. Where contracts
-say little, STEPS_OF, LOOPS_OF, SESSIONS_OF, TOLD_OF and ROUNDS_OF have what a function does."""
+say little, the tables of tests/harness/function_steps.py have what a function does."""
 
 import re
 from dataclasses import dataclass
 from functools import cached_property
 
 from harness.cases import TOP, Wrong, cases, once, same, test
+from harness.function_steps import BOUNDS, HAS_ROUNDS, LOOPS_OF, ROUNDS_OF, SESSIONS_OF, STEPS_OF, TOLD_OF, WITH_ALLOCATOR
 from harness.rattle_tokens import (CONTROL, answers_of, arms, body_of, braces, call_at_end, callee, chain_start, is_pattern, path_start,
                                    takes_all, text_at, text_of, texts, token_of, walk)
 from rattle_sources import Source
@@ -199,90 +200,6 @@ ASKED = {
 }
 # Methods of ours that have the name of one of STD_FAILS, and other failures
 SAME_NAMES = {"tool_base/answer::write": "no place stands under a call of it"}
-# Functions of which contracts say less than they do, as of those that answer nothing: their branches and calls in turn
-STEPS_OF = {
-    "lset_server/workers::hold": "let .set_nodelay let buffered_session Device::new Device::new take_leave",  # no read has a time
-    "lset_server/workers::start": "let let let let let Snapshot::of Snapshot::of Snapshot::of u64::from .spawn_with work .ok",
-    "lset_server/workers::work": "let let while u64::from let next else hold",  # no number of calls ends it
-    "lset_server/serving::accept_all": "for let .accept else let u64::from if send .is_err",  # nor has a stream
-    "lset_server/serving::send_all": "accept_all close_all",  # no number of sessions spares it a worker
-    "lset_server/serving::close_all": "for if send .is_err",
-    "lset_work/workers::make_calls": "let .thread for .iter .enumerate if .pass let .call Spin::new let .push else unreachable!",
-    "lset_server/lingering::read": "let .elapsed let Duration::from_secs .saturating_sub .set_read_timeout let .read",
-    "ffi_sets/yielding::failed": "let .get let match for hint::spin_loop if .set else libc::sched_yield",
-    "lset_server/lingering::take_leave": "match let Instant::now else if .shutdown .is_err drop_rest Device::new",
-    "lset_server/lingering::drop_rest": "let let while let .min .len let .read else if",
-    "tool_base/answer::tell": "match tell_line tell_line tell_line tell_line tell_line tell_line tell_line tell_line tell_made",
-    "tool_base/answer::tell_made": "if let line_of_trouble tell_line",
-    "tool_base/answer::tell_line": "let put",
-}
-# The loops of the server. A loopback has fewer ports than a server may have sessions, so no test comes to the last; and a loop around a
-# call that the system refuses may never end.
-LOOPS_OF = {
-    "lset_server/lingering::drop_rest": ["while left > 0"],
-    "lset_server/serving::accept_all": ["for number in 0..sessions"],
-    "lset_server/serving::close_all": ["for _ in 0..workers"],
-    "lset_server/workers::join_all": ["for worker in workers"],
-    "lset_server/workers::start_all": ["for seat in seats"],
-    "lset_server/workers::work": ["while sessions < u64::from(most)"],
-}
-# How many sessions a worker may hold. Contracts say that it holds no more; so here is what passes the number on and looks at it, and what
-# gives `most` its value.
-SESSIONS_OF = {
-    "lset_server/workers::start": ("move || work(rt, from, pass, set, seat, most)", "most", ["most = self.sessions"]),
-    "lset_server/workers::work": ("while sessions < u64::from(most) {", "most", []),
-    "lset_server/serving::serve_in": ("let workers = seats.len()", "workers", ["workers = seats.len()"]),  # not as many as the set has
-}
-# How many workers get the message to end, when a gate is called, with which thread a pause is called at a lock, how long one is, which
-# one calls have that are given none, and that a schedule is drawn no further than to its end. Contracts do not say it; so here is what each of these says, and what gives a name its value.
-TOLD_OF = {
-    "lset_server/serving::serve_in": ("send_all(pool.rt, listener, &pool.to, &mut pass, pool.sessions, workers)?", "pass", []),
-    "lset_server/serving::send_all":
-        ("accept_all(rt, listener, to, pass, sessions)?; close_all(rt, to, pass, workers)", "workers", []),
-    "lset_server/serving::close_all": ("for _ in 0..workers { if send(rt, to, pass, Message::Close).is_err() {", "workers", []),
-    "lset_work/workers::make_calls":
-        ("for (number, call) in calls.iter().enumerate() { if !gate.pass(thread, number as u32) { return false; } let reply ="
-         " set.call(rt, seat, *call, &Spin::new());", "thread", ["thread = seat.thread()"]),
-    **{f"lset_live/set::{it.lower()}": (f"self.call(rt, seat, Call::{it}(key), &Spin::new())", "key", []) for it in ("Add", "Remove", "Contains", "Ceiling")},
-    "lset_live/set_calls::make_call": ("self.call(rt, seat, call, &Spin::new())", "call", []),
-    "lset_loops/steps::wait_for":
-        ("if seen == 0 { self.pause.taken(self.slots.thread); return Some(()); } self.pause.failed(self.slots.thread); } None", "seen",
-         ["seen = exchange_on::<M>(self.table, place, word, 0, own)"]),
-    "lset_schedule/generator::generated_lines":
-        ("if is_over(&world, threads, lines.len(), left) { break; }", "left", ["left = calls", "left = left_by(left, event)"]),
-    "lset_rule/row_steps::other_step": ("failed: has_failed(action, seen)", "seen", ["seen = step_on::<M>(table, place, action)"]),
-    "lset_rule/pause::failed":
-        ("for _ in 0..waits { self.backoff.spin(); } if waits < MOST_WAITS { self.waits.set(2 * waits); } else { self.backoff.snooze(); }",
-         "waits", ["waits = self.waits.get()"]),
-    "lset_rule/pause::taken": ("self.backoff.reset(); self.waits.set(1);", "waits", []),
-    "ffi_sets/yielding::failed":
-        ("match failures { 0 => 1, 1 => 6, 2 => 240, 3 => 1024, _ => 3072, }; for _ in 0..pauses { hint::spin_loop(); } if failures < 4 {",
-         "failures", ["failures = self.failures.get()"]),
-}
-# The bound on its rounds that each call is given: that of its caller, `N`, but where the caller has none. A call that may wait has to
-# take as many rounds as it needs: its contract lets it wait for ever instead, past any bound, and that of a call from C lets it answer
-# nothing. And of a call that has rounds no contract says that it makes no more.
-ROUNDS_OF = {
-    "ffi_sets/holding::call": "call_within Countless",
-    "lset_live/running::make_on": "make_within Countless",
-    "lset_live/set::call_within": "make_within N",
-    "lset_live/bounded::make_within":
-        "interpret_within N, coarse_within N, fine_within N, optimistic_within N, lazy_change_within N, interpret_within N,"
-        " lock_free_change_within N, interpret_within N",
-    "lset_loops/coarse::make": "begin_locked N, walk N",
-    "lset_loops/fine::make": "begin_locked N, walk N",
-    "lset_loops/fine::walk": "lock N",
-    "lset_loops/lazy::make": "walk N, lock N, lock N",
-    "lset_loops/lock_free::make": "find N",
-    "lset_loops/optimistic::make": "walk N, lock N, lock N, validate N",
-    "lset_loops/optimistic::validate": "reaches N",
-    "lset_loops/steps::begin_locked": "wait_for N",
-    "lset_loops/steps::lock": "take N",
-    "lset_loops/steps::take": "wait_for N",
-} | {f"lset_loops/{it}_within": "make N" for it in
-     ("coarse::coarse", "fine::fine", "lazy::lazy_change", "lock_free::lock_free_change", "optimistic::optimistic")}
-HAS_ROUNDS = re.compile(r"fn \w+<[^()]*\bN: Rounds>\(")
-BOUNDS = ["const MOST: u64", "Rounds for Countless", "const MOST: u64 = u64::MAX"]  # the trait, and its only type
 
 
 # ---- what stands in the sources
@@ -670,10 +587,20 @@ def what_gives_up_has_no_other_name(_case):
             same(anew.search(line) and squeezed(line), None, f"what names it anew in crates/{name}")
 
 
+def is_of_a_pause(body):
+    return re.fullmatch(r"\s*Pause\s*|.*\bPause for .*", body.owner or "", re.S) is not None
+
+
 @test
 def what_answers_nothing_takes_its_steps(_case):
-    found = {it.name: it.steps for it in once(sources).bodies if it.at_will == "return" or it.name in STEPS_OF}
-    same(found, STEPS_OF, "the branches and calls of what answers nothing")
+    found = {}
+    for it in once(sources).bodies:
+        if it.at_will == "return" or it.name in STEPS_OF | TOLD_OF | SESSIONS_OF or is_of_a_pause(it):
+            found.setdefault(it.name, []).append(it.steps)
+    found = {name: " | ".join(filter(None, steps)) for name, steps in found.items()}
+    others = dict(found.items() - STEPS_OF.items())
+    same(others, {it: STEPS_OF.get(it) for it in others}, "the branches and calls of what answers nothing, of what is told of, and of pauses")
+    same(sorted(STEPS_OF.keys() - found.keys()), [], "rows of STEPS_OF that no function has")
 
 
 @test
@@ -699,6 +626,23 @@ def a_worker_holds_as_many_sessions_as_it_may(_case):
 @test
 def each_worker_each_gate_and_each_pause_is_told(_case):
     says_so(TOLD_OF)
+
+
+@test
+def there_is_one_spin(_case):
+    """TOLD_OF has a pause by the name `Spin`, and by `Backoff` what that waits by, which the kit has: nothing else has either name, neither
+    a type nor a module nor an import."""
+    texts_of = {file: re.sub(r"//[^\n]*", "", it.text) for file, it in once(sources).files.items()}
+    found = [f"{file}: {it}" for file, text in texts_of.items() for it in re.findall(r"\b\w+!?\s+(?:Spin|Backoff)\b", text)]
+    same(found, [f"lset_rule/src/pause.rt: {it} Spin" for it in ("struct", "impl", "for")], "what gives the name to something")
+
+
+@test
+def what_has_an_allocator_is_known(_case):
+    """A call that takes room on the heap needs an allocator, and the set keeps one."""
+    found = [it.name for it in once(sources).bodies
+             if it.crate in ("lset_live", "lset_loops", "lset_rule") and re.search(r"\balloc\b", it.said(it.items))]
+    same(sorted(found), WITH_ALLOCATOR, "the functions with an allocator")
 
 
 def bounds_given(found, body):

@@ -1,7 +1,7 @@
 """What the program holds in memory does not grow with what it has done with, of which no contract speaks. A command is given an address
 space of which it leaves a third, and that it would need twice if it kept what it need not: of `judge` the calls of a long recording, or the
-parts before the one that it reads; of `trace` its text; of `draft`, `replay` and `show` each event. A server that has served thousands
-of sessions, and millions of calls, has at no time had more memory than after some hundred.
+parts before the one that it reads; of `trace` its text; of `draft`, `replay` and `show` each event; of `run` the replies of each round. A
+server that has served thousands of sessions, and millions of calls, has at no time had more memory than after some hundred.
 """
 
 import contextlib
@@ -14,11 +14,12 @@ from harness.programs import printed, ran
 from harness.serve_client import SOON, asks, resets, serving
 
 LITTLE = 7_000  # kilobytes: the program takes 4,000 for itself and the C library, and up to 800 for what it holds
+STACK = 512  # kilobytes of the stack of a thread
 
 
 def printed_within(kilobytes, program, *words, text=b""):
     """What a command prints that has so much address space, and ends with the status 0."""
-    done = ran("bash", "-c", 'ulimit -v "$0" && exec "$@"', kilobytes, program, *words, text=text)
+    done = ran("bash", "-c", f'ulimit -s {STACK} && ulimit -v "$0" && exec "$@"', kilobytes, program, *words, text=text)
     same((done.returncode, done.stderr), (0, b""), f"{' '.join(map(str, words[:3]))} within {kilobytes} KB: status and standard error")
     return done.stdout
 
@@ -120,6 +121,18 @@ def events(case, words):
     said = printed_within(LITTLE, case.program, *words.split(), text=schedule)
     due = [b"call %d " % (WALKS - 1), b"place %d " % (WALKS - 1)] if "replay" in words else [b": %d calls" % WALKS]
     same([it for it in due if it not in said], [], f"what {words} does not print")
+
+
+# ---- rounds
+
+CALLS_OF_RUN, LIVES = 10_000, 100  # as many as there may be; a reply takes 8 bytes
+
+
+@test
+def rounds(case):
+    """`run` holds the replies of one round at a time: of all rounds they are 8,000 KB."""
+    said = printed_within(LITTLE, case.program, "run", "lazy", 1, 1, CALLS_OF_RUN, 1, 1, LIVES)
+    same(said.split(b"\n")[0], b"calls %d" % (CALLS_OF_RUN * LIVES), "run of many rounds")
 
 
 # ---- a server

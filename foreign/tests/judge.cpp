@@ -29,9 +29,11 @@ static void expect_own() {
   expect(!has(listset::trace(schedule), "\nchain") && has(listset::trace(schedule, true), "\nchain"), "trace");
   expect(begins(listset::show(report).text, "lock-free list") && begins(listset::show(report, {}, true).text, "<svg "), "show");
   expect(listset::draft(draft).text == schedule, "draft");
-  expect(has(listset::show(report, {"0", "", ""}), "bad FROM"), "from");
-  expect(has(listset::show(report, {"", "0", ""}), "bad TO"), "to");
-  expect(has(listset::show(report, {"", "", "0"}), "bad WIDTH"), "width");
+  for (bool as_svg : {false, true}) {
+    expect(has(listset::show(report, {"0", "", ""}, as_svg), "bad FROM"), "from");
+    expect(has(listset::show(report, {"", "0", ""}, as_svg), "bad TO"), "to");
+    expect(has(listset::show(report, {"", "", "0"}, as_svg), "bad WIDTH"), "width");
+  }
   expect(has(listset::examples(), "snip") && has(listset::faults(), "listset: line L:"), "examples, faults");
 }
 

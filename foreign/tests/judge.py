@@ -43,9 +43,9 @@ def each_says_its_own():
     assert "\nchain" not in listset.trace(schedule) and "\nchain" in listset.trace(schedule, with_chains=True)
     assert listset.show(report).startswith("lock-free list") and listset.show(report, as_svg=True).startswith("<svg ")
     assert listset.draft(schedule.replace("listset-schedule 1", "listset-draft 2")) == schedule
-    assert wrong(lambda: listset.show(report, first=0)) == (2, "FROM")
-    assert wrong(lambda: listset.show(report, last=0)) == (2, "TO")
-    assert wrong(lambda: listset.show(report, width=0)) == (2, "WIDTH")
+    for name, option in (("FROM", "first"), ("TO", "last"), ("WIDTH", "width")):
+        for as_svg in (False, True):
+            assert wrong(lambda: listset.show(report, as_svg, **{option: 0})) == (2, name), (name, as_svg)
     assert "snip" in listset.examples() and "listset: line L:" in listset.faults()
 
 

@@ -4,7 +4,7 @@ ghost use Rattle.std.specs.Prelude.{◌≡◌, IfOk, All};
 use crate::prelude::*;
 use lset_coarse::CoarseList;
 use lset_fine::FineList;
-use lset_live::{Countless, Running, RunningReads, Spin};
+use lset_live::{Added, Countless, Running, RunningReads, Spin};
 use lset_lock_free::LockFreeList;
 use lset_optimistic::OptimisticList;
 use lset_server::{Device, session};
@@ -99,6 +99,30 @@ fn call_each_within<M: Running>(
     call_within(alloc, calls, set, seat, Call::Remove(key), Reply::True)
 }
 
+/// The calls of a seat, which leave the keys as they were: of one that has slots, or of one that has used all of its slots.
+fn call_typed<M: Running, R: Wait>(
+    rt: &R,
+    alloc: Global,
+    calls: &mut Calls,
+    set: &LiveSet<M>,
+    seat: &mut Seat<M>,
+    added: Added,
+) -> Result<()>
+    requires { seat.old.set ≡ set.now }
+    ensures { seat.new.set ≡ set.now }
+{
+    calls.announce(alloc, "Seat::add")?;
+    check(seat.add(rt, set, Key(4)) == Added::Already && seat.add(rt, set, Key(8)) == added)?;
+    calls.announce(alloc, "Seat::contains")?;
+    check(seat.contains(rt, set, Key(4)) && !seat.contains(rt, set, Key(3)))?;
+    calls.announce(alloc, "Seat::ceiling")?;
+    check(seat.ceiling(rt, set, Key(3)) == Some(Key(4)))?;
+    check(seat.ceiling(rt, set, Key(10)).is_none())?;
+    calls.announce(alloc, "Seat::remove")?;
+    check(seat.remove(rt, set, Key(8)) == (added == Added::New))?;
+    check(!seat.remove(rt, set, Key(3)))
+}
+
 /// A seat gives a receipt, and another goes on after it; so does the first after a second one.
 fn pass_receipts<M: Running>(
     alloc: Global,
@@ -171,7 +195,9 @@ fn running_set<M: Running, R: Wait>(rt: &R, alloc: Global, calls: &mut Calls) ->
     change_and_look(rt, alloc, calls, &set, &mut zero)?;
     answer_session(rt, alloc, calls, &set, &mut one)?;
     pass_receipts(alloc, calls, &set, &mut zero, &mut one)?;
-    let one = call_each_within(alloc, calls, &set, one)?;
+    let mut one = call_each_within(alloc, calls, &set, one)?;
+    call_typed(rt, alloc, calls, &set, &mut one, Added::New)?;
+    call_typed(rt, alloc, calls, &set, &mut zero, Added::Full)?;
     gather_and_close(alloc, calls, set, zero, one)
 }
 

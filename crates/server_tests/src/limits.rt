@@ -1,6 +1,6 @@
 //! The longest line of a session, and the most lines.
-use crate::failing::FailingReader;
-use crate::opened::{end, held, held_buffered, was_held};
+use crate::failing::{FailingReader, FailingWriter};
+use crate::opened::{end, held, held_buffered, one_seat, was_held};
 use crate::prelude::*;
 
 /// These bytes are answered so, also if each read returns one byte.
@@ -89,4 +89,18 @@ fn a_session_has_a_million_lines(rt: HostRuntime) {
     is_answered_after(&rt, rt.alloc(), 999_999, b"QUIT\n", b"BYE\n", quit);
     let (adds, answers) = (b"ADD 1\nADD 2\n", b"TRUE\nLIMIT\n");
     is_answered_after(&rt, rt.alloc(), 999_999, adds, answers, one);
+}
+
+/// The last answers leave as the session ends; a write of them that fails is the reason, and the last.
+#[test]
+fn a_write_of_the_limit_that_fails_is_the_last(rt: HostRuntime) {
+    let (set, mut seat) = one_seat(&rt, rt.alloc());
+    let mut writer = FailingWriter::new(rt.alloc(), 4_000_006);
+    let lines = Lines {
+        empty: 1_000_000,
+        last: b"",
+    };
+    let ended = buffered_session(&rt, lines, Device::new(&mut writer), &set, &mut seat);
+    assert!(rt; ended == end(EndReason::WriteFault, 0));
+    assert!(rt; writer.writes == 4_000_006 && writer.text.ends_with(b"LIMIT"));
 }

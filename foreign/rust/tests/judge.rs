@@ -48,7 +48,10 @@ fn each_function_says_its_own() {
     assert_eq!(draft(schedule.replace("listset-schedule 1", "listset-draft 2")), Ok(schedule));
     let wrong = [("FROM", Some(0), None, None), ("TO", None, Some(0), None), ("WIDTH", None, None, Some(0))];
     for (name, from, to, width) in wrong {
-        assert_eq!(show(&report, Window { from, to, width }).unwrap_err().to_string(), format!("listset: bad {name}"));
+        let window = Window { from, to, width };
+        for drawn in [show(&report, window), show_svg(&report, window)] {
+            assert_eq!(drawn.unwrap_err().to_string(), format!("listset: bad {name}"));
+        }
     }
     assert!(examples().unwrap().contains("snip") && faults().unwrap().contains("listset: line L:"));
 }
