@@ -47,14 +47,14 @@ def needs_point(it):
 
 class Recording:
     """Calls of a set, what it opens with and leaves, and the order by the model; "no", "some" or "all" points. If only some calls have one, a call
-    that changed the set has none."""
+    that changed the set has none; there is one, unless it may lack such changes."""
 
-    def __init__(self, rng, points):
+    def __init__(self, rng, points, may_lack_changes=False):
         calls, opening, keys = drawn(rng, rng.randrange(1, 15))
         calls = [it._replace(word="ceiling") if it.word == "contains" and not it.end and rng.random() < 0.3 else it for it in with_pending(rng, calls)]
         keys = sorted(set(keys) ^ {rng.randrange(KEYS)}) if rng.random() < 0.1 else keys
         last = max(it.end or it.begin for it in calls)
-        if not any(needs_point(it) for it in calls):
+        if not may_lack_changes and not any(needs_point(it) for it in calls):
             last += 2
             calls, keys = [*calls, Call(THREADS, "add", KEYS, last - 1, last, "true")], [*keys, KEYS]
         names, far = sorted(rng.sample(NAMES, KEYS + 1)), rng.choice([0, 0, GREATEST - 3 * last - 1])
@@ -67,7 +67,7 @@ class Recording:
         self.needed = max(adds.values(), default=0)
 
     def lines_with(self, rng, points):
-        without = rng.choice([it for it in self.calls if needs_point(it)])
+        without = rng.choice([it for it in self.calls if needs_point(it)] or [None])
         for it in self.calls:
             has_point = points == "all" or points == "some" and it != without and rng.random() < 0.5
             yield call_line(it, it.begin + 1 if has_point else "-")
@@ -113,7 +113,7 @@ def a_picture_of_recorded_calls_has_the_order_of_the_model(case, seed):
     """Also if the calls have points that say another order."""
     rng, shown = random.Random(f"pictures {seed}"), 0
     for _ in range(REPORTS // 2):
-        it = Recording(rng, rng.choice(["no", "some", "all"]))
+        it = Recording(rng, rng.choice(["no", "some", "all"]), may_lack_changes=True)
         text = it.text(rng, MOST_QUOTA)
         if it.order is not None:
             of_calls, of_report = ran(case.program, "show", text=text), ran(case.program, "show", text=it.report(MOST_QUOTA))
@@ -121,6 +121,16 @@ def a_picture_of_recorded_calls_has_the_order_of_the_model(case, seed):
             shown += 1
     if not given.few and shown < REPORTS // 8:
         raise Wrong(f"{shown} recordings have an order")
+
+
+@each(["-", "2"])
+def calls_that_nothing_needs_have_no_place(case, point):
+    """No call has ended, and none is needed, whatever its point says: an order without a call is drawn."""
+    lines = [f"call 0 add 5 1 {point} - -", "call 1 remove 7 3 - - -", "key 7", "end"]
+    report = ["call 0 0 add 5 1 open", "call 1 1 remove 7 3 open", "key 7", "end"]
+    of_calls = ran(case.program, "show", text=text_of([*head("calls", 4, [7]), *lines]))
+    of_report = ran(case.program, "show", text=text_of([*head("report", 4, [7]), *report]))
+    same((of_calls.returncode, of_calls.stdout), (0, of_report.stdout), "show")
 
 
 # Recordings, and their order: each call by its number, and its reply.
@@ -172,13 +182,13 @@ def an_order_is_the_one_that_is_known(case, lines, order):
 # ---- what is said if there is none
 
 
-def spread(rng, calls, opening, keys):
-    """The calls on other keys, of a set with more of them, some of which are lost or come from nowhere."""
+def spread(rng, calls, opening, keys, most_wrong=(0, 1, 2, 4, 6)):
+    """The calls on other keys, of a set with more of them, some of which are lost or come from nowhere, as many as one of these numbers."""
     names = rng.sample(range(3 * KEYS), 3 * KEYS)
     others = [it for it in names[KEYS:] if rng.random() < 0.5]
     opened = [names[it] for it in opening] + others
     left = {names[it] for it in keys} | {*others}
-    for wrong in rng.sample(names, rng.choice([0, 1, 2, 4, 6])):
+    for wrong in rng.sample(names, rng.choice(most_wrong)):
         left ^= {wrong}
     return [it._replace(key=names[it.key]) for it in with_pending(rng, calls)], sorted(opened), sorted(left)
 
@@ -236,12 +246,13 @@ def a_refusal_names_the_key_and_the_moment_of_the_model(case, seed):
 
 
 def with_full(rng, calls):
-    """The calls, of which some looks are `add`s that answered `full`, seldom where the key was there, and others are ceilings."""
+    """The calls, of which some looks are `add`s that answered `full`, in some recordings also where the key was there, and others are ceilings."""
+    where_there = rng.choice([0, 0.2, 0.8])
     for it in calls:
         share = rng.random() if it.word == "contains" else 1
-        if it.reply and share < (0.5 if it.reply == "false" else 0.05):
+        if it.reply and share < (0.5 if it.reply == "false" else where_there):
             yield it._replace(word="add", reply="full")
-        elif share < 0.2:
+        elif it.word == "contains" and rng.random() < 0.2:
             yield it._replace(word="ceiling", reply=it.reply and rng.choice(["nothing", f"at-{it.key}"]))
         else:
             yield it
@@ -252,7 +263,7 @@ def a_refusal_beside_full_and_ceilings_is_that_of_the_model(case, seed):
     """Of a ceiling begins and ends say nothing, and of a `full` that its key was not there."""
     rng, found = random.Random(f"full {seed}"), collections.Counter()
     for _ in range(RECORDINGS):
-        calls, opening, keys = spread(rng, *drawn(rng, rng.randrange(1, 12)))
+        calls, opening, keys = spread(rng, *drawn(rng, rng.randrange(1, 12)), most_wrong=(0, 0, 2))
         calls, is_cut = [*with_full(rng, calls)], rng.random() < 0.2
         refusals, text = Refusals(calls, opening, None if is_cut else keys), short_text(calls, opening, keys, is_cut)
         done, due = ran(case.program, "judge", text=text), refusals.lines(2)
