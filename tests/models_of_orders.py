@@ -4,8 +4,9 @@ a refusal is true.
 
 800 recordings of up to 14 calls are drawn as in long_recordings.py, with refused calls, pending ones, wrong replies and keys that are left
 otherwise (--few: 80), and their whole reports are compared; of 400 more (40) what `show` draws. 800 others (80) have several keys that are
-wrong, with calls and without, and each is judged as a text of version 2, as a long recording, and by half of its keys. Small recordings say
-besides, one by one, what stands where. Of the calls that `judge` shows each that changes nothing is needed.
+wrong, with calls and without, and each is judged as a text of version 2, as a long recording, and by half of its keys; 800 more (80) have
+calls that answered `full`, and ceilings. Small recordings say besides, one by one, what stands where. Of the calls that `judge` shows each
+that changes nothing is needed.
 """
 
 import collections

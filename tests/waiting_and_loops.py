@@ -11,7 +11,7 @@ import re
 from collections import Counter
 from functools import cached_property
 
-from harness.cases import TOP, Wrong, cases, once, same, test
+from harness.cases import TOP, Wrong, cases, each, once, same, test
 from harness.function_rows import Found, row_faults
 from harness.rattle_tokens import body_of, braces, callee, text_of, token_of, walk
 from rattle_sources import Source, imports
@@ -648,3 +648,14 @@ def a_loop_in_a_loop_is_told_in_each_crate(_case, new, *said):
 def a_body_that_waits_or_goes_over_more_is_told(_case, old, new, *said):
     faults = small("lset_live", old, new)
     same(len(faults) == len(said) and all(any(it in fault for fault in faults) for it in said), True, f"{said} are said, in {faults}")
+
+
+@each(["chosen", "count_of"])
+def what_is_called_for_each_of_many_tries_has_rows_for_all_that_it_goes_over(_case, name):
+    """(The first name is of OF_TRIES, in a crate whose calls need not be cheap.)"""
+    text = SMALL_SOURCE.replace("count_of", name).replace(END, "    for _ in 0..count {}\n" + END)
+    found, row = Sources({"lset_judge/src/window.rt": text}), (f"lset_judge/window::{name}", *ROW[1:])
+    faults = [*loop_faults([row], found.all_loops, found.bodies), *call_faults(found, [], [], [])]
+    is_of_tries = OF_TRIES.fullmatch(row[0]) is not None
+    due = ["the loop `for _ in 0..count`, which goes over nothing", "has `.holds` 1 more than its rows of GOES_OVER"] * is_of_tries
+    same([len(faults), *(any(it in fault for fault in faults) for it in due)], [len(due), *(True for _ in due)], f"{due} are said, in {faults}")
