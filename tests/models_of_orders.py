@@ -52,7 +52,8 @@ class Recording:
 
     def __init__(self, rng, points, may_lack_changes=False):
         calls, opening, keys = drawn(rng, rng.randrange(1, 15))
-        calls = [it._replace(word="ceiling") if it.word == "contains" and not it.end and rng.random() < 0.3 else it for it in with_pending(rng, calls)]
+        calls = [it._replace(word="ceiling") if it.word == "contains" and not it.end and rng.random() < 0.3 else it
+                 for it in with_pending(rng, calls)]
         keys = sorted(set(keys) ^ {rng.randrange(KEYS)}) if rng.random() < 0.1 else keys
         last = max(it.end or it.begin for it in calls)
         if not may_lack_changes and not any(needs_point(it) for it in calls):
@@ -80,7 +81,8 @@ class Recording:
 
     def report(self, quota):
         numbers = {it.begin: number for number, it in enumerate(self.calls)}
-        calls = [f"call {numbers[it.begin]} {it.thread} {it.word} {it.key} {it.begin} " + (f"{it.end} {it.reply}" if it.end else "open") for it in self.calls]
+        calls = [f"call {numbers[it.begin]} {it.thread} {it.word} {it.key} {it.begin} " + (f"{it.end} {it.reply}" if it.end else "open")
+                 for it in self.calls]
         places = [f"place {numbers[it.begin]} {it.reply or 'true'}" for it in self.order]
         return text_of([*head("report", quota, self.opening), *calls, *places, *(f"key {it}" for it in self.keys), "end"])
 
@@ -164,8 +166,8 @@ ORDERS = {
         ["call 0 add 9 1 - 2 true", "call 1 add 5 3 - - -", "call 2 add 5 4 - - -", "call 3 contains 5 5 - 6 true", "key 5", "key 9"],
         "0 true, 1 true, 3 true"),
     "an open call that nothing needs has no place": (
-        ["call 0 contains 5 1 - - -", "call 1 add 5 2 - 3 true", "call 2 add 6 4 - - -", "call 3 remove 5 5 - - -", "call 4 ceiling 5 6 - - -", "key 5"],
-        "1 true"),
+        ["call 0 contains 5 1 - - -", "call 1 add 5 2 - 3 true", "call 2 add 6 4 - - -", "call 3 remove 5 5 - - -", "call 4 ceiling 5 6 - - -",
+         "key 5"], "1 true"),
     "open changes that undo each other have no place": (
         ["call 0 add 9 1 - 2 true", "call 1 add 5 3 - - -", "call 2 remove 5 4 - - -", "key 9"], "0 true"),
     "what the keys left need comes last, the removes before the adds": (
@@ -195,7 +197,8 @@ def spread(rng, calls, opening, keys, most_wrong=(0, 1, 2, 4, 6)):
 
 
 # What version 2 says of a refusal below its first lines: the state of the key before some calls, and these
-WINDOW = re.compile(r"key ([0-9]+) is (not )?there at moment [0-9]+\n(no later call changes it\n|these calls alone have no order.*:\n)((call .*\n)*)\Z")
+WINDOW = re.compile(r"key ([0-9]+) is (not )?there at moment [0-9]+\n(no later call changes it\n|these calls alone have no order.*:\n)"
+                    r"((call .*\n)*)\Z")
 
 
 def read_call(line):
@@ -302,7 +305,8 @@ REFUSALS = {
     "a key with calls that comes from nowhere is named before one without": (["call 0 contains 5 1 - 2 false", "key 3", "key 5"], [no_order(5)]),
     "a lost key without calls and a greater one with calls": (["opening 3", "call 0 add 5 1 - 2 true"], [no_order(5), no_order(3)]),
     "a lost key and a smaller one of which only a look is pending": (["opening 7", "call 0 contains 5 1 - - -", "key 5"], [no_order(7), no_order(5)]),
-    "a key of which only a look is pending and a smaller one without calls": (["call 0 contains 5 1 - - -", "key 3", "key 5"], [no_order(3), no_order(5)]),
+    "a key of which only a look is pending and a smaller one without calls": (
+        ["call 0 contains 5 1 - - -", "key 3", "key 5"], [no_order(3), no_order(5)]),
 }
 
 
