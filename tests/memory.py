@@ -59,19 +59,21 @@ def long_recordings(case):
 
 # ---- parts
 
-PARTS, CALLS_OF_PART = 60, 5_000
+PARTS, CALLS_OF_PART, KEYS_OF_PART = 150, 4_000, 6_000
 
 
 def part_of(number):
-    """Calls of version 2: a thread puts keys in and takes them out. Each part has its own keys, so that no two texts are one."""
-    first = 1_000_000 * number
+    """Calls of version 2: a thread puts keys in and takes them out, beside keys that are there from the first part on and stay. Each part has its
+    own keys besides, so that no two texts are one."""
+    first = 1_000_000 * (number + 1)
     calls = "".join(f"call {at % 4} {('add', 'remove')[at % 2]} {first + at // 2} {2 * at + 1} - {2 * at + 2} true\n" for at in range(CALLS_OF_PART))
-    return f"listset-calls 2\nlist lazy\nthreads 4\nquota 16384\n{calls}end\n"
+    opening, left = ("".join(f"{word} {key}\n" for key in range(KEYS_OF_PART)) for word in ("opening", "key"))
+    return f"listset-calls 2\nlist lazy\nthreads 4\nquota 16384\n{opening}{calls}{left}end\n"
 
 
 @test
 def parts(case):
-    """`judge` holds one part in memory at a time."""
+    """`judge` holds one part in memory at a time, and of those before only what the last one left."""
     files = [case.room / f"{number}.calls" for number in range(PARTS)]
     for number, file in enumerate(files):
         file.write_text(part_of(number))

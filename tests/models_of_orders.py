@@ -4,8 +4,9 @@ a refusal is true.
 
 800 recordings of up to 14 calls are drawn as in long_recordings.py, with refused calls, pending ones, wrong replies and keys that are left
 otherwise (--few: 80), and their whole reports are compared; of 400 more (40) what `show` draws. 800 others (80) have several keys that are
-wrong, with calls and without, and each is judged as a text of version 2, as a long recording, and by half of its keys. Small recordings say
-besides, one by one, what stands where. Of the calls that `judge` shows each that changes nothing is needed.
+wrong, with calls and without, and each is judged as a text of version 2, as a long recording, and by half of its keys; 800 more (80) have
+calls that answered `full`, and ceilings. Small recordings say besides, one by one, what stands where. Of the calls that `judge` shows each
+that changes nothing is needed.
 """
 
 import collections
@@ -47,14 +48,15 @@ def needs_point(it):
 
 class Recording:
     """Calls of a set, what it opens with and leaves, and the order by the model; "no", "some" or "all" points. If only some calls have one, a call
-    that changed the set has none."""
+    that changed the set has none; there is one, unless it may lack such changes."""
 
-    def __init__(self, rng, points):
+    def __init__(self, rng, points, may_lack_changes=False):
         calls, opening, keys = drawn(rng, rng.randrange(1, 15))
-        calls = [it._replace(word="ceiling") if it.word == "contains" and not it.end and rng.random() < 0.3 else it for it in with_pending(rng, calls)]
+        calls = [it._replace(word="ceiling") if it.word == "contains" and not it.end and rng.random() < 0.3 else it
+                 for it in with_pending(rng, calls)]
         keys = sorted(set(keys) ^ {rng.randrange(KEYS)}) if rng.random() < 0.1 else keys
         last = max(it.end or it.begin for it in calls)
-        if not any(needs_point(it) for it in calls):
+        if not may_lack_changes and not any(needs_point(it) for it in calls):
             last += 2
             calls, keys = [*calls, Call(THREADS, "add", KEYS, last - 1, last, "true")], [*keys, KEYS]
         names, far = sorted(rng.sample(NAMES, KEYS + 1)), rng.choice([0, 0, GREATEST - 3 * last - 1])
@@ -67,7 +69,7 @@ class Recording:
         self.needed = max(adds.values(), default=0)
 
     def lines_with(self, rng, points):
-        without = rng.choice([it for it in self.calls if needs_point(it)])
+        without = rng.choice([it for it in self.calls if needs_point(it)] or [None])
         for it in self.calls:
             has_point = points == "all" or points == "some" and it != without and rng.random() < 0.5
             yield call_line(it, it.begin + 1 if has_point else "-")
@@ -79,7 +81,8 @@ class Recording:
 
     def report(self, quota):
         numbers = {it.begin: number for number, it in enumerate(self.calls)}
-        calls = [f"call {numbers[it.begin]} {it.thread} {it.word} {it.key} {it.begin} " + (f"{it.end} {it.reply}" if it.end else "open") for it in self.calls]
+        calls = [f"call {numbers[it.begin]} {it.thread} {it.word} {it.key} {it.begin} " + (f"{it.end} {it.reply}" if it.end else "open")
+                 for it in self.calls]
         places = [f"place {numbers[it.begin]} {it.reply or 'true'}" for it in self.order]
         return text_of([*head("report", quota, self.opening), *calls, *places, *(f"key {it}" for it in self.keys), "end"])
 
@@ -113,7 +116,7 @@ def a_picture_of_recorded_calls_has_the_order_of_the_model(case, seed):
     """Also if the calls have points that say another order."""
     rng, shown = random.Random(f"pictures {seed}"), 0
     for _ in range(REPORTS // 2):
-        it = Recording(rng, rng.choice(["no", "some", "all"]))
+        it = Recording(rng, rng.choice(["no", "some", "all"]), may_lack_changes=True)
         text = it.text(rng, MOST_QUOTA)
         if it.order is not None:
             of_calls, of_report = ran(case.program, "show", text=text), ran(case.program, "show", text=it.report(MOST_QUOTA))
@@ -121,6 +124,16 @@ def a_picture_of_recorded_calls_has_the_order_of_the_model(case, seed):
             shown += 1
     if not given.few and shown < REPORTS // 8:
         raise Wrong(f"{shown} recordings have an order")
+
+
+@each(["-", "2"])
+def calls_that_nothing_needs_have_no_place(case, point):
+    """No call has ended, and none is needed, whatever its point says: an order without a call is drawn."""
+    lines = [f"call 0 add 5 1 {point} - -", "call 1 remove 7 3 - - -", "key 7", "end"]
+    report = ["call 0 0 add 5 1 open", "call 1 1 remove 7 3 open", "key 7", "end"]
+    of_calls = ran(case.program, "show", text=text_of([*head("calls", 4, [7]), *lines]))
+    of_report = ran(case.program, "show", text=text_of([*head("report", 4, [7]), *report]))
+    same((of_calls.returncode, of_calls.stdout), (0, of_report.stdout), "show")
 
 
 # Recordings, and their order: each call by its number, and its reply.
@@ -153,8 +166,8 @@ ORDERS = {
         ["call 0 add 9 1 - 2 true", "call 1 add 5 3 - - -", "call 2 add 5 4 - - -", "call 3 contains 5 5 - 6 true", "key 5", "key 9"],
         "0 true, 1 true, 3 true"),
     "an open call that nothing needs has no place": (
-        ["call 0 contains 5 1 - - -", "call 1 add 5 2 - 3 true", "call 2 add 6 4 - - -", "call 3 remove 5 5 - - -", "call 4 ceiling 5 6 - - -", "key 5"],
-        "1 true"),
+        ["call 0 contains 5 1 - - -", "call 1 add 5 2 - 3 true", "call 2 add 6 4 - - -", "call 3 remove 5 5 - - -", "call 4 ceiling 5 6 - - -",
+         "key 5"], "1 true"),
     "open changes that undo each other have no place": (
         ["call 0 add 9 1 - 2 true", "call 1 add 5 3 - - -", "call 2 remove 5 4 - - -", "key 9"], "0 true"),
     "what the keys left need comes last, the removes before the adds": (
@@ -172,19 +185,20 @@ def an_order_is_the_one_that_is_known(case, lines, order):
 # ---- what is said if there is none
 
 
-def spread(rng, calls, opening, keys):
-    """The calls on other keys, of a set with more of them, some of which are lost or come from nowhere."""
+def spread(rng, calls, opening, keys, most_wrong=(0, 1, 2, 4, 6)):
+    """The calls on other keys, of a set with more of them, some of which are lost or come from nowhere, as many as one of these numbers."""
     names = rng.sample(range(3 * KEYS), 3 * KEYS)
     others = [it for it in names[KEYS:] if rng.random() < 0.5]
     opened = [names[it] for it in opening] + others
     left = {names[it] for it in keys} | {*others}
-    for wrong in rng.sample(names, rng.choice([0, 1, 2, 4, 6])):
+    for wrong in rng.sample(names, rng.choice(most_wrong)):
         left ^= {wrong}
     return [it._replace(key=names[it.key]) for it in with_pending(rng, calls)], sorted(opened), sorted(left)
 
 
 # What version 2 says of a refusal below its first lines: the state of the key before some calls, and these
-WINDOW = re.compile(r"key ([0-9]+) is (not )?there at moment [0-9]+\n(no later call changes it\n|these calls alone have no order.*:\n)((call .*\n)*)\Z")
+WINDOW = re.compile(r"key ([0-9]+) is (not )?there at moment [0-9]+\n(no later call changes it\n|these calls alone have no order.*:\n)"
+                    r"((call .*\n)*)\Z")
 
 
 def read_call(line):
@@ -236,12 +250,13 @@ def a_refusal_names_the_key_and_the_moment_of_the_model(case, seed):
 
 
 def with_full(rng, calls):
-    """The calls, of which some looks are `add`s that answered `full`, seldom where the key was there, and others are ceilings."""
+    """The calls, of which some looks are `add`s that answered `full`, in some recordings also where the key was there, and others are ceilings."""
+    where_there = rng.choice([0, 0.2, 0.8])
     for it in calls:
         share = rng.random() if it.word == "contains" else 1
-        if it.reply and share < (0.5 if it.reply == "false" else 0.05):
+        if it.reply and share < (0.5 if it.reply == "false" else where_there):
             yield it._replace(word="add", reply="full")
-        elif share < 0.2:
+        elif it.word == "contains" and rng.random() < 0.2:
             yield it._replace(word="ceiling", reply=it.reply and rng.choice(["nothing", f"at-{it.key}"]))
         else:
             yield it
@@ -252,7 +267,7 @@ def a_refusal_beside_full_and_ceilings_is_that_of_the_model(case, seed):
     """Of a ceiling begins and ends say nothing, and of a `full` that its key was not there."""
     rng, found = random.Random(f"full {seed}"), collections.Counter()
     for _ in range(RECORDINGS):
-        calls, opening, keys = spread(rng, *drawn(rng, rng.randrange(1, 12)))
+        calls, opening, keys = spread(rng, *drawn(rng, rng.randrange(1, 12)), most_wrong=(0, 0, 2))
         calls, is_cut = [*with_full(rng, calls)], rng.random() < 0.2
         refusals, text = Refusals(calls, opening, None if is_cut else keys), short_text(calls, opening, keys, is_cut)
         done, due = ran(case.program, "judge", text=text), refusals.lines(2)
@@ -290,7 +305,8 @@ REFUSALS = {
     "a key with calls that comes from nowhere is named before one without": (["call 0 contains 5 1 - 2 false", "key 3", "key 5"], [no_order(5)]),
     "a lost key without calls and a greater one with calls": (["opening 3", "call 0 add 5 1 - 2 true"], [no_order(5), no_order(3)]),
     "a lost key and a smaller one of which only a look is pending": (["opening 7", "call 0 contains 5 1 - - -", "key 5"], [no_order(7), no_order(5)]),
-    "a key of which only a look is pending and a smaller one without calls": (["call 0 contains 5 1 - - -", "key 3", "key 5"], [no_order(3), no_order(5)]),
+    "a key of which only a look is pending and a smaller one without calls": (
+        ["call 0 contains 5 1 - - -", "key 3", "key 5"], [no_order(3), no_order(5)]),
 }
 
 

@@ -1,8 +1,9 @@
 """No contract speaks of time: a body that waits for ever in a rare case, or goes over all once more for one key, keeps each.
 So the sources wait for ever in one place (FOREVER), and each call of std that may wait has a row of WAITS. In the crates whose calls have
-to be cheap each loop has a row of LOOPS, with what it goes over in each round, and each call of std that may go over all has one of
-GOES_OVER. In the others this is so of each loop that goes over something in each round: tests/growth.py has them run on long texts. A call
-that is given a closure or a function is as a loop over what that goes over. No function calls itself; SAME_NAMES has those that seem to.
+to be cheap, and in functions that are called for each of many tries (OF_TRIES), each loop has a row of LOOPS, with what it goes over in
+each round, and each call of std that may go over all has one of GOES_OVER. In the others this is so of each loop that goes over
+something in each round: tests/growth.py has them run on long texts. A call that is given a closure or a function is as a loop over what
+that goes over. No function calls itself; SAME_NAMES has those that seem to.
 It does not notice a pass that a function makes twice, one behind the other, by calls of functions that have a loop, nor a loop that makes
 more rounds than its head needs."""
 
@@ -10,7 +11,7 @@ import re
 from collections import Counter
 from functools import cached_property
 
-from harness.cases import TOP, Wrong, cases, once, same, test
+from harness.cases import TOP, Wrong, cases, each, once, same, test
 from harness.function_rows import Found, row_faults
 from harness.rattle_tokens import body_of, braces, callee, text_of, token_of, walk
 from rattle_sources import Source, imports
@@ -19,6 +20,9 @@ OF_TESTS = re.compile(r"\w+_tests|stepped_lists|memory_calls")  # crates that ar
 # The crates whose calls have to be cheap: sets as they run and what they stand on. Those of texts, judges and commands are all others.
 CHEAP = re.compile(r"lset_(live|work|session|server|loops|rule|steps|words|text|coarse|fine|optimistic|lazy|lock_free|lists|points)"
                    r"|lset_(progress|linearizable)|ffi_sets")
+
+# Functions of other crates that are called for each of many tries: so they go over what they are given, the calls of a window, not over all calls
+OF_TRIES = re.compile(r"lset_judge/window::(chosen|have_none|shows_none|without_looks)")
 
 # The lines of code that name what waits for ever: where it stands, and its one caller
 FOREVER = {
@@ -63,7 +67,7 @@ WAITS = [
     ("tool_base/(answer::deliver|streams::put)", ".write", "the output takes bytes"),
     ("tool_serve/tool::announce", ".flush", "the same"),
 ]
-# Calls in cheap crates that may go over all: functions, their calls, and what they go over
+# Calls in cheap crates and in OF_TRIES that may go over all: functions, their calls, and what they go over
 GOES_OVER = [
     ("lset_live/opening::open_on", "Vec::from_slice Table::of_words", "the opening keys and the words of the set, once as it opens"),
     ("lset_steps/world::opening_words", ".resize", "the words of a set, once as it opens"),
@@ -82,15 +86,17 @@ GOES_OVER = [
     ("lset_text/openings::is_above", ".last", "the last key alone"),
     ("ffi_sets/each::split_held", ".split*5", "the seats that are not split off: it takes one"),
     ("ffi_sets/each::put_keys", ".copy_from_slice", "the keys that are left, once as a set closes"),
+    ("lset_judge/window::shows_none", "chosen have_none", "the calls of a window, for each try"),
+    ("lset_judge/window::have_none", "marks_of latest_moment walk .settle", "the same"),
 ]
-# What costs the same for each size, of what the cheap crates call of std
+# What costs the same for each size, of what these call of std
 CHEAP_OF_STD = set("""
     .absorb .another .as_bytes .as_slice .as_str .checked_sub .compare_exchange .debug_struct .elapsed .enumerate .field
     .finish_non_exhaustive .forever .format .get .into_iter .is_ascii_digit .is_empty .is_err .is_none .is_some .iter .join_seat
     .learn_as .len .load .map_err .ok .ok_or .pop .reset .saturating_sub .set .set_nodelay .spawn_with .split_seat
     .store .take .try_borrow_mut .unwrap_or Arc::new Arc::try_clone Arc::try_unwrap ArrayString::new Backoff::new Box::from_raw
     Box::into_raw_with_allocator Box::new Cell::new Duration::from_secs Instant::now RefCell::new Snapshot::of Vec::new
-    Vec::with_capacity ends_or_pauses! ptr::null_mut replace thread::scope_env u32::try_from u64::from unreachable! write!
+    Vec::with_capacity ends_or_pauses! matches! ptr::null_mut replace thread::scope_env u32::try_from u64::from unreachable! write!
     writeln!""".split())
 # Loops: functions, the head, what the loop goes over in each round, and what it runs over, so why it ends or how often it runs at most
 LOOPS = [
@@ -161,6 +167,8 @@ LOOPS = [
     ("lset_judge/stream::meet_before", "while let Some(place) = nearest_end(&self.pending, moment)", "nearest_end .meet_end",
      "the ends before a moment: among as many calls as threads"),
     ("lset_judge/window::last_quiet", "for mark in marks", ".meet", "the marks of a key"),
+    ("lset_judge/window::chosen", "for number in numbers", "", "the calls of a window, for each try"),
+    ("lset_judge/window::without_looks", "for (place, number) in numbers.iter().enumerate()", "", "the same"),
     ("lset_judge/window::short_window", "for tries in 0..MOST_WINDOWS", "last_quiet numbers_between shows_none is_forced shorten is_whole",
      "32 windows at most; once one shows that there is no order, the search ends"),
     ("lset_judge/window::shorten", "while size > 0", "while without_looks shows_none", "sizes by halves; calls up to a budget"),
@@ -295,6 +303,10 @@ class Body:
         return words if len(words) != len(self.loops) else []
 
 
+def is_cheap(body):
+    return CHEAP.fullmatch(body.crate) or OF_TRIES.fullmatch(body.name)
+
+
 def called(path):
     """The name of what is called with the bracket at the end of a path, or None."""
     name = callee(*path[-1])[0] if text_of(path) in ("(", "[", "{") else None
@@ -389,11 +401,12 @@ class Sources:
 
     @cached_property
     def calls_over(self):
-        """The calls of std in cheap crates that may go over all, and those that CHEAP_OF_STD has not."""
-        cheap = [it for it in self.bodies if CHEAP.fullmatch(it.crate)]
-        return [Found(it.name, name, it.place(at)) for it in cheap for name, at in it.calls if self.is_over(it, name)]
+        """The calls of std in cheap crates that may go over all, and those that CHEAP_OF_STD has not; in OF_TRIES also those of ours."""
+        return [Found(it.name, name, it.place(at)) for it in self.bodies if is_cheap(it) for name, at in it.calls if self.is_over(it, name)]
 
     def is_over(self, body, name):
+        if OF_TRIES.fullmatch(body.name) and self.may_go_over(body, name):
+            return True
         of_ours = self.meant(body, name)
         is_new = not of_ours and not MAY_WAIT.fullmatch(name) and name not in CHEAP_OF_STD
         return is_new or MAY_GO_OVER.fullmatch(name) and (name.startswith(".") or not of_ours)
@@ -405,7 +418,7 @@ class Sources:
         for body in self.bodies:
             for head, at, parts in [*body.loops, *body.closures]:
                 inside = " ".join(it for part in parts for it in self.inside(body, part))
-                if inside or CHEAP.fullmatch(body.crate) and not head.endswith("(..)"):
+                if inside or is_cheap(body) and not head.endswith("(..)"):
                     found.append((body.name, head, inside, body.place(at)))
         return found
 
@@ -635,3 +648,14 @@ def a_loop_in_a_loop_is_told_in_each_crate(_case, new, *said):
 def a_body_that_waits_or_goes_over_more_is_told(_case, old, new, *said):
     faults = small("lset_live", old, new)
     same(len(faults) == len(said) and all(any(it in fault for fault in faults) for it in said), True, f"{said} are said, in {faults}")
+
+
+@each(["chosen", "count_of"])
+def what_is_called_for_each_of_many_tries_has_rows_for_all_that_it_goes_over(_case, name):
+    """(The first name is of OF_TRIES, in a crate whose calls need not be cheap.)"""
+    text = SMALL_SOURCE.replace("count_of", name).replace(END, "    for _ in 0..count {}\n" + END)
+    found, row = Sources({"lset_judge/src/window.rt": text}), (f"lset_judge/window::{name}", *ROW[1:])
+    faults = [*loop_faults([row], found.all_loops, found.bodies), *call_faults(found, [], [], [])]
+    is_of_tries = OF_TRIES.fullmatch(row[0]) is not None
+    due = ["the loop `for _ in 0..count`, which goes over nothing", "has `.holds` 1 more than its rows of GOES_OVER"] * is_of_tries
+    same([len(faults), *(any(it in fault for fault in faults) for it in due)], [len(due), *(True for _ in due)], f"{due} are said, in {faults}")

@@ -16,6 +16,7 @@ STEPS_OF = {
     "ffi_sets/yielding::failed": "let .get let match for hint::spin_loop if .set else libc::sched_yield",
     "lset_server/lingering::take_leave": "match let Instant::now else if .shutdown .is_err drop_rest Device::new",
     "lset_server/lingering::drop_rest": "let let while let .min .len let .read else if",
+    "lset_judge/window::shows_none": "let .calls match chosen have_none",  # a try looks at the calls of its window alone
     "tool_base/answer::tell": "match tell_line tell_line tell_line tell_line tell_line tell_line tell_line tell_line tell_made",
     "tool_base/answer::tell_made": "if let line_of_trouble tell_line",
     "tool_base/answer::tell_line": "let put",

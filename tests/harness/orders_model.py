@@ -153,8 +153,8 @@ class Refusals:
 
     def by_version_2(self, key):
         """A key with a call that has ended or may change it; then one that was there as the set opened; each time the least."""
-        has_place_of_its_own = any(has_place(it) for it in self.calls if it.key == key)
-        return not has_place_of_its_own, not has_place_of_its_own and key not in self.opening, key
+        has_call = any(it.end or changes(it) for it in self.calls if it.key == key)
+        return not has_call, not has_call and key not in self.opening, key
 
     def by_version_3(self, key):
         """A key with a call, or that was there as the set opened; each time the least."""

@@ -84,6 +84,28 @@ fn an_order_is_found_if_all_calls_are_pending(rt: HostRuntime) -> Result<(), Fai
     Ok(())
 }
 
+/// Of no call; and of calls of which none ends, and none is needed: an order without a call explains them.
+#[test]
+fn an_order_without_calls_is_found(rt: HostRuntime) -> Result<(), Fail> {
+    let alloc = rt.alloc();
+    assert!(rt;
+        is_found(alloc, &History::new(alloc, 1, 0), &[])?,
+        "no call"
+    );
+    let mut history = History::opened(alloc, 4, 1, rising_keys(alloc, 2)?);
+    assert!(rt; is_found(alloc, &history, &[0, 1])?, "keys that stay");
+    for (thread, call) in [
+        (0, Call::Add(Key(5))),
+        (1, Call::Remove(KEY)),
+        (2, Call::Contains(Key(1))),
+        (3, Call::Ceiling(KEY)),
+    ] {
+        history.begin(thread, call, thread + 1)?;
+        assert!(rt; is_found(alloc, &history, &[0, 1])?, "{call:?}");
+    }
+    Ok(())
+}
+
 #[test]
 fn an_order_of_the_greatest_key_is_found(rt: HostRuntime) -> Result<(), Fail> {
     let alloc = rt.alloc();

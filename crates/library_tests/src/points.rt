@@ -21,9 +21,18 @@ const CLASHING: &str = "call 0 add 5 1 3 6 true
 call 1 contains 5 3 - 5 true
 ";
 
-/// What is wrong first with these calls, by their points, and if they leave key 5.
-fn fault_of(alloc: Global, lines: &str) -> Result<Result<Option<OrderFault>, ClashFault>, Fail> {
-    let text = format!(in alloc; "{HEAD}{lines}key 5\nend\n")?;
+/// The key that the calls leave, and with it one that no call added.
+const LEFT: &str = "key 5\n";
+
+const LEFT_WRONG: &str = "key 5\nkey 9\n";
+
+/// What is wrong first with these calls, by their points, and if they leave these keys.
+fn fault_of(
+    alloc: Global,
+    lines: &str,
+    keys: &str,
+) -> Result<Result<Option<OrderFault>, ClashFault>, Fail> {
+    let text = format!(in alloc; "{HEAD}{lines}{keys}end\n")?;
     let calls = read_calls(alloc, text.as_bytes())?;
     match judge_by_points(alloc, calls) {
         Ok(pointed) => Ok(Ok(pointed.fault)),
@@ -34,8 +43,24 @@ fn fault_of(alloc: Global, lines: &str) -> Result<Result<Option<OrderFault>, Cla
 #[test]
 fn ceilings_are_judged_by_points(rt: HostRuntime) -> Result<(), Fail> {
     let (alloc, wrong) = (rt.alloc(), Some(OrderFault::WrongReply(1)));
-    assert_eq!(rt; fault_of(alloc, RIGHT)?, Ok(None));
-    assert_eq!(rt; fault_of(alloc, WRONG)?, Ok(wrong));
-    assert_eq!(rt; fault_of(alloc, CLASHING)?, Err(ClashFault::History(6)));
+    assert_eq!(rt; fault_of(alloc, RIGHT, LEFT)?, Ok(None));
+    assert_eq!(rt; fault_of(alloc, WRONG, LEFT)?, Ok(wrong));
+    assert_eq!(rt;
+        fault_of(alloc, CLASHING, LEFT)?,
+        Err(ClashFault::History(6))
+    );
+    Ok(())
+}
+
+/// Keys that are left wrong are named once no reply is wrong.
+#[test]
+fn keys_left_wrong_are_found_by_points(rt: HostRuntime) -> Result<(), Fail> {
+    let alloc = rt.alloc();
+    for (lines, fault) in [
+        (RIGHT, OrderFault::WrongSet),
+        (WRONG, OrderFault::WrongReply(1)),
+    ] {
+        assert_eq!(rt; fault_of(alloc, lines, LEFT_WRONG)?, Ok(Some(fault)));
+    }
     Ok(())
 }

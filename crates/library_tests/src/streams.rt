@@ -15,19 +15,39 @@ fn add_of_six(thread: u32, begun: u64, ended: Option<(u64, Reply)>) -> StreamCal
     }
 }
 
+/// Calls of key 6, each with a reply with which no stream takes it.
+const NOT_PLAIN: [(Call, Reply); 5] = [
+    (Call::Add(Key(6)), Reply::Full),
+    (Call::Remove(Key(6)), Reply::Nothing),
+    (Call::Contains(Key(6)), Reply::At(Key(6))),
+    (Call::Ceiling(Key(6)), Reply::At(Key(6))),
+    (Call::Ceiling(Key(6)), Reply::True),
+];
+
+/// One of these calls, by thread 3.
+fn not_plain(made: (Call, Reply), begun: u64, end: u64) -> StreamCall {
+    let (call, reply) = made;
+    StreamCall {
+        thread: 3,
+        call,
+        begun,
+        ended: Some((end, reply)),
+    }
+}
+
 /// Calls after one of thread 3 from moment 2 to 7, each with all the faults that come after the one that is named, as far as one call
 /// can have them.
-fn with_faults() -> [(StreamCall, StreamFault); 7] {
-    let (full, late) = (Some((7, Reply::Full)), LAST_MOMENT + 1);
-    let (late_full, taken) = (Some((late, Reply::Full)), Some((7, Reply::False)));
+fn with_faults(made: (Call, Reply)) -> [(StreamCall, StreamFault); 8] {
+    let late = LAST_MOMENT + 1;
     [
-        (add_of_six(3, 2, Some((2, Reply::Full))), StreamFault::Early),
-        (add_of_six(3, late, full), StreamFault::Early),
-        (add_of_six(3, 5, late_full), StreamFault::Early),
-        (add_of_six(3, 7, late_full), StreamFault::Early),
-        (add_of_six(3, 5, Some((5, Reply::Full))), StreamFault::Ends),
-        (add_of_six(3, 5, full), StreamFault::NotPlain),
-        (add_of_six(3, 5, taken), StreamFault::Taken),
+        (not_plain(made, 2, 2), StreamFault::Early),
+        (not_plain(made, 0, 0), StreamFault::Early),
+        (not_plain(made, late, 7), StreamFault::Early),
+        (not_plain(made, 5, late), StreamFault::Early),
+        (not_plain(made, 7, late), StreamFault::Early),
+        (not_plain(made, 5, 5), StreamFault::Ends),
+        (not_plain(made, 5, 1), StreamFault::Ends),
+        (not_plain(made, 5, 7), StreamFault::NotPlain),
     ]
 }
 
@@ -35,9 +55,13 @@ fn with_faults() -> [(StreamCall, StreamFault); 7] {
 fn the_first_fault_of_a_call_is_named(rt: HostRuntime) -> Result<(), Fail> {
     let mut stream = Stream::new(rt.alloc(), &[])?;
     stream.add(add_of_six(3, 2, Some((7, Reply::True))))?;
-    for (call, fault) in with_faults() {
-        assert!(rt; stream.add(call) == Err(fault), "{fault}");
+    for made in NOT_PLAIN {
+        for (call, fault) in with_faults(made) {
+            assert_eq!(rt; stream.add(call), Err(fault), "{call:?}");
+        }
     }
+    let taken = add_of_six(3, 5, Some((7, Reply::False)));
+    assert_eq!(rt; stream.add(taken), Err(StreamFault::Taken));
     // A later pending call takes the end, and an earlier one is of the thread.
     stream.add(add_of_six(4, 3, Some((8, Reply::True))))?;
     let both = add_of_six(3, 5, Some((8, Reply::True)));

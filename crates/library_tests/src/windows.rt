@@ -345,7 +345,10 @@ fn needless(rng: &mut Pcg32, key: Key, there: bool, thread: u32, begun: u32) -> 
         0 => (Call::Contains(key), Some(found_if(there))),
         1 => (turning(key, !there), Some(Reply::False)),
         2 => (Call::Ceiling(key), Some(Reply::At(key))),
-        3 => (Call::Add(key), Some(if there { Reply::False } else { Reply::Full })),
+        3 => (
+            Call::Add(key),
+            Some(if there { Reply::False } else { Reply::Full }),
+        ),
         _ => (Call::Contains(key), None),
     };
     CallRecord {
@@ -371,7 +374,11 @@ fn wrong_calls(
         0 => (Call::Contains(rest.key), found_if(!there), behind),
         1 => (turning(rest.key, !there), Reply::True, behind),
         2 => (turning(rest.key, there), Reply::False, behind),
-        3 => (Call::Add(rest.key), if there { Reply::Full } else { Reply::False }, behind),
+        3 => (
+            Call::Add(rest.key),
+            if there { Reply::Full } else { Reply::False },
+            behind,
+        ),
         _ => (turning(rest.key, there), Reply::True, behind + 4),
     };
     let mut calls = Vec::new(alloc);
