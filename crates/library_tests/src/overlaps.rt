@@ -92,7 +92,7 @@ fn an_order_without_calls_is_found(rt: HostRuntime) -> Result<(), Fail> {
         is_found(alloc, &History::new(alloc, 1, 0), &[])?,
         "no call"
     );
-    let mut history = History::opened(alloc, 4, 1, rising_keys(alloc, 2)?);
+    let mut history = History::opened(alloc, 4, 1, Vec::from_slice(alloc, &[0, 1])?);
     assert!(rt; is_found(alloc, &history, &[0, 1])?, "keys that stay");
     for (thread, call) in [
         (0, Call::Add(Key(5))),
