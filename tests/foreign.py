@@ -170,7 +170,8 @@ def c(installed):
 @test
 def cpp(installed):
     made, first, how = installed.room / "made", installed.room / "first", [MEMORY] if installed.works(MEMORY) else []
-    elsewhere, flags = installed.room / "elsewhere.o", ["-std=c++17", *WARN, *how, "-pthread"]
+    # (g++ takes three times as long for what it optimizes and a sanitizer looks at; the header is optimized in the programs of the page)
+    elsewhere, flags = installed.room / "elsewhere.o", ["-std=c++17", *WARN, "-O0", *how, "-pthread"]
     well("g++", *flags, "-c", TESTS / "elsewhere.cpp", installed.include, "-o", elsewhere)
     for name in ("judge.cpp", "sets.cpp", "judged.cpp"):
         well("g++", *flags, TESTS / name, elsewhere, *installed.flags(), "-o", made)
