@@ -84,7 +84,7 @@ impl Pause for Unpaused {
 }
 
 /// A seat makes a call, and stops after a step of it, with a lock.
-pub fn holds<M: Running, R: Host>(
+pub fn holds<M: Running, R: Clock + Wait>(
     rt: &R,
     set: &LiveSet<M>,
     mut seat: Seat<M>,
@@ -105,7 +105,7 @@ pub fn holds<M: Running, R: Host>(
 }
 
 /// Once the other has stopped, a seat adds 2: its reply, and how often it tried in vain.
-fn tries<M: Running, R: Host, P: Pause + Drop>(
+fn tries<M: Running, R: Clock + Wait, P: Pause + Drop>(
     rt: &R,
     set: &LiveSet<M>,
     mut seat: Seat<M>,
@@ -225,7 +225,7 @@ impl<'a, R: Clock> Pause for Disturbed<'a, R> {
 }
 
 /// A seat adds falling keys above 5, one each time that it is asked: each comes right behind the head.
-fn changes<M: Running, R: Host>(rt: &R, set: &LiveSet<M>, mut seat: Seat<M>, turns: &Turns)
+fn changes<M: Running, R: Clock + Wait>(rt: &R, set: &LiveSet<M>, mut seat: Seat<M>, turns: &Turns)
     requires { seat.set ≡ set.now }
 {
     for number in 0..CHANGES {
@@ -266,7 +266,7 @@ fn is_disturbed<M: Bounded, R: Clock, N: Rounds>(
 }
 
 /// Seat 1 adds 5 while seat 0 changes the set, in two threads: the reply, and how often it was disturbed.
-fn one_is_disturbed<M: Running + Send + Sync, R: Host, N: Rounds>(
+fn one_is_disturbed<M: Running + Send + Sync, R: Host, N: Rounds + Send>(
     rt: &R,
     set: &LiveSet<M>,
     seats: (Seat<M>, Seat<M>),
@@ -285,7 +285,7 @@ fn one_is_disturbed<M: Running + Send + Sync, R: Host, N: Rounds>(
 }
 
 /// What comes of a call of these rounds whose link changes before it takes it, time and again.
-fn after_changes<M: Running + Send + Sync, R: Host, N: Rounds>(
+fn after_changes<M: Running + Send + Sync, R: Host, N: Rounds + Send>(
     rt: &R,
     alloc: Global,
     steps: (u64, u64),

@@ -11,7 +11,7 @@ use crate::waiting::comes;
 const TOO_MANY_TRIES: u64 = 10_000;
 
 /// Once the other has stopped, a seat makes a call of 100 rounds: the reply, and how often it tried in vain.
-fn tries_within<M: Bounded, R: Host>(
+fn tries_within<M: Bounded, R: Clock>(
     rt: &R,
     set: &LiveSet<M>,
     seat: Seat<M>,
@@ -87,7 +87,7 @@ fn a_lazy_call_tries_a_lock_in_its_rounds_alone(rt: HostRuntime) {
 }
 
 /// Once the other has stopped, a seat looks in each way for the key that the other adds: whether it finds what was there before.
-fn reads<M: RunningReads, R: Host>(
+fn reads<M: RunningReads, R: Clock + Wait>(
     rt: &R,
     set: &LiveSet<M>,
     mut seat: Seat<M>,
