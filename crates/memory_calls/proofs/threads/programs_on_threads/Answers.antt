@@ -10,8 +10,7 @@ back_has : {G : Type 0} (P : G → Type 0) (given : G) (cause : WorkCause) (back
 back_has P given Programs back is p = subst (λ b. IfSome b P) (sym is) p
 back_has P given Spawn back is p = subst (λ b. IfSome b P) (sym is) tt
 back_has P given Gate back is p = subst (λ b. IfSome b P) (sym is) tt
-back_has P given Memory (Some b) is p = subst P (sym is) p
-back_has P given Memory None is p = tt
+back_has P given Memory back is p = subst (λ b. IfSome b P) (sym is) p
 
 pub after_refusal-requires : goal.after_refusal-requires
 after_refusal-requires g c = back_has _ _ _ _ c.in-Err-work.ensures.back (search rules)
