@@ -3,7 +3,7 @@
 ghost use Rattle.std.specs.Prelude.{◌≡◌};
 
 use crate::bounds::{UpTo, opened};
-use crate::long_waits::{Trying, Unpaused, holds};
+use crate::long_waits::{Trying, holds};
 use crate::prelude::*;
 use crate::waiting::comes;
 
@@ -21,8 +21,8 @@ fn tries_within<M: Bounded, R: Clock>(
     requires { seat.set ≡ set.now }
 {
     let _came = comes(rt, flags.0);
-    let trying = Trying::new(Unpaused, TOO_MANY_TRIES, flags.1);
-    let made = set.call_within::<Trying<'_, Unpaused>, UpTo<100>>(seat, call, &trying);
+    let trying = Trying::new(None, TOO_MANY_TRIES, flags.1);
+    let made = set.call_within::<Trying<'_>, UpTo<100>>(seat, call, &trying);
     flags.1.store(true, Ordering::SeqCst);
     let tries = trying.tries.get();
     match made {
