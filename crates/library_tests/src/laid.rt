@@ -22,7 +22,7 @@ pub struct Sizes {
 
 /// A history, and the keys that it leaves.
 #[derive(Drop)]
-pub struct Laid {
+pub struct LaidHistory {
     pub history: History,
     pub keys: Vec<u32>,
 }
@@ -81,7 +81,7 @@ fn drawn_keys(alloc: Global, rng: &mut Pcg32, many: u32) -> Result<Vec<u32>, Fai
 
 /// Calls laid round a legal order: for a while some threads move alone, those whose calls begin, take effect or end next. What is under way
 /// at the end stays pending, with its effect or without.
-pub fn laid(alloc: Global, rng: &mut Pcg32, sizes: Sizes) -> Result<Laid, Fail>
+pub fn laid(alloc: Global, rng: &mut Pcg32, sizes: Sizes) -> Result<LaidHistory, Fail>
     requires threads { (0 < sizes.threads) × (sizes.threads ≤ 64) }
     requires keys { (0 < sizes.keys) × (sizes.keys ≤ 64) }
     requires kinds { 0 < sizes.kinds }
@@ -115,5 +115,5 @@ pub fn laid(alloc: Global, rng: &mut Pcg32, sizes: Sizes) -> Result<Laid, Fail>
         }
     }
     let keys = oracle.keys()?;
-    Ok(Laid { history, keys })
+    Ok(LaidHistory { history, keys })
 }

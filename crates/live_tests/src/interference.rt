@@ -138,7 +138,7 @@ impl<'a, R: Clock> Pause for Player<'a, R> {
 type Played = (Reply, u64, u64);
 
 /// A seat makes a call once it is its turn, which it gives away after two steps.
-fn plays<M: Running, R: Host>(
+fn plays<M: Running, R: Clock + Wait>(
     rt: &R,
     set: &LiveSet<M>,
     mut seat: Seat<M>,
@@ -347,7 +347,7 @@ fn two_calls_that_stop_in_a_walk_make_what_their_tables_make(rt: HostRuntime) {
 }
 
 /// Once it is its turn, a seat makes two calls, and gives its turn away after a step of the first and between them.
-fn plays_twice<M: Running, R: Host>(
+fn plays_twice<M: Running, R: Clock + Wait>(
     rt: &R,
     set: &LiveSet<M>,
     mut seat: Seat<M>,
@@ -514,7 +514,7 @@ type Added = (Reply, Reply, Reply);
 const ADDED: Added = (Reply::True, Reply::True, Reply::True);
 
 /// Once it is its turn, a seat puts three keys in before all others.
-fn adds_three<M: Running, R: Host>(
+fn adds_three<M: Running, R: Clock + Wait>(
     rt: &R,
     set: &LiveSet<M>,
     mut seat: Seat<M>,
@@ -530,7 +530,7 @@ fn adds_three<M: Running, R: Host>(
     (first, second, third)
 }
 
-fn one_adds_three<M: Running + Send + Sync, R: Host, N: Rounds>(
+fn one_adds_three<M: Running + Send + Sync, R: Host, N: Rounds + Send>(
     rt: &R,
     set: &LiveSet<M>,
     seats: (Seat<M>, Seat<M>),
@@ -547,7 +547,7 @@ fn one_adds_three<M: Running + Send + Sync, R: Host, N: Rounds>(
 }
 
 /// What comes of an add of 25, the first walk to which has three rounds, and a second one five.
-fn walks_twice<M: Running + Send + Sync, R: Host, N: Rounds>(
+fn walks_twice<M: Running + Send + Sync, R: Host, N: Rounds + Send>(
     rt: &R,
     alloc: Global,
 ) -> Option<Reply> {

@@ -34,20 +34,20 @@ impl<'a, R: Clock> Pause for Holding<'a, R> {
     }
 }
 
-/// Pauses as another pause does, and counts the tries that fail: it says when they are so many.
+/// Pauses as `Spin` does or not at all, and counts the tries that fail: it says when they are so many.
 #[derive(Drop)]
-pub struct Trying<'a, P> {
-    pause: P,
+pub struct Trying<'a> {
+    spin: Option<Spin>,
     most: u64,
     pub tries: Cell<u64>,
     tried: &'a AtomicBool,
 }
 
-impl<'a, P: Pause> Trying<'a, P> {
-    pub fn new(pause: P, most: u64, tried: &'a AtomicBool) -> Trying<'a, P> {
+impl<'a> Trying<'a> {
+    pub fn new(spin: Option<Spin>, most: u64, tried: &'a AtomicBool) -> Trying<'a> {
         let tries = Cell::new(0);
         Trying {
-            pause,
+            spin,
             most,
             tries,
             tried,
@@ -55,9 +55,11 @@ impl<'a, P: Pause> Trying<'a, P> {
     }
 }
 
-impl<'a, P: Pause> Pause for Trying<'a, P> {
+impl<'a> Pause for Trying<'a> {
     fn moved(&self, thread: u32) {
-        self.pause.moved(thread);
+        if let Some(spin) = &self.spin {
+            spin.moved(thread);
+        }
     }
 
     fn failed(&self, thread: u32) {
@@ -66,25 +68,20 @@ impl<'a, P: Pause> Pause for Trying<'a, P> {
         if tries == self.most {
             self.tried.store(true, Ordering::SeqCst);
         }
-        self.pause.failed(thread);
+        if let Some(spin) = &self.spin {
+            spin.failed(thread);
+        }
     }
 
     fn taken(&self, thread: u32) {
-        self.pause.taken(thread);
+        if let Some(spin) = &self.spin {
+            spin.taken(thread);
+        }
     }
 }
 
-#[derive(Drop)]
-pub struct Unpaused;
-
-impl Pause for Unpaused {
-    fn moved(&self, _thread: u32) {}
-
-    fn failed(&self, _thread: u32) {}
-}
-
 /// A seat makes a call, and stops after a step of it, with a lock.
-pub fn holds<M: Running, R: Host>(
+pub fn holds<M: Running, R: Clock + Wait>(
     rt: &R,
     set: &LiveSet<M>,
     mut seat: Seat<M>,
@@ -105,28 +102,28 @@ pub fn holds<M: Running, R: Host>(
 }
 
 /// Once the other has stopped, a seat adds 2: its reply, and how often it tried in vain.
-fn tries<M: Running, R: Host, P: Pause + Drop>(
+fn tries<M: Running, R: Clock + Wait>(
     rt: &R,
     set: &LiveSet<M>,
     mut seat: Seat<M>,
-    pause: P,
+    spin: Option<Spin>,
     most: u64,
     flags: (&AtomicBool, &AtomicBool),
 ) -> (Reply, u64)
     requires { seat.set ≡ set.now }
 {
     let _came = comes(rt, flags.0);
-    let trying = Trying::new(pause, most, flags.1);
+    let trying = Trying::new(spin, most, flags.1);
     let reply = set.call(rt, &mut seat, Call::Add(Key(2)), &trying);
     (reply, trying.tries.get())
 }
 
-fn both_add<M: Running + Send + Sync, R: Host, P: Pause + Send + Drop>(
+fn both_add<M: Running + Send + Sync, R: Host>(
     rt: &R,
     set: &LiveSet<M>,
     seats: (Seat<M>, Seat<M>),
     stops_at: u64,
-    pause: P,
+    spin: Option<Spin>,
     most: u64,
 ) -> (Reply, (Reply, u64))
     requires { (seats.0.set ≡ set.now) × (seats.1.set ≡ set.now) }
@@ -137,20 +134,20 @@ fn both_add<M: Running + Send + Sync, R: Host, P: Pause + Send + Drop>(
     join(
         rt,
         move || holds(rt, set, one, Call::Add(Key(1)), stops_at, flags),
-        move || tries(rt, set, zero, pause, most, flags),
+        move || tries(rt, set, zero, spin, most, flags),
     )
 }
 
 /// Seat 1 has a lock, which its step `stops_at` takes, until seat 0 has tried for it so often; then both have their keys.
-fn waits_long<M: Running + Send + Sync, R: Host, P: Pause + Send + Drop>(
+fn waits_long<M: Running + Send + Sync, R: Host>(
     rt: &R,
     alloc: Global,
     stops_at: u64,
-    pause: P,
+    spin: Option<Spin>,
     most: u64,
 ) {
     let (set, zero, one) = two_seats::<M, R>(rt, alloc);
-    let (held, waited) = both_add(rt, &set, (zero, one), stops_at, pause, most);
+    let (held, waited) = both_add(rt, &set, (zero, one), stops_at, spin, most);
     assert!(rt; held == Reply::True && waited.0 == Reply::True);
     assert!(rt; waited.1 >= most, "{} tries", waited.1);
 }
@@ -160,17 +157,17 @@ const MANY_TRIES: u64 = 5_000_000;
 
 #[test]
 fn a_call_waits_as_long_as_a_lock_is_held(rt: HostRuntime) {
-    waits_long::<CoarseList, HostRuntime, Unpaused>(&rt, rt.alloc(), 0, Unpaused, MANY_TRIES);
-    waits_long::<FineList, HostRuntime, Unpaused>(&rt, rt.alloc(), 0, Unpaused, MANY_TRIES);
-    waits_long::<OptimisticList, HostRuntime, Unpaused>(&rt, rt.alloc(), 2, Unpaused, MANY_TRIES);
-    waits_long::<LazyList, HostRuntime, Unpaused>(&rt, rt.alloc(), 2, Unpaused, MANY_TRIES);
+    waits_long::<CoarseList, HostRuntime>(&rt, rt.alloc(), 0, None, MANY_TRIES);
+    waits_long::<FineList, HostRuntime>(&rt, rt.alloc(), 0, None, MANY_TRIES);
+    waits_long::<OptimisticList, HostRuntime>(&rt, rt.alloc(), 2, None, MANY_TRIES);
+    waits_long::<LazyList, HostRuntime>(&rt, rt.alloc(), 2, None, MANY_TRIES);
 }
 
 /// `Spin` pauses no longer after many tries than after some.
 #[test]
 fn a_pause_does_not_grow_without_end(rt: HostRuntime) {
-    waits_long::<CoarseList, HostRuntime, Spin>(&rt, rt.alloc(), 0, Spin::new(), 500);
-    waits_long::<LazyList, HostRuntime, Spin>(&rt, rt.alloc(), 2, Spin::new(), 500);
+    waits_long::<CoarseList, HostRuntime>(&rt, rt.alloc(), 0, Some(Spin::new()), 500);
+    waits_long::<LazyList, HostRuntime>(&rt, rt.alloc(), 2, Some(Spin::new()), 500);
 }
 
 /// So often another seat changes the link that a call is about to change.
@@ -225,7 +222,7 @@ impl<'a, R: Clock> Pause for Disturbed<'a, R> {
 }
 
 /// A seat adds falling keys above 5, one each time that it is asked: each comes right behind the head.
-fn changes<M: Running, R: Host>(rt: &R, set: &LiveSet<M>, mut seat: Seat<M>, turns: &Turns)
+fn changes<M: Running, R: Clock + Wait>(rt: &R, set: &LiveSet<M>, mut seat: Seat<M>, turns: &Turns)
     requires { seat.set ≡ set.now }
 {
     for number in 0..CHANGES {
@@ -266,7 +263,7 @@ fn is_disturbed<M: Bounded, R: Clock, N: Rounds>(
 }
 
 /// Seat 1 adds 5 while seat 0 changes the set, in two threads: the reply, and how often it was disturbed.
-fn one_is_disturbed<M: Running + Send + Sync, R: Host, N: Rounds>(
+fn one_is_disturbed<M: Running + Send + Sync, R: Host, N: Rounds + Send>(
     rt: &R,
     set: &LiveSet<M>,
     seats: (Seat<M>, Seat<M>),
@@ -285,7 +282,7 @@ fn one_is_disturbed<M: Running + Send + Sync, R: Host, N: Rounds>(
 }
 
 /// What comes of a call of these rounds whose link changes before it takes it, time and again.
-fn after_changes<M: Running + Send + Sync, R: Host, N: Rounds>(
+fn after_changes<M: Running + Send + Sync, R: Host, N: Rounds + Send>(
     rt: &R,
     alloc: Global,
     steps: (u64, u64),

@@ -3,7 +3,7 @@
 ghost use Rattle.std.specs.Prelude.{◌≡◌};
 
 use crate::bounds::{UpTo, opened};
-use crate::long_waits::{Trying, Unpaused, holds};
+use crate::long_waits::{Trying, holds};
 use crate::prelude::*;
 use crate::waiting::comes;
 
@@ -11,7 +11,7 @@ use crate::waiting::comes;
 const TOO_MANY_TRIES: u64 = 10_000;
 
 /// Once the other has stopped, a seat makes a call of 100 rounds: the reply, and how often it tried in vain.
-fn tries_within<M: Bounded, R: Host>(
+fn tries_within<M: Bounded, R: Clock>(
     rt: &R,
     set: &LiveSet<M>,
     seat: Seat<M>,
@@ -21,8 +21,8 @@ fn tries_within<M: Bounded, R: Host>(
     requires { seat.set ≡ set.now }
 {
     let _came = comes(rt, flags.0);
-    let trying = Trying::new(Unpaused, TOO_MANY_TRIES, flags.1);
-    let made = set.call_within::<Trying<'_, Unpaused>, UpTo<100>>(seat, call, &trying);
+    let trying = Trying::new(None, TOO_MANY_TRIES, flags.1);
+    let made = set.call_within::<Trying<'_>, UpTo<100>>(seat, call, &trying);
     flags.1.store(true, Ordering::SeqCst);
     let tries = trying.tries.get();
     match made {
@@ -87,7 +87,7 @@ fn a_lazy_call_tries_a_lock_in_its_rounds_alone(rt: HostRuntime) {
 }
 
 /// Once the other has stopped, a seat looks in each way for the key that the other adds: whether it finds what was there before.
-fn reads<M: RunningReads, R: Host>(
+fn reads<M: RunningReads, R: Clock + Wait>(
     rt: &R,
     set: &LiveSet<M>,
     mut seat: Seat<M>,

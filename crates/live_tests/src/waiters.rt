@@ -70,7 +70,7 @@ impl<'a> Pause for Waiter<'a> {
 }
 
 /// Once the other has stopped, a seat of this thread makes a call: the reply, and whether it has waited.
-fn waits<M: Running, R: Host>(
+fn waits<M: Running, R: Clock + Wait>(
     rt: &R,
     set: &LiveSet<M>,
     mut seat: Seat<M>,

@@ -14,7 +14,7 @@ pub fn comes<R: Clock>(rt: &R, flag: &AtomicBool) -> bool {
 }
 
 /// A seat makes a call once a flag is set, and sets another.
-pub fn calls<M: Running, R: Host, P: Pause>(
+pub fn calls<M: Running, R: Clock + Wait, P: Pause>(
     rt: &R,
     set: &LiveSet<M>,
     mut seat: Seat<M>,

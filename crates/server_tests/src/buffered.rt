@@ -81,7 +81,7 @@ fn are_answered_in_time<R: Host>(
         in_time: Cell::new(true),
     };
     let mut asking = Asking {
-        turns,
+        turns: &*turns,
         due: 0,
         seen: &seen,
     };

@@ -66,7 +66,7 @@ pub fn all_meet<R: Host + Net<Listener = TcpListener, Stream = TcpStream>>(
         }
         streams.push(stream).expect(rt, "room");
     }
-    while let Some(mut stream) = streams.pop() {
+    for mut stream in streams {
         if !is_answered(&mut stream, b"QUIT\n", b"BYE\n") {
             return false;
         }

@@ -88,6 +88,7 @@ fn a_device_takes_an_empty_text(rt: HostRuntime) {
         writes: 0,
     });
     let of_nothing = device.write(b"");
+    assert!(rt; of_nothing == Some(0));
     let of_a_letter = device.write(b"A");
-    assert!(rt; of_nothing == Some(0) && of_a_letter == Some(1));
+    assert!(rt; of_a_letter == Some(1));
 }
