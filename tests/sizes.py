@@ -5,8 +5,11 @@ a conversion that fails or cuts past a size, a sum that wraps or stops at a boun
 `1 + 2`), and each constant that is a number or is made of some: tests/values.py has its value. A row gives what a function has, and how
 often. So a number that is new, or is used once more, is an error, and so is a row whose number is gone. WORDS has what the functions of a
 file look for in a text, for a text that is looked for can stand for a number. It does not notice a number that is computed from small ones
-by their names, or from the length of a text that is given."""
+by their names, or from the length of a text that is given.
 
+A number that is kept in 16 bits ends at 65,535 whatever the body says: NARROW has the files with such types."""
+
+import collections
 import re
 from functools import cached_property
 
@@ -32,6 +35,7 @@ APART = re.compile(r"""
     |abs_diff|(rem|div)_euclid|div_ceil|next_multiple_of|clamp|(to|from)_[bln]e_bytes|swap_bytes|reverse_bits|rotate_\w+|capacity|size_of\w*
     """, re.X)
 CUT = re.compile(r"u8|u16|i\d+|isize|f\d+")  # types that have not each number of 32 bits, as `as` makes them
+NARROW_TYPE = re.compile(r"(?<![A-Za-z_])((?<![<\[])u8|u16|i(?:8|16|32|64|128)|isize|f32|f64)\b")  # (`[u8]` and `Vec<u8>` are texts)
 CONSTANT = re.compile(r"^[ \t]*(?:pub(?:\([^)]*\))? )?(?:const|static) (?:mut )?(?!_:)(\w+): ([^=]*?)(?: =\s*(.*?))?;$", re.M | re.S)
 NUMBER_TYPE = re.compile(r"[ui](8|16|32|64|128|size)")
 
@@ -219,6 +223,21 @@ WORDS = {
 SEARCHES = re.compile(r"\.(starts_with|ends_with|contains|r?find|r?position|strip_\w+|trim\w*|r?split\w*|matches|eq\w*|ne|cmp)")
 
 
+# Files of the sources, how often each has a type that has not each number of 32 bits, and what for
+NARROW = [
+    ("ffi_c/lib*9 ffi_page/lib*19 ffi_page/handing ffi_sets/answers*4 ffi_sets/codes*11 ffi_sets/each*3 ffi_sets/lib*9 ffi_sets/holding*2", "u8",
+     "kinds of lists, replies, faults and statuses of C"),
+    ("ffi_sets/seat*2", "u8", "where the words of a seat stand"),
+    ("listset/main lset_dispatch/command*5 lset_dispatch/dispatching*4 tool_base/answer*2 tool_base/checking tool_base/faults", "u8", "exit statuses"),
+    ("tool_base/generating tool_base/replaying tool_base/trouble tool_broken/replaying tool_broken/showing tool_broken/tracing", "u8", "the same"),
+    ("tool_draft/tool tool_examples/tool tool_judge/judging tool_judge/long tool_parts/files*3 tool_parts/reading", "u8", "the same"),
+    ("tool_report/reporting tool_run/tool tool_serve/tool*2 tool_show/tool*2 tool_trace/tool*4", "u8", "the same"),
+    ("lset_long/reader lset_server/lingering lset_session/sessions*2 tool_base/streams", "u8", "bytes of a text"),
+    ("lset_rule/row_steps*3", "u8", "rows of a list's table"),
+    ("tool_serve/text tool_serve/tool*2", "u16", "ports"),
+]
+
+
 class Constants:
     """The constants of sources by their crates, and which of them are numbers, or have one in their values: no texts."""
 
@@ -264,6 +283,16 @@ class Sources:
             if not OF_TESTS.fullmatch(crate):
                 found += ((f"{crate}/{module}::{it.name}", file, it) for it in Source(text).functions
                           if OF_CRATES.fullmatch(crate) or "ensures" not in it.contract)
+        return found
+
+    @cached_property
+    def narrow_types(self):
+        """How often the files that are looked at have each narrow type."""
+        found = collections.Counter()
+        for file, text in self.files.items():
+            if (crate := file.split("/")[0]) and OF_CRATES.fullmatch(crate) and not OF_TESTS.fullmatch(crate):
+                name = f"{crate}/{file.split('/')[-1].removesuffix('.rt')}"
+                found.update((name, it) for it in NARROW_TYPE.findall(re.sub(r"//[^\n]*", "", text)))
         return found
 
     @cached_property
@@ -358,6 +387,14 @@ def is_shift(items, at):
     return depth > 0
 
 
+def rows_of_narrow_types(rows):
+    found = collections.Counter()
+    for files, kind, _ in rows:
+        for file, _, count in (it.partition("*") for it in files.split()):
+            found[file, kind] += int(count or 1)
+    return found
+
+
 def sources(_room):
     """The sources of this repository."""
     return Sources({str(it.relative_to(TOP / "crates")): it.read_text() for it in sorted((TOP / "crates").glob("*/src/**/*.rt"))})
@@ -379,8 +416,14 @@ def each_text_that_is_looked_for_is_a_word_of_a_format(_case):
 
 
 @test
+def each_narrow_type_has_a_row(_case):
+    found, known = once(sources).narrow_types, rows_of_narrow_types(NARROW)
+    same({it: found[it] for it in found | known if found[it] != known[it]}, {}, "narrow types that are more or fewer than their rows of NARROW say")
+
+
+@test
 def each_row_says_what_its_numbers_are_for(_case):
-    same([it for it in NUMBERS if not all(it)], [], "rows without a word")
+    same([it for it in [*NUMBERS, *NARROW] if not all(it)], [], "rows without a word")
 
 
 # ---- the test itself: a small source, and bodies that treat a size apart
@@ -457,6 +500,14 @@ def small(old="", new=""):
 @test
 def a_small_source_has_no_fault(_case):
     same(small(), [], "its faults")
+
+
+@cases(lambda: {"a_narrow_type_is_found/of_a_field": ["struct Tally {\n    calls: u16,\n}\n"],
+                "a_narrow_type_is_found/of_an_array": ["struct Tally {\n    last: [u16; 2],\n}\n"],
+                "a_narrow_type_is_found/of_a_number": ["fn none() -> usize {\n    let most = 0u16;\n    usize::from(most)\n}\n"]})
+def a_narrow_type_is_found(_case, more):
+    found = Sources({"lset_order/src/small.rt": SMALL_SOURCE + more}).narrow_types
+    same(found, {("lset_order/small", "u16"): 1}, "the narrow types")
 
 
 @cases(lambda: {f"a_number_that_is_new_is_told/{name}": it for name, it in WRONG.items()})
