@@ -28,13 +28,14 @@ pub fn fill<M: Running, R: Wait>(
 fn keys_of_a_full_set<M: Running, R: Host>(
     rt: &R,
     alloc: Global,
-    seats: u32,
+    threads: u32,
     quota: u32,
 ) -> Vec<u32> {
-    let (set, mut seats) = open::<M>(alloc, seats, quota).expect(rt, "not opened");
+    let (set, mut seats) = open::<M>(alloc, threads, quota).expect(rt, "not opened");
     let mut all = None;
-    while let Some(mut seat) = seats.pop() {
-        let first = seat.thread().saturating_mul(quota);
+    for thread in (0..threads).rev() {
+        let mut seat = last_of(rt, &set, &mut seats);
+        let first = thread.saturating_mul(quota);
         fill(rt, &set, &mut seat, first, quota);
         all = Some(set.gather_onto(all, seat));
     }
