@@ -11,6 +11,8 @@ STEPS_OF = {
     "lset_server/serving::accept_all": "for let .accept else let u64::from if send .is_err",  # nor has a stream
     "lset_server/serving::send_all": "accept_all close_all",  # no number of sessions spares it a worker
     "lset_server/serving::close_all": "for if send .is_err",
+    "lset_work/working::work":
+        "if .len .len .is_held_by let reserved .most_keys else let match run_all let let else unreachable! let .keys_left_in",
     "lset_work/workers::make_calls": "let .thread for .iter .enumerate if .pass let .call Spin::new let .push else unreachable!",
     "lset_server/lingering::read": "let .elapsed let Duration::from_secs .saturating_sub .set_read_timeout let .read",
     "ffi_sets/yielding::failed": "let .get let match for hint::spin_loop if .set else libc::sched_yield",
@@ -56,14 +58,17 @@ SESSIONS_OF = {
     "lset_server/workers::work": ("while sessions < u64::from(most) {", "most", []),
     "lset_server/serving::serve_in": ("let workers = seats.len()", "workers", ["workers = seats.len()"]),  # not as many as the set has
 }
-# How many workers get the message to end, when a gate is called, with which thread a pause is called at a lock, how long one is, which
-# one calls have that are given none, and that a schedule is drawn no further than to its end. Contracts do not say it; so here is what each
-# of these says, and what gives a name its value.
+# How many workers get the message to end, how long a read waits, what room is asked for, when a gate is called, with which thread a pause is
+# called at a lock, how long one is, which one calls have that are given none, and that a schedule is drawn no further than to its end.
+# Contracts do not say it; so here is what each of these says, and what gives a name its value.
 TOLD_OF = {
     "lset_server/serving::serve_in": ("send_all(pool.rt, listener, &pool.to, &mut pass, pool.sessions, workers)?", "pass", []),
     "lset_server/serving::send_all":
         ("accept_all(rt, listener, to, pass, sessions)?; close_all(rt, to, pass, workers)", "workers", []),
     "lset_server/serving::close_all": ("for _ in 0..workers { if send(rt, to, pass, Message::Close).is_err() {", "workers", []),
+    "lset_server/lingering::read":
+        ("self.stream.set_read_timeout(Some(left))?;", "left", ["left = Duration::from_secs(MOST_SECONDS).saturating_sub(spent)"]),
+    "lset_work/working::work": ("reserved::<M, G>(alloc, programs, set.most_keys())", "programs", []),
     "lset_work/workers::make_calls":
         ("for (number, call) in calls.iter().enumerate() { if !gate.pass(thread, number as u32) { return false; } let reply ="
          " set.call(rt, seat, *call, &Spin::new());", "thread", ["thread = seat.thread()"]),
