@@ -29,8 +29,9 @@ EXAMPLES = TOP / "examples" / "schedules"
 CALLS = "crates/memory_calls/out/memory_calls", "crates/memory_calls/out/unproved/memory_calls"
 
 # What PROGRAM is asked of files in examples/, of a drawn one (DRAWN) and of one with many opening keys, which goes past the end of its
-# call (OPENING) or not (ENDED). The number tells how many growths are passed over: one as the words are read, and where std asks for less
-# room than it guessed.
+# call (OPENING) or not (ENDED); of one with many tries at a lock (TRIES), of one with a long chain (CHAIN), and of recorded calls whose order
+# has a key put in first and a call that has not ended (ORDERED). The number tells how many growths are passed over: one as the words are
+# read, and where std asks for less room than it guessed.
 ASKED = """
 1 replay one-add.schedule
 1 replay opens-with-keys.schedule
@@ -69,6 +70,9 @@ ASKED = """
 3 replay --lacks lock ENDED
 5 show --lacks lock ENDED
 2 show ../recorders/both-true.calls
+1 trace --chain TRIES
+1 trace --chain CHAIN
+1 report ORDERED
 1 draft ../../tests/transcripts/data/drafts/ceiling-meets-mark.draft
 1 draft one-add.schedule
 1 example
@@ -82,6 +86,20 @@ ASKED = """
 1 run skip
 1 faults
 1 --version
+"""
+
+ORDERED = """listset-calls 2
+list lazy
+threads 2
+quota 4
+call 0 add 5 1 - 2 true
+call 0 contains 5 3 - 4 true
+call 0 contains 5 5 - 6 true
+call 0 contains 5 7 - 8 true
+call 1 add 7 9 - - -
+key 5
+key 7
+end
 """
 
 PASSED_OVER = "no call"
@@ -204,14 +222,18 @@ def commands():
 
 
 def texts(case):
-    """The drawn schedule, and those with many opening keys, in the case's room."""
-    opening, ended = case.room / "opening.schedule", case.room / "ended.schedule"
-    keys = "".join(f"opening {key}\n" for key in range(1, 13))
-    for file, steps in ((opening, 14), (ended, 12)):
-        file.write_text(f"listset-schedule 2\nlist coarse\nthreads 1\nquota 5\n{keys}begin 0 remove 4\ngo 0 {steps}\n")
-    with open(case.room / "drawn.schedule", "w") as drawn:
+    """Texts in the case's room, by their names: most of them schedules for one thread."""
+    files = {name: case.room / f"{name.lower()}.text" for name in ("OPENING", "ENDED", "TRIES", "CHAIN", "ORDERED", "DRAWN")}
+    few, many = ("".join(f"opening {key}\n" for key in range(1, most)) for most in (13, 3_001))
+    one, two = ("listset-schedule 2\nlist coarse\nthreads {}\nquota 5\n".format(threads) for threads in (1, 2))
+    files["OPENING"].write_text(f"{one}{few}begin 0 remove 4\ngo 0 14\n")
+    files["ENDED"].write_text(f"{one}{few}begin 0 remove 4\ngo 0 12\n")
+    files["TRIES"].write_text(f"{two}begin 0 add 5\ngo 0 1\nbegin 1 add 7\ngo 1 400\n")
+    files["CHAIN"].write_text(f"{one}{many}begin 0 add 0\ngo 0 7\n")
+    files["ORDERED"].write_text(ORDERED)
+    with open(files["DRAWN"], "w") as drawn:
         subprocess.run([case.program, *"gen coarse 1 40 60 2 1".split()], stdout=drawn, check=True)
-    return {"OPENING": str(opening), "ENDED": str(ended), "DRAWN": drawn.name}
+    return {name: str(file) for name, file in files.items()}
 
 
 @cases(commands)
