@@ -29,7 +29,7 @@ EXAMPLES = TOP / "examples" / "schedules"
 CALLS = "crates/memory_calls/out/memory_calls", "crates/memory_calls/out/unproved/memory_calls"
 
 # What PROGRAM is asked of files in examples/, of a drawn one (DRAWN) and of one with many opening keys, which goes past the end of its
-# call (OPENING) or not (ENDED); of one with many tries at a lock (TRIES), of one with a long chain (CHAIN), and of recorded calls whose order
+# call (OPENING) or not (ENDED); of one with many tries at a lock (TRIES), of one with long chains (CHAIN), and of recorded calls whose order
 # has a key put in first and a call that has not ended (ORDERED). The number tells how many growths are passed over: one as the words are
 # read, and where std asks for less room than it guessed.
 ASKED = """
@@ -71,8 +71,8 @@ ASKED = """
 5 show --lacks lock ENDED
 2 show ../recorders/both-true.calls
 1 trace --chain TRIES
-1 trace --chain CHAIN
-1 report ORDERED
+4 trace --chain CHAIN
+3 report ORDERED
 1 draft ../../tests/transcripts/data/drafts/ceiling-meets-mark.draft
 1 draft one-add.schedule
 1 example
@@ -224,12 +224,12 @@ def commands():
 def texts(case):
     """Texts in the case's room, by their names: most of them schedules for one thread."""
     files = {name: case.room / f"{name.lower()}.text" for name in ("OPENING", "ENDED", "TRIES", "CHAIN", "ORDERED", "DRAWN")}
-    few, many = ("".join(f"opening {key}\n" for key in range(1, most)) for most in (13, 3_001))
+    few, many = ("".join(f"opening {key}\n" for key in range(1, most)) for most in (13, 6_001))
     one, two = ("listset-schedule 2\nlist coarse\nthreads {}\nquota 5\n".format(threads) for threads in (1, 2))
     files["OPENING"].write_text(f"{one}{few}begin 0 remove 4\ngo 0 14\n")
     files["ENDED"].write_text(f"{one}{few}begin 0 remove 4\ngo 0 12\n")
     files["TRIES"].write_text(f"{two}begin 0 add 5\ngo 0 1\nbegin 1 add 7\ngo 1 400\n")
-    files["CHAIN"].write_text(f"{one}{many}begin 0 add 0\ngo 0 7\n")
+    files["CHAIN"].write_text(f"{one}{many}" + "begin 0 add 0\ngo 0 7\nbegin 0 remove 0\ngo 0 6\n" * 2)
     files["ORDERED"].write_text(ORDERED)
     with open(files["DRAWN"], "w") as drawn:
         subprocess.run([case.program, *"gen coarse 1 40 60 2 1".split()], stdout=drawn, check=True)
