@@ -71,7 +71,7 @@ DROPPED = [
     ("lset_words/table::(key|link|lock)_word tool_show/bars::(bars_are_apart|order_has_its_points)", "let_", "the same"),
     ("lset_history/checker::lesser", ".map_or", "it is of an option"),
     ("lset_long/reader::byte_in", "Err(_)", "a line that has no room is too long"),
-    ("lset_order/finding::explaining_order", "Err(_)", "it is no order: a contract says so"),
+    ("lset_order/finding::explaining_order", "Err(_)", "an order that explains nothing is not given: refused memory has an arm of its own"),
     ("lset_replay/recorder::begin tool_run/life::life tool_serve/tool::serve_list", "Err(_)", "there is no other: `unreachable!` is proved"),
     ("lset_session/buffered::write", "if_Ok", "a buffer is lent once: what is written again is not"),
     ("lset_session/buffered::flush", "Err(_)", "the same"),

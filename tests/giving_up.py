@@ -599,7 +599,8 @@ def what_answers_nothing_takes_its_steps(_case):
             found.setdefault(it.name, []).append(it.steps)
     found = {name: " | ".join(filter(None, steps)) for name, steps in found.items()}
     others = dict(found.items() - STEPS_OF.items())
-    same(others, {it: STEPS_OF.get(it) for it in others}, "the branches and calls of what answers nothing, of what is told of, and of pauses")
+    same(others, {it: STEPS_OF.get(it) for it in others},
+         "the branches and calls of functions that answer nothing, that TOLD_OF or SESSIONS_OF has, and of pauses")
     same(sorted(STEPS_OF.keys() - found.keys()), [], "rows of STEPS_OF that no function has")
 
 
