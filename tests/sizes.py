@@ -15,7 +15,7 @@ from functools import cached_property
 
 from giving_up import OF_TESTS
 from harness.cases import TOP, Wrong, cases, once, same, test
-from harness.function_rows import Found, row_faults
+from harness.function_rows import Found, counts_of, row_faults
 from harness.rattle_tokens import body_of, callee, text_at, text_of, token_of, walk
 from rattle_sources import Source
 
@@ -228,7 +228,8 @@ NARROW = [
     ("ffi_c/lib*9 ffi_page/lib*19 ffi_page/handing ffi_sets/answers*4 ffi_sets/codes*11 ffi_sets/each*3 ffi_sets/lib*9 ffi_sets/holding*2", "u8",
      "kinds of lists, replies, faults and statuses of C"),
     ("ffi_sets/seat*2", "u8", "where the words of a seat stand"),
-    ("listset/main lset_dispatch/command*5 lset_dispatch/dispatching*4 tool_base/answer*2 tool_base/checking tool_base/faults", "u8", "exit statuses"),
+    ("listset/main lset_dispatch/command*5 lset_dispatch/dispatching*4 tool_base/answer*2 tool_base/checking tool_base/faults", "u8",
+     "exit statuses"),
     ("tool_base/generating tool_base/replaying tool_base/trouble tool_broken/replaying tool_broken/showing tool_broken/tracing", "u8", "the same"),
     ("tool_draft/tool tool_examples/tool tool_judge/judging tool_judge/long tool_parts/files*3 tool_parts/reading", "u8", "the same"),
     ("tool_report/reporting tool_run/tool tool_serve/tool*2 tool_show/tool*2 tool_trace/tool*4", "u8", "the same"),
@@ -390,8 +391,7 @@ def is_shift(items, at):
 def rows_of_narrow_types(rows):
     found = collections.Counter()
     for files, kind, _ in rows:
-        for file, _, count in (it.partition("*") for it in files.split()):
-            found[file, kind] += int(count or 1)
+        found.update({(file, kind): count for file, count in counts_of(files)})
     return found
 
 
