@@ -33,21 +33,26 @@ class Checks:
     def is_over_libraries(self, name):
         return name in self.crates and all(self.library(it).is_dir() for it in crates_txt.below([name], self.root) if it != name)
 
-    def check(self, name, texts, only=(), kept=None):
-        """Checks a crate, or of its functions these alone; gives the status of rattle and what it said."""
+    def check(self, name, texts, only=(), kept=None, is_past_holes=False):
+        """Checks a crate, or of its functions these alone; gives the status of rattle and what it said. Over libraries a file may go
+        (its text is None), and a proof with a hole may be taken for one."""
         if self.is_over_libraries(name):
-            return self._over_libraries(name, texts, only, kept)
+            return self._over_libraries(name, texts, [*(flag for it in only for flag in ("--only", it)), *["--allow-holes"] * is_past_holes], kept)
         with self.lock:
             return self._by_rt(name, texts, only)
 
-    def _over_libraries(self, name, texts, only, kept):
+    def _over_libraries(self, name, texts, flags, kept):
         crate = self.crates[name]
-        flags = ["--jobs", "1", *(flag for it in only for flag in ("--only", it)), *(["--incremental", kept] if kept else [])]
+        flags = ["--jobs", "1", *flags, *(["--incremental", kept] if kept else [])]
         with tempfile.TemporaryDirectory(prefix=f"check-{os.getpid()}-") as room:
             for part in crates_txt.PARTS:
                 if os.path.isdir(f"{crate.folder}/{part}"):
                     shutil.copytree(f"{crate.folder}/{part}", f"{room}/{part}")
             for path, text in texts.items():
+                if text is None:
+                    os.remove(f"{room}/{path}")
+                    continue
+                os.makedirs(os.path.dirname(f"{room}/{path}"), exist_ok=True)
                 pathlib.Path(room, path).write_text(text, encoding="utf-8")
             return processes.status_and_words([toolchain.rtlib().RATTLE, "check", *crate.words(flags, keeps=False)], room)
 

@@ -155,9 +155,14 @@ class Function:
         return comment_above(self.source.lines, self.first - 1)
 
     @property
+    def whole_contract(self):
+        """Its signature with the clauses after it, as they stand."""
+        return contract_at(self.source.lines, self.first)
+
+    @property
     def contract(self):
         """Its signature with the clauses after it."""
-        return contract_at(self.source.lines, self.first).strip()
+        return self.whole_contract.strip()
 
     @property
     def signature(self):

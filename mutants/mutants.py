@@ -14,7 +14,8 @@ file exactly once. Further pairs may follow, also of another file. A line that b
 
 A proof knows of what its function calls the contract alone, so the goals of a function hang on its own mutant, also where a function
 that it calls is changed too; and so mutants of several functions are tried in one check, from nothing, of these functions and what they
-call. Each has to be refused by a goal of its own function there; one that is not is tried alone.
+call. There the other functions have no bodies: each is taken by its contract, as if it were proved (`by_contracts`). Each mutant has to be
+refused by a goal of its own function there; one that is not is tried alone, and at last in a check of the whole crate as it is.
 """
 
 import collections
@@ -42,7 +43,14 @@ GONE = re.compile(r"(note: )?(\./)?proofs/.*(has no field|is not in scope|has no
 
 Mutant = collections.namedtuple("Mutant", "crate name guards pairs")
 Verdict = collections.namedtuple("Verdict", "kind said")
-Function = collections.namedtuple("Function", "path top first last name text")
+Function = collections.namedtuple("Function", "path top first last name text block contract")
+# A proof that is still to be written, which a check past holes takes for one
+TO_BE_PROVED = """use Rattle.{crate}.proofs.{path}.Statement.{{statement}}
+
+pub {name}_spec : {{M : Type 1}} → statement M
+{name}_spec 𝓤 𝓛 𝓜 𝓡 wired = ?
+"""
+WRITTEN_PROOFS = ("Invariants.antt", "Answers.antt")
 
 
 class Misfit(Exception):
@@ -143,7 +151,7 @@ def misfits(crates=CRATES):
 
 def functions(folder):
     """The functions of a crate's sources. (rattle tells a goal of all that a function ensures at its first attribute, `top`.)"""
-    return [Function(str(file.relative_to(folder)), it.top, it.first, it.last, it.name, it.text)
+    return [Function(str(file.relative_to(folder)), it.top, it.first, it.last, it.name, it.text, it.block, it.whole_contract)
             for file in sorted((folder / "src").rglob("*.rt")) for it in Source(file.read_text(encoding="utf-8")).functions]
 
 
@@ -194,6 +202,33 @@ def words_of(changed, all_functions):
     return words if all(words) else []
 
 
+# ---- functions by their contracts
+
+
+def has_known_proof(function):
+    """Whether the place of a function's proof is known by its source, and whether it may do without its body."""
+    is_own = function.block is None or (function.block.kind == "impl" and not function.block.is_of_trait)
+    return is_own and not function.text.endswith(";") and "-> impl " not in function.contract
+
+
+def by_contracts(crate, folder, changed, texts):
+    """The texts of a crate, over these, in which each function that is not changed has no body, and a proof that is still to be written;
+    None for a file that goes. Each line stays where it is."""
+    made = dict(texts)
+    for it in functions(folder):
+        if it in changed or not has_known_proof(it):
+            continue
+        lines = (made.get(it.path) or (folder / it.path).read_text(encoding="utf-8")).split("\n")
+        lines[it.first - 1 : it.last] = f"{it.contract} {{".split("\n") + [""] * (len(it.text.split("\n")) - len(it.contract.split("\n")))
+        lines[it.last - 1] += " unreachable!() }"
+        made[it.path] = "\n".join(lines)
+        place = [*filter(None, module_of(it).split("/")), *([it.block.subject] if it.block else []), it.name]
+        proof = "/".join(["proofs", *place])
+        made |= {f"{proof}/{name}": None for name in WRITTEN_PROOFS if (folder / proof / name).exists()}
+        made[f"{proof}/Proof.antt"] = TO_BE_PROVED.format(crate=crate, path=".".join(place), name=it.name)
+    return made
+
+
 # ---- checks
 
 
@@ -232,26 +267,36 @@ def verdict_of(status, said, texts):
     return Verdict(UNSURE, f"its check ended with status {status}: {lines[-1]}")
 
 
+def lines_of_check(checks, crate, changed, texts, kept):
+    """What a check of changed functions says, with these texts, and with all other functions by their contracts; nothing where it comes to
+    no end, or cannot read a text. It takes what earlier checks have proved from the folder `kept`."""
+    folder = checks.root / "crates" / crate
+    only = words_of(changed, functions(folder))
+    if not only:
+        return []
+    is_by_contracts = checks.is_over_libraries(crate)
+    texts = by_contracts(crate, folder, changed, texts) if is_by_contracts else texts
+    lines = checks.check(crate, texts, only, kept, is_by_contracts)[1].rstrip("\n").split("\n")
+    is_read = last_line(lines).startswith(("logic=not-proved", "only=")) and not any(is_unread(it, texts) for it in lines)
+    return lines if is_read else []
+
+
+def goals_in(lines, group):
+    """Of mutants, or of the functions as they stand, those of which a goal is open by the lines of a check, each with that goal."""
+    goals = {mutant: next((line for line in lines if is_goal_of(line, function)), None) for mutant, function in group}
+    return {mutant: Verdict(CLAUSE, goal) for mutant, goal in goals.items() if goal}
+
+
 def try_together(checks, crate, group, kept):
-    """Of mutants that are tried together, those that are refused by a goal of their own function, each with that goal. The check takes
-    what earlier ones have proved from the folder `kept`."""
-    texts, folder = {}, checks.root / "crates" / crate
+    """Of mutants that are tried together, those that are refused by a goal of their own function, each with that goal."""
+    texts = {}
     try:
         for mutant, _ in group:
-            texts_with(mutant, folder, texts)
+            texts_with(mutant, checks.root / "crates" / crate, texts)
     except Misfit:
         # (one makes the 'old:' text of another stand there twice: each is tried alone)
         return {}
-    only = words_of([it for _, it in group], functions(folder))
-    if not only:
-        return {}
-    status, said = checks.check(crate, texts, only, kept)
-    lines = said.rstrip("\n").split("\n")
-    is_told = last_line(lines).startswith(("logic=not-proved", "only="))
-    if status != 1 or not is_told or any(is_unread(it, texts) for it in lines):
-        return {}
-    goals = {mutant: next((line for line in lines if is_goal_of(line, function)), None) for mutant, function in group}
-    return {mutant: Verdict(CLAUSE, goal) for mutant, goal in goals.items() if goal}
+    return goals_in(lines_of_check(checks, crate, [it for _, it in group], texts, kept), group)
 
 
 def try_whole(checks, crate, mutant, kept):

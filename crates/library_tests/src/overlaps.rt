@@ -56,12 +56,34 @@ fn seen_by_all(alloc: Global, adder: u32) -> Result<History, Fail> {
     Ok(history)
 }
 
+/// Whether the order that is found begins with the add, behind which the calls that see it come in the order of their begins.
+fn is_in_begins(alloc: Global, history: &History, adder: u32) -> Result<bool, Fail> {
+    let Found::Order(order) = find_order(alloc, history, &[0])? else {
+        return Ok(false);
+    };
+    let (mut numbers, mut wanted) = (Vec::new(alloc), Vec::new(alloc));
+    for placed in &order {
+        numbers.push(placed.call)?;
+    }
+    wanted.push(adder)?;
+    for number in 0..MOST_THREADS {
+        if number != adder {
+            wanted.push(number)?;
+        }
+    }
+    Ok(numbers == wanted)
+}
+
 #[test]
 fn an_order_is_found_if_all_others_see_an_add(rt: HostRuntime) -> Result<(), Fail> {
     let alloc = rt.alloc();
     for adder in [0, MOST_THREADS - 1] {
         let history = seen_by_all(alloc, adder)?;
         assert!(rt; is_found(alloc, &history, &[0])?, "thread {adder} adds");
+        assert!(rt;
+            is_in_begins(alloc, &history, adder)?,
+            "thread {adder} adds"
+        );
     }
     Ok(())
 }

@@ -37,7 +37,7 @@ fn not_plain(made: (Call, Reply), begun: u64, end: u64) -> StreamCall {
 
 /// Calls after one of thread 3 from moment 2 to 7, each with all the faults that come after the one that is named, as far as one call
 /// can have them.
-fn with_faults(made: (Call, Reply)) -> [(StreamCall, StreamFault); 8] {
+fn with_faults(made: (Call, Reply)) -> [(StreamCall, StreamFault); 10] {
     let late = LAST_MOMENT + 1;
     [
         (not_plain(made, 2, 2), StreamFault::Early),
@@ -47,7 +47,9 @@ fn with_faults(made: (Call, Reply)) -> [(StreamCall, StreamFault); 8] {
         (not_plain(made, 7, late), StreamFault::Early),
         (not_plain(made, 5, 5), StreamFault::Ends),
         (not_plain(made, 5, 1), StreamFault::Ends),
+        (not_plain(made, 7, 7), StreamFault::Ends),
         (not_plain(made, 5, 7), StreamFault::NotPlain),
+        (not_plain(made, 7, 9), StreamFault::NotPlain),
     ]
 }
 
@@ -66,6 +68,10 @@ fn the_first_fault_of_a_call_is_named(rt: HostRuntime) -> Result<(), Fail> {
     stream.add(add_of_six(4, 3, Some((8, Reply::True))))?;
     let both = add_of_six(3, 5, Some((8, Reply::True)));
     assert!(rt; stream.add(both) == Err(StreamFault::Taken));
+    // An earlier call ends at its begin, and one that is still pending is of the thread.
+    stream.add(add_of_six(5, 4, Some((6, Reply::True))))?;
+    let begins_taken = add_of_six(3, 6, Some((9, Reply::True)));
+    assert!(rt; stream.add(begins_taken) == Err(StreamFault::Taken));
     Ok(())
 }
 

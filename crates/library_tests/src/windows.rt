@@ -94,6 +94,30 @@ fn a_pending_look_is_left_out(rt: HostRuntime) -> Result<(), Fail> {
     Ok(())
 }
 
+/// A change that is pending from the last moment on may be why the key is lost: it is shown, and no look is.
+#[test]
+fn a_change_at_the_last_moment_is_shown(rt: HostRuntime) -> Result<(), Fail> {
+    let mut calls = Vec::new(rt.alloc());
+    calls.push(ended(0, Call::Add(FIVE), (1, 2), Reply::True))?;
+    for number in 1..50 {
+        let bar = (2 * number + 1, 2 * number + 2);
+        calls.push(ended(1, Call::Contains(FIVE), bar, Reply::True))?;
+    }
+    calls.push(CallRecord {
+        thread: 2,
+        call: Call::Add(FIVE),
+        begun: u32::MAX,
+        ended: None,
+    })?;
+    let window = window_of(rt.alloc(), false, calls, false)?;
+    assert!(rt;
+        window.calls.as_slice() == [50].as_slice() && window.there,
+        "{:?}",
+        window.calls
+    );
+    Ok(())
+}
+
 /// The key comes and goes beside a long look that ends last, and then a call finds it: that one alone is shown.
 #[test]
 fn a_window_does_not_begin_before_a_longer_look(rt: HostRuntime) -> Result<(), Fail> {

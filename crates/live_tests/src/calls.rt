@@ -4,6 +4,9 @@ ghost use Rattle.std.specs.Prelude.{◌≡◌};
 use crate::gathering::{ADDS, FINDS};
 use crate::opened::{close_with, make_calls, two_seats};
 use crate::prelude::*;
+use lset_live::Receipt;
+use lset_rule::TableSeat;
+use std::mem::size_of;
 
 /// Seats, a quota, and why no set is opened with them.
 const LIMITS: [(u32, u32, Option<OpenFault>); 5] = [
@@ -106,6 +109,13 @@ fn are_passed_on<M: Running, R: Host>(rt: &R, alloc: Global) {
 #[test]
 fn receipts_are_passed_on(rt: HostRuntime) {
     at_each_list!(are_passed_on, rt);
+}
+
+/// A message takes no more bytes for the receipt that comes with it.
+#[test]
+fn a_receipt_has_no_bytes(rt: HostRuntime) {
+    assert!(rt; size_of::<Receipt<LazyList>>() == 0);
+    assert!(rt; size_of::<TableSeat>() == 0);
 }
 
 /// A receipt of a seat that has seen less leaves a seat as it is, and one given early counts late.

@@ -218,13 +218,13 @@ fn begin_of(calls: &[CallRecord], end: u32) -> u32 {
     u32::MAX
 }
 
-/// The numbers of a key's calls that begin after one moment and before another.
+/// The numbers of a key's calls that begin after one moment and by another.
 fn numbers_between(
     alloc: Global,
     calls: &[CallRecord],
     key: Key,
     since: u32,
-    before: u32,
+    last: u32,
 ) -> Result<Vec<u32>, AllocError>
     requires { length calls.now < 2 ^ 32 }
 {
@@ -232,7 +232,7 @@ fn numbers_between(
     for (number, call_record) in calls.iter().enumerate() {
         if call_record.call.key().0 == key.0
             && since < call_record.begun
-            && call_record.begun < before
+            && call_record.begun <= last
         {
             numbers.push(number as u32)?;
         }

@@ -22,9 +22,10 @@ use lset_words::{Call, Reply};
 ///   the record grew by just this call (`Makes`), which began after all that the seat had seen and has answered. After `None`
 ///   it owes `HasGivenUp`: the call has begun so and has not answered, and its thread has made at least `N::MOST` steps of it.
 pub trait Bounded: Machine {
-    /// Makes a call of any kind, in at most `N::MOST` rounds of each of its loops, or answers `None`. `table` are the words,
-    /// `place` is the seat's place among their views, and `slots` are those of its thread. After `None` the call is still under
-    /// way, with the locks that it has, and the place makes no other.
+    /// Makes a call of any kind, in at most `N::MOST` rounds of each of its loops, or answers `None`. (The loops of LazyList and
+    /// LockFreeList make a `contains` in as many rounds as it takes.) `table` are the words, `place` is the seat's place among their
+    /// views, and `slots` are those of its thread. After `None` the call is still under way, with the locks that it has, and the
+    /// place makes no other.
     fn make_within<P: Pause, N: Rounds>(
         table: &Words<Self>,
         place: &mut TableSeat,

@@ -216,7 +216,7 @@ fn serve_all<R: Threads + Wait + Clock + Sync, M: Running + Send + Sync>(
 /// Serves a set to `sessions` connections, with one worker for each of `seats`.
 ///
 /// `seats` are those of `set`. Connections are numbered from 0 and pass through a channel with as many places as there are
-/// seats. Each worker runs `session` on its seat, with one connection after another; a session that ends with a fault does
+/// seats. Each worker runs `buffered_session` on its seat, with one connection after another; a session that ends with a fault does
 /// not end the server. Then the seats are gathered and the set is closed. It waits for connections and workers, and each
 /// worker for its client.
 ///

@@ -3,6 +3,7 @@ ghost use Rattle.std.specs.Prelude.{◌<◌};
 use crate::prelude::*;
 use lset_coarse::CoarseList;
 use lset_history::{History, HistoryFault, Oracle};
+use lset_optimistic::OptimisticList;
 use lset_steps::{Event, StepFault, World};
 use lset_words::{CallRecord, layout};
 
@@ -15,7 +16,39 @@ fn add(world: &mut World<CoarseList>, key: u32) -> Result<(), StepFault> {
     Ok(())
 }
 
-/// A coarse list's world and its content, after five adds.
+/// Events of two threads, and how often each is taken: an add that locks its two nodes finds the first taken out, and starts over.
+const STARTS_OVER: [(Event, u32); 9] = [
+    (Event::Begin(1, Call::Add(Key(3))), 1),
+    (Event::Go(1), 10),
+    (Event::Begin(0, Call::Add(Key(5))), 1),
+    (Event::Go(0), 4),
+    (Event::Begin(1, Call::Remove(Key(3))), 1),
+    (Event::Go(1), 9),
+    (Event::Go(0), 2),
+    (Event::Go(0), 4),
+    (Event::Go(0), 10),
+];
+
+/// An optimistic list's world, in which a call starts over.
+fn starts_over(alloc: Global, calls: &mut Calls) -> Result<()> {
+    let sizes = layout(2, 4)?;
+    let mut world: World<OptimisticList> = answer!(
+        calls,
+        "World::new",
+        AllocError,
+        World::new(alloc, sizes)
+    )?;
+    calls.announce(alloc, "World::step")?;
+    for (event, times) in &STARTS_OVER {
+        for _ in 0..*times {
+            let _told = world.step(*event)?;
+        }
+    }
+    let content = answer!(calls, "World::content", AllocError, world.content())?;
+    check(content.as_slice() == [5].as_slice())
+}
+
+/// A coarse list's world and its content, after five adds; and another list's.
 pub fn worlds(alloc: Global, calls: &mut Calls) -> Result<()> {
     let sizes = layout(1, 5)?;
     let mut world: World<CoarseList> = answer!(
@@ -29,7 +62,11 @@ pub fn worlds(alloc: Global, calls: &mut Calls) -> Result<()> {
         add(&mut world, key)?;
     }
     let content = answer!(calls, "World::content", AllocError, world.content())?;
-    check(content.as_slice() == [1, 2, 3, 4, 5].as_slice())
+    check(content.as_slice() == [1, 2, 3, 4, 5].as_slice())?;
+    if calls.refused.is_none() {
+        starts_over(alloc, calls)?;
+    }
+    Ok(())
 }
 
 /// The sequential set has just these keys.
