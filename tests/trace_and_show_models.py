@@ -195,9 +195,8 @@ def endings_of(program, report):
     return [["", "it is not known whether another order explains this report"], *too_soon]
 
 
-def compare_report(looked, text):
+def compare_report(looked, report):
     """Pictures of a report, which the program draws of what it is given."""
-    report = read_report(text)
     picture, below = picture_of_report(report), []
     if picture.refusal:
         lines, endings = looked.said("show")[0], endings_of(looked.program, report)
@@ -216,14 +215,14 @@ def named(what, count):
 def pictures_of_reports_are_those_of_the_model(case, draw, seed):
     text = RandomCalls(draw).report(faults=[0, 1, 1, 2][seed % 4])
     looked = Compared(case.program, case.name, text)
-    compare_report(looked, text)
+    compare_report(looked, read_report(text))
     looked.tell()
 
 
 @cases(named("recordings", RECORDINGS))
 def pictures_of_recorded_calls_are_those_of_the_model(case, draw, seed):
     """Of the report of the order that `report` finds; if none explains the calls, of those alone that `judge` shows; and if begins and ends do
-    not decide, by their points, or with an error."""
+    not decide, by their points, with each key once, or with an error."""
     drawn_texts = iter(lambda: RandomCalls(draw).recorded(has_points=seed % 4 > 0, faults=seed % 2), None)
     text = next(it for it in drawn_texts if CHANGE.search(it))
     looked, plain = Compared(case.program, case.name, text), without_points(text)
@@ -231,12 +230,13 @@ def pictures_of_recorded_calls_are_those_of_the_model(case, draw, seed):
     if by_points.stderr and "Point" not in by_points.stderr:  # (with points the quota may be used up)
         looked.fault(by_points)
     elif found.returncode == 0:
-        compare_report(looked, found.stdout)
+        compare_report(looked, read_report(found.stdout))
     elif found.stdout:
         said = ran(case.program, "judge", text=plain).stdout.splitlines()
         looked.pictures(picture_of_report(window_of(read_calls(text), said)), ["", *said])
     elif by_points.returncode == 0:
-        compare_report(looked, by_points.stdout)
+        report = read_report(by_points.stdout)
+        compare_report(looked, report._replace(keys=sorted({*report.keys})))
     else:
         looked.fault(by_points)
     looked.tell()

@@ -242,7 +242,7 @@ class RandomCalls:
 
     def recorded(self, has_points, faults):
         """The calls as somebody recorded them: with their points if they have any, so often with another reply, and with the keys that are
-        left, or not."""
+        left, or not, in any order and one of them twice."""
         for it in self.draw.sample(self.calls, min(faults, len(self.calls))):
             it.reply = self.reply()
         keys = sorted(self.held.keys)[faults:] if self.draw.random() < 0.3 else sorted(self.held.keys)
@@ -250,5 +250,7 @@ class RandomCalls:
         for it in self.calls:
             point = it.point if has_points and it.point else "-"
             lines.append(f"call {it.thread} {it.word} {it.key} {it.begun} {point} " + (f"{it.end} {it.reply}" if it.end else "- -"))
+        keys += keys[:self.draw.randrange(2)]
         self.draw.shuffle(lines)
+        self.draw.shuffle(keys)
         return self.text("listset-calls 2", lines, (f"key {it}" for it in keys))

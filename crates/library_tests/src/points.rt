@@ -17,6 +17,14 @@ const WRONG: &str = "call 0 add 5 1 3 6 true
 call 1 ceiling 4 4 - 5 nothing
 ";
 
+/// Two ceilings find none of the keys that are there. By its begin the first of them is call 1, and it takes the first place.
+const TWO_WRONG: &str = "opening 5
+call 1 ceiling 6 7 - 8 nothing
+call 1 add 9 4 5 6 true
+call 1 ceiling 4 2 - 3 nothing
+call 0 contains 9 1 - 10 true
+";
+
 const CLASHING: &str = "call 0 add 5 1 3 6 true
 call 1 contains 5 3 - 5 true
 ";
@@ -48,6 +56,17 @@ fn ceilings_are_judged_by_points(rt: HostRuntime) -> Result<(), Fail> {
     assert_eq!(rt;
         fault_of(alloc, CLASHING, LEFT)?,
         Err(ClashFault::History(6))
+    );
+    Ok(())
+}
+
+/// Of two wrong replies the first in the order is named, by the number of its call, and not by its place or its line.
+#[test]
+fn the_first_wrong_reply_is_found_by_points(rt: HostRuntime) -> Result<(), Fail> {
+    let wrong = Some(OrderFault::WrongReply(1));
+    assert_eq!(rt;
+        fault_of(rt.alloc(), TWO_WRONG, "key 5\nkey 9\n")?,
+        Ok(wrong)
     );
     Ok(())
 }

@@ -1,5 +1,5 @@
 -- What the points decide that were given for calls of a set: whether any order makes each change at its point.
-use Rattle.std.specs.Prelude.{◌≡◌, ℕ, ◌<◌, ◌&&◌, Bool, false, List, map, length, Option, Some, None, Contains as InList, slice_index}
+use Rattle.std.specs.Prelude.{◌≡◌, ◌≢◌, ℕ, ◌<◌, ◌&&◌, Bool, false, List, map, length, Option, Some, None, Contains as InList, slice_index}
 use Rattle.lset_words.specs.declared.Call.{Call}
 use Rattle.lset_words.specs.declared.Reply.{Reply}
 use Rattle.lset_words.specs.declared.Reply.TheVariants.{True}
@@ -7,7 +7,8 @@ use Rattle.lset_words.specs.declared.history.Placed.{Placed}
 use Rattle.lset_words.specs.Log.{TracedCall, record_of}
 use Rattle.lset_words.specs.Placement.{traced_at}
 use Rattle.lset_history.specs.declared.fault.OrderFault.{OrderFault}
-use Rattle.lset_history.specs.Faults.{Explains, place_at}
+use Rattle.lset_history.specs.declared.fault.OrderFault.TheVariants.{Memory}
+use Rattle.lset_history.specs.Faults.{Explains, IsFault, place_at}
 use Rattle.lset_history.specs.Points.{HasPoints}
 use Rattle.lset_report.specs.Report.{ReportValue}
 use Rattle.lset_calls.specs.Calls.{CallsValue, AreCalls, may_change, is_true}
@@ -45,17 +46,23 @@ abbrev pub PointsDecide : Type 0
 PointsDecide = (c : CallsValue) (r : ReportValue) (report : IsReportOfCalls c r) (other : List Placed) (points : List ℕ)
     → AreCalls c → HasGivenPoints report.calls other points → Explains r.history other r.keys → Explains r.history r.order r.keys
 
--- the order of the report explains it, or does not
+-- The order of the report has this first fault, and so it does not explain the report. A failed allocation is no fault of an order.
+pub record IsFirstFault (r : ReportValue) (fault : OrderFault) : Type 0 where
+  pub first_fault : IsFault r.history r.order r.keys fault
+  pub of_the_order : fault ≢ Memory
+  pub not_explained : Explains r.history r.order r.keys → ⊥
+
+-- the order of the report explains it, or has this first fault
 abbrev pub IsChecked : ReportValue → Option OrderFault → Type 0
 IsChecked r None = Explains r.history r.order r.keys
-IsChecked r (Some fault) = Explains r.history r.order r.keys → ⊥
+IsChecked r (Some fault) = IsFirstFault r fault
 
 -- No order explains the report of these calls and makes each change at its point.
 abbrev pub NoOrderHasThePoints : CallsValue → ReportValue → Type 0
 NoOrderHasThePoints c r = (report : IsReportOfCalls c r) (other : List Placed) (points : List ℕ)
     → HasGivenPoints report.calls other points → Explains r.history other r.keys → ⊥
 
--- the order of the report explains it, or it has a fault and no order with these points does
+-- the order of the report explains it; or this is its first fault, and no order with these points explains it
 abbrev pub IsDecided : CallsValue → ReportValue → Option OrderFault → Type 0
 IsDecided c r None = Explains r.history r.order r.keys
-IsDecided c r (Some fault) = NoOrderHasThePoints c r
+IsDecided c r (Some fault) = IsFirstFault r fault × NoOrderHasThePoints c r

@@ -12,14 +12,14 @@ use lset_history::{OrderFault, check_order};
 use lset_report::Report;
 use std::alloc::Global;
 
-/// The report of calls that was made by their points, and the first thing that is wrong with its order, if anything is.
+/// The report of calls that was made by their points, and the first fault of its order, if it has one.
 #[derive(Drop)]
 pub struct Pointed {
     pub report: Report,
     pub fault: Option<OrderFault>,
 }
 
-/// What is wrong first with the order of a report, if anything is.
+/// The first fault of the order of a report, if it has one.
 fn fault_of(alloc: Global, made: &Report) -> Result<Option<OrderFault>, ClashFault>
     ensures checked { IfOk result (IsChecked (report.view made.now)) }
     ensures memory { IfErr result (λ e. e ≡ ClashFault.Memory) }
@@ -32,8 +32,11 @@ fn fault_of(alloc: Global, made: &Report) -> Result<Option<OrderFault>, ClashFau
 }
 
 /// Judges calls by the points that were given for their changes; it judges `ceiling` and `full` too. If there is no fault,
-/// the order of the report explains the calls and leaves the keys. If there is one, no order does that makes each change at
-/// its point.
+/// the order of the report explains the calls and leaves the keys. If there is one, it is the first one of the report's order, as
+/// `check_order` names it, and no order that makes each change at its point explains the calls and leaves the keys.
+///
+/// `calls.keys` must be in increasing order, each key once: sort and dedup them first, as `read_calls` keeps `key` lines as they stand. If
+/// they fall or repeat, the fault is `WrongSet`, unless another one comes first: no order leaves such keys.
 ///
 /// # Errors
 ///

@@ -59,10 +59,15 @@ pub record IsDecided (c : CallsValue) (v : PictureValue) : Type 0 where
   pub picture_is : IsPictureOfOrder c.kind history left v
       ⊎ ((refusal : Refusal) × (window : Window) × IsPictureOfRefusal c.kind history left refusal window v)
 
--- of others, and only if begins and ends refute nothing: their report by their points
-abbrev pub IsByPoints : CallsValue → PictureValue → Type 0
-IsByPoints c v =
-    IsUnrefuted c × ((r : ReportValue) × IsReportOfCalls c r × PointsAreGiven c (Ok tt) × IsPictureOfReport r v)
+-- of others, and only if begins and ends refute nothing: their report by their points, with each key left once, in increasing order
+pub record IsByPoints (c : CallsValue) (v : PictureValue) : Type 0 where
+  pub unrefuted : IsUnrefuted c
+  pub points : PointsAreGiven c (Ok tt)
+  pub report : ReportValue
+  pub report_is : IsReportOfCalls c report
+  pub left : List ℕ
+  pub left_is : AreKeysOf c.keys left
+  pub picture_is : IsPictureOfReport (record report { keys = left }) v
 
 -- THE PICTURE OF RECORDED CALLS
 abbrev pub IsPictureOfCalls : CallsValue → PictureValue → Type 0

@@ -94,7 +94,7 @@ fn of_refusal(
     })
 }
 
-/// The picture of calls whose begins and ends do not decide, by their points.
+/// The picture of calls whose begins and ends do not decide, by their points, with each key left once, in increasing order.
 fn by_points(alloc: Global, calls: Calls) -> Result<Drawing, Trouble>
     requires are { AreCalls (view calls) }
     requires unrefuted { IsUnrefuted (view calls) }
@@ -103,7 +103,13 @@ fn by_points(alloc: Global, calls: Calls) -> Result<Drawing, Trouble>
 {
     calls.have_points()?;
     let report = report_of(alloc, calls)?;
-    let picture = picture_of_report(alloc, report)?;
+    let picture = picture_of_report(
+        alloc,
+        Report {
+            keys: keys_of(report.keys),
+            ..report
+        },
+    )?;
     Ok(Drawing {
         picture,
         says: None,
