@@ -540,7 +540,7 @@ return { byId, redraw, setAble, setHidden };
 const $run_faults = (() => {
 const CAUSES = {
   Header: 'line 1 must be "listset-schedule 1", or "listset-schedule 2", which has ceilings and opening keys',
-  Kind: 'line 2 must be "list" and one of coarse, fine, optimistic, lazy, lock-free',
+  Kind: 'line 2 must be "list" and one of coarse, fine, optimistic, lazy, lock-free; on a broken list, the kind of that list',
   Threads: 'line 3 must be "threads" and a number from 1 to 64',
   Quota: 'line 4 must be "quota" and a number from 0 to 16384',
   Event:
@@ -553,10 +553,42 @@ const CAUSES = {
   NoThread: "there is no such thread",
   Busy: "the thread begins a call while it has one pending",
   Idle: "the thread makes a step while it has no call pending",
-  Waits: "the thread does not get there: it waits for a lock that another thread holds",
+  Waits: "the thread does not get there within the steps that are tried: it may wait for a lock that another thread holds",
   Lost: "the broken list's step would access a word outside its table",
 };
-return { CAUSES };
+
+const NOT_ENDED = 'the text must end with the line "end", or with "cut" if the recording was cut off';
+
+const CAUSES_OF_CALLS = {
+  NotEnded: NOT_ENDED,
+  Header: 'line 1 must be "listset-calls 2", or "listset-calls 3", a long recording',
+  Kind: 'line 2 must be "list" and one of coarse, fine, optimistic, lazy, lock-free',
+  Threads: 'line 3 must be "threads" and a number from 1 to 64',
+  Quota:
+    'line 4 must be "quota" and a number from 0 to 16384; if there is a ceiling or a full, ' +
+    "no less than the adds of a thread that answered true",
+  Line:
+    'expected "call T CALL K BEGIN POINT END REPLY", with - for what is missing; "opening K" only above all calls, ' +
+    'and only below them "key K" and "end", or "cut"',
+  Number: "a moment is not a number from 1 to 4294967295, or another number not one from 0 to 4294967295",
+  TooMany: "there are more opening keys, calls or keys than the judge reads",
+  Opening: "an opening key must be above the one before",
+  History: "there is no such thread, or it has two calls at a time, or two calls have one moment, or a call does not end after its begin",
+  Point: "a point must lie between the begin and the end; if there is a ceiling or a full, each add and remove that answered true needs one",
+};
+
+const CAUSES_OF_LONG = {
+  NotEnded: NOT_ENDED,
+  Line:
+    'expected "call T CALL K BEGIN END REPLY" in at most 128 bytes, with - for what is missing, and without ceiling or full; ' +
+    '"opening K" only above all calls, and only below them "key K" and "end", or "cut"',
+  Number: "a moment is not a number from 1 to 9223372036854775807, or another number not one from 0 to 4294967295",
+  Opening: "an opening key must be above the one before, and a key that is left above the one before",
+  History:
+    "the calls do not come in the order of their begins, or one does not end after its begin, or two have one moment, " +
+    "or a thread has two at a time",
+};
+return { CAUSES, CAUSES_OF_CALLS, CAUSES_OF_LONG };
 })();
 
 // run/markup.js
@@ -589,6 +621,8 @@ const NODE_REGISTERS = ["pred", "curr", "succ", "node"];
 const KEY_REGISTERS = ["pkey", "ckey"];
 const CALL_WORDS = ["add", "remove", "contains", "ceiling"];
 const MOST_NUMBER = 4294967295;
+
+const isTrace = (text) => text.startsWith("listset-trace");
 
 class Trace {
   constructor(text, version = 1, before = null) {
@@ -714,7 +748,7 @@ function orderOf(calls) {
   const placed = calls.filter((call) => call.at !== null);
   return placed.sort((one, other) => one.at - other.at || Number(other.changes) - Number(one.changes) || one.id - other.id);
 }
-return { HEADER_LINES, NODE_REGISTERS, KEY_REGISTERS, CALL_WORDS, MOST_NUMBER, Trace, firstOpeningNode, eventsInCommon };
+return { HEADER_LINES, NODE_REGISTERS, KEY_REGISTERS, CALL_WORDS, MOST_NUMBER, isTrace, Trace, firstOpeningNode, eventsInCommon };
 })();
 
 // run/judged.js
@@ -825,7 +859,8 @@ function verdictOn(ask, answer) {
   const report = reportOfAnswer(answer);
   const checked = ask("listset_check", report).text.trim();
   if (checked === "ok") return { isRight: true, clash: null, report, says: rightInWords(answer) };
-  const told = ask("listset_show", report).text.split("\n").find((line) => line.startsWith("refused "));
+  if (!checked.startsWith("refused ")) return { ...nothing, says: `This order is not judged: ${checked}.` };
+  const told = ask("listset_show", report).text.split("\n").find((line) => line.startsWith("refused ")) ?? checked;
   const clash = Number(/^refused \w+ (\d+)/.exec(checked)?.[1] ?? -1);
   return { isRight: false, clash, report, says: faultInWords(answer, told) };
 }
@@ -836,17 +871,19 @@ const ENDINGS = {
   "it is not known whether another order explains this report": "unknown",
 };
 
-function otherOrders(drawn) {
-  const lines = drawn.trimEnd().split("\n");
+function otherOrders({ status, text }) {
+  const lines = text.trimEnd().split("\n");
   const at = lines.findIndex((line) => Object.hasOwn(ENDINGS, line));
-  return at === -1 ? { kind: "own", lines: [] } : { kind: ENDINGS[lines[at]], lines: lines.slice(at + 1) };
+  if (at !== -1) return { kind: ENDINGS[lines[at]], lines: lines.slice(at + 1) };
+  return status === 0 ? { kind: "own", lines: [] } : { kind: "trouble", lines };
 }
 
 function verdictOnClaim(ask, { isWhole, reportText }) {
   const said = (isRight, says) => ({ isRight, clash: null, report: null, says });
   const there = "There is one: this is a run of a correct list, and each of those has an order (proved). Find it.";
   if (isWhole) return said(false, there);
-  const { kind } = otherOrders(ask("listset_show", reportText).text);
+  const { kind, lines } = otherOrders(ask("listset_show", reportText));
+  if (kind === "trouble") return said(null, `Whether there is none is not judged: ${lines[0]}.`);
   if (kind === "none") return said(true, "Right: no order explains this report (proved). It comes from a broken list.");
   if (kind === "unknown") return said(null, "This report comes from a broken list, and whether an order explains it is not known.");
   return said(false, "There is one, although this report comes from a broken list. Find it.");
@@ -2528,12 +2565,12 @@ const MANY_EVENTS = 20000; // so many run beside the page, with a button to canc
 const LONG_TEXT = 200000; // characters of a report that has no picture here
 const longRun = { worker: null, timer: 0 };
 
-async function askLong(name, text) {
+async function askLong(name, text, isOfRun = true) {
   const events = eventsAsked(text);
   if (text.length < LONG_TEXT && events < MANY_EVENTS) return askNow(name, text);
   try {
     const { worker, answer } = askInWorker(page.engine.module, name, text, events);
-    longRun.worker = worker;
+    if (isOfRun) longRun.worker = worker;
     const came = await answer;
     if (came !== null) return came;
   } catch {
@@ -2643,7 +2680,7 @@ const { escaped } = $run_markup;
 const { scheduleOfTrace, titleOf } = $run_schedule_text;
 const { isFailed, isLock, momentAt, sentenceOf } = $run_sentences;
 const { State } = $run_state;
-const { eventsInCommon, Trace } = $run_trace;
+const { eventsInCommon, isTrace, Trace } = $run_trace;
 const LACKING_THREADS = 2;
 const LACKING_QUOTA = 2;
 const LACKING_OPENING = [3, 7]; // what such a list opens with, until the reader changes that
@@ -2676,8 +2713,10 @@ function startOfLacking(name) {
 function verdictOnLacking(ask, lacks, schedule) {
   const { status, text } = ask("listset_replay_lacking", lacks, schedule);
   if (status !== 0) return { kind: "refused", says: `The schedule is refused: ${text.trim()}`, report: null };
-  if (ask("listset_check", text).text === "ok\n") return { kind: "explained", says: EXPLAINED, report: text };
-  const { kind, lines } = otherOrders(ask("listset_show", text).text);
+  const checked = ask("listset_check", text).text.trim();
+  if (checked === "ok") return { kind: "explained", says: EXPLAINED, report: text };
+  if (!checked.startsWith("refused ")) return { kind: "refused", says: `The run is not judged: ${checked}.`, report: null };
+  const { kind, lines } = otherOrders(ask("listset_show", text));
   if (kind !== "none") return { kind: "points", says: `${BY_POINTS} ${kind === "another" ? OTHER : UNKNOWN}`, report: text };
   return { kind: "broken", says: `Broken: ${whyNone(text, lines)}. ${UNEXPLAINED}`, report: text };
 }
@@ -2721,8 +2760,9 @@ function callInWords({ calls }, line) {
 }
 
 function departureOf(ask, trace) {
-  const answer = ask("listset_trace", scheduleOfTrace(trace));
-  const whole = new Trace(answer.text, trace.version);
+  const { text } = ask("listset_trace", scheduleOfTrace(trace));
+  if (!isTrace(text)) return null;
+  const whole = new Trace(text, trace.version);
   const event = eventsInCommon(trace, whole) + 1;
   if (event > trace.total) return null;
   const rows = [trace, whole].map((one) => (event > one.total ? null : one.event(event).changes.pc));
@@ -2753,7 +2793,7 @@ const { announce, askNow, NO_ENGINE, page, takeTrace, tell, tellFault, tellLine 
 const { stopPlay } = $page_play;
 const { askList } = $run_broken;
 const { eventsAsked, openingIn, versionOf } = $run_schedule_text;
-const { Trace } = $run_trace;
+const { isTrace, Trace } = $run_trace;
 function runText(text, at, told = "") {
   stopPlay();
   page.text = text;
@@ -2768,7 +2808,7 @@ function runText(text, at, told = "") {
 
 function takeAnswer(answer, text, at, told) {
   const source = page.lacks === null ? "run by the proved replayer" : "a run of a broken list";
-  if (answer.text.startsWith("listset-trace")) takeTrace(new Trace(answer.text, versionOf(text), page.trace), at, source);
+  if (isTrace(answer.text)) takeTrace(new Trace(answer.text, versionOf(text), page.trace), at, source);
   else tellLine(answer.text.trim());
   tell(works.isKept ? told : `${told} This browser keeps nothing: save the schedule before you leave the page.`);
   announce("ran");
@@ -4838,7 +4878,7 @@ return { COURSE_TITLE, readCourse, lessonText };
 
 // run/draft.js
 const $run_draft = (() => {
-const { Trace } = $run_trace;
+const { isTrace, Trace } = $run_trace;
 const MOST_TRIED = 1000; // steps of a thread that does not come to where it is sent, to see for what it waits
 const DRAFT_LINE = /^go \d+ (?:out|to \d+)$/m;
 
@@ -4852,7 +4892,7 @@ function scheduleOfDraft(ask, text, lacks = null) {
 function stepsOfLacking(ask, lacks, lines, [thread, row]) {
   const fault = (cause) => ({ count: null, fault: `listset: line ${lines.length + 1}: ${cause}` });
   const { text } = ask("listset_trace_lacking", lacks, `${[...lines, `go ${thread} ${MOST_TRIED}`].join("\n")}\n`);
-  if (!text.startsWith("listset-trace")) return { count: null, fault: text.trim() };
+  if (!isTrace(text)) return { count: null, fault: text.trim() };
   const steps = new Trace(text).events().filter(({ line }) => line === lines.length + 1);
   const end = steps.findIndex(({ answer }) => answer !== undefined);
   const at = row === undefined ? end : steps.findIndex(({ answer, changes }) => answer === undefined && changes.pc === Number(row));
@@ -4882,7 +4922,7 @@ const { scheduleOfDraft } = $run_draft;
 const { CAUSES } = $run_faults;
 const { Run } = $run_moments;
 const { eventsAsked, versionOf } = $run_schedule_text;
-const { HEADER_LINES, Trace } = $run_trace;
+const { HEADER_LINES, isTrace, Trace } = $run_trace;
 const MOST_EVENTS = 1000; // of a solution
 const OTHER_SET = "The list, the number of threads, the quota and the opening keys are to be those of the lesson.";
 
@@ -4890,7 +4930,7 @@ const setOf = (schedule) => schedule.split("\n").slice(1).filter((line) => !/^(b
 
 function runOfSchedule(ask, schedule, lacks) {
   const made = askList(ask, "listset_trace", lacks, schedule).text;
-  if (!made.startsWith("listset-trace")) return { trace: null, fault: `the schedule is refused: ${made.trim()}` };
+  if (!isTrace(made)) return { trace: null, fault: `the schedule is refused: ${made.trim()}` };
   const trace = new Trace(made, versionOf(schedule));
   if (trace.refused === null) return { trace, fault: null };
   return { trace: null, fault: `line ${trace.refused.line} of the schedule is refused: ${trace.refused.cause}` };
@@ -5517,10 +5557,11 @@ const judgePart = (name) => byId(`judge-${name}`);
 class Judging {
   begin(level) {
     if (page.lacks !== null) return this.take(exerciseOf(page.verdict.report, "claim", false));
-    const broken = page.example === "" ? null : page.engine.ask("listset_broken_example", page.example);
+    const broken = page.example === "" ? null : askNow("listset_broken_example", page.example);
     const isBroken = level === "claim" && broken?.status === 0 && Math.random() < 0.5;
-    const report = isBroken ? broken.text : page.engine.ask("listset_replay", page.text).text;
-    this.take(exerciseOf(report, level, !isBroken));
+    const report = isBroken ? broken : askNow("listset_replay", page.text);
+    if (report.status === 0) this.take(exerciseOf(report.text, level, !isBroken));
+    else tell(`This run cannot be judged: ${escaped(report.text.trim())}.`);
   }
 
   take(exercise) {
@@ -5674,6 +5715,7 @@ function beginJudging() {
   if (!page.isRun || trace.refused !== null) return tell("A run with a refused event cannot be judged: delete the red line of the schedule first.");
   if (trace.calls.length === 0) return tell("There is no call to judge yet.");
   if (trace.total > MOST_JUDGED) return tell(`A run of at most ${MOST_JUDGED} events can be judged; this one has ${trace.total}.`);
+  if (page.lacks !== null && page.verdict.report === null) return tell(escaped(page.verdict.says));
   tell("");
   judging.begin(judgePart("level").value);
   judgePart("level").focus();
@@ -5712,14 +5754,14 @@ const { beginJudging } = $activities_judging;
 const { BREAK_LEVELS, GRADES } = $data_levels;
 const { byId, redraw, setAble, setHidden } = $page_dom;
 const { exampleText } = $page_example;
-const { askNow, goTo, page } = $page_now;
+const { askNow, goTo, page, tellLine } = $page_now;
 const { goByHand } = $page_play;
 const { openLacking } = $page_work;
 const { addressOf } = $run_address;
 const { departureOf, isTaskDone, NO_TASK, verdictOnLacking } = $run_broken;
 const { escaped, tag } = $run_markup;
 const { scheduleOfTrace, versionOf } = $run_schedule_text;
-const { Trace } = $run_trace;
+const { isTrace, Trace } = $run_trace;
 const MOST_BROKEN = 1000; // events of a run that is judged
 const level = { lacks: null, trace: null, hints: 0, wrong: new Set() };
 
@@ -5869,8 +5911,9 @@ function answerAsk(word) {
 function openWithoutCheck() {
   const [name] = CLASSICS[page.example].lacks;
   const example = exampleText(page.example);
-  const trace = new Trace(askNow("listset_trace_lacking", name, example).text, versionOf(example));
-  const schedule = scheduleOfTrace(trace);
+  const { text } = askNow("listset_trace_lacking", name, example);
+  if (!isTrace(text)) return tellLine(text.trim());
+  const schedule = scheduleOfTrace(new Trace(text, versionOf(example)));
   noteShown(name, schedule);
   openLacking(name, schedule, "The same schedule, on a list without the check. Press Step.");
   const departs = departureOf(askNow, page.trace);
@@ -5901,7 +5944,7 @@ const { MOST_TRIED, scheduleOfDraft } = $run_draft;
 const { callText, chipOf, escaped } = $run_markup;
 const { scheduleAndLine } = $run_schedule_text;
 const { isFailed, isLock, mono } = $run_sentences;
-const { Trace } = $run_trace;
+const { isTrace, Trace } = $run_trace;
 const isAtRest = (thread) => page.state.threads[thread].pc === 0;
 const tellRest = (thread) => tell(`${chipOf(thread)} is idle: let it begin a call first, with its buttons below.`);
 
@@ -5933,7 +5976,7 @@ function stepsOfDraft(line) {
 function stepsToLock(thread, fault, notYet) {
   const text = scheduleAndLine(page.trace, page.count, `go ${thread} ${MOST_TRIED}`);
   const answer = askList(askNow, "listset_trace", page.lacks, text);
-  if (!fault.endsWith(": Waits") || !answer.text.startsWith("listset-trace")) {
+  if (!fault.endsWith(": Waits") || !isTrace(answer.text)) {
     return tell(`No step was made: ${escaped(fault)}.`);
   }
   const events = new Trace(answer.text).events().slice(page.count);
@@ -6202,7 +6245,7 @@ return { visit, ownAddress, keepSoon, keepNow, keepAddressOf, linkTo, copyLink, 
 const $run_sides = (() => {
 const { titleOf } = $run_schedule_text;
 const { State } = $run_state;
-const { Trace } = $run_trace;
+const { isTrace, MOST_NUMBER, Trace } = $run_trace;
 const MOST_TURNS = 500;
 
 class ProgramFault extends Error {}
@@ -6214,8 +6257,8 @@ function readProgram(text) {
     const isLine = thread !== undefined && Number(thread) < 64;
     if (!isLine) throw new ProgramFault(`"${line.slice(0, 60)}" is no line as "0: add 5, remove 5"`);
     for (const call of calls.split(",").map((one) => one.trim())) {
-      const [, operation, key] = /^(add|remove|contains|ceiling) (\d+)$/.exec(call) ?? [];
-      if (key === undefined) throw new ProgramFault(`"${call.slice(0, 40)}" is no call as "add 5"`);
+      const [, operation, key] = /^(add|remove|contains|ceiling) (0|[1-9]\d{0,9})$/.exec(call) ?? [];
+      if (key === undefined || Number(key) > MOST_NUMBER) throw new ProgramFault(`"${call.slice(0, 40)}" is no call as "add 5"`);
       (program[Number(thread)] ??= []).push(`${operation} ${key}`);
     }
   }
@@ -6244,7 +6287,7 @@ class Side {
 
   run() {
     const { text } = this.ask("listset_trace", this.schedule);
-    if (!text.startsWith("listset-trace")) throw new ProgramFault(text.trim());
+    if (!isTrace(text)) throw new ProgramFault(text.trim());
     this.trace = new Trace(text, 2);
     this.state = new State(this.trace);
     this.state.moveTo(this.trace.total);
@@ -7391,7 +7434,7 @@ const { askList } = $run_broken;
 const { faultOfTrace } = $run_check_trace;
 const { otherOrders } = $run_judged;
 const { scheduleOfTrace } = $run_schedule_text;
-const { Trace } = $run_trace;
+const { isTrace, Trace } = $run_trace;
 const REPLY_WIDTH = 60; // of a call in the picture of a report: what stands right of its bar
 
 function saveText(name, text) {
@@ -7408,13 +7451,14 @@ function kindOfFile(text) {
   return text.startsWith("listset-report") ? "report" : "schedule";
 }
 
-function comparedTrace(engine, trace) {
-  if (engine === null) return "a trace from a file; its grammar was checked";
+function comparedTrace(ask, trace) {
+  if (ask === null) return "a trace from a file; its grammar was checked";
   if (trace.refused !== null) return "a trace from a file; its grammar was checked, and it ends with a refused event";
-  const own = askList((...asked) => engine.ask(...asked), "listset_trace", trace.lacks, scheduleOfTrace(trace));
+  const own = askList(ask, "listset_trace", trace.lacks, scheduleOfTrace(trace));
+  const engines = trace.lacks === null ? "the proved replayer" : "the engine";
+  if (!isTrace(own.text)) return `a trace from a file; ${engines} does not run its schedule: ${own.text.trim()}`;
   const given = trace.text.split("\n").filter((line) => !/^chain( |$)/.test(line));
   const line = own.text.split("\n").findIndex((text, index) => text !== given[index]);
-  const engines = trace.lacks === null ? "the proved replayer" : "the engine";
   if (line === -1) return `a trace from a file, and ${engines} gives the same for its schedule`;
   const event = Math.max(line + 1 - trace.text.split("\n").findIndex((text) => text.startsWith("event ")), 1);
   return `a trace from a file; ${engines} gives another, from its event ${event} on`;
@@ -7443,7 +7487,7 @@ function openTrace(text, name) {
   chooseExample("");
   takeTrace(new Trace(text), 0, "a trace from a file");
   takeScheduleOfTrace();
-  page.source = comparedTrace(page.engine, page.trace);
+  page.source = comparedTrace(page.engine === null ? null : askNow, page.trace);
   show();
 }
 
@@ -7471,7 +7515,7 @@ function drawPicture(text) {
   byId("picture-box").hidden = !drawn.startsWith("<svg ");
   if (byId("picture-box").hidden) return;
   byId("picture").innerHTML = drawn;
-  const said = refusalIn(askNow("listset_show", text).text);
+  const said = refusalIn(askNow("listset_show", text));
   byId("picture-says").textContent = said;
   const svg = byId("picture").firstElementChild;
   svg.setAttribute("role", "img");
@@ -7479,9 +7523,9 @@ function drawPicture(text) {
   scrollToClash();
 }
 
-function refusalIn(text) {
-  const { kind, lines } = otherOrders(text);
-  const refused = text.split("\n").filter((line) => line.startsWith("refused "));
+function refusalIn(drawn) {
+  const { kind, lines } = otherOrders(drawn);
+  const refused = drawn.text.split("\n").filter((line) => line.startsWith("refused "));
   return [...refused, ...(kind === "none" ? lines.filter((line) => !line.endsWith(":")) : [])].join("; ");
 }
 
@@ -7998,6 +8042,7 @@ return { startLessons };
 
 // run/recorded.js
 const $run_recorded = (() => {
+const { CAUSES_OF_CALLS, CAUSES_OF_LONG } = $run_faults;
 const { nameOfCall } = $run_judged;
 const RECORDED_EXAMPLE = `listset-calls 2
 list lock-free
@@ -8011,21 +8056,9 @@ key 5
 end
 `;
 
-const CAUSES_OF_CALLS = {
-  NotEnded: "the text must end with the line end",
-  Header: 'line 1 must be "listset-calls 2"',
-  Kind: 'line 2 must be "list" and one of coarse, fine, optimistic, lazy, lock-free',
-  Threads: 'line 3 must be "threads" and a number from 1 to 64',
-  Quota: 'line 4 must be "quota" and a number from 0 to 16384, no less than the adds of a thread that answered true',
-  Line: 'expected "call T CALL K BEGIN POINT END REPLY", with - for what is missing; "opening K" only above all calls, "key K" only below them',
-  Number: "a moment is not a number from 1 to 4294967295, or another number not one from 0 to 4294967295",
-  TooMany: "there are more opening keys, calls or keys than the judge reads",
-  Opening: "an opening key must be above the one before",
-  History: "there is no such thread, or it has two calls at a time, or two calls have one moment, or a call ends before it begins",
-  Point: "a point must lie between the begin and the end; if there is a ceiling or a full, each add and remove that answered true needs one",
-};
-
-const AS_LEFT = /^no order explains the calls of key (\d+) and leaves it as it was left$/;
+const LONG_TITLE = "listset-calls 3\n";
+const AS_LEFT = /^no order explains the calls of key \d+ and leaves it as it was left$/;
+const LEFT_OTHERWISE = "Each order that explains them leaves it otherwise than the keys of the text say.";
 
 function callOfLine(line, id) {
   const [, thread, operation, key, begun, , ended, reply] = line.split(" ");
@@ -8048,29 +8081,43 @@ function callsOf(lines) {
 
 const sentence = (line) => `${line[0].toUpperCase()}${line.slice(1)}${line.endsWith(":") ? "" : "."}`;
 
-function reasonsIn([why, state, alone]) {
-  const key = AS_LEFT.exec(why)?.[1];
-  const left = key === undefined ? "" : ` Its last call left it otherwise than the keys of the text say.`;
-  return [sentence(why) + left, sentence(state), sentence(alone)];
+function reasonsIn(lines) {
+  const [why, ...more] = lines.filter((line) => !line.startsWith("call "));
+  const left = AS_LEFT.test(why) ? ` ${LEFT_OTHERWISE}` : "";
+  return [sentence(why) + left, ...more.map(sentence)];
 }
 
-function verdictOnCalls(text) {
+function okInWords(count, lines) {
+  const calls = count === "1" ? "this one call" : `these ${Number(count).toLocaleString("en")} calls`;
+  const isCutOff = lines.some((line) => line.startsWith("the recording was cut off"));
+  const keys = isCutOff ? ", whatever keys it leaves" : " and leaves the keys";
+  return `Linearizable: an order explains ${calls}${keys}. It says nothing of other runs.`;
+}
+
+function noneInWords([why]) {
+  return `Not linearizable: no order at all explains these calls${AS_LEFT.test(why) ? " and leaves the keys" : ""}.`;
+}
+
+function troubleInWords(line, text) {
+  const cause = /^listset: line \d+: (\w+)$/.exec(line)?.[1];
+  const causes = text.startsWith(LONG_TITLE) ? CAUSES_OF_LONG : CAUSES_OF_CALLS;
+  return Object.hasOwn(causes, cause) ? `${line}: ${causes[cause]}.` : line;
+}
+
+function verdictOnCalls(answer, text) {
   const said = (kind, says, reasons = [], calls = []) => ({ kind, says, reasons, calls });
-  const [first, ...lines] = text.trimEnd().split("\n");
+  const [first, ...lines] = answer.trimEnd().split("\n");
   const count = /^ok (\d+) calls$/.exec(first)?.[1];
-  if (count !== undefined) {
-    const calls = count === "1" ? "this one call" : `these ${Number(count).toLocaleString("en")} calls`;
-    return said("ok", `Linearizable: an order explains ${calls} and leaves the keys. It says nothing of other runs.`, lines.map(sentence));
-  }
-  if (first === "not linearizable") {
-    return said("none", "Not linearizable: no order at all explains these calls.", reasonsIn(lines), callsOf(lines));
-  }
+  if (count !== undefined) return said("ok", okInWords(count, lines), lines.map(sentence));
+  if (first === "not linearizable") return said("none", noneInWords(lines), reasonsIn(lines), callsOf(lines));
   if (first.startsWith("refused ")) {
-    const why = "The set has a bug, or a point is at the wrong place.";
-    return said("none", "No order has the changes at the points that the text gives.", [`${first}.`, why]);
+    const why = "The set has a bug, or the recorder made a mistake: a point may be at the wrong place.";
+    return said("none", "No order with the changes at the points of the text explains these calls and leaves the keys.", [`${first}.`, why]);
   }
-  const cause = /^listset: line \d+: (\w+)$/.exec(first)?.[1];
-  return said("fault", cause in CAUSES_OF_CALLS ? `${first}: ${CAUSES_OF_CALLS[cause]}.` : first);
+  if (first.startsWith("undecided: ")) {
+    return said("undecided", sentence(first), ["Begins and ends do not decide whether an order explains such calls."]);
+  }
+  return said("fault", troubleInWords(first, text));
 }
 
 const withNewline = (text) => (text === "" || text.endsWith("\n") ? text : `${text}\n`);
@@ -8124,8 +8171,8 @@ async function judgeCalls() {
   recorded.text = text;
   if (text === "") return showVerdict({ ...nothing, kind: "fault", says: "Paste the text of recorded calls first, or open a file." });
   showVerdict({ ...nothing, says: text.length < LONG_TEXT ? "" : "The judge is at work." });
-  const { text: said } = await askLong("listset_judge", text);
-  if (withNewline(recordedPart("text").value) === text) showVerdict(verdictOnCalls(said));
+  const { text: said } = await askLong("listset_judge", text, false);
+  if (withNewline(recordedPart("text").value) === text) showVerdict(verdictOnCalls(said, text));
 }
 
 function showRecorded(text) {
@@ -8257,7 +8304,7 @@ return { BOOK_CODE, IDEAS };
 // run/seed.js
 const $run_seed = (() => {
 const { AddressFault } = $run_address;
-const { Trace } = $run_trace;
+const { isTrace, Trace } = $run_trace;
 const KINDS = ["coarse", "fine", "optimistic", "lazy", "lock-free"];
 const TRIES = 200;
 const MOST_TRIED_CALLS = 8; // of a run with more calls the first is taken
@@ -8279,7 +8326,9 @@ function scheduleOfSeed(ask, seed) {
     const answer = ask("listset_gen", [kind, threads, 4, calls, keys, number * TRIES + tried].join("\0"));
     if (answer.status !== 0) throw new AddressFault(`the address names no run: ${answer.text.trim()}`);
     text = answer.text;
-    if (isWorthIt(new Trace(ask("listset_trace", text).text))) break;
+    const traced = ask("listset_trace", text).text;
+    if (!isTrace(traced)) throw new AddressFault(`the run of the address has no trace: ${traced.trim()}`);
+    if (isWorthIt(new Trace(traced))) break;
   }
   return joined(text);
 }

@@ -61,15 +61,33 @@ function checkDeparture(ask, name) {
 }
 
 // Its trace as a file: by the grammar, compared with the engine's; and another name in it is none.
-function checkFile(engine, ask, name) {
+function checkFile(ask, name) {
   const { text } = ask("listset_trace_lacking", name, scheduleOf(name));
   check(`${name}: its trace is one: ${inPage("faultOfTrace")(text)}`, inPage("faultOfTrace")(text) === null);
-  const compared = (given) => inPage("comparedTrace")(engine, new Trace(given, 2));
+  const compared = (given) => inPage("comparedTrace")(ask, new Trace(given, 2));
   check(`${name}: ${compared(text)}`, compared(text) === "a trace from a file, and the engine gives the same for its schedule");
   const whole = compared(text.replace(/^lacks .*\n/m, "")); // as if the whole list had made it
   const { event } = departureOf(ask, new Trace(text, 2));
   check(`${name}: as one of the whole list: ${whole}`, whole.endsWith(`the proved replayer gives another, from its event ${event} on`));
   check(`${name}: a check that is none`, inPage("faultOfTrace")(text.replace(`lacks ${name}`, "lacks luck"))?.startsWith("line 3: "));
+}
+
+// An answer that is no verdict, and no trace, is told as what it is.
+function checkTroubles(ask) {
+  const stopped = (name) => (one, ...texts) => (one === name ? { status: 1, text: "the engine stopped: unreachable" } : ask(one, ...texts));
+  const unchecked = verdictOnLacking(stopped("listset_check"), "lock", scheduleOf("lock"));
+  const isTold = unchecked.kind === "refused" && unchecked.says === "The run is not judged: the engine stopped: unreachable.";
+  check(`no answer of check: ${unchecked.says}`, isTold && unchecked.report === null);
+  const { kind, says } = verdictOnLacking(stopped("listset_show"), "lock", scheduleOf("lock"));
+  check(`no answer of show: ${says}`, kind === "points" && says.endsWith("is not known."));
+  const trace = new Trace(ask("listset_trace_lacking", "lock", scheduleOf("lock")).text, 2);
+  check("no trace of the whole list", departureOf(stopped("listset_trace"), trace) === null);
+  const tries = ["begin 0 add 5", "go 0 1", "begin 1 add 7", "go 1 10000", "go 1 10000"];
+  const { text } = ask("listset_trace", `listset-schedule 1\nlist coarse\nthreads 2\nquota 4\n${tries.join("\n")}\n`);
+  const long = text.replaceAll(" line 9 ", " line 8 "); // more steps than a line of a schedule may have
+  const compared = inPage("comparedTrace")(ask, new Trace(long));
+  const refused = "a trace from a file; the proved replayer does not run its schedule: listset: line 8: Number";
+  check(`a trace of no schedule: ${compared}`, inPage("faultOfTrace")(long) === null && compared === refused);
 }
 
 // What is told are the calls that have no order, and of a full add those of its own thread.
@@ -189,9 +207,10 @@ async function main() {
   for (const name of NAMES) {
     checkBroken(ask, name);
     checkDeparture(ask, name);
-    checkFile(engine, ask, name);
+    checkFile(ask, name);
     checkClaims(ask, name);
   }
+  checkTroubles(ask);
   checkReasons(ask);
   checkDrafts(ask);
   checkHandedIn(ask);

@@ -151,12 +151,13 @@ no-lesson #list=lazy&threads=2&quota=4&s=
 judge snip points 0-true
 judge nosuch points 0-true
 judge snip deep 0-true
+judge snip replies 0-foo,2-true,1-true
 This is no line of a solution.
 `;
   const { status, lines } = said(folder, text);
   const file = path.join(folder, "0.txt");
   const due = [
-    `line 13: "This is no line of a solution." is no line of a solution`,
+    `line 14: "This is no line of a solution." is no line of a solution`,
     'line 1: the text is cut: the line "end" is missing',
     "line 3: one-lock: the address of a schedule is missing, from # on",
     "line 4: two-at-once: missing: Thread 1 has an add that answers true.",
@@ -168,8 +169,9 @@ This is no line of a solution.
     "line 10: judge snip points: Still missing: remove(5) of t0, add(7) of t1.",
     'line 11: judge nosuch points: there is no example "nosuch"',
     "line 12: judge snip deep: a level is due, one of points, replies, claim",
+    "line 13: judge snip replies: This order is not judged: listset: line 8: Line.",
   ].map((line) => `?[2JEve: ${file}, ${line}`);
-  for (const line of due) check(`told: ${line}; ${lines.slice(0, 14).join("; ")}`, lines.includes(line));
+  for (const line of due) check(`told: ${line}; ${lines.slice(0, 15).join("; ")}`, lines.includes(line));
   check("nothing is solved", status === 1 && lines.at(-1) === "?[2JEve: 0 of 12 solved");
   const other = said(folder, "listset-lessons 2\ncourse Another\nstudent Ada\nend\n");
   check(

@@ -3,6 +3,7 @@
 "use strict";
 
 const { inPage, startedEngine } = require("../in_node.js");
+const { causesTold, wrongCauses } = require("./causes.js");
 
 const [exerciseOf, answerOfWord, wordOfAnswer, verdictOn] = ["exerciseOf", "answerOfWord", "wordOfAnswer", "verdictOn"].map(inPage);
 const [reportOfAnswer, OwnAnswer, repliesOf, LEVELS] = ["reportOfAnswer", "OwnAnswer", "repliesOf", "LEVELS"].map(inPage);
@@ -165,34 +166,126 @@ function checkChips() {
   for (const [threads, text] of due) check(`the chips of ${threads}: ${drawn(threads)}`, drawn(threads) === text);
 }
 
+const HEAD = "listset-calls 2\nlist lazy\nthreads 3\nquota 4\n";
+const LONG = "listset-calls 3\n";
+const WITH_CEILING = "call 0 add 5 1 2 3 true\ncall 1 ceiling 4 4 - 5 at-5\n";
+
+function saidOf(ask, given) {
+  const text = inPage("withNewline")(given);
+  return inPage("verdictOnCalls")(ask("listset_judge", text).text, text);
+}
+
 // Recorded calls are decided by the judge, without points: each text with what is said of it.
 function checkRecorded(ask) {
-  const head = "listset-calls 2\nlist lazy\nthreads 3\nquota 4\n";
-  const [verdictOnCalls, withNewline] = ["verdictOnCalls", "withNewline"].map(inPage);
-  const said = (text) => verdictOnCalls(ask("listset_judge", withNewline(text)).text);
+  const said = (text) => saidOf(ask, text);
   const both = said(inPage("RECORDED_EXAMPLE"));
   check(`two adds of one key: ${both.says}`, both.kind === "none" && both.says.startsWith("Not linearizable: no order at all"));
   const reasons = "No order explains the calls of key 5 up to moment 4. Key 5 is not there at moment 0. These calls alone have no order:";
   check(`why: ${both.reasons}`, both.reasons.join(" ") === reasons && both.calls.map(({ thread }) => thread).join() === "0,1");
   const drawn = inPage("drawRecorded")(both.calls, 600);
   check("its calls as bars", drawn.split("<rect ").length - 1 === 4 && />add\(5\)<tspan [^>]*> true</.test(drawn));
-  const open = said(`${head}call 0 add 5 1 - - -\ncall 1 contains 5 2 - 3 true\nend`);
+  const open = said(`${HEAD}call 0 add 5 1 - - -\ncall 1 contains 5 2 - 3 true\nend`);
   check(`an open call: ${open.reasons}`, open.kind === "none" && open.calls[0].ended === null && open.reasons[0].includes("otherwise than"));
   const wanted = {
     "call 0 add 5 1 - 4 true\ncall 1 contains 5 2 - 3 false\nkey 5\nend": "ok Linearizable: an order explains these 2 calls",
     "call 0 contains 5 1 - 2 false\nend": "ok Linearizable: an order explains this one call",
-    "key 5\nend": "none Not linearizable: no order at all",
-    "call 0 add 5 1 2 3 true\ncall 1 ceiling 4 4 - 5 at-7\nkey 5\nend": "none No order has the changes at the points",
-    "call 0 add 5 1 - 3 true\ncall 1 ceiling 4 4 - 5 at-5\nkey 5\nend": "fault listset: line 5: Point: a point must lie",
-    "call 0 add 5 1 - 6\nend": "fault listset: line 5: Line: expected ",
-    "call 3 add 5 1 - 6 true\nend": "fault listset: line 5: History: there is no such thread",
-    "call 0 add 5 1 - 6 true\n": "fault listset: line 6: NotEnded: the text must end",
+    "key 5\nend": "none Not linearizable: no order at all explains these calls and leaves the keys.",
+    "call 0 add 5 1 - 4 true\ncut": "ok Linearizable: an order explains this one call, whatever keys it leaves.",
+    "call 0 add 5 1 - 4 true\ncall 1 contains 5 5 - 6 false\ncut": "none Not linearizable: no order at all explains these calls.",
+    [`${WITH_CEILING}cut`]: "undecided Undecided: the recording was cut off, and a call is a ceiling or answered full.",
+    [`${WITH_CEILING.replace("at-5", "at-7")}key 5\nend`]: "none No order with the changes at the points of the text explains",
+    [`${WITH_CEILING}key 5\nend`]: "ok Linearizable: an order explains these 2 calls and leaves the keys.",
   };
   for (const lines in wanted) {
-    const { kind, says } = said(head + lines);
+    const { kind, says } = said(HEAD + lines);
     check(`${lines}: ${kind} ${says}`, `${kind} ${says}`.startsWith(wanted[lines]));
   }
-  check("another title", said("listset-report 2\n").says.startsWith('listset: line 1: Header: line 1 must be "listset-calls 2"'));
+  const [left, ...more] = said(`${HEAD}key 5\nend`).reasons;
+  const unchanged = "Key 5 is not there at moment 0.,No later call changes it.";
+  check(`left otherwise: ${left} ${more}`, left.includes("otherwise than") && more.join() === unchanged);
+  for (const line of ["listset: too long", "listset: out of memory", "the engine stopped: unreachable", inPage("NO_ENGINE")]) {
+    const { kind, says, reasons } = inPage("verdictOnCalls")(`${line}\n`, HEAD);
+    check(`no answer: ${says}`, kind === "fault" && says === line && reasons.length === 0);
+  }
+}
+
+// Of a long recording the judge says one reason and names no calls.
+function checkLongRecorded(ask) {
+  const said = (lines) => saidOf(ask, LONG + lines);
+  const long = said("call 0 add 5 1 4 true\ncall 1 add 5 2 3 true\nkey 5\nend");
+  const isRefused = long.kind === "none" && long.says === "Not linearizable: no order at all explains these calls.";
+  const reason = "No order explains the calls of key 5 up to moment 4.";
+  check(`a long recording: ${long.says} ${long.reasons}`, isRefused && long.reasons.join() === reason);
+  check("no call of it is named", long.calls.length === 0);
+  const left = said("key 5\nend");
+  const isLeft = left.reasons.length === 1 && left.reasons[0].startsWith("No order explains the calls of key 5 and leaves it as it was left. Each");
+  check(`a long one left otherwise: ${left.says} ${left.reasons}`, isLeft && left.says.endsWith("explains these calls and leaves the keys."));
+  const whole = said("call 0 add 5 1 4 true\ncall 1 contains 5 2 3 false\nkey 5\nend");
+  const isRight = whole.kind === "ok" && whole.says.includes(" explains these 2 calls and leaves the keys. ");
+  check(`a right one: ${whole.says} ${whole.reasons}`, isRight && whole.reasons.length === 0);
+  const cut = said("call 0 add 5 1 4 true\ncut");
+  check(`one that was cut off: ${cut.says}`, cut.kind === "ok" && cut.says.includes(" explains this one call, whatever keys it leaves. "));
+  check(`of which that is told: ${cut.reasons}`, cut.reasons.length === 1 && cut.reasons[0].startsWith("The recording was cut off: "));
+  const last = said("call 0 contains 5 9223372036854775806 9223372036854775807 false\nend");
+  check(`the last moments: ${last.says}`, last.kind === "ok");
+}
+
+// Of each cause of a fault: a text that has it, at which line, and words that its sentence alone has.
+const FAULTS_OF_CALLS = {
+  NotEnded: [`${HEAD}call 0 add 5 1 - 6 true\n`, 6, "the text must end with"],
+  Header: ["listset-report 2\n", 1, 'line 1 must be "listset-calls 2"'],
+  Kind: ["listset-calls 2\nlist skip\n", 2, "line 2 must be"],
+  Threads: ["listset-calls 2\nlist lazy\nthreads 65\n", 3, "from 1 to 64"],
+  Quota: [HEAD.replace("quota 4", "quota 16385"), 4, "from 0 to 16384"],
+  Line: [`${HEAD}call 0 add 5 1 - 6\nend\n`, 5, "K BEGIN POINT END REPLY"],
+  Number: [`${HEAD}call 0 add 5 1 - 4294967296 true\nend\n`, 5, "a moment is not a number from 1 to 4294967295,"],
+  TooMany: [HEAD + Array.from({ length: 1048577 }, (_, key) => `opening ${key}\n`).join(""), 1048581, "than the judge reads"],
+  Opening: [`${HEAD}opening 5\nopening 5\nend\n`, 6, "an opening key must be above"],
+  History: [`${HEAD}call 3 add 5 1 - 6 true\nend\n`, 5, "there is no such thread"],
+  Point: [`${HEAD}${WITH_CEILING.replace("1 2 3", "1 - 3")}key 5\nend\n`, 5, "a point must lie between"],
+};
+const FAULTS_OF_LONG = {
+  NotEnded: [LONG, 2, "the text must end with"],
+  Line: [`${LONG}call 0 add 5 1 - 6 true\nend\n`, 2, "K BEGIN END REPLY"],
+  Number: [`${LONG}call 0 add 5 1 9223372036854775808 true\nend\n`, 2, "a moment is not a number from 1 to 9223372036854775807,"],
+  Opening: [`${LONG}key 5\nkey 5\nend\n`, 3, "a key that is left above"],
+  History: [`${LONG}call 0 add 5 7 8 true\ncall 1 add 6 5 9 true\nend\n`, 3, "in the order of their begins"],
+};
+
+// Each cause has its own sentence, that of the version of the text; and no other has one.
+function checkFaultsOfCalls(ask) {
+  const faults = ask("listset_faults").text;
+  const tables = [
+    ["recorded calls", inPage("CAUSES_OF_CALLS"), FAULTS_OF_CALLS],
+    ["recorded calls of version 3", inPage("CAUSES_OF_LONG"), FAULTS_OF_LONG],
+  ];
+  for (const [what, table, wanted] of tables) {
+    const words = Object.fromEntries(Object.entries(wanted).map(([cause, [, , own]]) => [cause, own]));
+    const wrong = wrongCauses(table, words, causesTold(faults, what));
+    check(`sentences for the causes in ${what}: ${wrong}`, wrong.length === 0);
+    for (const [cause, [text, line]] of Object.entries(wanted)) {
+      const { kind, says } = saidOf(ask, text);
+      check(`${cause} in ${what}: ${says}`, kind === "fault" && says === `listset: line ${line}: ${cause}: ${table[cause]}.`);
+    }
+  }
+  const quota = saidOf(ask, `${HEAD.replace("quota 4", "quota 0")}${WITH_CEILING}key 5\nend`).says;
+  const isOfAdds = quota.startsWith("listset: line 5: Quota: line 4 ") && quota.includes("no less than the adds of a thread");
+  check(`an add above the quota: ${quota}`, isOfAdds);
+}
+
+// An answer of check or show that is no verdict is told, and is none.
+function checkTroubles(ask) {
+  const answer = answerOfWord(exerciseOf(ask("listset_replay", ask("listset_example", "snip").text).text, "points"), "2-true,0-true,1-true");
+  const turned = answerOfWord(answer.exercise, "1-true,0-true,2-true");
+  const stopped = (name) => (one, ...texts) => (one === name ? { status: 1, text: "the engine stopped: unreachable" } : ask(one, ...texts));
+  const none = verdictOn(stopped("listset_check"), answer);
+  check(`no answer of check: ${none.says}`, none.isRight === null && none.says === "This order is not judged: the engine stopped: unreachable.");
+  const bare = verdictOn(stopped("listset_show"), turned);
+  check(`no answer of show: ${bare.says}`, bare.isRight === false && /^refused \w+ \d+$/.test(bare.says));
+  const broken = exerciseOf(ask("listset_broken_example", "snip").text, "claim", false);
+  const claim = verdictOn(stopped("listset_show"), Object.assign(new OwnAnswer(broken), { isNone: true }));
+  const untold = "Whether there is none is not judged: the engine stopped: unreachable.";
+  check(`nor of a claim: ${claim.says}`, claim.isRight === null && claim.says === untold);
 }
 
 // Two lists: each turn makes a step in both, and one that has answered waits.
@@ -201,7 +294,7 @@ function checkSides(ask) {
   const program = readProgram("0: add 5, remove 5\n t1 : contains 5\n");
   check("a program", JSON.stringify(program) === '[["add 5","remove 5"],["contains 5"]]');
   check("and its text", programText(program) === "0: add 5, remove 5\n1: contains 5\n");
-  for (const text of ["", "x", "0 add 5", "0: ad 5", "0: add 5; remove 5", "64: add 5"]) {
+  for (const text of ["", "x", "0 add 5", "0: ad 5", "0: add 5; remove 5", "64: add 5", "0: add 05", "0: add 4294967296"]) {
     let fault = "";
     try {
       readProgram(text);
@@ -229,7 +322,7 @@ function checkSides(ask) {
 
 async function main() {
   const engine = await startedEngine();
-  const ask = (name, text) => engine.ask(name, text);
+  const ask = (name, ...texts) => engine.ask(name, ...texts);
   const schedules = [];
   for (const name of ask("listset_examples", "").text.trimEnd().split("\n").map((line) => line.split(" ")[0])) {
     const schedule = ask("listset_example", name).text;
@@ -247,6 +340,9 @@ async function main() {
   checkHistoryLabels(schedules.slice(0, Object.keys(inPage("CLASSICS")).length).map(traceOf));
   checkChips();
   checkRecorded(ask);
+  checkLongRecorded(ask);
+  checkFaultsOfCalls(ask);
+  checkTroubles(ask);
   checkByHand(ask);
   checkOpenCalls(ask);
   checkSides(ask);

@@ -8,6 +8,7 @@ const path = require("path");
 const vm = require("vm");
 const { inPage, startedEngine } = require("../in_node.js");
 const { crossedLabels, crossedNodes } = require("./arrows.js");
+const { causesTold, wrongCauses } = require("./causes.js");
 const { contrastsOf } = require("./colours.js");
 const { TURNS } = require("./turns.js");
 
@@ -199,6 +200,48 @@ function checkSeeds(engine) {
   check("a large run is there at once", many.includes("threads 64\n"));
   const fault = refusalBy(() => inPage("scheduleOfSeed")(ask, "lazy.0.5.2.1"));
   check(`a run without threads is told: ${fault}`, fault.startsWith("the address names no run: "));
+  const stopped = (name, ...texts) => (name === "listset_trace" ? { status: 3, text: "listset: out of memory\n" } : ask(name, ...texts));
+  const trouble = refusalBy(() => inPage("scheduleOfSeed")(stopped, "lazy.2.5.2.17"));
+  check(`nor one without a trace: ${trouble}`, trouble === "the run of the address has no trace: listset: out of memory");
+}
+
+const HEAD = "listset-schedule 2\nlist coarse\nthreads 2\nquota 4\n";
+
+// Of each cause of a fault: a schedule that has it, and words that its sentence alone has. No schedule is known that has Lost.
+const FAULTS = {
+  Header: ["listset-schedule 3\n", "line 1 must be"],
+  Kind: ["listset-schedule 2\nlist skip\n", "line 2 must be"],
+  Threads: ["listset-schedule 2\nlist lazy\nthreads 65\n", "from 1 to 64"],
+  Quota: [HEAD.replace("quota 4", "quota 16385"), "from 0 to 16384"],
+  Event: [`${HEAD}take 0 5\n`, 'expected "begin T CALL K"'],
+  Number: [`${HEAD}begin 0 add 05\n`, "a number in range"],
+  TooMany: [`${HEAD}begin 0 add 5\n${"go 0 10000\n".repeat(100)}`, "more than 1,000,000 events"],
+  Opening: [`${HEAD}opening 5\nopening 5\n`, "opening keys must increase"],
+  NotEnded: [`${HEAD}begin 0 add 5`, "with a newline"],
+  NoThread: [`${HEAD}begin 2 add 5\n`, "no such thread"],
+  Busy: [`${HEAD}begin 0 add 5\nbegin 0 add 6\n`, "begins a call"],
+  Idle: [`${HEAD}go 0 1\n`, "makes a step"],
+  Waits: [`${HEAD}begin 0 add 5\ngo 0 1\nbegin 1 add 6\ngo 1 out\n`, "does not get there"],
+  Lost: [null, "outside its table"],
+};
+
+// Each cause has its own sentence, and no other has one.
+function checkFaults(engine) {
+  const ask = (name, ...texts) => engine.ask(name, ...texts);
+  const told = ask("listset_faults").text;
+  const causes = new Set(["a schedule", "a draft"].flatMap((what) => causesTold(told, what)));
+  const words = Object.fromEntries(Object.entries(FAULTS).map(([cause, [, own]]) => [cause, own]));
+  const wrong = wrongCauses(inPage("CAUSES"), words, [...causes]);
+  check(`sentences for the causes in a schedule: ${wrong}`, wrong.length === 0);
+  for (const [cause, [text]] of Object.entries(FAULTS).filter(([, [given]]) => given !== null)) {
+    const { text: schedule, fault } = inPage("scheduleOfDraft")(ask, text);
+    const said = fault ?? ask("listset_trace", schedule).text;
+    const [, found] = /^(?:listset:|refused) line \d+:? (\w+)$/m.exec(said) ?? [];
+    check(`${cause} of ${text.slice(-40)}: ${said.slice(0, 200)}`, found === cause);
+  }
+  const ofOther = ask("listset_trace_lacking", "lock", HEAD.replace("coarse", "lazy")).text;
+  const isTold = inPage("CAUSES").Kind.includes("on a broken list, the kind of");
+  check(`a broken list is of one kind: ${ofOther}`, ofOther === "listset: line 2: Kind\n" && isTold);
 }
 
 // Each form of address in README.md is one, and is opened in a browser (drive_places.js).
@@ -367,6 +410,7 @@ async function main() {
   const texts = names.map((name) => engine.ask("listset_example", name).text);
   checkAddresses(engine, texts);
   checkForms();
+  checkFaults(engine);
   checkGoingOn(engine, texts);
   checkSeeds(engine);
   checkDocs(engine);

@@ -7,14 +7,14 @@ import { beginJudging } from "./judging.js";
 import { BREAK_LEVELS, GRADES } from "../data/levels.js";
 import { byId, redraw, setAble, setHidden } from "../page/dom.js";
 import { exampleText } from "../page/example.js";
-import { askNow, goTo, page } from "../page/now.js";
+import { askNow, goTo, page, tellLine } from "../page/now.js";
 import { goByHand } from "../page/play.js";
 import { openLacking } from "../page/work.js";
 import { addressOf } from "../run/address.js";
 import { departureOf, isTaskDone, NO_TASK, verdictOnLacking } from "../run/broken.js";
 import { escaped, tag } from "../run/markup.js";
 import { scheduleOfTrace, versionOf } from "../run/schedule_text.js";
-import { Trace } from "../run/trace.js";
+import { isTrace, Trace } from "../run/trace.js";
 
 const MOST_BROKEN = 1000; // events of a run that is judged
 const level = { lacks: null, trace: null, hints: 0, wrong: new Set() };
@@ -173,8 +173,9 @@ function answerAsk(word) {
 function openWithoutCheck() {
   const [name] = CLASSICS[page.example].lacks;
   const example = exampleText(page.example);
-  const trace = new Trace(askNow("listset_trace_lacking", name, example).text, versionOf(example));
-  const schedule = scheduleOfTrace(trace);
+  const { text } = askNow("listset_trace_lacking", name, example);
+  if (!isTrace(text)) return tellLine(text.trim());
+  const schedule = scheduleOfTrace(new Trace(text, versionOf(example)));
   noteShown(name, schedule);
   openLacking(name, schedule, "The same schedule, on a list without the check. Press Step.");
   const departs = departureOf(askNow, page.trace);

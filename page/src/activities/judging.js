@@ -19,10 +19,11 @@ class Judging {
   // Begins an exercise of this level about the run that is shown. At the third the report may be that of a broken list.
   begin(level) {
     if (page.lacks !== null) return this.take(exerciseOf(page.verdict.report, "claim", false));
-    const broken = page.example === "" ? null : page.engine.ask("listset_broken_example", page.example);
+    const broken = page.example === "" ? null : askNow("listset_broken_example", page.example);
     const isBroken = level === "claim" && broken?.status === 0 && Math.random() < 0.5;
-    const report = isBroken ? broken.text : page.engine.ask("listset_replay", page.text).text;
-    this.take(exerciseOf(report, level, !isBroken));
+    const report = isBroken ? broken : askNow("listset_replay", page.text);
+    if (report.status === 0) this.take(exerciseOf(report.text, level, !isBroken));
+    else tell(`This run cannot be judged: ${escaped(report.text.trim())}.`);
   }
 
   take(exercise) {
@@ -183,6 +184,7 @@ export function beginJudging() {
   if (!page.isRun || trace.refused !== null) return tell("A run with a refused event cannot be judged: delete the red line of the schedule first.");
   if (trace.calls.length === 0) return tell("There is no call to judge yet.");
   if (trace.total > MOST_JUDGED) return tell(`A run of at most ${MOST_JUDGED} events can be judged; this one has ${trace.total}.`);
+  if (page.lacks !== null && page.verdict.report === null) return tell(escaped(page.verdict.says));
   tell("");
   judging.begin(judgePart("level").value);
   judgePart("level").focus();

@@ -41,8 +41,8 @@ async function judgeCalls() {
   recorded.text = text;
   if (text === "") return showVerdict({ ...nothing, kind: "fault", says: "Paste the text of recorded calls first, or open a file." });
   showVerdict({ ...nothing, says: text.length < LONG_TEXT ? "" : "The judge is at work." });
-  const { text: said } = await askLong("listset_judge", text);
-  if (withNewline(recordedPart("text").value) === text) showVerdict(verdictOnCalls(said));
+  const { text: said } = await askLong("listset_judge", text, false);
+  if (withNewline(recordedPart("text").value) === text) showVerdict(verdictOnCalls(said, text));
 }
 
 // Shows a text in the box, and what the judge says of it.

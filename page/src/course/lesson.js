@@ -7,7 +7,7 @@ import { scheduleOfDraft } from "../run/draft.js";
 import { CAUSES } from "../run/faults.js";
 import { Run } from "../run/moments.js";
 import { eventsAsked, versionOf } from "../run/schedule_text.js";
-import { HEADER_LINES, Trace } from "../run/trace.js";
+import { HEADER_LINES, isTrace, Trace } from "../run/trace.js";
 
 export const MOST_EVENTS = 1000; // of a solution
 export const OTHER_SET = "The list, the number of threads, the quota and the opening keys are to be those of the lesson.";
@@ -18,7 +18,7 @@ export const setOf = (schedule) => schedule.split("\n").slice(1).filter((line) =
 // The run of a schedule by the engine, or why there is none: `ask` gives what a function of the engine says of a text.
 function runOfSchedule(ask, schedule, lacks) {
   const made = askList(ask, "listset_trace", lacks, schedule).text;
-  if (!made.startsWith("listset-trace")) return { trace: null, fault: `the schedule is refused: ${made.trim()}` };
+  if (!isTrace(made)) return { trace: null, fault: `the schedule is refused: ${made.trim()}` };
   const trace = new Trace(made, versionOf(schedule));
   if (trace.refused === null) return { trace, fault: null };
   return { trace: null, fault: `line ${trace.refused.line} of the schedule is refused: ${trace.refused.cause}` };

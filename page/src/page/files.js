@@ -9,7 +9,7 @@ import { askList } from "../run/broken.js";
 import { faultOfTrace } from "../run/check_trace.js";
 import { otherOrders } from "../run/judged.js";
 import { scheduleOfTrace } from "../run/schedule_text.js";
-import { Trace } from "../run/trace.js";
+import { isTrace, Trace } from "../run/trace.js";
 
 const REPLY_WIDTH = 60; // of a call in the picture of a report: what stands right of its bar
 
@@ -28,14 +28,15 @@ function kindOfFile(text) {
   return text.startsWith("listset-report") ? "report" : "schedule";
 }
 
-// Of a trace from a file: whether the engine's trace of its schedule has the same bytes.
-export function comparedTrace(engine, trace) {
-  if (engine === null) return "a trace from a file; its grammar was checked";
+// Of a trace from a file: whether the engine's trace of its schedule has the same bytes, if it makes one.
+export function comparedTrace(ask, trace) {
+  if (ask === null) return "a trace from a file; its grammar was checked";
   if (trace.refused !== null) return "a trace from a file; its grammar was checked, and it ends with a refused event";
-  const own = askList((...asked) => engine.ask(...asked), "listset_trace", trace.lacks, scheduleOfTrace(trace));
+  const own = askList(ask, "listset_trace", trace.lacks, scheduleOfTrace(trace));
+  const engines = trace.lacks === null ? "the proved replayer" : "the engine";
+  if (!isTrace(own.text)) return `a trace from a file; ${engines} does not run its schedule: ${own.text.trim()}`;
   const given = trace.text.split("\n").filter((line) => !/^chain( |$)/.test(line));
   const line = own.text.split("\n").findIndex((text, index) => text !== given[index]);
-  const engines = trace.lacks === null ? "the proved replayer" : "the engine";
   if (line === -1) return `a trace from a file, and ${engines} gives the same for its schedule`;
   const event = Math.max(line + 1 - trace.text.split("\n").findIndex((text) => text.startsWith("event ")), 1);
   return `a trace from a file; ${engines} gives another, from its event ${event} on`;
@@ -65,7 +66,7 @@ function openTrace(text, name) {
   chooseExample("");
   takeTrace(new Trace(text), 0, "a trace from a file");
   takeScheduleOfTrace();
-  page.source = comparedTrace(page.engine, page.trace);
+  page.source = comparedTrace(page.engine === null ? null : askNow, page.trace);
   show();
 }
 
@@ -96,7 +97,7 @@ function drawPicture(text) {
   byId("picture-box").hidden = !drawn.startsWith("<svg ");
   if (byId("picture-box").hidden) return;
   byId("picture").innerHTML = drawn;
-  const said = refusalIn(askNow("listset_show", text).text);
+  const said = refusalIn(askNow("listset_show", text));
   byId("picture-says").textContent = said;
   const svg = byId("picture").firstElementChild;
   svg.setAttribute("role", "img");
@@ -105,9 +106,9 @@ function drawPicture(text) {
 }
 
 // The lines of a picture that say why its order is refused, or which event is, and why no order explains the report.
-function refusalIn(text) {
-  const { kind, lines } = otherOrders(text);
-  const refused = text.split("\n").filter((line) => line.startsWith("refused "));
+function refusalIn(drawn) {
+  const { kind, lines } = otherOrders(drawn);
+  const refused = drawn.text.split("\n").filter((line) => line.startsWith("refused "));
   return [...refused, ...(kind === "none" ? lines.filter((line) => !line.endsWith(":")) : [])].join("; ");
 }
 

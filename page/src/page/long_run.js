@@ -9,13 +9,13 @@ export const MANY_EVENTS = 20000; // so many run beside the page, with a button 
 export const LONG_TEXT = 200000; // characters of a report that has no picture here
 const longRun = { worker: null, timer: 0 };
 
-// The answer of the engine to a text of any length: at once to a short one.
-export async function askLong(name, text) {
+// The answer of the engine to a text of any length: at once to a short one. What is asked of the run that is shown ends with it.
+export async function askLong(name, text, isOfRun = true) {
   const events = eventsAsked(text);
   if (text.length < LONG_TEXT && events < MANY_EVENTS) return askNow(name, text);
   try {
     const { worker, answer } = askInWorker(page.engine.module, name, text, events);
-    longRun.worker = worker;
+    if (isOfRun) longRun.worker = worker;
     const came = await answer;
     if (came !== null) return came;
   } catch {

@@ -6,7 +6,7 @@ import { announce, askNow, NO_ENGINE, page, takeTrace, tell, tellFault, tellLine
 import { stopPlay } from "./play.js";
 import { askList } from "../run/broken.js";
 import { eventsAsked, openingIn, versionOf } from "../run/schedule_text.js";
-import { Trace } from "../run/trace.js";
+import { isTrace, Trace } from "../run/trace.js";
 
 // Runs a text, and then tells a line.
 export function runText(text, at, told = "") {
@@ -24,7 +24,7 @@ export function runText(text, at, told = "") {
 // Shows what the engine says of a text.
 function takeAnswer(answer, text, at, told) {
   const source = page.lacks === null ? "run by the proved replayer" : "a run of a broken list";
-  if (answer.text.startsWith("listset-trace")) takeTrace(new Trace(answer.text, versionOf(text), page.trace), at, source);
+  if (isTrace(answer.text)) takeTrace(new Trace(answer.text, versionOf(text), page.trace), at, source);
   else tellLine(answer.text.trim());
   tell(works.isKept ? told : `${told} This browser keeps nothing: save the schedule before you leave the page.`);
   announce("ran");

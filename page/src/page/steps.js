@@ -7,7 +7,7 @@ import { MOST_TRIED, scheduleOfDraft } from "../run/draft.js";
 import { callText, chipOf, escaped } from "../run/markup.js";
 import { scheduleAndLine } from "../run/schedule_text.js";
 import { isFailed, isLock, mono } from "../run/sentences.js";
-import { Trace } from "../run/trace.js";
+import { isTrace, Trace } from "../run/trace.js";
 
 export const isAtRest = (thread) => page.state.threads[thread].pc === 0;
 export const tellRest = (thread) => tell(`${chipOf(thread)} is idle: let it begin a call first, with its buttons below.`);
@@ -42,7 +42,7 @@ function stepsOfDraft(line) {
 function stepsToLock(thread, fault, notYet) {
   const text = scheduleAndLine(page.trace, page.count, `go ${thread} ${MOST_TRIED}`);
   const answer = askList(askNow, "listset_trace", page.lacks, text);
-  if (!fault.endsWith(": Waits") || !answer.text.startsWith("listset-trace")) {
+  if (!fault.endsWith(": Waits") || !isTrace(answer.text)) {
     return tell(`No step was made: ${escaped(fault)}.`);
   }
   const events = new Trace(answer.text).events().slice(page.count);

@@ -10,7 +10,7 @@ import { escaped } from "./markup.js";
 import { scheduleOfTrace, titleOf } from "./schedule_text.js";
 import { isFailed, isLock, momentAt, sentenceOf } from "./sentences.js";
 import { State } from "./state.js";
-import { eventsInCommon, Trace } from "./trace.js";
+import { eventsInCommon, isTrace, Trace } from "./trace.js";
 
 const LACKING_THREADS = 2;
 const LACKING_QUOTA = 2;
@@ -50,8 +50,10 @@ export function startOfLacking(name) {
 export function verdictOnLacking(ask, lacks, schedule) {
   const { status, text } = ask("listset_replay_lacking", lacks, schedule);
   if (status !== 0) return { kind: "refused", says: `The schedule is refused: ${text.trim()}`, report: null };
-  if (ask("listset_check", text).text === "ok\n") return { kind: "explained", says: EXPLAINED, report: text };
-  const { kind, lines } = otherOrders(ask("listset_show", text).text);
+  const checked = ask("listset_check", text).text.trim();
+  if (checked === "ok") return { kind: "explained", says: EXPLAINED, report: text };
+  if (!checked.startsWith("refused ")) return { kind: "refused", says: `The run is not judged: ${checked}.`, report: null };
+  const { kind, lines } = otherOrders(ask("listset_show", text));
   if (kind !== "none") return { kind: "points", says: `${BY_POINTS} ${kind === "another" ? OTHER : UNKNOWN}`, report: text };
   return { kind: "broken", says: `Broken: ${whyNone(text, lines)}. ${UNEXPLAINED}`, report: text };
 }
@@ -98,10 +100,12 @@ function callInWords({ calls }, line) {
   return `${nameOfCall(call)} ${call.ended === null ? "is open" : `answers ${call.reply}`}`;
 }
 
-// Where the whole list departs from the run of such a list: the event, and what each does there; null where it does not.
+// Where the whole list departs from the run of such a list: the event, and what each does there; null where it does not, or has no
+// trace.
 export function departureOf(ask, trace) {
-  const answer = ask("listset_trace", scheduleOfTrace(trace));
-  const whole = new Trace(answer.text, trace.version);
+  const { text } = ask("listset_trace", scheduleOfTrace(trace));
+  if (!isTrace(text)) return null;
+  const whole = new Trace(text, trace.version);
   const event = eventsInCommon(trace, whole) + 1;
   if (event > trace.total) return null;
   const rows = [trace, whole].map((one) => (event > one.total ? null : one.event(event).changes.pc));

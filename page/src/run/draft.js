@@ -1,5 +1,5 @@
 // Drafts: schedules in which a line may say `go T out` or `go T to ROW`, on whole lists and broken ones.
-import { Trace } from "./trace.js";
+import { isTrace, Trace } from "./trace.js";
 
 export const MOST_TRIED = 1000; // steps of a thread that does not come to where it is sent, to see for what it waits
 const DRAFT_LINE = /^go \d+ (?:out|to \d+)$/m;
@@ -18,7 +18,7 @@ export function scheduleOfDraft(ask, text, lacks = null) {
 function stepsOfLacking(ask, lacks, lines, [thread, row]) {
   const fault = (cause) => ({ count: null, fault: `listset: line ${lines.length + 1}: ${cause}` });
   const { text } = ask("listset_trace_lacking", lacks, `${[...lines, `go ${thread} ${MOST_TRIED}`].join("\n")}\n`);
-  if (!text.startsWith("listset-trace")) return { count: null, fault: text.trim() };
+  if (!isTrace(text)) return { count: null, fault: text.trim() };
   const steps = new Trace(text).events().filter(({ line }) => line === lines.length + 1);
   const end = steps.findIndex(({ answer }) => answer !== undefined);
   const at = row === undefined ? end : steps.findIndex(({ answer, changes }) => answer === undefined && changes.pc === Number(row));

@@ -122,23 +122,26 @@ export function verdictOn(ask, answer) {
   const report = reportOfAnswer(answer);
   const checked = ask("listset_check", report).text.trim();
   if (checked === "ok") return { isRight: true, clash: null, report, says: rightInWords(answer) };
-  const told = ask("listset_show", report).text.split("\n").find((line) => line.startsWith("refused "));
+  if (!checked.startsWith("refused ")) return { ...nothing, says: `This order is not judged: ${checked}.` };
+  const told = ask("listset_show", report).text.split("\n").find((line) => line.startsWith("refused ")) ?? checked;
   const clash = Number(/^refused \w+ (\d+)/.exec(checked)?.[1] ?? -1);
   return { isRight: false, clash, report, says: faultInWords(answer, told) };
 }
 
 // What is known of the other orders of a report whose own is refused, by the lines with which `show` ends: that there is none, with
-// the lines that say why; another one; or that it is not known. Of a report whose own order explains it, that.
+// the lines that say why; another one; or that it is not known. Of a report whose own order explains it, that; of one that `show`
+// does not draw, its line about that.
 const ENDINGS = {
   "not linearizable": "none",
   "another order explains this report": "another",
   "it is not known whether another order explains this report": "unknown",
 };
 
-export function otherOrders(drawn) {
-  const lines = drawn.trimEnd().split("\n");
+export function otherOrders({ status, text }) {
+  const lines = text.trimEnd().split("\n");
   const at = lines.findIndex((line) => Object.hasOwn(ENDINGS, line));
-  return at === -1 ? { kind: "own", lines: [] } : { kind: ENDINGS[lines[at]], lines: lines.slice(at + 1) };
+  if (at !== -1) return { kind: ENDINGS[lines[at]], lines: lines.slice(at + 1) };
+  return status === 0 ? { kind: "own", lines: [] } : { kind: "trouble", lines };
 }
 
 // A claim that there is no order is judged by what is proved, not by a search: each run of the replayer has an order, and of another
@@ -147,7 +150,8 @@ function verdictOnClaim(ask, { isWhole, reportText }) {
   const said = (isRight, says) => ({ isRight, clash: null, report: null, says });
   const there = "There is one: this is a run of a correct list, and each of those has an order (proved). Find it.";
   if (isWhole) return said(false, there);
-  const { kind } = otherOrders(ask("listset_show", reportText).text);
+  const { kind, lines } = otherOrders(ask("listset_show", reportText));
+  if (kind === "trouble") return said(null, `Whether there is none is not judged: ${lines[0]}.`);
   if (kind === "none") return said(true, "Right: no order explains this report (proved). It comes from a broken list.");
   if (kind === "unknown") return said(null, "This report comes from a broken list, and whether an order explains it is not known.");
   return said(false, "There is one, although this report comes from a broken list. Find it.");

@@ -1,4 +1,5 @@
 // Calls that were recorded from a set of the reader's own: what the proved judge says of them, in words, and the calls that it names.
+import { CAUSES_OF_CALLS, CAUSES_OF_LONG } from "./faults.js";
 import { nameOfCall } from "./judged.js";
 
 // Two threads looked for a key, did not find it, and put it in.
@@ -14,22 +15,9 @@ key 5
 end
 `;
 
-// The causes of a fault of such a text, by the program's own word for each.
-const CAUSES_OF_CALLS = {
-  NotEnded: "the text must end with the line end",
-  Header: 'line 1 must be "listset-calls 2"',
-  Kind: 'line 2 must be "list" and one of coarse, fine, optimistic, lazy, lock-free',
-  Threads: 'line 3 must be "threads" and a number from 1 to 64',
-  Quota: 'line 4 must be "quota" and a number from 0 to 16384, no less than the adds of a thread that answered true',
-  Line: 'expected "call T CALL K BEGIN POINT END REPLY", with - for what is missing; "opening K" only above all calls, "key K" only below them',
-  Number: "a moment is not a number from 1 to 4294967295, or another number not one from 0 to 4294967295",
-  TooMany: "there are more opening keys, calls or keys than the judge reads",
-  Opening: "an opening key must be above the one before",
-  History: "there is no such thread, or it has two calls at a time, or two calls have one moment, or a call ends before it begins",
-  Point: "a point must lie between the begin and the end; if there is a ceiling or a full, each add and remove that answered true needs one",
-};
-
-const AS_LEFT = /^no order explains the calls of key (\d+) and leaves it as it was left$/;
+const LONG_TITLE = "listset-calls 3\n";
+const AS_LEFT = /^no order explains the calls of key \d+ and leaves it as it was left$/;
+const LEFT_OTHERWISE = "Each order that explains them leaves it otherwise than the keys of the text say.";
 
 function callOfLine(line, id) {
   const [, thread, operation, key, begun, , ended, reply] = line.split(" ");
@@ -53,31 +41,47 @@ function callsOf(lines) {
 
 const sentence = (line) => `${line[0].toUpperCase()}${line.slice(1)}${line.endsWith(":") ? "" : "."}`;
 
-// The lines of the judge that say why no order explains the calls, as sentences.
-function reasonsIn([why, state, alone]) {
-  const key = AS_LEFT.exec(why)?.[1];
-  const left = key === undefined ? "" : ` Its last call left it otherwise than the keys of the text say.`;
-  return [sentence(why) + left, sentence(state), sentence(alone)];
+// The lines of the judge that say why no order explains the calls, as sentences: of a long recording one alone.
+function reasonsIn(lines) {
+  const [why, ...more] = lines.filter((line) => !line.startsWith("call "));
+  const left = AS_LEFT.test(why) ? ` ${LEFT_OTHERWISE}` : "";
+  return [sentence(why) + left, ...more.map(sentence)];
 }
 
-// What the judge says of the text: of which kind that is, a sentence, its reasons, and the calls that alone have no order.
-export function verdictOnCalls(text) {
+// Which keys were left is not known of a recording that was cut off.
+function okInWords(count, lines) {
+  const calls = count === "1" ? "this one call" : `these ${Number(count).toLocaleString("en")} calls`;
+  const isCutOff = lines.some((line) => line.startsWith("the recording was cut off"));
+  const keys = isCutOff ? ", whatever keys it leaves" : " and leaves the keys";
+  return `Linearizable: an order explains ${calls}${keys}. It says nothing of other runs.`;
+}
+
+function noneInWords([why]) {
+  return `Not linearizable: no order at all explains these calls${AS_LEFT.test(why) ? " and leaves the keys" : ""}.`;
+}
+
+// The program's own line about an error, and in words what it is that the text, of this version, has wrong.
+function troubleInWords(line, text) {
+  const cause = /^listset: line \d+: (\w+)$/.exec(line)?.[1];
+  const causes = text.startsWith(LONG_TITLE) ? CAUSES_OF_LONG : CAUSES_OF_CALLS;
+  return Object.hasOwn(causes, cause) ? `${line}: ${causes[cause]}.` : line;
+}
+
+// The judge's answer to the text: of which kind it is, a sentence, its reasons, and the calls that alone have no order.
+export function verdictOnCalls(answer, text) {
   const said = (kind, says, reasons = [], calls = []) => ({ kind, says, reasons, calls });
-  const [first, ...lines] = text.trimEnd().split("\n");
+  const [first, ...lines] = answer.trimEnd().split("\n");
   const count = /^ok (\d+) calls$/.exec(first)?.[1];
-  if (count !== undefined) {
-    const calls = count === "1" ? "this one call" : `these ${Number(count).toLocaleString("en")} calls`;
-    return said("ok", `Linearizable: an order explains ${calls} and leaves the keys. It says nothing of other runs.`, lines.map(sentence));
-  }
-  if (first === "not linearizable") {
-    return said("none", "Not linearizable: no order at all explains these calls.", reasonsIn(lines), callsOf(lines));
-  }
+  if (count !== undefined) return said("ok", okInWords(count, lines), lines.map(sentence));
+  if (first === "not linearizable") return said("none", noneInWords(lines), reasonsIn(lines), callsOf(lines));
   if (first.startsWith("refused ")) {
-    const why = "The set has a bug, or a point is at the wrong place.";
-    return said("none", "No order has the changes at the points that the text gives.", [`${first}.`, why]);
+    const why = "The set has a bug, or the recorder made a mistake: a point may be at the wrong place.";
+    return said("none", "No order with the changes at the points of the text explains these calls and leaves the keys.", [`${first}.`, why]);
   }
-  const cause = /^listset: line \d+: (\w+)$/.exec(first)?.[1];
-  return said("fault", cause in CAUSES_OF_CALLS ? `${first}: ${CAUSES_OF_CALLS[cause]}.` : first);
+  if (first.startsWith("undecided: ")) {
+    return said("undecided", sentence(first), ["Begins and ends do not decide whether an order explains such calls."]);
+  }
+  return said("fault", troubleInWords(first, text));
 }
 
 // A text that was pasted may lack its last newline.

@@ -1,6 +1,6 @@
 // Runs without end: the engine's generator makes a schedule of a number. The same number is the same run for everyone.
 import { AddressFault } from "./address.js";
-import { Trace } from "./trace.js";
+import { isTrace, Trace } from "./trace.js";
 
 const KINDS = ["coarse", "fine", "optimistic", "lazy", "lock-free"];
 const TRIES = 200;
@@ -26,7 +26,9 @@ export function scheduleOfSeed(ask, seed) {
     const answer = ask("listset_gen", [kind, threads, 4, calls, keys, number * TRIES + tried].join("\0"));
     if (answer.status !== 0) throw new AddressFault(`the address names no run: ${answer.text.trim()}`);
     text = answer.text;
-    if (isWorthIt(new Trace(ask("listset_trace", text).text))) break;
+    const traced = ask("listset_trace", text).text;
+    if (!isTrace(traced)) throw new AddressFault(`the run of the address has no trace: ${traced.trim()}`);
+    if (isWorthIt(new Trace(traced))) break;
   }
   return joined(text);
 }

@@ -2,7 +2,7 @@
 // both; one whose call has answered waits for the other, and then both begin the next call. Each is a run by the engine.
 import { titleOf } from "./schedule_text.js";
 import { State } from "./state.js";
-import { Trace } from "./trace.js";
+import { isTrace, MOST_NUMBER, Trace } from "./trace.js";
 
 const MOST_TURNS = 500;
 
@@ -16,8 +16,8 @@ export function readProgram(text) {
     const isLine = thread !== undefined && Number(thread) < 64;
     if (!isLine) throw new ProgramFault(`"${line.slice(0, 60)}" is no line as "0: add 5, remove 5"`);
     for (const call of calls.split(",").map((one) => one.trim())) {
-      const [, operation, key] = /^(add|remove|contains|ceiling) (\d+)$/.exec(call) ?? [];
-      if (key === undefined) throw new ProgramFault(`"${call.slice(0, 40)}" is no call as "add 5"`);
+      const [, operation, key] = /^(add|remove|contains|ceiling) (0|[1-9]\d{0,9})$/.exec(call) ?? [];
+      if (key === undefined || Number(key) > MOST_NUMBER) throw new ProgramFault(`"${call.slice(0, 40)}" is no call as "add 5"`);
       (program[Number(thread)] ??= []).push(`${operation} ${key}`);
     }
   }
@@ -48,7 +48,7 @@ class Side {
 
   run() {
     const { text } = this.ask("listset_trace", this.schedule);
-    if (!text.startsWith("listset-trace")) throw new ProgramFault(text.trim());
+    if (!isTrace(text)) throw new ProgramFault(text.trim());
     this.trace = new Trace(text, 2);
     this.state = new State(this.trace);
     this.state.moveTo(this.trace.total);

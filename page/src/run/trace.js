@@ -8,6 +8,9 @@ export const KEY_REGISTERS = ["pkey", "ckey"];
 export const CALL_WORDS = ["add", "remove", "contains", "ceiling"];
 export const MOST_NUMBER = 4294967295;
 
+// Whether an answer of the engine is a trace, and not its line about an error.
+export const isTrace = (text) => text.startsWith("listset-trace");
+
 export class Trace {
   // The version is that of the schedule's text: the one that is given, and the second where there are opening keys or a ceiling.
   // If the trace goes on where another one ends, what was read of that is taken over, with its calls; that one is not used any more.
