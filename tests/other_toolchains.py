@@ -125,11 +125,15 @@ class OtherKit:
         return said
 
 
-def mutants_are_tried_with(other_kit, over):
-    told = other_kit.run("mutants/run", "gate", *over)
+def the_gate_tries_its_mutant(other_kit, over):
+    told = other_kit.run("mutants/run", "gate", "--over", over)
     same(told.splitlines()[-1], "1 passed, 0 failed", "the mutant of the gate")
     same("mutant small/greater_gives_the_less: refused: " in told, True, f"a refusal, in {told}")
-    told = other_kit.run("mutants/run", "planted", *over, status=1)
+
+
+def planted_mutants_are_tried(other_kit, over):
+    """One is refused; the other, which asks the same in another way, is not."""
+    told = other_kit.run("mutants/run", "planted", "--over", over, status=1)
     same(told.splitlines()[-1], "1 passed, 1 failed", "the planted mutants")
     rows = [line.split("\t") for line in (other_kit.tree / "mutants/tried.tsv").read_text().splitlines()[1:]]
     same([row[:3] for row in rows], [["small", "greater_asks_in_another_way", "not refused"], ["small", "greater_gives_the_first", "clause"]], "tried.tsv")
@@ -169,7 +173,8 @@ def over_the_least_kit(case):
     shutil.rmtree(other_kit.tree / "crates/lset_command")
     same(other_kit.run("build/prove_all", "--in", proved, "--anew").splitlines()[-1], "2 passed, 0 failed", "rt ci")
     other_kit.run("crates/listset/out/listset", status=3)
-    mutants_are_tried_with(other_kit, ["--over", proved])
+    the_gate_tries_its_mutant(other_kit, proved)
+    planted_mutants_are_tried(other_kit, proved)
     a_crate_is_checked_over(other_kit, proved)
     same("built in" in other_kit.run("build/unproved"), True, "a program without a proof that stays")
     add_faulty_tests(other_kit.tree)
@@ -191,5 +196,5 @@ def over_a_kit_without_rtlib(case):
     same([*other_kit.room.glob("prove-listset-*")], [], "what a run that is stopped leaves")
     told = other_kit.run("build/prove_listset")
     same("listset proved, 2 of 2, none left" in told, True, f"the crates are told, in {told!r}")
-    mutants_are_tried_with(other_kit, ["--over", other_kit.tree])
+    the_gate_tries_its_mutant(other_kit, other_kit.tree)
     other_kit.run("build/unproved", "a", status=3)
