@@ -19,8 +19,8 @@ pub enum WorkCause {
     Memory,
 }
 
-/// Why programs were not run to their ends. `back` has the set and the seats, as they were, where no thread was started: after
-/// `Programs`, and after `Memory`.
+/// Why programs were not run to their ends. After `Programs` and after `Memory` no thread was started, and `back` has the set and the
+/// seats, as they were.
 #[derive(Drop, Error)]
 #[error("{cause}")]
 pub struct WorkFault<M: Running> {
