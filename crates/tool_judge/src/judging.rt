@@ -135,7 +135,8 @@ fn answer_on(alloc: Global, bytes: &[u8]) -> Result<Answer, Trouble>
 /// Judges the recorded calls whose text the bytes are: `ok N calls` with status 0 if some order of them explains all replies and leaves
 /// the keys, and `not linearizable`, with the key, how far its calls have no order, and the calls of a window that show it, with status 1
 /// if none does. Below `ok N calls` it says how many of the calls overlap a change of their key, and what to do if fewer than 5 of 100 do.
-/// A quota is asked for only of each `add` with a point. Calls with `ceiling` or `full` that begins and ends do not decide are judged by their points, and by the quota.
+/// A quota is asked for only of each `add` with a point. Calls with `ceiling` or `full` that begins and ends do not decide are judged by
+/// their points, and by the quota.
 ///
 /// Of a recording that was cut off the keys left are not known: it is `ok` if with some keys left an order explains the replies, and a line
 /// more says so. If begins and ends do not decide it the answer is `undecided`, with status 1.
