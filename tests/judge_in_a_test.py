@@ -1,9 +1,9 @@
 """The judge in a test of one's own: the forms of examples/in-a-test, by their own tests, in each language that is installed.
 
 A right set has to be `ok` there, and three wrong ones refused; what hangs or crashes is judged up to there; a long run is kept in parts,
-which the program judges as one recording, whole and by keys. If there is no judge, or one that answers something else, the first test
-has to fail with a sentence that says so. The page's engine in node is another judge (tests/foreign.py tries the library). Every wait is
-bounded.
+which the program judges as one recording, whole and by keys. The verdict counts the calls of all runs, and a run that fails is named. If
+there is no judge, or one that answers something else, the first test has to fail with a sentence that says so. The page's engine in node
+is another judge (tests/foreign.py tries the library). Every wait is bounded.
 """
 
 import importlib.util
@@ -168,13 +168,26 @@ exit 1
 """
 
 
+# The program, but for how many calls of a recording overlap
+OVERLAPS_THREE = """#!/bin/sh
+'%s' "$@" | sed 's/^[0-9]* of them /3 of them /'
+"""
+# A judge that no second recording of its folder passes
+REFUSES_THE_SECOND = """#!/bin/sh
+case $1 in judge) ;; *) exit 0 ;; esac
+if mkdir "$0 was asked" 2> /dev/null; then echo ok 9 calls; echo 3 of them overlap; exit 0; fi
+echo not linearizable
+exit 1
+"""
+
+
 def first_test_of(words, language, of=FIRST_TESTS):
     """The words that run the first test of a language alone; all tests, of what has no word for it."""
     return [it for it in words if not str(it).startswith("test_")] + of[language] if language in of else words
 
 
 def first_said(where, words, language, judge):
-    """What the first test of a language says, with this judge."""
+    """What the first test of a language says, of all its twenty runs, with this judge."""
     status, said = judged(where, first_test_of(words, language), judge)
     if status:
         raise Wrong(f"the first test ended with status {status}\n{said[-3000:]}")
@@ -227,7 +240,11 @@ def a_form_judges(case, language):
             says_its_threads(it)
         left = files_of_judging(case.room)
         same([it for it in left if not it.startswith("listset-seed-")], [], "the files that are left beside recordings")
-        tells_judge(first_said(where, words, language, case.room / "judge"), case.room / "judge", proof_of(case.program))
+        judge = judge_script(case.room / "judge of overlaps", OVERLAPS_THREE % case.program)
+        said = first_said(where, words, language, judge)
+        tells_judge(said, judge, proof_of(case.program))
+        if ", of which 60 overlapped a change of their key" not in said:
+            raise Wrong(f"of twenty recordings with three calls each that overlap: {said[-3000:]}")
         same(files_of_judging(case.room), left, "the files that a test which passes leaves")
         judge = judge_script(case.room / "judge of old", KNOWS_NO_CUT)
         _, said = judged(where, first_test_of(words, language, CRASHING_TESTS), judge)
@@ -242,6 +259,15 @@ def a_form_judges(case, language):
         status, said = judged(where, first_test_of(words, language), judge)
         if status == 0 or due.format(judge) not in said:
             raise Wrong(f"with a judge that is {name}: status {status}\n{said[-3000:]}")
+
+
+@each(FIRST_TESTS)
+def the_run_that_fails_is_named(case, language):
+    look_for(language)
+    where, words = LANGUAGES[language](case.room)
+    status, said = judged(where, first_test_of(words, language), judge_script(case.room / "judge", REFUSES_THE_SECOND))
+    if status == 0 or "seed 2: not linearizable" not in said or "/listset-seed-2-" not in said:
+        raise Wrong(f"where the second run is refused: status {status}\n{said[-3000:]}")
 
 
 ENGINE = TOP / "page" / "listset.js"
