@@ -15,7 +15,7 @@ import sys
 import unittest
 
 from harness.cases import NEEDED_BY_CASES, TOP, Wrong, each, given, needs, once, same
-from harness.programs import ran, well
+from harness.programs import QUICK_CARGO, ran, well
 
 FORMS = TOP / "examples" / "in-a-test"
 SECONDS = 300  # for each compiler, and for each run of tests
@@ -71,7 +71,7 @@ def folder_in(room, name):
 
 def built_rust(room):
     target = room / "built rust"
-    build_tests(room, "cargo", "test", "--no-run", "--offline", "--locked", "--target-dir", target, "--manifest-path", FORMS / "rust/Cargo.toml")
+    build_tests(room, *QUICK_CARGO, "test", "--no-run", "--offline", "--locked", "--target-dir", target, "--manifest-path", FORMS / "rust/Cargo.toml")
     (tests,) = (it for it in (target / "debug/deps").glob("sets-*") if not it.suffix)
     return tests
 
@@ -103,24 +103,30 @@ def pytest(_):
     return FORMS / "python", [sys.executable, "-B", "-m", "pytest", "-q", "-p", "no:cacheprovider", "test_sets.py"]
 
 
+def in_jvm(*words):
+    """A command of Java that starts in half the time, as do those that it starts: they are short."""
+    return [shutil.which("env"), "JAVA_TOOL_OPTIONS=-XX:TieredStopAtLevel=1 -XX:+UseSerialGC", *words]
+
+
 def built_java(room):
     classes = folder_in(room, "built java")
-    build_tests(FORMS / "java", "javac", "-Xlint:all,-serial", "-Werror", "-d", classes, "Judge.java", "Sets.java", "Tests.java")
+    build_tests(FORMS / "java", *in_jvm("javac"), "-Xlint:all,-serial", "-Werror", "-d", classes, "Judge.java", "Sets.java", "Tests.java")
     return classes
 
 
 def java(room):
-    return room, [shutil.which("java"), f"-Djava.io.tmpdir={room}", "-cp", once(built_java), "Tests"]
+    return room, [*in_jvm(shutil.which("java")), f"-Djava.io.tmpdir={room}", "-cp", once(built_java), "Tests"]
 
 
 def junit(room):
-    build_tests(FORMS / "java", "javac", "-cp", JUNIT, "-d", room, "Judge.java", "Sets.java", "SetsTest.java")
-    return room, ["java", f"-Djava.io.tmpdir={room}", "-jar", JUNIT, "-cp", room, "--scan-classpath", "--disable-banner"]
+    build_tests(FORMS / "java", *in_jvm("javac"), "-cp", JUNIT, "-d", room, "Judge.java", "Sets.java", "SetsTest.java")
+    return room, [*in_jvm("java"), f"-Djava.io.tmpdir={room}", "-jar", JUNIT, "-cp", room, "--scan-classpath", "--disable-banner"]
 
 
 def go_words(*words):
-    """A command of go that looks for nothing in the network, and keeps what it compiles for the other tests of this run."""
-    return ["env", "GOPROXY=off", f"GOCACHE={given.room / 'go cache'}", "go", *words]
+    """A command of go that looks for nothing in the network. What it compiles is kept for all other tests, by go itself where it may."""
+    has_folder = any(it in os.environ for it in ("GOCACHE", "XDG_CACHE_HOME", "HOME"))
+    return ["env", "GOPROXY=off", *([] if has_folder else [f"GOCACHE={given.room / 'go cache'}"]), "go", *words]
 
 
 def built_go(room):
@@ -271,6 +277,17 @@ def the_run_that_fails_is_named(case, language):
 
 
 ENGINE = TOP / "page" / "listset.js"
+# The same, but for the second recording, which it refuses: each takes a third of a second
+ENGINE_FOR_ONE = """const fs = require("fs");
+const asked = `${__filename} was asked`;
+if (process.argv[2] === "judge" && fs.existsSync(asked)) {
+    console.log("not linearizable");
+    process.exitCode = 1;
+} else {
+    if (process.argv[2] === "judge") fs.writeFileSync(asked, "");
+    require("%s");
+}
+"""
 
 
 @needs("node")
@@ -279,4 +296,11 @@ def the_engine_in_node_judges(case, language):
     if "judge" not in ran("node", ENGINE, "--words").stdout.split():
         raise unittest.SkipTest("page/listset.js has no word judge")
     look_for(language)
-    tells_judge(first_said(*LANGUAGES[language](case.room), language, ENGINE), ENGINE, "proof unknown")
+    where, words = LANGUAGES[language](case.room)
+    if language == "Python":
+        return tells_judge(first_said(where, words, language, ENGINE), ENGINE, "proof unknown")
+    judge = judge_script(case.room / "judge.js", ENGINE_FOR_ONE % ENGINE)
+    status, said = judged(where, first_test_of(words, language), judge)
+    if status == 0 or "seed 2: not linearizable" not in said:
+        raise Wrong(f"with the engine for one run: status {status}\n{said[-3000:]}")
+    tells_judge(said, judge, "proof unknown")
