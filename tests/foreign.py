@@ -11,9 +11,10 @@ import shutil
 import sys
 
 from harness.cases import TOP, Wrong, each, given, lacking, needs, test_on, usable
-from harness.programs import LONG, ran, well
+from harness.programs import LONG, QUICK_CARGO, ran, well
+from judge_in_a_test import FORMS, go_words
 
-FOREIGN, EXAMPLES, FORMS = TOP / "foreign", TOP / "examples" / "schedules", TOP / "examples" / "in-a-test"
+FOREIGN, EXAMPLES = TOP / "foreign", TOP / "examples" / "schedules"
 TESTS, PREFIX = FOREIGN / "tests", pathlib.Path(os.environ.get("LISTSET_PREFIX", FOREIGN / "out"))
 TAKES_TURNS = True  # (each has more threads than there are processors)
 WARN = ["-Wall", "-Wextra", "-Werror", "-O1", "-g"]
@@ -187,7 +188,7 @@ def cpp(installed):
 @needs("cargo")
 @test
 def rust(installed):
-    crate, target, cargo = installed.share / "rust", ["--target-dir", installed.room / "target"], ["cargo", "--offline"]
+    crate, target, cargo = installed.share / "rust", ["--target-dir", installed.room / "target"], [*QUICK_CARGO, "--offline"]
     how = {**os.environ, "LISTSET_EXAMPLES": str(EXAMPLES)}
     said = well(*cargo, "test", "--locked", *target, "--manifest-path", crate / "Cargo.toml", env=how)
     passed = [line for line in said.splitlines() if line.startswith("test result: ok.") and " 0 passed" not in line]
@@ -202,17 +203,17 @@ def rust(installed):
     well(*cargo, "build", *target, "--manifest-path", manifest, **how)
     installed.first_program("rust", made / "first")
     well(made / "judged")
-    first = ["--", "my_set_is_linearizable", "check_then_act_is_refused", "--nocapture"]
+    first = ["--test", "sets", "--", "my_set_is_linearizable", "check_then_act_is_refused", "--nocapture"]
     is_judged(well(*cargo, "test", "--locked", *target, "--manifest-path", FORMS / "rust" / "Cargo.toml", *first, **how), installed.proof())
 
 
 @needs("go", "pkg-config", "gcc")
 @test
 def go(installed):
-    how = {**in_room(installed), "PKG_CONFIG_PATH": str(installed.library / "pkgconfig"), "LD_LIBRARY_PATH": str(installed.library), "GOPROXY": "off"}
+    how = {**in_room(installed), "PKG_CONFIG_PATH": str(installed.library / "pkgconfig"), "LD_LIBRARY_PATH": str(installed.library)}
     shutil.copytree(FORMS / "go", installed.room / "go")
-    first = ["go", "test", "-tags", "listset", "-run", "TestIsLinearizable|TestCheckThenActIsRefused", "-v"]
-    is_judged(well(*first, cwd=installed.room / "go", env={**how, "GOCACHE": str(installed.room / "cache")}), installed.proof())
+    first = go_words("test", "-count=1", "-tags", "listset", "-run", "TestIsLinearizable|TestCheckThenActIsRefused", "-v")
+    is_judged(well(*first, cwd=installed.room / "go", env=how), installed.proof())
 
 
 def in_room(installed):

@@ -1,9 +1,9 @@
 """The judge in a test of one's own: the forms of examples/in-a-test, by their own tests, in each language that is installed.
 
 A right set has to be `ok` there, and three wrong ones refused; what hangs or crashes is judged up to there; a long run is kept in parts,
-which the program judges as one recording, whole and by keys. If there is no judge, or one that answers something else, the first test
-has to fail with a sentence that says so. The page's engine in node is another judge (tests/foreign.py tries the library). Every wait is
-bounded.
+which the program judges as one recording, whole and by keys. The verdict counts the calls of all runs, and a run that fails is named. If
+there is no judge, or one that answers something else, the first test has to fail with a sentence that says so. The page's engine in node
+is another judge (tests/foreign.py tries the library). Every wait is bounded.
 """
 
 import importlib.util
@@ -15,7 +15,7 @@ import sys
 import unittest
 
 from harness.cases import NEEDED_BY_CASES, TOP, Wrong, each, given, needs, once, same
-from harness.programs import ran, well
+from harness.programs import QUICK_CARGO, ran, well
 
 FORMS = TOP / "examples" / "in-a-test"
 SECONDS = 300  # for each compiler, and for each run of tests
@@ -71,7 +71,7 @@ def folder_in(room, name):
 
 def built_rust(room):
     target = room / "built rust"
-    build_tests(room, "cargo", "test", "--no-run", "--offline", "--locked", "--target-dir", target, "--manifest-path", FORMS / "rust/Cargo.toml")
+    build_tests(room, *QUICK_CARGO, "test", "--no-run", "--offline", "--locked", "--target-dir", target, "--manifest-path", FORMS / "rust/Cargo.toml")
     (tests,) = (it for it in (target / "debug/deps").glob("sets-*") if not it.suffix)
     return tests
 
@@ -103,24 +103,30 @@ def pytest(_):
     return FORMS / "python", [sys.executable, "-B", "-m", "pytest", "-q", "-p", "no:cacheprovider", "test_sets.py"]
 
 
+def in_jvm(*words):
+    """A command of Java that starts in half the time, as do those that it starts: they are short."""
+    return [shutil.which("env"), "JAVA_TOOL_OPTIONS=-XX:TieredStopAtLevel=1 -XX:+UseSerialGC", *words]
+
+
 def built_java(room):
     classes = folder_in(room, "built java")
-    build_tests(FORMS / "java", "javac", "-Xlint:all,-serial", "-Werror", "-d", classes, "Judge.java", "Sets.java", "Tests.java")
+    build_tests(FORMS / "java", *in_jvm("javac"), "-Xlint:all,-serial", "-Werror", "-d", classes, "Judge.java", "Sets.java", "Tests.java")
     return classes
 
 
 def java(room):
-    return room, [shutil.which("java"), f"-Djava.io.tmpdir={room}", "-cp", once(built_java), "Tests"]
+    return room, [*in_jvm(shutil.which("java")), f"-Djava.io.tmpdir={room}", "-cp", once(built_java), "Tests"]
 
 
 def junit(room):
-    build_tests(FORMS / "java", "javac", "-cp", JUNIT, "-d", room, "Judge.java", "Sets.java", "SetsTest.java")
-    return room, ["java", f"-Djava.io.tmpdir={room}", "-jar", JUNIT, "-cp", room, "--scan-classpath", "--disable-banner"]
+    build_tests(FORMS / "java", *in_jvm("javac"), "-cp", JUNIT, "-d", room, "Judge.java", "Sets.java", "SetsTest.java")
+    return room, [*in_jvm("java"), f"-Djava.io.tmpdir={room}", "-jar", JUNIT, "-cp", room, "--scan-classpath", "--disable-banner"]
 
 
 def go_words(*words):
-    """A command of go that looks for nothing in the network, and keeps what it compiles for the other tests of this run."""
-    return ["env", "GOPROXY=off", f"GOCACHE={given.room / 'go cache'}", "go", *words]
+    """A command of go that looks for nothing in the network. What it compiles is kept for all other tests, by go itself where it may."""
+    has_folder = any(it in os.environ for it in ("GOCACHE", "XDG_CACHE_HOME", "HOME"))
+    return ["env", "GOPROXY=off", *([] if has_folder else [f"GOCACHE={given.room / 'go cache'}"]), "go", *words]
 
 
 def built_go(room):
@@ -156,7 +162,8 @@ FIRST_TESTS = {"Rust": ["my_set_is_linearizable", "--nocapture"], "C++": ["first
 FIRST_TESTS |= {"Python": ["test_sets.Sets.test_my_set_is_linearizable"], "Go": ["-test.run", "TestIsLinearizable", "-test.v"]}
 # and how a test of a set that crashes is
 CRASHING_TESTS = {"Rust": ["what_hangs", "--nocapture"], "C++": ["crash"], "Java": ["crash"]}
-CRASHING_TESTS |= {"Python": ["test_sets.Sets.test_a_crash_is_judged_whatever_the_keys"], "Go": ["-test.run", "TestACrashIsJudgedWhateverTheKeys", "-test.v"]}
+CRASHING_TESTS |= {"Python": ["test_sets.Sets.test_a_crash_is_judged_whatever_the_keys"]}
+CRASHING_TESTS |= {"Go": ["-test.run", "TestACrashIsJudgedWhateverTheKeys", "-test.v"]}
 # What standard error has of the test in which no calls overlap (a Python test asks for its warning itself)
 FEW_OVERLAPS = {"Rust": "ok: 120000 calls, of which 0 ", "C++": "listset: 0 of 120000 calls ", "Java": "\nok: 120000 calls, of which 0 "}
 FEW_OVERLAPS |= {"Go": "ok: 120000 calls, of which 0 "}
@@ -168,13 +175,26 @@ exit 1
 """
 
 
+# The program, but for how many calls of a recording overlap
+OVERLAPS_THREE = """#!/bin/sh
+'%s' "$@" | sed 's/^[0-9]* of them /3 of them /'
+"""
+# A judge that no second recording of its folder passes
+REFUSES_THE_SECOND = """#!/bin/sh
+case $1 in judge) ;; *) exit 0 ;; esac
+if mkdir "$0 was asked" 2> /dev/null; then echo ok 9 calls; echo 3 of them overlap; exit 0; fi
+echo not linearizable
+exit 1
+"""
+
+
 def first_test_of(words, language, of=FIRST_TESTS):
     """The words that run the first test of a language alone; all tests, of what has no word for it."""
     return [it for it in words if not str(it).startswith("test_")] + of[language] if language in of else words
 
 
 def first_said(where, words, language, judge):
-    """What the first test of a language says, with this judge."""
+    """What the first test of a language says, of all its twenty runs, with this judge."""
     status, said = judged(where, first_test_of(words, language), judge)
     if status:
         raise Wrong(f"the first test ended with status {status}\n{said[-3000:]}")
@@ -227,7 +247,11 @@ def a_form_judges(case, language):
             says_its_threads(it)
         left = files_of_judging(case.room)
         same([it for it in left if not it.startswith("listset-seed-")], [], "the files that are left beside recordings")
-        tells_judge(first_said(where, words, language, case.room / "judge"), case.room / "judge", proof_of(case.program))
+        judge = judge_script(case.room / "judge of overlaps", OVERLAPS_THREE % case.program)
+        said = first_said(where, words, language, judge)
+        tells_judge(said, judge, proof_of(case.program))
+        if ", of which 60 overlapped a change of their key" not in said:
+            raise Wrong(f"of twenty recordings with three calls each that overlap: {said[-3000:]}")
         same(files_of_judging(case.room), left, "the files that a test which passes leaves")
         judge = judge_script(case.room / "judge of old", KNOWS_NO_CUT)
         _, said = judged(where, first_test_of(words, language, CRASHING_TESTS), judge)
@@ -244,7 +268,27 @@ def a_form_judges(case, language):
             raise Wrong(f"with a judge that is {name}: status {status}\n{said[-3000:]}")
 
 
+@each(FIRST_TESTS)
+def the_run_that_fails_is_named(case, language):
+    look_for(language)
+    where, words = LANGUAGES[language](case.room)
+    status, said = judged(where, first_test_of(words, language), judge_script(case.room / "judge", REFUSES_THE_SECOND))
+    if status == 0 or "seed 2: not linearizable" not in said or "/listset-seed-2-" not in said:
+        raise Wrong(f"where the second run is refused: status {status}\n{said[-3000:]}")
+
+
 ENGINE = TOP / "page" / "listset.js"
+# The same, but for the second recording, which it refuses: each takes a third of a second
+ENGINE_FOR_ONE = """const fs = require("fs");
+const asked = `${__filename} was asked`;
+if (process.argv[2] === "judge" && fs.existsSync(asked)) {
+    console.log("not linearizable");
+    process.exitCode = 1;
+} else {
+    if (process.argv[2] === "judge") fs.writeFileSync(asked, "");
+    require("%s");
+}
+"""
 
 
 @needs("node")
@@ -253,4 +297,11 @@ def the_engine_in_node_judges(case, language):
     if "judge" not in ran("node", ENGINE, "--words").stdout.split():
         raise unittest.SkipTest("page/listset.js has no word judge")
     look_for(language)
-    tells_judge(first_said(*LANGUAGES[language](case.room), language, ENGINE), ENGINE, "proof unknown")
+    where, words = LANGUAGES[language](case.room)
+    if language == "Python":
+        return tells_judge(first_said(where, words, language, ENGINE), ENGINE, "proof unknown")
+    judge = judge_script(case.room / "judge.js", ENGINE_FOR_ONE % ENGINE)
+    status, said = judged(where, first_test_of(words, language), judge)
+    if status == 0 or "seed 2: not linearizable" not in said:
+        raise Wrong(f"with the engine for one run: status {status}\n{said[-3000:]}")
+    tells_judge(said, judge, "proof unknown")

@@ -8,8 +8,8 @@ import shutil
 import sys
 
 from harness.cases import TOP, each, same
-from harness.programs import well
-from judge_in_a_test import FORMS, go_words, look_for
+from harness.programs import QUICK_CARGO, well
+from judge_in_a_test import FORMS, go_words, in_jvm, look_for
 
 PAGE = TOP / "docs" / "YOUR-SET.md"
 CPP = """#include "listset_judge.hpp"
@@ -74,6 +74,7 @@ class MySet:
     def remove(self, key):
         with self.lock: return key in self.keys and not self.keys.remove(key)
 %s
+listset_judge.judge.__kwdefaults__["runs"] = 2  # (twenty take ten seconds: the line above makes them)
 %s
 """
 GO = """package own
@@ -141,14 +142,14 @@ def rust(room):
     (room / "src" / "lib.rs").write_text("")
     (room / "Cargo.toml").write_text(MANIFEST)
     (room / "tests" / "own.rs").write_text(RUST % (line_of("Rust")[0], options_of("Rust")))
-    return ["cargo", "test", "--offline", "--quiet"]
+    return [*QUICK_CARGO, "test", "--offline", "--quiet"]
 
 
 def java(room):
     shutil.copy(FORMS / "java" / "Judge.java", room)
     first, _, of_any = line_of("Java")
     (room / "Own.java").write_text(JAVA % (first, of_any, options_of("Java")))
-    well("javac", "Judge.java", "Own.java", cwd=room)
+    well(*in_jvm("javac"), "Judge.java", "Own.java", cwd=room)
     return ["java", f"-Djava.io.tmpdir={room}", "-cp", room, "Own"]
 
 
@@ -162,7 +163,7 @@ def go(room):
     shutil.copytree(FORMS / "go", room / "judge", ignore=shutil.ignore_patterns("go.mod", "judge_test.go"))
     (room / "go.mod").write_text("module own\n\ngo 1.18\n")
     (room / "own_test.go").write_text(GO % (line_of("Go")[0], options_of("Go")))
-    return go_words("test", "./...")
+    return go_words("test", "-count=1", "./...")
 
 
 LANGUAGES = {"GoogleTest": cpp, "Rust": rust, "Java": java, "Python": python, "Go": go}

@@ -6,6 +6,8 @@ import subprocess
 from harness.cases import SECONDS, Wrong
 
 LONG = 600  # seconds, for a compiler and for a whole test
+# cargo, where what it builds is built once: in half the time
+QUICK_CARGO = ["env", "CARGO_INCREMENTAL=0", "CARGO_PROFILE_DEV_DEBUG=0", "cargo"]
 
 
 def ran(*words, text=None, seconds=SECONDS, **how):

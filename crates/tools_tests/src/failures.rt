@@ -112,17 +112,17 @@ fn each_way_fails<R: Host>(
 
 #[test]
 fn each_read_fails_in_turn(rt: HostRuntime) -> Result<(), Fail> {
-    each_way_fails(&rt, rt.alloc(), Device::Input, &READS, 5_398)
+    each_way_fails(&rt, rt.alloc(), Device::Input, &READS, 8_156)
 }
 
 #[test]
 fn each_write_on_the_output_fails_in_turn(rt: HostRuntime) -> Result<(), Fail> {
-    each_way_fails(&rt, rt.alloc(), Device::Output, &WRITES, 9_278)
+    each_way_fails(&rt, rt.alloc(), Device::Output, &WRITES, 10_842)
 }
 
 #[test]
 fn each_write_of_a_line_fails_in_turn(rt: HostRuntime) -> Result<(), Fail> {
-    each_way_fails(&rt, rt.alloc(), Device::Faults, &WRITES, 288)
+    each_way_fails(&rt, rt.alloc(), Device::Faults, &WRITES, 493)
 }
 
 /// How the two devices fail that fail in one run.

@@ -242,3 +242,64 @@ these calls alone have no order:
 call 0 add 5 1 - 4 true
 call 1 add 5 2 - 3 true
 ";
+
+pub const FEW_REPORT: &str = "listset-report 2
+list lazy
+threads 1
+quota 4
+call 0 0 add 5 1 2 true
+call 1 0 contains 5 3 4 true
+place 0 true
+place 1 true
+key 5
+end
+";
+
+pub const NO_ORDER: &str = "no order explains these calls: judge shows why\n";
+
+/// A draft of a call that goes to its end, in seven steps.
+pub const DRAFT: &str =
+    "listset-draft 2\nlist coarse\nthreads 1\nquota 4\nbegin 0 add 5\ngo 0 out\n";
+
+pub const DRAFTED: &str =
+    "listset-schedule 1\nlist coarse\nthreads 1\nquota 4\nbegin 0 add 5\ngo 0 7\n";
+
+/// What a list lacks whose `contains` looks at no mark.
+pub const MARK: &str = "mark-in-contains";
+
+/// A schedule of one such call.
+pub const LOOK: &str =
+    "listset-schedule 2\nlist lazy\nthreads 1\nquota 0\nbegin 0 contains 5\ngo 0 2\n";
+
+pub const LOOK_REPORT: &str = "listset-report 2
+list lazy
+threads 1
+quota 0
+call 0 0 contains 5 1 3 false
+place 0 false
+end
+";
+
+pub const LOOK_TRACE: &str = "listset-trace 1
+list lazy
+lacks mark-in-contains
+threads 1
+quota 0
+event 1 line 5 thread 0 begin contains 5 call 0 pc 20
+event 2 line 6 thread 0 load head.link saw tail pc 21 curr tail
+event 3 line 6 thread 0 load tail.key saw +inf pc 0 answer false call 0 at 1
+end
+";
+
+pub const LOOK_PICTURE: &str = "lazy list, 1 thread, quota 0: 1 call
+
+moment    1             3
+thread 0  [contains 5-o-false]
+set       {}
+
+order
+   1  at 1     thread 0  contains 5 false  (no change)
+keys
+
+* changes the set    o changes nothing, its reply fits there    > still open
+";

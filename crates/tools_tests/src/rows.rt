@@ -3,9 +3,13 @@ use crate::devices::{Plan, Reader, Writer};
 use crate::prelude::*;
 use crate::row_texts::*;
 use tool_base::{tool_check, tool_gen, tool_replay};
+use tool_broken::{tool_replay_broken, tool_show_broken, tool_trace_broken};
+use tool_draft::tool_draft;
 use tool_drawing::Window;
 use tool_examples::{Example, tool_example};
 use tool_judge::tool_judge;
+use tool_parts::tool_judge_keys;
+use tool_report::tool_report;
 use tool_run::tool_run;
 use tool_show::{Form, tool_show};
 use tool_trace::tool_trace;
@@ -21,6 +25,10 @@ pub enum Tool {
     Replay,
     Check,
     Judge,
+    /// Of these keys.
+    JudgeKeys(&'static str),
+    Report,
+    Draft,
     /// As text.
     Show,
     /// As an SVG.
@@ -28,6 +36,10 @@ pub enum Tool {
     Trace,
     /// With the chains.
     TraceChains,
+    /// By the list that lacks this check.
+    ReplayLacking(&'static str),
+    TraceLacking(&'static str),
+    ShowLacking(&'static str),
     /// With this KIND, of one thread with one call.
     Gen(&'static str),
     /// Of this name.
@@ -53,7 +65,7 @@ pub type Told = (Tool, &'static str, u8, &'static str, &'static str);
 
 const FIRST: Told = (Tool::Replay, SCHEDULE, 0, REPORT, "");
 
-static ROWS: [Told; 26] = [
+static ROWS: [Told; 40] = [
     FIRST,
     (Tool::Replay, CEILING, 0, CEILING_REPORT, ""),
     (Tool::Replay, REPORT, 1, "", NO_TITLE),
@@ -65,6 +77,15 @@ static ROWS: [Told; 26] = [
     (Tool::Judge, BOTH, 1, BOTH_SAID, ""),
     (Tool::Judge, LONG, 0, "ok 2 calls\n", ""),
     (Tool::Judge, REPORT, 1, "", NO_TITLE),
+    (Tool::JudgeKeys("1/2"), FEW, 0, "ok 2 calls\n", ""),
+    (Tool::JudgeKeys("0/1"), BOTH, 1, BOTH_SAID, ""),
+    (Tool::JudgeKeys("0/1"), REPORT, 1, "", NO_TITLE),
+    (Tool::JudgeKeys("1/1"), "", 2, "", "listset: bad KEYS\n"),
+    (Tool::Report, FEW, 0, FEW_REPORT, ""),
+    (Tool::Report, BOTH, 1, NO_ORDER, ""),
+    (Tool::Report, REPORT, 1, "", NO_TITLE),
+    (Tool::Draft, DRAFT, 0, DRAFTED, ""),
+    (Tool::Draft, REPORT, 1, "", NO_TITLE),
     (Tool::Show, SCHEDULE, 0, PICTURE, ""),
     (Tool::Show, BOTH, 1, BOTH_PICTURE, ""),
     (Tool::Show, IDLE, 1, IDLE_PICTURE, ""),
@@ -74,6 +95,17 @@ static ROWS: [Told; 26] = [
     (Tool::TraceChains, SCHEDULE, 0, TRACE, ""),
     (Tool::Trace, IDLE, 1, IDLE_TRACE, ""),
     (Tool::Trace, REPORT, 1, "", NO_TITLE),
+    (Tool::ReplayLacking(MARK), LOOK, 0, LOOK_REPORT, ""),
+    (Tool::ReplayLacking(MARK), REPORT, 1, "", NO_TITLE),
+    (Tool::TraceLacking(MARK), LOOK, 0, LOOK_TRACE, ""),
+    (Tool::ShowLacking(MARK), LOOK, 0, LOOK_PICTURE, ""),
+    (
+        Tool::ShowLacking("lock"),
+        LOOK,
+        1,
+        "",
+        "listset: line 2: Kind\n",
+    ),
     (Tool::Gen("coarse"), "", 0, DRAWN, ""),
     (Tool::Gen("skip"), "", 2, "", "listset: bad KIND\n"),
     (Tool::Example("snap"), "", 2, "", "listset: bad NAME\n"),
@@ -153,10 +185,18 @@ pub fn ran<R: Host>(rt: &R, alloc: Global, row: Row, plans: [Plan; 3]) -> Result
         Tool::Replay => tool_replay(alloc, from, to, also),
         Tool::Check => tool_check(alloc, from, to, also),
         Tool::Judge => tool_judge(alloc, from, to, also),
+        Tool::JudgeKeys(keys) => tool_judge_keys(alloc, keys, from, to, also),
+        Tool::Report => tool_report(alloc, from, to, also),
+        Tool::Draft => tool_draft(alloc, from, to, also),
         Tool::Show => tool_show(alloc, Form::Text(100), ALL, from, to, also),
         Tool::Svg => tool_show(alloc, Form::Svg, ALL, from, to, also),
         Tool::Trace => tool_trace(alloc, false, from, to, also),
         Tool::TraceChains => tool_trace(alloc, true, from, to, also),
+        Tool::ReplayLacking(name) => tool_replay_broken(alloc, name, from, to, also),
+        Tool::TraceLacking(name) => tool_trace_broken(alloc, name, false, from, to, also),
+        Tool::ShowLacking(name) => {
+            tool_show_broken(alloc, name, Form::Text(100), ALL, from, to, also)
+        }
         Tool::Example(name) => tool_example(alloc, false, Some(name), to, also),
         Tool::Broken(name) => tool_example(alloc, true, Some(name), to, also),
         Tool::Gen(kind) => {

@@ -112,6 +112,22 @@ final class Tests {
         if (drawn.size() != 4) fail("each thread of each run has draws of its own");
     }
 
+    /** Each change of options changes what it names, and nothing else. */
+    private static void isChanged() {
+        Judge.Options how = new Judge.Options(2, 9, 4, 21, 3, 7, 10, false, "of old");
+        List<Judge.Options> changed = List.of(how.ofSize(11, 12, 13), how.ofRuns(14, 15), how.ofPauses(16), how.ofSeconds(17), how.ofOwnProcess(true),
+            how.ofRecord("new"), new Judge.Options());
+        List<Judge.Options> due = List.of(
+            new Judge.Options(11, 12, 13, 21, 3, 7, 10, false, "of old"),
+            new Judge.Options(2, 9, 4, 21, 14, 15, 10, false, "of old"),
+            new Judge.Options(2, 9, 4, 16, 3, 7, 10, false, "of old"),
+            new Judge.Options(2, 9, 4, 21, 3, 7, 17, false, "of old"),
+            new Judge.Options(2, 9, 4, 21, 3, 7, 10, true, "of old"),
+            new Judge.Options(2, 9, 4, 21, 3, 7, 10, false, "new"),
+            new Judge.Options(8, 1000, 4, 20, 20, 1, 10, true, null));
+        if (!changed.equals(due)) fail("options: " + changed);
+    }
+
     private static void isRefusedAtRest() {
         try {
             fail("wrong at rest: " + Judge.judge(Sets.WrongAtRest::new, ALL.ofSize(1, 50, 4).ofRuns(1, 1)));
@@ -186,6 +202,7 @@ final class Tests {
         stops(Sets.Exits::new, ALL, exited, "some order explains the calls");
         stops(Sets.Exits::new, ALL.ofSize(8, 1000, 64), exited, "some order explains the calls");
         stops(Sets.FindsAllAndExits::new, ALL, exited, "not linearizable\n");
+        isChanged();
         isDrawn();
         isRefusedAtRest();
         isKept();

@@ -10,6 +10,7 @@ import tempfile
 import threading
 import time
 import unittest
+from unittest import mock
 
 import listset_judge
 
@@ -305,6 +306,12 @@ class Sets(unittest.TestCase):
         opening, left, calls = ([[it[1] for it in part if it[0] == word] for part in parts] for word in ("opening", "key", "call"))
         self.assertEqual([len(it) for it in calls], [20_000, 20_000, 4000])
         self.assertEqual(opening, [[], *left[:-1]])
+
+    def test_the_calls_of_all_parts_count(self):
+        judged = mock.patch.object(listset_judge.Judge, "judged", return_value=(3, None))
+        with mock.patch.object(listset_judge, "PART", 40), judged, tempfile.TemporaryDirectory() as folder:
+            verdict = listset_judge.judge(MySet, threads=2, calls=50, pauses=0, runs=2, record=folder)
+        self.assertEqual(verdict[:2], (200, 18))
 
     def test_each_thread_of_each_run_draws_calls_of_its_own(self):
         drawn = set()
