@@ -305,7 +305,7 @@ async function resize(width, height) {
 }
 
 async function driveNarrow() {
-  driveHeight();
+  await driveHeight();
   await driveInSight();
   await driveLessonByKeyboard();
   await driveJudging();

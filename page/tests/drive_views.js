@@ -210,12 +210,13 @@ async function showPlaceOf(hash, where) {
 }
 
 // On a narrow screen the page is no taller than this before a fold is opened.
-function driveHeight() {
+async function driveHeight() {
   pick("read-in-anothers-step");
   goToEvent(20);
   const { documentElement } = frame.contentDocument;
-  const open = [...frame.contentDocument.querySelectorAll("details[open]")].map(({ id }) => id);
-  check(`no fold is open on a narrow screen, but ${open}`, open.length === 0);
+  const open = () => [...frame.contentDocument.querySelectorAll("details[open]")].map(({ id }) => id);
+  await until(() => open().length === 0); // a busy browser tells the page late how wide it is
+  check(`no fold is open on a narrow screen, but ${open()}`, open().length === 0);
   const isFinger = frame.contentWindow.matchMedia("(pointer: coarse)").matches;
   const height = documentElement.scrollHeight;
   check(`the page is ${height} pixels tall`, height <= (isFinger ? 2600 : 2300));
