@@ -565,7 +565,7 @@ const CAUSES_OF_CALLS = {
   Kind: 'line 2 must be "list" and one of coarse, fine, optimistic, lazy, lock-free',
   Threads: 'line 3 must be "threads" and a number from 1 to 64',
   Quota:
-    'line 4 must be "quota" and a number from 0 to 16384; if there is a ceiling or a full, ' +
+    'line 4 must be "quota" and a number from 0 to 16384; if calls have points or there is a ceiling or a full, ' +
     "no less than the adds of a thread that answered true",
   Line:
     'expected "call T CALL K BEGIN POINT END REPLY", with - for what is missing; "opening K" only above all calls, ' +
