@@ -267,5 +267,5 @@ def traces_and_pictures_of_a_broken_list_are_those_of_the_model(case, name, kind
     if report.returncode:
         looked.fault(report)
     else:
-        compare_report(looked, report.stdout)
+        compare_report(looked, read_report(report.stdout))
     looked.tell()
