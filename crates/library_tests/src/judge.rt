@@ -1,7 +1,11 @@
 //! The judge, and the order that is found, beside a search of all orders, on 100,000 small histories, with what its refusals say and how
 //! many calls overlap a change; on runs of the five lists; and on histories that it does not decide.
 
-use crate::made::{ended, in_turn, rising_keys};
+ghost use Rattle.std.specs.Prelude.{◌<◌, IfOk, length};
+ghost use Rattle.std.specs.List.Sorted.{IsStrictlyIncreasing};
+ghost use Rattle.lset_judge.specs.Verdict.{IsRefused};
+
+use crate::made::{ended, history_of, in_turn, rising_keys};
 use crate::prelude::*;
 use lset_judge::{Window, overlapped};
 
@@ -12,32 +16,36 @@ const THREADS: u32 = 3;
 const MOST_CALLS: usize = 7;
 
 /// The keys 0 and 1 of a set, a bit for each.
-fn keys_of(alloc: Global, set: usize) -> Result<Vec<u32>, AllocError> {
-    let keys: &[u32] = match set {
-        0 => &[],
-        1 => &[0],
-        2 => &[1],
-        _ => &[0, 1],
-    };
-    Vec::from_slice(alloc, keys)
+fn keys_of(alloc: Global, set: usize) -> Result<Vec<u32>, AllocError>
+    ensures rising { IfOk result (λ v. IsStrictlyIncreasing v.items) }
+    ensures few { IfOk result (λ v. length v.items < 3) }
+{
+    match set {
+        0 => Ok(Vec::new(alloc)),
+        1 => Vec::from_slice(alloc, &[0]),
+        2 => Vec::from_slice(alloc, &[1]),
+        _ => Vec::from_slice(alloc, &[0, 1]),
+    }
 }
 
 /// The last moment of a small history.
 const LAST_OF_SMALL: u32 = 17;
 
 /// The history with its moments as far from each other as there are moments.
-fn stretched(alloc: Global, history: &History) -> Result<History, AllocError> {
+fn stretched(alloc: Global, history: &History) -> Result<History, Fail> {
     let times = u32::MAX / LAST_OF_SMALL;
     let mut calls = Vec::new(alloc);
     for call in history.calls() {
         calls.push(CallRecord {
-            begun: times * call.begun,
-            ended: call.ended.map(|(end, reply)| (times * end, reply)),
+            begun: call.begun.saturating_mul(times),
+            ended: call
+                .ended
+                .map(|(end, reply)| (end.saturating_mul(times), reply)),
             ..*call
         })?;
     }
     let opening = Vec::from_slice(alloc, history.opening())?;
-    Ok(History::from_calls(THREADS, 7, opening, calls))
+    history_of(alloc, THREADS, 7, opening, &calls)
 }
 
 /// What a set of the two keys answers, and leaves.
@@ -56,45 +64,64 @@ fn reply_of(is_true: bool) -> Reply {
     if is_true { Reply::True } else { Reply::False }
 }
 
-/// Whether a call may be the next of an order that has placed these calls: no other that ended before it began is still to come.
-fn is_free(calls: &[CallRecord], placed: usize, number: usize) -> bool {
-    for (other, earlier) in calls.iter().enumerate() {
+/// The bit of a call among the calls that an order has placed.
+fn bit_of(number: usize) -> usize {
+    1usize << (number % MOST_CALLS)
+}
+
+fn is_placed(placed: usize, number: usize) -> bool {
+    placed & bit_of(number) != 0
+}
+
+/// Whether a call that begins at this moment may be the next of an order that has placed these calls: no other that ended before is still
+/// to come.
+fn is_free(calls: &[CallRecord], placed: usize, begun: u32) -> bool {
+    for (number, earlier) in calls.iter().enumerate() {
         if let Some((end, _)) = earlier.ended {
-            if (placed >> other) & 1 == 0 && end < calls[number].begun {
+            if !is_placed(placed, number) && end < begun {
                 return false;
             }
         }
     }
-    (placed >> number) & 1 == 0
+    true
 }
 
 fn are_ended_placed(calls: &[CallRecord], placed: usize) -> bool {
     for (number, call) in calls.iter().enumerate() {
-        if call.ended.is_some() && (placed >> number) & 1 == 0 {
+        if call.ended.is_some() && !is_placed(placed, number) {
             return false;
         }
     }
     true
 }
 
+/// Where it stands whether some order places these calls, a bit for each of seven, and leaves this set of four.
+fn mark_of(placed: usize, set: usize) -> usize
+    ensures { result < 512 }
+{
+    4 * (placed % 128) + set % 4
+}
+
 /// Marks what one more call reaches from a set after these calls: an ended call as it answered, and an open one with true.
-fn reach(calls: &[CallRecord], reached: &mut [[bool; 4]; 128], placed: usize, set: usize) {
+fn reach(calls: &[CallRecord], reached: &mut [bool; 512], placed: usize, set: usize) {
     for (number, call) in calls.iter().enumerate() {
         let (reply, after) = answered(set, call.call);
         let wanted = call.ended.map_or(Reply::True, |(_, reply)| reply);
-        if reply == wanted && is_free(calls, placed, number) {
-            reached[placed | (1usize << number)][after] = true;
+        if reply == wanted && !is_placed(placed, number) && is_free(calls, placed, call.begun) {
+            let mark = mark_of(placed | bit_of(number), after);
+            reached[mark] = true;
         }
     }
 }
 
 /// Whether some order of all ended calls, and of some open ones, has these replies and leaves this set.
 fn has_order(calls: &[CallRecord], opening: usize, left: usize) -> bool {
-    let mut reached = [[false; 4]; 128];
-    reached[0][opening] = true;
+    let mut reached = [false; 512];
+    let first = mark_of(0, opening);
+    reached[first] = true;
     for placed in 0..128usize {
         for set in 0..4usize {
-            if reached[placed][set] {
+            if reached[mark_of(placed, set)] {
                 if set == left && are_ended_placed(calls, placed) {
                     return true;
                 }
@@ -114,12 +141,23 @@ fn drawn_call(rng: &mut Pcg32) -> Call {
     }
 }
 
-fn is_one_of(rng: &mut Pcg32, many: u32) -> bool {
+fn is_one_of(rng: &mut Pcg32, many: u32) -> bool
+    requires { 0 < many }
+{
     rng.next_u32() % many == 0
 }
 
-/// A history of a set that is right, but for one reply of twelve; the set with which it opens, and the one that it leaves.
-fn drawn_history(alloc: Global, rng: &mut Pcg32) -> Result<(History, usize, usize), Fail> {
+/// A small history that is drawn, with a number; the set with which it opens, and the one that it leaves.
+#[derive(Drop)]
+struct Drawn {
+    number: u32,
+    history: History,
+    opening: usize,
+    left: usize,
+}
+
+/// A history of a set that is right, but for one reply of twelve.
+fn drawn_history(alloc: Global, rng: &mut Pcg32, number: u32) -> Result<Drawn, Fail> {
     let opening = (rng.next_u32() % 4) as usize;
     let mut set = opening;
     let mut history = History::opened(alloc, THREADS, 7, keys_of(alloc, opening)?);
@@ -130,19 +168,19 @@ fn drawn_history(alloc: Global, rng: &mut Pcg32) -> Result<(History, usize, usiz
             None => {
                 if history.calls().len() < MOST_CALLS {
                     let call = drawn_call(rng);
-                    let number = history.begin(thread, call, at)?;
+                    let begun = history.begin(thread, call, at)?;
                     let (reply, after) = answered(set, call);
                     let is_early = is_one_of(rng, 2);
                     set = if is_early { after } else { set };
-                    open[thread as usize] = Some((number, call, is_early.then_some(reply)));
+                    open[thread as usize] = Some((begun, call, is_early.then_some(reply)));
                 }
             }
-            Some((number, call, early)) => {
+            Some((begun, call, early)) => {
                 let (late, after) = answered(set, call);
                 let reply = early.unwrap_or(late);
                 set = if early.is_none() { after } else { set };
                 let is_true = (reply == Reply::True) != is_one_of(rng, 12);
-                history.end(number, reply_of(is_true), at)?;
+                history.end(begun, reply_of(is_true), at)?;
                 open[thread as usize] = None;
             }
         }
@@ -150,7 +188,12 @@ fn drawn_history(alloc: Global, rng: &mut Pcg32) -> Result<(History, usize, usiz
     if is_one_of(rng, 4) {
         set = (rng.next_u32() % 4) as usize;
     }
-    Ok((history, opening, set))
+    Ok(Drawn {
+        number,
+        history,
+        opening,
+        left: set,
+    })
 }
 
 /// Whether each order of the calls of a window's key up to its moment leaves the key as the window has it.
@@ -172,7 +215,10 @@ fn is_forced(alloc: Global, history: &History, window: &Window) -> Result<bool, 
 fn is_right(alloc: Global, history: &History, window: &Window) -> Result<bool, Fail> {
     let mut alone = Vec::new(alloc);
     for number in &window.calls {
-        alone.push(history.calls()[*number as usize])?;
+        let Some(call) = history.calls().get(*number as usize) else {
+            return Err(Fail::new("no call has a number of the window"));
+        };
+        alone.push(*call)?;
     }
     let bit = 1usize << (window.key.0 % 2);
     let opening = if window.there { bit } else { 0 };
@@ -214,29 +260,26 @@ fn known_at(
 
 /// Whether a refusal says what is so: by its moment the calls of its key have no order, and before it all calls have one; or the calls of
 /// all calls have one, and those of its key none that leaves it as it is left.
-fn is_told(
-    alloc: Global,
-    history: &History,
-    opening: usize,
-    left: usize,
-    refusal: Refusal,
-) -> Result<bool, Fail> {
-    let calls = history.calls();
+fn is_told(alloc: Global, drawn: &Drawn, refusal: Refusal) -> Result<bool, Fail> {
+    let (calls, opening) = (drawn.history.calls(), drawn.opening);
     let key = Some(refusal.key);
     if let Some(moment) = refusal.moment {
+        let Some(earlier) = moment.checked_sub(1) else {
+            return Ok(false);
+        };
         let shown = known_at(alloc, calls, key, moment)?;
-        let before = known_at(alloc, calls, None, moment - 1)?;
+        let before = known_at(alloc, calls, None, earlier)?;
         return Ok(!has_some_order(&shown, opening) && has_some_order(&before, opening));
     }
     let own = known_at(alloc, calls, key, u32::MAX)?;
     let bit = 1usize << (refusal.key.0 % 2);
-    let as_left = (opening & !bit) | (left & bit);
+    let as_left = (opening & !bit) | (drawn.left & bit);
     Ok(has_some_order(calls, opening) && !has_order(&own, opening, as_left))
 }
 
 /// How many calls overlap a change of their key that another call made.
 fn met(calls: &[CallRecord]) -> u32 {
-    let mut count = 0;
+    let mut count = 0u32;
     for call in calls {
         let is_met = calls.iter().any(|other| {
             let is_change = !matches!(other.call, Call::Contains(_))
@@ -246,7 +289,7 @@ fn met(calls: &[CallRecord]) -> u32 {
             let is_beside = other.begun != call.begun && !is_before && !is_after;
             is_beside && is_change && other.call.key() == call.call.key()
         });
-        count += u32::from(is_met);
+        count = count.saturating_add(u32::from(is_met));
     }
     count
 }
@@ -257,7 +300,10 @@ fn is_apart(history: &History, window: &Window) -> bool {
     let mut next = 0;
     for number in &window.calls {
         let index = *number as usize;
-        if index < next || calls[index].begun <= window.since {
+        let Some(call) = calls.get(index) else {
+            return false;
+        };
+        if index < next || call.begun <= window.since {
             return false;
         }
         next = index + 1;
@@ -292,7 +338,10 @@ fn window_size<R: Abort>(
     history: &History,
     keys: &[u32],
     refusal: Refusal,
-) -> Result<usize, Fail> {
+) -> Result<usize, Fail>
+    requires rising { IsStrictlyIncreasing keys.now }
+    requires refused { IsRefused history.now keys.now refusal }
+{
     let window = window_of_refusal(alloc, history, keys, refusal)?;
     assert!(rt; window.key == refusal.key);
     assert!(rt; is_right(alloc, history, &window)?);
@@ -303,7 +352,9 @@ fn window_size<R: Abort>(
 }
 
 /// Whether an order of the calls is found, which `check_order` takes, or that there is none. It is always known which.
-fn is_ordered(alloc: Global, history: &History, keys: &[u32]) -> Result<Option<bool>, Fail> {
+fn is_ordered(alloc: Global, history: &History, keys: &[u32]) -> Result<Option<bool>, Fail>
+    requires { IsStrictlyIncreasing keys.now }
+{
     match find_order(alloc, history, keys)? {
         Found::Order(order) => {
             check_order(alloc, history, &order, keys)?;
@@ -314,17 +365,24 @@ fn is_ordered(alloc: Global, history: &History, keys: &[u32]) -> Result<Option<b
     }
 }
 
+/// Whether some order explains a small history, by the search of all orders.
+fn is_explained<R: Abort>(rt: &R, drawn: &Drawn) -> bool {
+    let calls = drawn.history.calls();
+    assert!(rt; calls.len() <= MOST_CALLS, "{} calls", calls.len());
+    has_order(calls, drawn.opening, drawn.left)
+}
+
 #[test]
 fn an_order_of_small_histories_is_found_if_there_is_one(rt: HostRuntime) -> Result<(), Fail> {
     let alloc = rt.alloc();
     let mut rng = Pcg32::seed_from_u64(2);
     for number in 0..HISTORIES {
-        let (history, opening, left) = drawn_history(alloc, &mut rng)?;
-        let keys = keys_of(alloc, left)?;
-        let is_explained = has_order(history.calls(), opening, left);
-        let is_found = is_ordered(alloc, &history, &keys)?;
+        let drawn = drawn_history(alloc, &mut rng, number)?;
+        let keys = keys_of(alloc, drawn.left)?;
+        let is_explained = is_explained(&rt, &drawn);
+        let is_found = is_ordered(alloc, &drawn.history, &keys)?;
         assert!(rt; is_found == Some(is_explained), "history {number}");
-        let is_found = is_ordered(alloc, &stretched(alloc, &history)?, &keys)?;
+        let is_found = is_ordered(alloc, &stretched(alloc, &drawn.history)?, &keys)?;
         assert!(rt; is_found == Some(is_explained), "{number}, stretched");
     }
     Ok(())
@@ -343,7 +401,7 @@ fn overlapping(alloc: Global, is_one_key: bool) -> Result<History, Fail> {
         let bar = (thread + 1, MOST_THREADS + thread + 1);
         calls.push(ended(thread, call, bar, Reply::True))?;
     }
-    Ok(History::from_calls(MOST_THREADS, 1, Vec::new(alloc), calls))
+    history_of(alloc, MOST_THREADS, 1, Vec::new(alloc), &calls)
 }
 
 #[test]
@@ -377,7 +435,9 @@ fn is_streamed(
     keys: &[u32],
     is_explained: bool,
     has_some: bool,
-) -> Result<bool, Fail> {
+) -> Result<bool, Fail>
+    requires { IsStrictlyIncreasing keys.now }
+{
     let closed = streamed(alloc, history)?.close(keys)?;
     let cut_off = streamed(alloc, history)?.close_cut_off()?;
     Ok(
@@ -392,7 +452,9 @@ fn is_refused_alike(
     history: &History,
     keys: &[u32],
     refusal: Refusal,
-) -> Result<bool, Fail> {
+) -> Result<bool, Fail>
+    requires { IsStrictlyIncreasing keys.now }
+{
     match streamed(alloc, history)?.close(keys)? {
         StreamVerdict::Linearizable => Ok(false),
         StreamVerdict::NotLinearizable(told) => {
@@ -409,10 +471,75 @@ fn are_refused_alike(
     history: &History,
     keys: &[u32],
     refusal: Refusal,
-) -> Result<bool, AllocError> {
+) -> Result<bool, AllocError>
+    requires { IsStrictlyIncreasing keys.now }
+{
     let refused = Verdict::NotLinearizable(refusal);
     let is_alike_cut_off = refusal.moment.is_none() || judge_cut_off(alloc, history)? == refused;
     Ok(judge_without_quota(alloc, history, keys)? == refused && is_alike_cut_off)
+}
+
+/// What is told of a small history, whatever `judge` says: how many calls overlap a change, and the verdicts of a recording that was cut off
+/// and of a stream.
+fn assert_told<R: Abort>(
+    rt: &R,
+    alloc: Global,
+    drawn: &Drawn,
+    keys: &[u32],
+    is_explained: bool,
+) -> Result<(), Fail>
+    requires { IsStrictlyIncreasing keys.now }
+{
+    let (number, history) = (drawn.number, &drawn.history);
+    let count = overlapped(alloc, history)?;
+    assert!(rt; count == met(history.calls()), "history {number}");
+    let has_some = has_some_order(history.calls(), drawn.opening);
+    let is_legal = judge_cut_off(alloc, history)? == Verdict::Linearizable;
+    assert!(rt; is_legal == has_some, "history {number}, cut off");
+    let is_streamed = is_streamed(alloc, history, keys, is_explained, has_some)?;
+    assert!(rt; is_streamed, "history {number}, as a stream");
+    Ok(())
+}
+
+/// A refusal of a small history is right, and that of the other judges. How many calls show it.
+fn assert_refused<R: Abort>(
+    rt: &R,
+    alloc: Global,
+    drawn: &Drawn,
+    keys: &[u32],
+    refusal: Refusal,
+) -> Result<usize, Fail>
+    requires rising { IsStrictlyIncreasing keys.now }
+    requires refused { IsRefused drawn.now.history keys.now refusal }
+{
+    let (number, history) = (drawn.number, &drawn.history);
+    assert!(rt; is_told(alloc, drawn, refusal)?, "history {number}");
+    let is_alike = is_refused_alike(alloc, history, keys, refusal)?;
+    assert!(rt; is_alike, "history {number}, as a stream");
+    let are_alike = are_refused_alike(alloc, history, keys, refusal)?;
+    assert!(rt; are_alike, "history {number}, by the other judges");
+    let size = window_size(rt, alloc, history, keys, refusal)?;
+    assert!(rt; size <= MOST_CALLS, "history {number}");
+    Ok(size)
+}
+
+/// How many calls show why the judge refuses a small history, if it does, and is right.
+fn judged<R: Abort>(rt: &R, alloc: Global, drawn: &Drawn) -> Result<Option<usize>, Fail> {
+    let keys = keys_of(alloc, drawn.left)?;
+    let is_explained = is_explained(rt, drawn);
+    assert_told(rt, alloc, drawn, &keys, is_explained)?;
+    match judge(alloc, &drawn.history, &keys)? {
+        Verdict::Linearizable => {
+            assert!(rt; is_explained, "history {}", drawn.number);
+            Ok(None)
+        }
+        Verdict::NotLinearizable(refusal) => {
+            assert!(rt; !is_explained, "history {}", drawn.number);
+            let size = assert_refused(rt, alloc, drawn, &keys, refusal)?;
+            Ok(Some(size))
+        }
+        Verdict::Undecided => Err(Fail::new("a small history is not decided")),
+    }
 }
 
 #[test]
@@ -421,37 +548,13 @@ fn the_judge_is_right_of_small_histories(rt: HostRuntime) -> Result<(), Fail> {
     let mut rng = Pcg32::seed_from_u64(1);
     let (mut with_order, mut shown) = (0u32, 0usize);
     for number in 0..HISTORIES {
-        let (history, opening, left) = drawn_history(alloc, &mut rng)?;
-        let keys = keys_of(alloc, left)?;
-        let is_explained = has_order(history.calls(), opening, left);
-        let count = overlapped(alloc, &history)?;
-        assert!(rt; count == met(history.calls()), "history {number}");
-        let has_some = has_some_order(history.calls(), opening);
-        let is_legal = judge_cut_off(alloc, &history)? == Verdict::Linearizable;
-        assert!(rt; is_legal == has_some, "history {number}, cut off");
-        let is_streamed = is_streamed(alloc, &history, &keys, is_explained, has_some)?;
-        assert!(rt; is_streamed, "history {number}, as a stream");
-        match judge(alloc, &history, &keys)? {
-            Verdict::Linearizable => {
-                assert!(rt; is_explained, "history {number}");
-                with_order += 1;
-            }
-            Verdict::NotLinearizable(refusal) => {
-                assert!(rt; !is_explained, "history {number}");
-                let is_told = is_told(alloc, &history, opening, left, refusal)?;
-                assert!(rt; is_told, "history {number}");
-                let is_alike = is_refused_alike(alloc, &history, &keys, refusal)?;
-                assert!(rt; is_alike, "history {number}, as a stream");
-                let are_alike = are_refused_alike(alloc, &history, &keys, refusal)?;
-                assert!(rt; are_alike, "history {number}, by the other judges");
-                let size = window_size(&rt, alloc, &history, &keys, refusal)?;
-                assert!(rt; size <= MOST_CALLS, "history {number}");
-                shown += size;
-            }
-            Verdict::Undecided => assert!(rt; false, "history {number}"),
+        let drawn = drawn_history(alloc, &mut rng, number)?;
+        match judged(&rt, alloc, &drawn)? {
+            None => with_order = with_order.saturating_add(1),
+            Some(size) => shown = shown.saturating_add(size),
         }
     }
-    let without = (HISTORIES - with_order) as usize;
+    let without = HISTORIES.saturating_sub(with_order) as usize;
     assert!(rt; with_order > 30_000 && without > 30_000, "{with_order}");
     assert!(rt; shown < 2 * without, "{shown} calls shown of {without}");
     Ok(())

@@ -1,7 +1,8 @@
 //! Histories that are drawn: calls of up to 64 threads laid round a legal order, of keys at both ends of the numbers.
-ghost use Rattle.std.specs.Prelude.{◌<◌, ◌≤◌, IfOk};
+ghost use Rattle.std.specs.Prelude.{◌≡◌, ◌<◌, ◌≤◌, IfOk, length};
 ghost use Rattle.std.specs.List.Sorted.{IsStrictlyIncreasing};
 
+use crate::made::keys_from;
 use crate::prelude::*;
 
 /// How often a thread is asked for its next move in each history.
@@ -68,21 +69,21 @@ fn drawn_call(rng: &mut Pcg32, sizes: Sizes) -> Call
 /// The keys of a set that opens: so many at one end of the numbers.
 fn drawn_keys(alloc: Global, rng: &mut Pcg32, many: u32) -> Result<Vec<u32>, Fail>
     requires { many ≤ 64 }
-    ensures { IfOk result (λ v. IsStrictlyIncreasing v.items) }
+    ensures rising { IfOk result (λ v. IsStrictlyIncreasing v.items) }
+    ensures len { IfOk result (λ v. length v.items ≡ many) }
 {
-    let is_low = rng.next_u32() % 2 == 0;
-    let first = if is_low { 0 } else { u32::MAX - many };
-    let mut keys = Vec::new(alloc);
-    for key in first..first + many {
-        keys.push(key)?;
+    if rng.next_u32() % 2 == 0 {
+        keys_from(alloc, 0, many)
+    } else {
+        keys_from(alloc, u32::MAX - many, many)
     }
-    Ok(keys)
 }
 
 /// Calls laid round a legal order: for a while some threads move alone, those whose calls begin, take effect or end next. What is under way
 /// at the end stays pending, with its effect or without.
 pub fn laid(alloc: Global, rng: &mut Pcg32, sizes: Sizes) -> Result<LaidHistory, Fail>
     requires threads { (0 < sizes.threads) × (sizes.threads ≤ 64) }
+    requires quota { sizes.quota ≤ 16384 }
     requires keys { (0 < sizes.keys) × (sizes.keys ≤ 64) }
     requires kinds { 0 < sizes.kinds }
     ensures { IfOk result (λ found. IsStrictlyIncreasing found.keys.items) }

@@ -1,6 +1,6 @@
 //! A history as large as a report may have it, of a set that opens with as many keys as a list may.
 
-use crate::made::{ended, rising_keys};
+use crate::made::{ended, history_of, rising_keys};
 use crate::prelude::*;
 
 const MOST_CALLS: u32 = 1_000_000;
@@ -12,7 +12,13 @@ fn large_history(alloc: Global) -> Result<History, Fail> {
         let (thread, bar) = (number % MOST_THREADS, (2 * number + 1, 2 * number + 2));
         calls.push(ended(thread, Call::Contains(Key(number)), bar, Reply::True))?;
     }
-    Ok(History::from_calls(MOST_THREADS, 0, rising_keys(alloc, MOST_OPENING)?, calls))
+    history_of(
+        alloc,
+        MOST_THREADS,
+        0,
+        rising_keys(alloc, MOST_OPENING)?,
+        &calls,
+    )
 }
 
 #[test]

@@ -1,7 +1,8 @@
 //! Large histories of which something is wrong, and the time that they take: a test has a minute, and a search of all pairs would take
 //! longer.
+ghost use Rattle.std.specs.Prelude.{◌≤◌};
 
-use crate::made::{FIVE, are_refused, ended, has_no_order, rising_keys};
+use crate::made::{self, FIVE, are_refused, ended, has_no_order, rising_keys, window_in};
 use crate::prelude::*;
 
 /// How often key 5 goes in and out.
@@ -11,12 +12,14 @@ fn true_call(thread: u32, call: Call, begun: u32, end: u32) -> CallRecord {
     ended(thread, call, (begun, end), Reply::True)
 }
 
-fn history_of(alloc: Global, quota: u32, calls: Vec<CallRecord>) -> History {
-    History::from_calls(MOST_THREADS, quota, Vec::new(alloc), calls)
+fn history_of(alloc: Global, quota: u32, calls: &[CallRecord]) -> Result<History, Fail>
+    requires { quota ≤ 16384 }
+{
+    made::history_of(alloc, MOST_THREADS, quota, Vec::new(alloc), calls)
 }
 
 /// The threads in turn put key 5 in and take it out; at last a call finds it, or does not.
-fn in_and_out(alloc: Global, last: Reply) -> Result<History, AllocError> {
+fn in_and_out(alloc: Global, last: Reply) -> Result<History, Fail> {
     let mut calls = Vec::new(alloc);
     for number in 0..TIMES {
         let (thread, at) = (number % MOST_THREADS, 4 * number);
@@ -25,7 +28,7 @@ fn in_and_out(alloc: Global, last: Reply) -> Result<History, AllocError> {
     }
     let bar = (4 * TIMES + 1, 4 * TIMES + 2);
     calls.push(ended(0, Call::Contains(FIVE), bar, last))?;
-    Ok(history_of(alloc, MOST_QUOTA, calls))
+    history_of(alloc, MOST_QUOTA, &calls)
 }
 
 /// The last call of these has no order by its end, and it is the one that is shown.
@@ -36,7 +39,7 @@ fn assert_last_is_shown<R: Abort>(rt: &R, alloc: Global, history: &History) -> R
     };
     assert!(rt; are_refused(alloc, history, &[], refusal)?);
     assert!(rt; has_no_order(alloc, history, &[], refusal)?);
-    let window = window_of_refusal(alloc, history, &[], refusal)?;
+    let window = window_in(alloc, history, &[])?;
     let calls = window.calls.as_slice();
     assert!(rt; calls == [2 * TIMES].as_slice(), "{}", calls.len());
     Ok(())
@@ -92,7 +95,7 @@ fn the_calls_of_a_key_that_never_rests_are_shown(rt: HostRuntime) -> Result<(), 
         calls.push(true_call(number % 2, call, 2 * number + 1, 2 * number + 4))?;
     }
     calls.push(true_call(2, Call::Remove(FIVE), 4 * TIMES + 1, 4 * TIMES + 5))?;
-    let history = history_of(alloc, MOST_QUOTA, calls);
+    let history = history_of(alloc, MOST_QUOTA, &calls)?;
     let Verdict::NotLinearizable(refusal) = judge_without_quota(alloc, &history, &[])? else {
         return Err(Fail::new("the calls are not refused"));
     };
@@ -118,13 +121,13 @@ fn the_calls_that_find_a_key_are_left_out(rt: HostRuntime) -> Result<(), Fail> {
         calls.push(ended(1, Call::Contains(FIVE), bar, reply))?;
     }
     let opening = Vec::from_slice(alloc, &[FIVE.0])?;
-    let history = History::from_calls(2, 0, opening, calls);
+    let history = made::history_of(alloc, 2, 0, opening, &calls)?;
     let refusal = Refusal {
         key: FIVE,
         moment: Some(2 * FINDS + 5),
     };
     assert!(rt; judge(alloc, &history, &[])? == Verdict::NotLinearizable(refusal));
-    let window = window_of_refusal(alloc, &history, &[], refusal)?;
+    let window = window_in(alloc, &history, &[])?;
     let (calls, wanted) = (window.calls.as_slice(), [0, FINDS + 1, FINDS + 2]);
     assert!(rt; calls == wanted.as_slice(), "{}", calls.len());
     Ok(())
@@ -134,7 +137,7 @@ fn the_calls_that_find_a_key_are_left_out(rt: HostRuntime) -> Result<(), Fail> {
 const MANY_KEYS: u32 = 500_000;
 
 /// The threads in turn make a call of each key, which answers true.
-fn of_each_key<F: Fn(Key) -> Call>(alloc: Global, call: F) -> Result<History, AllocError>
+fn of_each_key<F: Fn(Key) -> Call>(alloc: Global, call: F) -> Result<History, Fail>
     requires { F.IsAlwaysCallable call }
 {
     let mut calls = Vec::new(alloc);
@@ -142,16 +145,16 @@ fn of_each_key<F: Fn(Key) -> Call>(alloc: Global, call: F) -> Result<History, Al
         let thread = key % MOST_THREADS;
         calls.push(true_call(thread, call(Key(key)), 2 * key + 1, 2 * key + 2))?;
     }
-    Ok(history_of(alloc, MOST_QUOTA, calls))
+    history_of(alloc, MOST_QUOTA, &calls)
 }
 
 #[test]
 fn many_keys_are_put_in_and_stay(rt: HostRuntime) -> Result<(), Fail> {
     let alloc = rt.alloc();
     let history = of_each_key(alloc, Call::Add)?;
-    let mut keys = rising_keys(alloc, MANY_KEYS)?;
+    let keys = rising_keys(alloc, MANY_KEYS)?;
     assert!(rt; judge(alloc, &history, &keys)? == Verdict::Linearizable);
-    assert!(rt; keys.pop() == Some(MANY_KEYS - 1));
+    let keys = rising_keys(alloc, MANY_KEYS - 1)?;
     let lost = Refusal {
         key: Key(MANY_KEYS - 1),
         moment: None,
@@ -208,7 +211,7 @@ fn the_last_of_many_fulls_is_too_soon(rt: HostRuntime) -> Result<(), Fail> {
         calls.push(ended(thread, Call::Add(Key(MANY_KEYS)), bar, Reply::Full))?;
     }
     let keys = rising_keys(alloc, MOST_THREADS * QUOTA - 1)?;
-    let claim = claim_of(alloc, &history_of(alloc, QUOTA, calls), &keys)?;
+    let claim = claim_of(alloc, &history_of(alloc, QUOTA, &calls)?, &keys)?;
     assert!(rt; matches!(claim, Claim::OfFull(call) if call == MANY_KEYS - 1));
     Ok(())
 }

@@ -122,7 +122,7 @@ fn an_order_without_calls_is_found(rt: HostRuntime) -> Result<(), Fail> {
         (2, Call::Contains(Key(1))),
         (3, Call::Ceiling(KEY)),
     ] {
-        history.begin(thread, call, thread + 1)?;
+        history.begin(thread, call, thread.saturating_add(1))?;
         assert!(rt; is_found(alloc, &history, &[0, 1])?, "{call:?}");
     }
     Ok(())

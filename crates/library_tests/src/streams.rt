@@ -164,7 +164,7 @@ fn a_stream_of_calls_of_many_keys(rt: HostRuntime) -> Result<(), Fail> {
                 thread: number % 8,
                 call,
                 begun: at,
-                ended: Some((at + 1, Reply::True)),
+                ended: Some((at.saturating_add(1), Reply::True)),
             })?;
         }
     }

@@ -1,28 +1,22 @@
 //! Windows of refusals: how few of many calls they have.
+ghost use Rattle.std.specs.Prelude.{◌<◌, ◌≤◌, IfOk, length};
 ghost use Rattle.std.specs.List.Sorted.{IsStrictlyIncreasing};
 
 use crate::laid::{Sizes, laid};
-use crate::made::{FIVE, ended};
+use crate::made::{FIVE, ended, history_of, window_in};
 use crate::prelude::*;
 use lset_judge::Window;
 
-/// The window of a history that no order explains that leaves the keys.
-fn window_in(alloc: Global, history: &History, keys: &[u32]) -> Result<Window, Fail>
-    requires { IsStrictlyIncreasing keys.now }
-{
-    let Verdict::NotLinearizable(refusal) = judge(alloc, history, keys)? else {
-        return Err(Fail::new("the calls are not refused"));
-    };
-    Ok(window_of_refusal(alloc, history, keys, refusal)?)
-}
-
 /// The key 5, if it is there.
-fn five_if(alloc: Global, there: bool) -> Result<Vec<u32>, AllocError> {
-    let mut keys = Vec::new(alloc);
+fn five_if(alloc: Global, there: bool) -> Result<Vec<u32>, AllocError>
+    ensures rising { IfOk result (λ v. IsStrictlyIncreasing v.items) }
+    ensures few { IfOk result (λ v. length v.items < 2) }
+{
     if there {
-        keys.push(FIVE.0)?;
+        Vec::from_slice(alloc, &[FIVE.0])
+    } else {
+        Ok(Vec::new(alloc))
     }
-    Ok(keys)
 }
 
 /// The window of calls of key 5, which no order explains that leaves it so. The set opens with it, or empty.
@@ -32,7 +26,7 @@ fn window_of(
     calls: Vec<CallRecord>,
     left: bool,
 ) -> Result<Window, Fail> {
-    let history = History::from_calls(3, MOST_QUOTA, five_if(alloc, opening)?, calls);
+    let history = history_of(alloc, 3, MOST_QUOTA, five_if(alloc, opening)?, &calls)?;
     window_in(alloc, &history, &five_if(alloc, left)?)
 }
 
@@ -168,7 +162,9 @@ fn a_window_begins_before_a_call_that_says_nothing(rt: HostRuntime) -> Result<()
 }
 
 /// A thread adds the key and removes it so many times in turn, at the moments from 1 on.
-fn in_and_out(alloc: Global, times: u32) -> Result<Vec<CallRecord>, AllocError> {
+fn in_and_out(alloc: Global, times: u32) -> Result<Vec<CallRecord>, AllocError>
+    requires { times ≤ 1000 }
+{
     let mut calls = Vec::new(alloc);
     for number in 0..times {
         let at = 4 * number;
@@ -186,7 +182,10 @@ fn found_early(
     times: u32,
     looks: u32,
     apart: u32,
-) -> Result<Vec<CallRecord>, AllocError> {
+) -> Result<Vec<CallRecord>, AllocError>
+    requires times { times ≤ 1000 }
+    requires looks { looks ≤ 1000 }
+{
     let mut calls = in_and_out(alloc, times)?;
     let (at, behind) = (4 * times, 4 * times + 2 * looks);
     calls.push(ended(0, Call::Contains(FIVE), (at + 1, behind + 3), Reply::True))?;
@@ -202,8 +201,10 @@ fn found_early(
         Reply::False,
     ))?;
     for call in &mut calls {
-        call.begun *= apart;
-        call.ended = call.ended.map(|(end, reply)| (apart * end, reply));
+        call.begun = call.begun.saturating_mul(apart);
+        call.ended = call
+            .ended
+            .map(|(end, reply)| (end.saturating_mul(apart), reply));
     }
     Ok(calls)
 }
@@ -234,6 +235,14 @@ fn a_window_begins_not_long_before_a_call_that_is_needed(rt: HostRuntime) -> Res
     Ok(())
 }
 
+/// The moment at which the key has gone in and out so many times, and in if it shall be there.
+fn last_moment(times: u32, there: bool) -> u32
+    requires { times ≤ 1000 }
+    ensures { result ≤ 4002 }
+{
+    if there { 4 * times + 2 } else { 4 * times }
+}
+
 /// The key goes in and out so many times, and in if it shall be there. A call that finds it otherwise begins before so many others, which
 /// find it so, and ends after a call has begun that changes it and does not end. So that one has changed it, and it cannot be left as it was.
 fn changed_at_last(
@@ -241,13 +250,16 @@ fn changed_at_last(
     times: u32,
     looks: u32,
     there: bool,
-) -> Result<Vec<CallRecord>, AllocError> {
+) -> Result<Vec<CallRecord>, AllocError>
+    requires times { times ≤ 1000 }
+    requires looks { looks ≤ 1000 }
+{
     let mut calls = in_and_out(alloc, times)?;
-    let mut at = 4 * times;
     if there {
-        calls.push(ended(0, Call::Add(FIVE), (at + 1, at + 2), Reply::True))?;
-        at += 2;
+        let bar = (4 * times + 1, 4 * times + 2);
+        calls.push(ended(0, Call::Add(FIVE), bar, Reply::True))?;
     }
+    let at = last_moment(times, there);
     let behind = at + 2 * looks + 2;
     let bar = (at + 1, behind + 1);
     calls.push(ended(0, Call::Contains(FIVE), bar, found_if(!there)))?;
@@ -314,7 +326,7 @@ const UNUSED: Key = Key(1 << 31);
 fn drawn_rest(rng: &mut Pcg32, calls: &[CallRecord], at: Option<u32>) -> Rest {
     let first = rng.next_u32() as usize;
     for place in 0..calls.len() {
-        let call_record = calls[(first + place) % calls.len()];
+        let call_record = calls[first.wrapping_add(place) % calls.len()];
         if let Some((end, _)) = call_record.ended {
             let key = call_record.call.key();
             let rest = Rest {
@@ -379,7 +391,7 @@ fn needless(rng: &mut Pcg32, key: Key, there: bool, thread: u32, begun: u32) -> 
         thread,
         call,
         begun,
-        ended: reply.map(|reply| (begun + 1, reply)),
+        ended: reply.map(|reply| (begun.saturating_add(1), reply)),
     }
 }
 
@@ -391,9 +403,10 @@ fn wrong_calls(
     rest: Rest,
     there: bool,
     thread: u32,
-) -> Result<Wrong, AllocError> {
-    let (kind, many) = (rng.next_u32() % 5, rng.next_u32() % 6);
-    let behind = rest.at + 2 * many + 2;
+) -> Result<Wrong, Fail> {
+    let kind = rng.next_u32() % 5;
+    let many = rng.next_u32() % 6;
+    let behind = rest.at.saturating_add(2 * many + 2);
     let (call, reply, end) = match kind {
         0 => (Call::Contains(rest.key), found_if(!there), behind),
         1 => (turning(rest.key, !there), Reply::True, behind),
@@ -403,20 +416,26 @@ fn wrong_calls(
             if there { Reply::Full } else { Reply::False },
             behind,
         ),
-        _ => (turning(rest.key, there), Reply::True, behind + 4),
+        _ => (
+            turning(rest.key, there),
+            Reply::True,
+            behind.saturating_add(4),
+        ),
     };
     let mut calls = Vec::new(alloc);
     let mut shown = Vec::from_slice(alloc, &[0])?;
-    calls.push(ended(thread, call, (rest.at + 1, end), reply))?;
+    let bar = (rest.at.saturating_add(1), end);
+    calls.push(ended(thread, call, bar, reply))?;
     for number in 0..many {
-        let begun = rest.at + 2 * number + 2;
-        calls.push(needless(rng, rest.key, there, thread + number + 1, begun))?;
+        let begun = rest.at.saturating_add(2 * number + 2);
+        let thread = thread.saturating_add(number + 1);
+        calls.push(needless(rng, rest.key, there, thread, begun))?;
     }
     if kind == 4 {
-        for (begun, found) in [(behind, !there), (behind + 2, there)] {
-            let (call, bar) = (Call::Contains(rest.key), (begun, begun + 1));
-            shown.push(calls.len() as u32)?;
-            calls.push(ended(thread + 6, call, bar, found_if(found)))?;
+        for (begun, found) in [(behind, !there), (behind.saturating_add(2), there)] {
+            let (call, bar) = (Call::Contains(rest.key), (begun, begun.saturating_add(1)));
+            shown.push(u32::try_from(calls.len())?)?;
+            calls.push(ended(thread.saturating_add(6), call, bar, found_if(found)))?;
         }
     }
     Ok(Wrong {
@@ -433,7 +452,7 @@ fn change_that_is_lost(
     there: bool,
     thread: u32,
 ) -> Result<Wrong, AllocError> {
-    let bar = (rest.at + 1, rest.at + 2);
+    let bar = (rest.at.saturating_add(1), rest.at.saturating_add(2));
     let mut calls = Vec::new(alloc);
     calls.push(ended(thread, turning(rest.key, there), bar, Reply::True))?;
     Ok(Wrong {
@@ -445,7 +464,7 @@ fn change_that_is_lost(
 
 fn moment_moved(moment: u32, at: u32) -> u32 {
     if at < moment {
-        moment + FREE_MOMENTS
+        moment.saturating_add(FREE_MOMENTS)
     } else {
         moment
     }
@@ -469,7 +488,7 @@ fn with_calls_at(
     calls: &[CallRecord],
     others: &[CallRecord],
     at: u32,
-) -> Result<(Vec<CallRecord>, u32), AllocError> {
+) -> Result<(Vec<CallRecord>, u32), Fail> {
     let mut all = Vec::new(alloc);
     let place = calls.partition_point(|call_record| call_record.begun <= at);
     for call_record in &calls[..place] {
@@ -481,18 +500,45 @@ fn with_calls_at(
     for call_record in &calls[place..] {
         all.push(moved(call_record, at))?;
     }
-    Ok((all, place as u32))
+    Ok((all, u32::try_from(place)?))
+}
+
+/// A quota: none, a small one, or the largest.
+fn drawn_quota(rng: &mut Pcg32) -> u32
+    ensures { result ≤ 16384 }
+{
+    match rng.next_u32() % 4 {
+        0 => 0,
+        1 => 1,
+        2 => 2,
+        _ => MOST_QUOTA,
+    }
+}
+
+/// How many keys: a power of 2, up to 64.
+fn drawn_power(rng: &mut Pcg32) -> u32
+    ensures some { 0 < result }
+    ensures few { result ≤ 64 }
+{
+    match rng.next_u32() % 7 {
+        0 => 1,
+        1 => 2,
+        2 => 4,
+        3 => 8,
+        4 => 16,
+        5 => 32,
+        _ => 64,
+    }
 }
 
 /// Among drawn calls of up to 64 threads, with ceilings and with `full`, of a set that opens with up to 64 keys, the calls of one key have no
 /// order, or none that leaves it so: whether the window begins after the last change before them, and has those calls alone that are
 /// needed; and whether there is such a change.
 fn is_short(alloc: Global, rng: &mut Pcg32) -> Result<(bool, bool), Fail> {
-    let quotas = [0, 1, 2, MOST_QUOTA];
     let sizes = Sizes {
         threads: 1 + rng.next_u32() % (MOST_THREADS - FREE_THREADS),
-        quota: quotas[(rng.next_u32() % 4) as usize],
-        keys: 1 << (rng.next_u32() % 7),
+        quota: drawn_quota(rng),
+        keys: drawn_power(rng),
         kinds: 3 + rng.next_u32() % 2,
     };
     let laid = laid(alloc, rng, sizes)?;
@@ -509,10 +555,10 @@ fn is_short(alloc: Global, rng: &mut Pcg32) -> Result<(bool, bool), Fail> {
     };
     let (all, number) = with_calls_at(alloc, calls, &wrong.calls, rest.at)?;
     for shown in &mut wrong.shown {
-        *shown += number;
+        *shown = shown.saturating_add(number);
     }
     let threads = sizes.threads + FREE_THREADS;
-    let history = History::from_calls(threads, sizes.quota, opening, all);
+    let history = history_of(alloc, threads, sizes.quota, opening, &all)?;
     let window = window_in(alloc, &history, &laid.keys)?;
     let has_calls = window.calls.as_slice() == wrong.shown.as_slice();
     let is_its = window.key == rest.key && window.left == wrong.left;
@@ -523,11 +569,11 @@ const HISTORIES: u64 = 300;
 
 #[test]
 fn a_window_is_short_whatever_stands_beside_it(rt: HostRuntime) -> Result<(), Fail> {
-    let mut changed = 0;
+    let mut changed = 0u64;
     for seed in 0..HISTORIES {
         let (is_short, has_changes) = is_short(rt.alloc(), &mut Pcg32::seed_from_u64(seed))?;
         assert!(rt; is_short, "seed {seed}");
-        changed += u64::from(has_changes);
+        changed = changed.saturating_add(u64::from(has_changes));
     }
     assert!(rt; HISTORIES / 3 < changed, "{changed} keys had been changed");
     Ok(())
