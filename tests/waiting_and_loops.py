@@ -532,12 +532,18 @@ def each_loop_has_a_row(_case):
     told(loop_faults(LOOPS, once(sources).all_loops, once(sources).bodies))
 
 
+# What macros call: a pause, and what the slots of a thread are
+CALLED_IN_MACROS = {".failed", ".moved", "OwnSlots::of"}
+
+
 @test
 def no_macro_has_a_loop(_case):
-    """A macro's lines are in no function that this test reads."""
+    """A macro's lines are in no function that this test reads, so it has no loop and calls little."""
     for name, source in once(sources).files.items():
         macros = "".join(re.findall(r"^macro_rules! .*?^\}", source.text, re.M | re.S))
         same(re.findall(r"\b(?:for|while|loop)\b", macros), [], f"the loops of macros in crates/{name}: let a function have them")
+        called = {*re.findall(r"(?:\.|\w+::)?\b[a-z]\w*(?=\()", re.sub(r"//.*", "", macros))} - CALLED_IN_MACROS
+        same(sorted(called), [], f"what macros in crates/{name} call: let a function call it")
 
 
 @test
