@@ -72,7 +72,7 @@ function checkFile(ask, name) {
   check(`${name}: a check that is none`, inPage("faultOfTrace")(text.replace(`lacks ${name}`, "lacks luck"))?.startsWith("line 3: "));
 }
 
-// An answer that is no verdict, and no trace, is told as what it is.
+// An answer that is no verdict, and no trace, is shown as it stands.
 function checkTroubles(ask) {
   const stopped = (name) => (one, ...texts) => (one === name ? { status: 1, text: "the engine stopped: unreachable" } : ask(one, ...texts));
   const unchecked = verdictOnLacking(stopped("listset_check"), "lock", scheduleOf("lock"));

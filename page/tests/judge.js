@@ -225,7 +225,7 @@ function checkLongRecorded(ask) {
   check(`a right one: ${whole.says} ${whole.reasons}`, isRight && whole.reasons.length === 0);
   const cut = said("call 0 add 5 1 4 true\ncut");
   check(`one that was cut off: ${cut.says}`, cut.kind === "ok" && cut.says.includes(" explains this one call, whatever keys it leaves. "));
-  check(`of which that is told: ${cut.reasons}`, cut.reasons.length === 1 && cut.reasons[0].startsWith("The recording was cut off: "));
+  check(`its reason: ${cut.reasons}`, cut.reasons.length === 1 && cut.reasons[0].startsWith("The recording was cut off: "));
   const last = said("call 0 contains 5 9223372036854775806 9223372036854775807 false\nend");
   check(`the last moments: ${last.says}`, last.kind === "ok");
 }
@@ -273,7 +273,7 @@ function checkFaultsOfCalls(ask) {
   check(`an add above the quota: ${quota}`, isOfAdds);
 }
 
-// An answer of check or show that is no verdict is told, and is none.
+// An answer of check or show that is no verdict is shown, and counts as none.
 function checkTroubles(ask) {
   const answer = answerOfWord(exerciseOf(ask("listset_replay", ask("listset_example", "snip").text).text, "points"), "2-true,0-true,1-true");
   const turned = answerOfWord(answer.exercise, "1-true,0-true,2-true");

@@ -479,7 +479,7 @@ fn are_refused_alike(
     Ok(judge_without_quota(alloc, history, keys)? == refused && is_alike_cut_off)
 }
 
-/// What is told of a small history, whatever `judge` says: how many calls overlap a change, and the verdicts of a recording that was cut off
+/// What holds of a small history, whatever `judge` says: how many calls overlap a change, and the verdicts of a recording that was cut off
 /// and of a stream.
 fn assert_told<R: Abort>(
     rt: &R,

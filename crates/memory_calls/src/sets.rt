@@ -4,7 +4,7 @@ use crate::prelude::*;
 use lset_coarse::CoarseList;
 use lset_history::{History, HistoryFault, Oracle};
 use lset_optimistic::OptimisticList;
-use lset_steps::{Event, StepFault, World};
+use lset_steps::{Event, Machine, StepFault, World};
 use lset_words::{CallRecord, layout};
 
 /// Adds a key, at most 5: the add of that takes 15 steps, and what comes after the end of a call is refused as `Idle`.
@@ -29,40 +29,43 @@ const STARTS_OVER: [(Event, u32); 9] = [
     (Event::Go(0), 10),
 ];
 
+/// A new world, whose steps come next.
+fn new_world<M: Machine>(
+    alloc: Global,
+    calls: &mut Calls,
+    threads: u32,
+    quota: u32,
+) -> Result<World<M>> {
+    let sizes = layout(threads, quota)?;
+    let world = answer!(calls, "World::new", AllocError, World::new(alloc, sizes))?;
+    calls.announce(alloc, "World::step")?;
+    Ok(world)
+}
+
+/// The world has just these keys.
+fn world_has<M: Machine>(world: &World<M>, calls: &mut Calls, keys: &[u32]) -> Result<()> {
+    let content = answer!(calls, "World::content", AllocError, world.content())?;
+    check(content.as_slice() == keys)
+}
+
 /// An optimistic list's world, in which a call starts over.
 fn starts_over(alloc: Global, calls: &mut Calls) -> Result<()> {
-    let sizes = layout(2, 4)?;
-    let mut world: World<OptimisticList> = answer!(
-        calls,
-        "World::new",
-        AllocError,
-        World::new(alloc, sizes)
-    )?;
-    calls.announce(alloc, "World::step")?;
+    let mut world = new_world::<OptimisticList>(alloc, calls, 2, 4)?;
     for (event, times) in &STARTS_OVER {
         for _ in 0..*times {
             let _told = world.step(*event)?;
         }
     }
-    let content = answer!(calls, "World::content", AllocError, world.content())?;
-    check(content.as_slice() == [5].as_slice())
+    world_has(&world, calls, &[5])
 }
 
 /// A coarse list's world and its content, after five adds; and another list's.
 pub fn worlds(alloc: Global, calls: &mut Calls) -> Result<()> {
-    let sizes = layout(1, 5)?;
-    let mut world: World<CoarseList> = answer!(
-        calls,
-        "World::new",
-        AllocError,
-        World::new(alloc, sizes)
-    )?;
-    calls.announce(alloc, "World::step")?;
+    let mut world = new_world::<CoarseList>(alloc, calls, 1, 5)?;
     for key in 1..=5 {
         add(&mut world, key)?;
     }
-    let content = answer!(calls, "World::content", AllocError, world.content())?;
-    check(content.as_slice() == [1, 2, 3, 4, 5].as_slice())?;
+    world_has(&world, calls, &[1, 2, 3, 4, 5])?;
     if calls.refused.is_none() {
         starts_over(alloc, calls)?;
     }
