@@ -1,4 +1,5 @@
-"""How the time of each tool grows with its text, from a thousand events or calls to a million."""
+"""How the time of each tool grows with its text, from a thousand events or calls to a million. It makes these texts:
+schedules, and calls of threads that overlap, on a set of its own that knows each reply."""
 
 import itertools
 import os

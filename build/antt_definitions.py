@@ -1,5 +1,5 @@
-"""Reads definitions, in files .antt: the items of a file, and the definitions that a text names. All that
-follows definitions by their names does so here, so that all reach the same ones."""
+"""Reads definitions, in files .antt: the items of a file and its `use` lines, and the names in a text, each with the module that a `use` line
+takes it from. All that follows definitions by their names does so here, so that all reach the same ones."""
 
 import re
 from typing import NamedTuple

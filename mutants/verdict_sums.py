@@ -1,10 +1,10 @@
 """On what the verdict on a mutant depends: the functions that it changes with their contracts, and what these reach by names.
 
-From the names in a function's contract and body follow: the definitions of specs/ that their file brings in, and those that these
-name, in all crates; the contracts of the functions that it calls, and the types that it names, with their invariants and models. Comments,
-layout, proofs/, the bodies of other functions and the sentences of errors have no part in it. Names are followed by the `use` lines, as rattle does; a method goes by
-its name alone, in its crate and in those that the file names, so this takes in more than a verdict depends on, and nothing less that
-has a name.
+From the names in a function's contract and body follow: the definitions of specs/ that their file brings in, and those that these name,
+in all crates; the contracts of the functions that it calls, and the types that it names, with their invariants and models. Comments,
+layout, proofs/, the bodies of other functions and the sentences of errors have no part in it. Names are followed by the `use` lines, as
+rattle does; a method goes by its name alone, in its crate and in those that the file names, so this takes in more than a verdict depends
+on, and nothing less that has a name.
 """
 
 import collections

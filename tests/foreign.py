@@ -1,6 +1,6 @@
-"""The sets and the judge from C, C++, Rust and Python, as foreign/build has built them into foreign/out, or as they are below
-the folder LISTSET_PREFIX if that is set, and the programs of docs/FOREIGN.md. A sanitizer that does not work here is left out: those for addresses and undefined behaviour, and in threads that for
-races. They see the callers; the libraries are not compiled with them.
+"""The sets and the judge from C, C++, Rust and Python, as foreign/build has built them into foreign/out, or as they are below the folder
+LISTSET_PREFIX if that is set, and the programs of docs/FOREIGN.md. A sanitizer that does not work here is left out: those for addresses
+and undefined behaviour, and in threads that for races. They see the callers; the libraries are not compiled with them.
 """
 
 import ast

@@ -1,8 +1,9 @@
 """A body that gives up keeps its contract: no contract says when memory, a device or a thread is refused, so it may say so past any size.
 Here each place of the sources that answers so stands directly under the failure of a call that can fail so: the `else` of
 `let Ok(..) = call`, `if call.is_err()`, an arm `Err(_)` of `match call`, or an arm that names such a failure. ODD_PLACES has all others,
-each with what decides it. ASKED has what is asked of std by a number, for a number that no machine has is refused as well. Where contracts
-say little, the tables of tests/harness/function_steps.py have what a function does."""
+each with what decides it. VARIANTS has the variants of errors that are named so, and SAID what else each type of errors has. ASKED has
+what is asked of std by a number, for a number that no machine has is refused as well. Where contracts say little, the tables of
+tests/harness/function_steps.py have what a function does."""
 
 import re
 from dataclasses import dataclass

@@ -1,4 +1,5 @@
-"""The judge in a test of one's own: the forms of examples/in-a-test, by their own tests, in each language that is installed.
+"""The judge in a test of one's own: the forms of examples/in-a-test, by their own tests, in each language that is installed; if what a
+case needs is not, it is skipped.
 
 A right set has to be `ok` there, and three wrong ones refused; what hangs or crashes is judged up to there; a long run is kept in parts,
 which the program judges as one recording, whole and by keys. The verdict counts the calls of all runs, and a run that fails is named. If

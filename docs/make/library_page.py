@@ -1,4 +1,5 @@
-"""Parts of docs/LIBRARY.md, made from the sources: public functions, by signature and what their comments say first; faults."""
+"""Parts of docs/LIBRARY.md, made from the sources: public functions, by signature and what their comments say first, those
+of one type that are alike in one row; faults."""
 import functools
 import re
 

@@ -2,9 +2,9 @@
 """Which definitions of specs/ the public contracts of the libraries reach, so that whoever relies on these believes them.
 
 A contract is public if a library's root file gives its function, type or trait to other crates. From the names in its signature and its
-clauses the definitions of specs/ are followed, name by name, and the types and constants of Rust (reached_types.py). Lemmas are not
-followed: the check proves them. Nor are the invariants of types. One of proofs/ that is reached is a fault: what is to be believed stands
-in specs/.
+clauses the definitions of specs/ are followed, name by name, and the types and constants of Rust (reached_types.py). A definition is here
+the path of the module in which it stands, and its name. Lemmas are not followed: the check proves them. Nor are the invariants of types.
+One of proofs/ that is reached is a fault: what is to be believed stands in specs/.
 
     docs/make/reached_definitions.py --list    prints each file with the names in it that are reached and, of definitions, the others
 """

@@ -1,10 +1,9 @@
 """Pages of docs/ as HTML, to be read beside the page: each picture leads into its run, moment by moment, each line of a trace to its
-event, each row of a table to an event of an example that makes it (traces.js), where one does, and each broken list into
-the schedule that breaks it (examples/schedules/lacks).
+event, each row of a table to an event of an example that makes it (traces.js), where one does, and each broken list into the schedule
+that breaks it (examples/schedules/lacks). The address of such a link has the schedule in it, as page/address.js reads it.
 
-Of Markdown they have what those pages use: headings, paragraphs, lists, tables, blocks of code, and in a line code, bold, italic,
-links.
-"""
+Of Markdown they have what those pages use: headings, each with an anchor, paragraphs, lists, tables, blocks of code, and in a line code,
+bold, italic, links."""
 import html
 import os
 import re

@@ -1,6 +1,6 @@
 """A model of the pictures that `show` draws of a report and of recorded calls, by docs/TEXTS.md alone: the first fault of an order with the
 words for it, and else the first moments at which its calls can take effect. Besides calls of a set made at random, as a report, right or
-damaged, and as recorded calls."""
+damaged, its keys now and then in another order, and as recorded calls."""
 
 import collections
 import itertools
