@@ -1,4 +1,5 @@
-"""The crates of the repository, as crates.txt has them: which stand below which, how many lines they have, and a repository of some."""
+"""The crates of the repository, as crates.txt has them: which stand below which, how many lines they have and how much memory
+a check of each may take, and a repository of some."""
 
 import pathlib
 import re

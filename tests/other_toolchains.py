@@ -146,7 +146,8 @@ def a_crate_is_checked_over(other_kit, proved):
     same(anew in (told := other_kit.run("build/check_over", proved, "listset")), False, f"what is proved again, by {told}")
     source = other_kit.tree / "crates/small/src/lib.rt"
     source.write_text(SMALL.replace("if a < b { b }", "if a <= b { b }"))
-    same([other_kit.run("build/check_over", proved, "listset").count(anew) for _ in range(2)], [1, 0], "how often an edited library is proved")
+    told = [other_kit.run("build/check_over", proved, "listset", "--only", "") for _ in range(2)]
+    same([it.count(anew) for it in told], [1, 0], "how often an edited library is proved")
     source.write_text(SMALL.replace("{ b } else { a }", "{ a } else { b }"))
     told = other_kit.run("build/check_over", proved, "listset", status=1)
     same("it is not proved that" in told, True, f"an edit that is not proved is told, in {told}")

@@ -1,5 +1,5 @@
-"""A client of `listset serve`: what it sends on its connection, the answers that it reads, how it goes away; and the server that it speaks
-with, which is ended: for tests/serve_clients.py."""
+"""A client of `listset serve`: what it sends on its connection, the answers that it reads, one to each line, how it goes away; and the
+server that it speaks with, which is ended: for tests/serve_clients.py."""
 
 import contextlib
 import socket
