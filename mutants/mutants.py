@@ -195,10 +195,22 @@ def is_goal_of(line, function):
     return bool(is_proof) and not re.search(r"has no field|is not in scope|has no `|was not admitted", line)
 
 
+def is_own(function):
+    """Whether a function is none of a trait's, so that its place tells its name."""
+    return function.block is None or (function.block.kind == "impl" and not function.block.is_of_trait)
+
+
+def place_of(function):
+    """The modules in which a function stands, its type if it has one, and its name."""
+    return [*filter(None, module_of(function).split("/")), *([function.block.subject] if function.block else []), function.name]
+
+
 def words_of(changed, all_functions):
-    """The names by which rattle checks these functions alone, or nothing where one has none."""
+    """The names by which rattle checks these functions alone, or nothing where one has none. Of a trait's it is the module, if others
+    have its name too."""
     names = collections.Counter(it.name for it in all_functions)
-    words = [it.name if names[it.name] == 1 else module_of(it).replace("/", "::") for it in changed]
+    modules = {it: module_of(it).replace("/", "::") for it in changed}
+    words = [it.name if names[it.name] == 1 else "::".join(place_of(it)) if is_own(it) else modules[it] for it in changed]
     return words if all(words) else []
 
 
@@ -207,8 +219,7 @@ def words_of(changed, all_functions):
 
 def has_known_proof(function):
     """Whether the place of a function's proof is known by its source, and whether it may do without its body."""
-    is_own = function.block is None or (function.block.kind == "impl" and not function.block.is_of_trait)
-    return is_own and not function.text.endswith(";") and "-> impl " not in function.contract
+    return is_own(function) and not function.text.endswith(";") and "-> impl " not in function.contract
 
 
 def by_contracts(crate, folder, changed, texts):
@@ -222,7 +233,7 @@ def by_contracts(crate, folder, changed, texts):
         lines[it.first - 1 : it.last] = f"{it.contract} {{".split("\n") + [""] * (len(it.text.split("\n")) - len(it.contract.split("\n")))
         lines[it.last - 1] += " unreachable!() }"
         made[it.path] = "\n".join(lines)
-        place = [*filter(None, module_of(it).split("/")), *([it.block.subject] if it.block else []), it.name]
+        place = place_of(it)
         proof = "/".join(["proofs", *place])
         made |= {f"{proof}/{name}": None for name in WRITTEN_PROOFS if (folder / proof / name).exists()}
         made[f"{proof}/Proof.antt"] = TO_BE_PROVED.format(crate=crate, path=".".join(place), name=it.name)
