@@ -15,7 +15,7 @@ listset: line L: CAUSE, in a schedule; exit status 1
   Kind      Line 2 must be 'list' and one of coarse, fine, optimistic, lazy, lock-free; with --lacks NAME, the list of NAME.
   Threads   Line 3 must be 'threads' and a number from 1 to 64.
   Quota     Line 4 must be 'quota' and a number from 0 to 16384.
-  Event     Expected 'begin T CALL K' or 'go T N'. In version 2 'opening K' is allowed too, before the first event.
+  Event     Expected 'begin T CALL K' or 'go T N'. In version 2 'opening K' lines, one key each, may come before the first event.
   Number    Expected a number in range, without sign or leading zero: 5, not +5 or 05.
   TooMany   Up to this line there are more than 1000000 events, or more than 1048576 opening keys.
   Opening   Opening keys must increase; this one is not above the one before.
@@ -35,7 +35,8 @@ listset: line L: CAUSE, in a report; exit status 1
   Kind      As in a schedule.
   Threads   As in a schedule.
   Quota     As in a schedule.
-  Line      This line cannot come here. The order is: 'opening', 'call', 'place' and 'key' lines, then 'end'.
+  Line      Expected 'opening K', 'call ID T CALL K BEGIN END REPLY', 'place ID REPLY' and 'key K', in this order, then 'end'. For example
+            'call 0 1 add 5 3 9 true', or while the call is pending 'call 0 1 add 5 3 open'.
   Number    As in a schedule.
   TooMany   There are more than 1048576 'opening', 1000000 'call', 1000000 'place' or 1048576 'key' lines (2097152 in version 2).
   Opening   Opening keys must increase; this one is not above the one before.
@@ -47,19 +48,21 @@ listset: line L: CAUSE, in recorded calls; exit status 1
   Kind      As in a schedule.
   Threads   As in a schedule.
   Quota     As in a schedule; or with this add its thread has more adds that changed the set than the quota.
-  Line      This line cannot come here. The order is: 'opening', 'call' and 'key' lines, then 'end'; or 'cut' for 'key' lines and 'end'.
+  Line      Expected 'opening K', 'call T CALL K BEGIN POINT END REPLY' and 'key K', in this order, then 'end'; or 'cut' for 'key' lines and
+            'end'. For example 'call 1 add 5 3 - 9 true', or while the call is pending 'call 1 add 5 3 - - -'.
   Number    Moments are numbers from 1 to 4294967295; all else as in a schedule.
   TooMany   There are more than 1048576 'opening', 1000000 'call' or 2097152 'key' lines.
   Opening   Opening keys must increase; this one is not above the one before.
   History   There is no such thread; or the call does not end after it begins; or a line above has one of its moments, or an
             overlapping call of the same thread.
   Point     The point is not between begin and end. Or an add or remove that returned true has no point, and needs one: judge needs
-            points if a call is a ceiling or answered full.
+            points if a call is a ceiling or answered full; report and show also if a thread has more such adds than the quota.
   NotEnded  The input ends before the line 'end' or 'cut', or the line does not end with a newline.
 
 listset: line L: CAUSE, in recorded calls of version 3; exit status 1
-  Line      This line cannot come here, or has more than 128 bytes. The order is: 'opening', 'call' and 'key' lines, then 'end'; or 'cut' for
-            'key' lines and 'end'. A reply is 'true' or 'false'.
+  Line      Expected 'opening K', 'call T CALL K BEGIN END REPLY' and 'key K', in this order, then 'end'; or 'cut' for 'key' lines and 'end'.
+            For example 'call 1 add 5 3 9 true', or while the call is pending 'call 1 add 5 3 - -'. A reply is 'true' or 'false', and a line
+            has at most 128 bytes.
   Number    Moments are numbers from 1 to 9223372036854775807; all else as in a schedule.
   Opening   Opening keys must increase, and so must keys; this one is not above the one before.
   History   The call does not end after it begins, or does not begin after each call above; or a line above has one of its moments, or a
