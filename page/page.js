@@ -4282,8 +4282,10 @@ function setProgress(id, done, total) {
   byId(id).setAttribute("aria-label", `${done} of ${total}`);
 }
 
+const ONE_COLUMN = 800; // pixels, as in style/views.css: in a window that is no wider the parts of a slide stand below one another
+
 function slideZoom(width, height) {
-  if (width <= 560) return 1;
+  if (width <= ONE_COLUMN) return 1;
   return Math.max(0.75, Math.min(3, width / 1280, height / 720));
 }
 
@@ -6091,6 +6093,82 @@ function beginControls(thread) {
 return { drawMovesNow, rowFor };
 })();
 
+// page/visit.js
+const $page_visit = (() => {
+const { keepWork } = $page_kept;
+const { page, tell } = $page_now;
+const { isAtMap, where } = $page_places;
+const { addressOf, exampleAddress, warningOf } = $run_address;
+const { escaped } = $run_markup;
+const MOMENT = 400; // milliseconds: the bar follows once nothing has moved for so long, since browsers refuse quick changes of it
+const visit = { timer: 0, text: null, isRead: false, naming: (address) => address };
+
+function ownAddress() {
+  const address = page.example === "" ? addressOf(page.text, page.count, page.lacks) : exampleAddress(page.example, page.count);
+  const placed = visit.naming(address);
+  return placed === null || page.view === null ? placed : `${placed}&view=${page.view}`;
+}
+
+function keepSoon() {
+  clearTimeout(visit.timer);
+  visit.timer = setTimeout(keepNow, MOMENT);
+}
+
+function keepNow() {
+  clearTimeout(visit.timer);
+  keepWork();
+  if (visit.isRead && page.isRun && page.text !== "" && !isAtMap()) setAddress();
+}
+
+function keepView() {
+  const parts = location.hash.slice(1).split("&").filter((part) => part !== "" && !part.startsWith("view="));
+  if (page.view !== null) parts.push(`view=${page.view}`);
+  const hash = parts.length === 0 ? "" : `#${parts.join("&")}`;
+  history.replaceState(history.state, "", location.pathname + location.search + hash);
+}
+
+function keepAddressOf(activity, address) {
+  clearTimeout(visit.timer);
+  const own = page.view === null ? address : `${address}&view=${page.view}`;
+  visit.timer = setTimeout(() => where.activity === activity && history.replaceState(null, "", own), MOMENT);
+}
+
+function setAddress() {
+  const address = ownAddress();
+  const isNew = visit.text !== null && visit.text !== page.text;
+  visit.text = page.text;
+  if (!isNew && location.hash === (address ?? "")) return;
+  const kept = address === null ? { text: page.text, count: page.count, lacks: page.lacks } : null;
+  const place = address ?? location.pathname + location.search;
+  try {
+    history[isNew ? "pushState" : "replaceState"](kept, "", place);
+  } catch {
+    history[isNew ? "pushState" : "replaceState"](null, "", place); // a state may be too large for a browser
+  }
+}
+
+const linkTo = (address) => location.href.replace(/#.*$/, "") + address;
+
+async function copyLink() {
+  const address = page.isRun ? ownAddress() : null;
+  if (address === null) return tell("This schedule has no link: it is refused, or too long for an address. Save it as a file.");
+  const link = linkTo(address);
+  const shown = `<code>${escaped(link)}</code>${warningOf(link)}`;
+  tell(`Copy this link: ${shown}`);
+  if (await copied(link)) tell(`The link is copied: ${shown}`);
+}
+
+async function copied(text) {
+  try {
+    await navigator.clipboard.writeText(text);
+    return true;
+  } catch {
+    return false;
+  }
+}
+return { visit, ownAddress, keepSoon, keepNow, keepView, keepAddressOf, linkTo, copyLink, copied };
+})();
+
 // page/keys.js
 const $page_keys = (() => {
 const { byId } = $page_dom;
@@ -6099,6 +6177,7 @@ const { page, show, tell } = $page_now;
 const { isAtMap, setView, where } = $page_places;
 const { goByHand, goToTurn, togglePlay } = $page_play;
 const { isAtRest, oneStep, stepsToEnd, stepsToRow, tellRest } = $page_steps;
+const { keepView } = $page_visit;
 const { redo, undo } = $page_work;
 const ASKS = {
   e: { told: "Steps to the end of a call: of which thread? Press its digit, or t and two digits.", deed: (thread) => stepsToEnd(thread) },
@@ -6166,79 +6245,13 @@ function toggleKeys() {
 }
 
 function toggleLecture() {
+  const isLeft = document.activeElement === byId("leave");
   setView(page.view === null ? "lecture" : null);
+  keepView();
   show();
+  if (isLeft) byId(where.activity === "compare" ? "sides-lecture" : "lecture").focus();
 }
 return { keysOf, pressKey, toggleKeys, toggleLecture };
-})();
-
-// page/visit.js
-const $page_visit = (() => {
-const { keepWork } = $page_kept;
-const { page, tell } = $page_now;
-const { isAtMap, where } = $page_places;
-const { addressOf, exampleAddress, warningOf } = $run_address;
-const { escaped } = $run_markup;
-const MOMENT = 400; // milliseconds: the bar follows once nothing has moved for so long, since browsers refuse quick changes of it
-const visit = { timer: 0, text: null, isRead: false, naming: (address) => address };
-
-function ownAddress() {
-  const address = page.example === "" ? addressOf(page.text, page.count, page.lacks) : exampleAddress(page.example, page.count);
-  const placed = visit.naming(address);
-  return placed === null || page.view === null ? placed : `${placed}&view=${page.view}`;
-}
-
-function keepSoon() {
-  clearTimeout(visit.timer);
-  visit.timer = setTimeout(keepNow, MOMENT);
-}
-
-function keepNow() {
-  clearTimeout(visit.timer);
-  keepWork();
-  if (visit.isRead && page.isRun && page.text !== "" && !isAtMap()) setAddress();
-}
-
-function keepAddressOf(activity, address) {
-  clearTimeout(visit.timer);
-  const own = page.view === null ? address : `${address}&view=${page.view}`;
-  visit.timer = setTimeout(() => where.activity === activity && history.replaceState(null, "", own), MOMENT);
-}
-
-function setAddress() {
-  const address = ownAddress();
-  const isNew = visit.text !== null && visit.text !== page.text;
-  visit.text = page.text;
-  if (!isNew && location.hash === (address ?? "")) return;
-  const kept = address === null ? { text: page.text, count: page.count, lacks: page.lacks } : null;
-  const place = address ?? location.pathname + location.search;
-  try {
-    history[isNew ? "pushState" : "replaceState"](kept, "", place);
-  } catch {
-    history[isNew ? "pushState" : "replaceState"](null, "", place); // a state may be too large for a browser
-  }
-}
-
-const linkTo = (address) => location.href.replace(/#.*$/, "") + address;
-
-async function copyLink() {
-  const address = page.isRun ? ownAddress() : null;
-  if (address === null) return tell("This schedule has no link: it is refused, or too long for an address. Save it as a file.");
-  const link = linkTo(address);
-  const shown = `<code>${escaped(link)}</code>${warningOf(link)}`;
-  tell(`Copy this link: ${shown}`);
-  if (await copied(link)) tell(`The link is copied: ${shown}`);
-}
-
-async function copied(text) {
-  try {
-    await navigator.clipboard.writeText(text);
-    return true;
-  } catch {
-    return false;
-  }
-}
-return { visit, ownAddress, keepSoon, keepNow, keepAddressOf, linkTo, copyLink, copied };
 })();
 
 // run/sides.js
@@ -8703,7 +8716,7 @@ function listenToBar() {
   byId("slider").oninput = () => goByHand(Number(byId("slider").value));
   byId("keys").onclick = toggleKeys;
   byId("skip").onclick = skipToRun;
-  byId("lecture").onclick = toggleLecture;
+  for (const name of ["lecture", "leave"]) byId(name).onclick = toggleLecture;
   byId("link-here").onclick = copyLink;
   byId("long-cancel").onclick = cancelLong;
 }
@@ -9080,5 +9093,5 @@ if (typeof document !== "undefined") startPage(); // in node there is none
 return {  };
 })();
 
-return Object.assign({}, $made_classics, $made_rows, $page_dom, $run_faults, $run_markup, $run_trace, $run_judged, $run_schedule_text, $run_state, $run_sentences, $page_now, $page_kept, $activities_broken_kept, $data_levels, $made_traces, $page_example, $engine_engine, $engine_worker, $page_long_run, $page_play, $run_broken, $page_run_text, $draw_glide, $draw_labels, $draw_history, $draw_list, $made_code, $draw_listing, $draw_room, $draw_table, $draw_threads, $page_places, $page_view, $run_moments, $course_goal_words, $course_course_text, $run_draft, $course_lesson, $page_work, $page_menu, $run_address, $activities_break_map, $draw_judged, $activities_judging, $activities_break_level, $page_steps, $page_moves, $page_keys, $page_visit, $run_sides, $activities_compare, $made_book, $activities_kept_lessons, $activities_learn_map, $course_course_link, $run_check_trace, $page_files, $activities_courses, $course_hand_in, $activities_lessons, $run_recorded, $activities_recorded, $data_book_code, $run_seed, $activities_watch, $activities_judge_map, $activities_read, $draw_code_column, $page_save_picture, $page_controls, $activities_open);
+return Object.assign({}, $made_classics, $made_rows, $page_dom, $run_faults, $run_markup, $run_trace, $run_judged, $run_schedule_text, $run_state, $run_sentences, $page_now, $page_kept, $activities_broken_kept, $data_levels, $made_traces, $page_example, $engine_engine, $engine_worker, $page_long_run, $page_play, $run_broken, $page_run_text, $draw_glide, $draw_labels, $draw_history, $draw_list, $made_code, $draw_listing, $draw_room, $draw_table, $draw_threads, $page_places, $page_view, $run_moments, $course_goal_words, $course_course_text, $run_draft, $course_lesson, $page_work, $page_menu, $run_address, $activities_break_map, $draw_judged, $activities_judging, $activities_break_level, $page_steps, $page_moves, $page_visit, $page_keys, $run_sides, $activities_compare, $made_book, $activities_kept_lessons, $activities_learn_map, $course_course_link, $run_check_trace, $page_files, $activities_courses, $course_hand_in, $activities_lessons, $run_recorded, $activities_recorded, $data_book_code, $run_seed, $activities_watch, $activities_judge_map, $activities_read, $draw_code_column, $page_save_picture, $page_controls, $activities_open);
 })();

@@ -140,7 +140,7 @@ function checkRoom() {
     const [wide, high] = [width / zoom, height / zoom];
     check(`a slide at ${width} x ${height}: ${wide} x ${high}`, wide > 1279.9 && high > 719.9 && Math.min(wide - 1280, high - 720) < 0.1);
   }
-  check("on a phone a slide is no smaller than the rest", slideZoom(390, 844) === 1);
+  check("in one column a slide is no smaller than the rest", [390, 700, 800].every((width) => slideZoom(width, 844) === 1));
   const trace = (total) => ({ kind: "lazy", threads: 2, total });
   const size = { width: 600, height: 200 };
   const grown = (run) => roomOf(run, () => size, size, 800, true);
