@@ -3056,14 +3056,17 @@ function drawCalls(trace, scale) {
   return tag("svg", frame, ...lanes, drawCursor(scale, height, scale.y(0) - scale.bar / 2 - 2), ...stems, ...bars, ...points, signs);
 }
 
+const KEY_WIDTH = 8; // pixels, of each character of the contents
+
 function drawContent(part, scale) {
   const left = part.from <= scale.first ? HISTORY_LEFT - 6 : scale.x(part.from);
   const end = part.to > scale.last ? scale.edge : scale.x(part.to);
-  const right = scale.now < part.to && scale.now <= scale.last ? Math.max(left, scale.x(Math.max(scale.now, scale.first))) : end;
+  const isLast = scale.now < part.to; // of what is shown: right of it nothing stands
+  const shown = isLast && scale.now <= scale.last ? Math.max(left, scale.x(Math.max(scale.now, scale.first))) : end;
   const all = `{${part.keys.join(", ")}}`;
-  const free = scale.now < part.to ? scale.edge : right; // right of what is shown now nothing stands
-  const room = Math.floor((free - left - 10) / 8);
+  const room = Math.floor(((isLast ? scale.edge : shown) - left - 10) / KEY_WIDTH);
   const text = all.length <= room ? all : room > 6 ? `${all.slice(0, room - 2)}…` : "";
+  const right = text === "" ? shown : Math.max(shown, left + 10 + KEY_WIDTH * text.length);
   const isNow = scale.count < part.to && (scale.count >= part.from || part.from <= scale.first);
   return tag(
     "g",
@@ -3080,17 +3083,23 @@ function drawWindow(scale, total, x) {
   return label({ class: "note", y: 42, ...place }, `events ${scale.first} to ${scale.last} of ${total}`);
 }
 
+function nameOfContents({ lacks }) {
+  if (lacks === null) return label({ class: "name", x: 6, y: 17 }, "set");
+  const lines = ["set by", "points"].map((words, line) => label({ class: "name", x: 2, y: 10 + 12 * line }, words));
+  return tag("g", {}, title(`${BY_POINTS}; the list may have other keys`), ...lines);
+}
+const BY_POINTS = "the set by the linearization points of the calls";
+
 function drawContents(trace, scale) {
   const told = contentsIn(trace, scale.first, scale.last).filter((part) => part.from <= Math.max(scale.now, scale.first));
   const parts = told.map((part) => drawContent(part, scale));
   const now = told.findLast((part) => part.from <= Math.max(scale.count, scale.first));
   const x = Math.min(Math.max(scale.x(scale.count), HISTORY_LEFT + 12), scale.width - 44);
   const number = scale.count > 0 ? label({ class: "number", x, y: 42 }, `event ${scale.count}`) : "";
-  const name = label({ class: "name", x: 6, y: 17 }, "set");
-  const what = trace.lacks === null ? "the set" : "the set by the linearization points of the calls";
+  const what = trace.lacks === null ? "the set" : BY_POINTS;
   const words = `${what} after event ${scale.count}: {${now.keys.slice(0, 40).join(", ")}}`;
   const frame = { width: scale.width, height: 50, viewBox: `0 0 ${scale.width} 50`, role: "img", "aria-label": words };
-  return tag("svg", frame, name, ...parts, drawCursor(scale, 24), number, drawWindow(scale, trace.total, x));
+  return tag("svg", frame, nameOfContents(trace), ...parts, drawCursor(scale, 24), number, drawWindow(scale, trace.total, x));
 }
 
 function drawOrder(trace, count, hides = false) {
@@ -5207,6 +5216,7 @@ return { fillWorks, chooseInList, pickExample, pickKept, showQuestion, BREAK };
 // run/address.js
 const $run_address = (() => {
 const { LACKING } = $made_classics;
+const { LISTS } = $made_rows;
 const LONGEST_ADDRESS = 30000; // characters; a longer schedule has no address
 const SHORT_WORDS = { begin: "b", go: "g" };
 const LONG_WORDS = { b: "begin", g: "go" };
@@ -5220,7 +5230,7 @@ const ADDRESS_PARTS = {
   opening: /^\d+(\.\d+)*$/,
   s: new RegExp(`^(${SHORT_EVENT}(,${SHORT_EVENT})*)?$`),
   event: /^\d+$/,
-  lacks: /^\d+$/,
+  lacks: /^(\d+|[a-z-]+)$/,
   view: /^(lecture|list|history)$/,
   course: /^[A-Za-z0-9_-]+$/,
   sides: /^(coarse|fine|optimistic|lazy|lock-free)\.(coarse|fine|optimistic|lazy|lock-free)$/,
@@ -5274,10 +5284,9 @@ function isAddressOf(address, text) {
 const exampleAddress = (name, event) => `#example=${name}&event=${event}`;
 
 function readAddress(hash) {
-  const { view = null, course = null, lacks: number, seed = null, ...rest } = partsOf(hash);
+  const { view = null, course = null, lacks: which, seed = null, ...rest } = partsOf(hash);
   const { place, isJudged, parts } = placeOf(rest, seed);
-  const lacks = number === undefined ? null : Object.keys(LACKING)[number - 1];
-  if (lacks === undefined) throw new AddressFault(`there is no broken list ${number}`);
+  const lacks = which === undefined ? null : lackingNamed(which, parts);
   const own = { view, course, sides: null, lacks, place, seed, isJudged };
   const named = { example: parts.example ?? null, text: null, event: Number(parts.event ?? 0), ...own };
   if (parts.sides !== undefined) return { ...named, sides: parts };
@@ -5287,6 +5296,17 @@ function readAddress(hash) {
   }
   if (ofSchedule.length > 0) named.text = textOfParts(parts);
   return named;
+}
+
+function lackingNamed(which, { list, example }) {
+  const names = Object.keys(LACKING);
+  const lacks = names.includes(which) ? which : names[which - 1];
+  if (lacks === undefined) {
+    throw new AddressFault(`there is no broken list "${which}": expected 1 to ${names.length}, or a name that "listset show --help" prints`);
+  }
+  if (list === LACKING[lacks]) return lacks;
+  const named = list !== undefined ? `list=${list}` : example !== undefined ? `example=${example}` : "no list";
+  throw new AddressFault(`lacks=${which} is a broken ${LISTS[LACKING[lacks]].name}, and the address has ${named}`);
 }
 
 function placeOf(parts, seed) {
