@@ -98,6 +98,8 @@ async function driveMovesOfPlaces() {
   }
   frame.contentWindow.location.hash = "#learn=lost-pred";
   await until(() => isSeen("lessons"));
+  const gap = part("lesson-conditions").getBoundingClientRect().top - part("lesson-verdict").getBoundingClientRect().top;
+  check(`no empty line above what a solution shows: ${gap}`, gap > 15 && gap < 45);
   press("0");
   const tried = inPage("page.text");
   runSchedule([...header("coarse", 3), "begin 0 add 5"]);
