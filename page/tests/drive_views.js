@@ -62,9 +62,9 @@ async function driveViews() {
   check("the history alone", !isSeen("list") && isSeen("calls"));
   await showView("#example=snip&event=12", "event 12 ");
   check("and all again", isSeen("list") && isSeen("calls") && isSeen("top"));
-  await driveLeaving();
   drivePicture();
   driveHiding();
+  await driveLeaving();
   if (frame.clientWidth === 1300) driveOneScreen();
   if (frame.clientWidth === 1300) await driveSteady();
   await driveListing();

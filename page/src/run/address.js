@@ -21,7 +21,7 @@ const ADDRESS_PARTS = {
   opening: /^\d+(\.\d+)*$/,
   s: new RegExp(`^(${SHORT_EVENT}(,${SHORT_EVENT})*)?$`),
   event: /^\d+$/,
-  lacks: /^(\d+|[a-z-]+)$/,
+  lacks: /^(\d+|[A-Za-z-]+)$/,
   view: /^(lecture|list|history)$/,
   course: /^[A-Za-z0-9_-]+$/,
   sides: /^(coarse|fine|optimistic|lazy|lock-free)\.(coarse|fine|optimistic|lazy|lock-free)$/,
