@@ -3056,14 +3056,17 @@ function drawCalls(trace, scale) {
   return tag("svg", frame, ...lanes, drawCursor(scale, height, scale.y(0) - scale.bar / 2 - 2), ...stems, ...bars, ...points, signs);
 }
 
+const KEY_WIDTH = 8; // pixels, of each character of the contents
+
 function drawContent(part, scale) {
   const left = part.from <= scale.first ? HISTORY_LEFT - 6 : scale.x(part.from);
   const end = part.to > scale.last ? scale.edge : scale.x(part.to);
-  const right = scale.now < part.to && scale.now <= scale.last ? Math.max(left, scale.x(Math.max(scale.now, scale.first))) : end;
+  const isLast = scale.now < part.to; // of what is shown: right of it nothing stands
+  const shown = isLast && scale.now <= scale.last ? Math.max(left, scale.x(Math.max(scale.now, scale.first))) : end;
   const all = `{${part.keys.join(", ")}}`;
-  const free = scale.now < part.to ? scale.edge : right; // right of what is shown now nothing stands
-  const room = Math.floor((free - left - 10) / 8);
+  const room = Math.floor(((isLast ? scale.edge : shown) - left - 10) / KEY_WIDTH);
   const text = all.length <= room ? all : room > 6 ? `${all.slice(0, room - 2)}…` : "";
+  const right = text === "" ? shown : Math.max(shown, left + 10 + KEY_WIDTH * text.length);
   const isNow = scale.count < part.to && (scale.count >= part.from || part.from <= scale.first);
   return tag(
     "g",
@@ -3080,17 +3083,23 @@ function drawWindow(scale, total, x) {
   return label({ class: "note", y: 42, ...place }, `events ${scale.first} to ${scale.last} of ${total}`);
 }
 
+function nameOfContents({ lacks }) {
+  if (lacks === null) return label({ class: "name", x: 6, y: 17 }, "set");
+  const lines = ["set by", "points"].map((words, line) => label({ class: "name", x: 2, y: 10 + 12 * line }, words));
+  return tag("g", {}, title(`${BY_POINTS}; the list may have other keys`), ...lines);
+}
+const BY_POINTS = "the set by the linearization points of the calls";
+
 function drawContents(trace, scale) {
   const told = contentsIn(trace, scale.first, scale.last).filter((part) => part.from <= Math.max(scale.now, scale.first));
   const parts = told.map((part) => drawContent(part, scale));
   const now = told.findLast((part) => part.from <= Math.max(scale.count, scale.first));
   const x = Math.min(Math.max(scale.x(scale.count), HISTORY_LEFT + 12), scale.width - 44);
   const number = scale.count > 0 ? label({ class: "number", x, y: 42 }, `event ${scale.count}`) : "";
-  const name = label({ class: "name", x: 6, y: 17 }, "set");
-  const what = trace.lacks === null ? "the set" : "the set by the linearization points of the calls";
+  const what = trace.lacks === null ? "the set" : BY_POINTS;
   const words = `${what} after event ${scale.count}: {${now.keys.slice(0, 40).join(", ")}}`;
   const frame = { width: scale.width, height: 50, viewBox: `0 0 ${scale.width} 50`, role: "img", "aria-label": words };
-  return tag("svg", frame, name, ...parts, drawCursor(scale, 24), number, drawWindow(scale, trace.total, x));
+  return tag("svg", frame, nameOfContents(trace), ...parts, drawCursor(scale, 24), number, drawWindow(scale, trace.total, x));
 }
 
 function drawOrder(trace, count, hides = false) {
@@ -4282,8 +4291,10 @@ function setProgress(id, done, total) {
   byId(id).setAttribute("aria-label", `${done} of ${total}`);
 }
 
+const ONE_COLUMN = 800; // pixels, as in style/views.css: in a window that is no wider the parts of a slide stand below one another
+
 function slideZoom(width, height) {
-  if (width <= 560) return 1;
+  if (width <= ONE_COLUMN) return 1;
   return Math.max(0.75, Math.min(3, width / 1280, height / 720));
 }
 
@@ -5205,6 +5216,7 @@ return { fillWorks, chooseInList, pickExample, pickKept, showQuestion, BREAK };
 // run/address.js
 const $run_address = (() => {
 const { LACKING } = $made_classics;
+const { LISTS } = $made_rows;
 const LONGEST_ADDRESS = 30000; // characters; a longer schedule has no address
 const SHORT_WORDS = { begin: "b", go: "g" };
 const LONG_WORDS = { b: "begin", g: "go" };
@@ -5218,7 +5230,7 @@ const ADDRESS_PARTS = {
   opening: /^\d+(\.\d+)*$/,
   s: new RegExp(`^(${SHORT_EVENT}(,${SHORT_EVENT})*)?$`),
   event: /^\d+$/,
-  lacks: /^\d+$/,
+  lacks: /^(\d+|[A-Za-z-]+)$/,
   view: /^(lecture|list|history)$/,
   course: /^[A-Za-z0-9_-]+$/,
   sides: /^(coarse|fine|optimistic|lazy|lock-free)\.(coarse|fine|optimistic|lazy|lock-free)$/,
@@ -5272,10 +5284,9 @@ function isAddressOf(address, text) {
 const exampleAddress = (name, event) => `#example=${name}&event=${event}`;
 
 function readAddress(hash) {
-  const { view = null, course = null, lacks: number, seed = null, ...rest } = partsOf(hash);
+  const { view = null, course = null, lacks: which, seed = null, ...rest } = partsOf(hash);
   const { place, isJudged, parts } = placeOf(rest, seed);
-  const lacks = number === undefined ? null : Object.keys(LACKING)[number - 1];
-  if (lacks === undefined) throw new AddressFault(`there is no broken list ${number}`);
+  const lacks = which === undefined ? null : lackingNamed(which, parts);
   const own = { view, course, sides: null, lacks, place, seed, isJudged };
   const named = { example: parts.example ?? null, text: null, event: Number(parts.event ?? 0), ...own };
   if (parts.sides !== undefined) return { ...named, sides: parts };
@@ -5285,6 +5296,17 @@ function readAddress(hash) {
   }
   if (ofSchedule.length > 0) named.text = textOfParts(parts);
   return named;
+}
+
+function lackingNamed(which, { list, example }) {
+  const names = Object.keys(LACKING);
+  const lacks = names.includes(which) ? which : names[which - 1];
+  if (lacks === undefined) {
+    throw new AddressFault(`there is no broken list "${which}": expected 1 to ${names.length}, or a name that "listset show --help" prints`);
+  }
+  if (list === LACKING[lacks]) return lacks;
+  const named = list !== undefined ? `list=${list}` : example !== undefined ? `example=${example}` : "no list";
+  throw new AddressFault(`lacks=${which} is a broken ${LISTS[LACKING[lacks]].name}, and the address has ${named}`);
 }
 
 function placeOf(parts, seed) {
@@ -6091,6 +6113,82 @@ function beginControls(thread) {
 return { drawMovesNow, rowFor };
 })();
 
+// page/visit.js
+const $page_visit = (() => {
+const { keepWork } = $page_kept;
+const { page, tell } = $page_now;
+const { isAtMap, where } = $page_places;
+const { addressOf, exampleAddress, warningOf } = $run_address;
+const { escaped } = $run_markup;
+const MOMENT = 400; // milliseconds: the bar follows once nothing has moved for so long, since browsers refuse quick changes of it
+const visit = { timer: 0, text: null, isRead: false, naming: (address) => address };
+
+function ownAddress() {
+  const address = page.example === "" ? addressOf(page.text, page.count, page.lacks) : exampleAddress(page.example, page.count);
+  const placed = visit.naming(address);
+  return placed === null || page.view === null ? placed : `${placed}&view=${page.view}`;
+}
+
+function keepSoon() {
+  clearTimeout(visit.timer);
+  visit.timer = setTimeout(keepNow, MOMENT);
+}
+
+function keepNow() {
+  clearTimeout(visit.timer);
+  keepWork();
+  if (visit.isRead && page.isRun && page.text !== "" && !isAtMap()) setAddress();
+}
+
+function keepView() {
+  const parts = location.hash.slice(1).split("&").filter((part) => part !== "" && !part.startsWith("view="));
+  if (page.view !== null) parts.push(`view=${page.view}`);
+  const hash = parts.length === 0 ? "" : `#${parts.join("&")}`;
+  history.replaceState(history.state, "", location.pathname + location.search + hash);
+}
+
+function keepAddressOf(activity, address) {
+  clearTimeout(visit.timer);
+  const own = page.view === null ? address : `${address}&view=${page.view}`;
+  visit.timer = setTimeout(() => where.activity === activity && history.replaceState(null, "", own), MOMENT);
+}
+
+function setAddress() {
+  const address = ownAddress();
+  const isNew = visit.text !== null && visit.text !== page.text;
+  visit.text = page.text;
+  if (!isNew && location.hash === (address ?? "")) return;
+  const kept = address === null ? { text: page.text, count: page.count, lacks: page.lacks } : null;
+  const place = address ?? location.pathname + location.search;
+  try {
+    history[isNew ? "pushState" : "replaceState"](kept, "", place);
+  } catch {
+    history[isNew ? "pushState" : "replaceState"](null, "", place); // a state may be too large for a browser
+  }
+}
+
+const linkTo = (address) => location.href.replace(/#.*$/, "") + address;
+
+async function copyLink() {
+  const address = page.isRun ? ownAddress() : null;
+  if (address === null) return tell("This schedule has no link: it is refused, or too long for an address. Save it as a file.");
+  const link = linkTo(address);
+  const shown = `<code>${escaped(link)}</code>${warningOf(link)}`;
+  tell(`Copy this link: ${shown}`);
+  if (await copied(link)) tell(`The link is copied: ${shown}`);
+}
+
+async function copied(text) {
+  try {
+    await navigator.clipboard.writeText(text);
+    return true;
+  } catch {
+    return false;
+  }
+}
+return { visit, ownAddress, keepSoon, keepNow, keepView, keepAddressOf, linkTo, copyLink, copied };
+})();
+
 // page/keys.js
 const $page_keys = (() => {
 const { byId } = $page_dom;
@@ -6099,6 +6197,7 @@ const { page, show, tell } = $page_now;
 const { isAtMap, setView, where } = $page_places;
 const { goByHand, goToTurn, togglePlay } = $page_play;
 const { isAtRest, oneStep, stepsToEnd, stepsToRow, tellRest } = $page_steps;
+const { keepView } = $page_visit;
 const { redo, undo } = $page_work;
 const ASKS = {
   e: { told: "Steps to the end of a call: of which thread? Press its digit, or t and two digits.", deed: (thread) => stepsToEnd(thread) },
@@ -6166,79 +6265,13 @@ function toggleKeys() {
 }
 
 function toggleLecture() {
+  const isLeft = document.activeElement === byId("leave");
   setView(page.view === null ? "lecture" : null);
+  keepView();
   show();
+  if (isLeft) byId(where.activity === "compare" ? "sides-lecture" : "lecture").focus();
 }
 return { keysOf, pressKey, toggleKeys, toggleLecture };
-})();
-
-// page/visit.js
-const $page_visit = (() => {
-const { keepWork } = $page_kept;
-const { page, tell } = $page_now;
-const { isAtMap, where } = $page_places;
-const { addressOf, exampleAddress, warningOf } = $run_address;
-const { escaped } = $run_markup;
-const MOMENT = 400; // milliseconds: the bar follows once nothing has moved for so long, since browsers refuse quick changes of it
-const visit = { timer: 0, text: null, isRead: false, naming: (address) => address };
-
-function ownAddress() {
-  const address = page.example === "" ? addressOf(page.text, page.count, page.lacks) : exampleAddress(page.example, page.count);
-  const placed = visit.naming(address);
-  return placed === null || page.view === null ? placed : `${placed}&view=${page.view}`;
-}
-
-function keepSoon() {
-  clearTimeout(visit.timer);
-  visit.timer = setTimeout(keepNow, MOMENT);
-}
-
-function keepNow() {
-  clearTimeout(visit.timer);
-  keepWork();
-  if (visit.isRead && page.isRun && page.text !== "" && !isAtMap()) setAddress();
-}
-
-function keepAddressOf(activity, address) {
-  clearTimeout(visit.timer);
-  const own = page.view === null ? address : `${address}&view=${page.view}`;
-  visit.timer = setTimeout(() => where.activity === activity && history.replaceState(null, "", own), MOMENT);
-}
-
-function setAddress() {
-  const address = ownAddress();
-  const isNew = visit.text !== null && visit.text !== page.text;
-  visit.text = page.text;
-  if (!isNew && location.hash === (address ?? "")) return;
-  const kept = address === null ? { text: page.text, count: page.count, lacks: page.lacks } : null;
-  const place = address ?? location.pathname + location.search;
-  try {
-    history[isNew ? "pushState" : "replaceState"](kept, "", place);
-  } catch {
-    history[isNew ? "pushState" : "replaceState"](null, "", place); // a state may be too large for a browser
-  }
-}
-
-const linkTo = (address) => location.href.replace(/#.*$/, "") + address;
-
-async function copyLink() {
-  const address = page.isRun ? ownAddress() : null;
-  if (address === null) return tell("This schedule has no link: it is refused, or too long for an address. Save it as a file.");
-  const link = linkTo(address);
-  const shown = `<code>${escaped(link)}</code>${warningOf(link)}`;
-  tell(`Copy this link: ${shown}`);
-  if (await copied(link)) tell(`The link is copied: ${shown}`);
-}
-
-async function copied(text) {
-  try {
-    await navigator.clipboard.writeText(text);
-    return true;
-  } catch {
-    return false;
-  }
-}
-return { visit, ownAddress, keepSoon, keepNow, keepAddressOf, linkTo, copyLink, copied };
 })();
 
 // run/sides.js
@@ -8704,7 +8737,7 @@ function listenToBar() {
   byId("slider").oninput = () => goByHand(Number(byId("slider").value));
   byId("keys").onclick = toggleKeys;
   byId("skip").onclick = skipToRun;
-  byId("lecture").onclick = toggleLecture;
+  for (const name of ["lecture", "leave"]) byId(name).onclick = toggleLecture;
   byId("link-here").onclick = copyLink;
   byId("long-cancel").onclick = cancelLong;
 }
@@ -9081,5 +9114,5 @@ if (typeof document !== "undefined") startPage(); // in node there is none
 return {  };
 })();
 
-return Object.assign({}, $made_classics, $made_rows, $page_dom, $run_faults, $run_markup, $run_trace, $run_judged, $run_schedule_text, $run_state, $run_sentences, $page_now, $page_kept, $activities_broken_kept, $data_levels, $made_traces, $page_example, $engine_engine, $engine_worker, $page_long_run, $page_play, $run_broken, $page_run_text, $draw_glide, $draw_labels, $draw_history, $draw_list, $made_code, $draw_listing, $draw_room, $draw_table, $draw_threads, $page_places, $page_view, $run_moments, $course_goal_words, $course_course_text, $run_draft, $course_lesson, $page_work, $page_menu, $run_address, $activities_break_map, $draw_judged, $activities_judging, $activities_break_level, $page_steps, $page_moves, $page_keys, $page_visit, $run_sides, $activities_compare, $made_book, $activities_kept_lessons, $activities_learn_map, $course_course_link, $run_check_trace, $page_files, $activities_courses, $course_hand_in, $activities_lessons, $run_recorded, $activities_recorded, $data_book_code, $run_seed, $activities_watch, $activities_judge_map, $activities_read, $draw_code_column, $page_save_picture, $page_controls, $activities_open);
+return Object.assign({}, $made_classics, $made_rows, $page_dom, $run_faults, $run_markup, $run_trace, $run_judged, $run_schedule_text, $run_state, $run_sentences, $page_now, $page_kept, $activities_broken_kept, $data_levels, $made_traces, $page_example, $engine_engine, $engine_worker, $page_long_run, $page_play, $run_broken, $page_run_text, $draw_glide, $draw_labels, $draw_history, $draw_list, $made_code, $draw_listing, $draw_room, $draw_table, $draw_threads, $page_places, $page_view, $run_moments, $course_goal_words, $course_course_text, $run_draft, $course_lesson, $page_work, $page_menu, $run_address, $activities_break_map, $draw_judged, $activities_judging, $activities_break_level, $page_steps, $page_moves, $page_visit, $page_keys, $run_sides, $activities_compare, $made_book, $activities_kept_lessons, $activities_learn_map, $course_course_link, $run_check_trace, $page_files, $activities_courses, $course_hand_in, $activities_lessons, $run_recorded, $activities_recorded, $data_book_code, $run_seed, $activities_watch, $activities_judge_map, $activities_read, $draw_code_column, $page_save_picture, $page_controls, $activities_open);
 })();

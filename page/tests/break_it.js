@@ -53,11 +53,22 @@ function checkDeparture(ask, name) {
     const isDrawn = inPage("drawList")(state, moment.event, 900).startsWith("<svg");
     check(`${name}: event ${count} is told and drawn`, inPage("sentenceOf")(moment) !== "" && isDrawn);
   }
+  checkContents(trace);
   const { event, here, whole } = departureOf(ask, trace);
   check(`${name} departs at ${event}: ${plain(here)} | ${plain(whole)}`, event <= trace.total && here !== whole);
   const common = new Trace(ask("listset_trace", inPage("scheduleOfTrace")(trace, event - 1)).text, 2);
   const agree = inPage("eventsInCommon")(trace, common);
   check(`${name}: up to event ${event} they agree`, agree === event - 1 && common.total === event - 1);
+}
+
+// The row of the history says that it is the set by the points: the list may have other keys.
+function checkContents(trace) {
+  for (let count = 0; count <= trace.total; count++) {
+    const drawn = inPage("drawContents")(trace, inPage("scaleOf")(trace, count, 860, true));
+    const [, words] = /aria-label="([^"]*)"/.exec(drawn);
+    const isTold = words.startsWith(`the set by the linearization points of the calls after event ${count}: {`);
+    check(`${trace.lacks}: event ${count}: ${words}`, isTold && drawn.includes(">set by</text>") && drawn.includes(">points</text>"));
+  }
 }
 
 // Its trace as a file: by the grammar, compared with the engine's; and another name in it is none.

@@ -254,6 +254,7 @@ const PARTS = {
   "a student's work": driveWork,
   "places and addresses": drivePlaceForms,
   "the same on a narrow screen": () => onScreen(390, 844, driveNarrow),
+  "a slide in a window of middle width": () => onScreen(700, 900, driveLeaving),
   "and on a wide one": () => onScreen(1920, 1080, driveWide),
   "a million events": driveMillion,
   "the comparison": compareCases,
@@ -307,6 +308,7 @@ async function resize(width, height) {
 async function driveNarrow() {
   await driveHeight();
   await driveInSight();
+  await driveLeaving();
   await driveLessonByKeyboard();
   await driveJudging();
   await driveWork();

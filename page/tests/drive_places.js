@@ -13,6 +13,8 @@ const FORMS = {
   [SCHEDULE.replace("&s=", "&opening=5.9&s=").replace("add.5", "add.7")]: () => part("opening").value === "5 9",
   [`${SCHEDULE}&version=2`]: () => part("schedule").value.startsWith("listset-schedule 2\n"),
   "#list=fine&threads=2&quota=2&opening=3.7&s=b0.add.5&event=1&lacks=3": () => inPage("page.trace.lacks === Object.keys(LACKING)[2]"),
+  "#list=lazy&threads=2&quota=4&s=b0.add.5&event=1&lacks=6": () => inPage("page.trace.lacks === 'marks-in-validation'"),
+  "#list=lazy&threads=2&quota=2&s=b0.add.5&event=1&lacks=marks-in-validation": () => inPage("page.trace.lacks === 'marks-in-validation'"),
   "#example=snip&event=17&view=lecture": () => hasClass("lecture"),
   "#example=snip&event=16&view=list": () => hasClass("list") && !isSeen("calls"),
   "#example=snip&event=15&view=history": () => hasClass("history") && !isSeen("list"),
@@ -96,6 +98,8 @@ async function driveMovesOfPlaces() {
   }
   frame.contentWindow.location.hash = "#learn=lost-pred";
   await until(() => isSeen("lessons"));
+  const gap = part("lesson-conditions").getBoundingClientRect().top - part("lesson-verdict").getBoundingClientRect().top;
+  check(`no empty line above what a solution shows: ${gap}`, gap > 15 && gap < 45);
   press("0");
   const tried = inPage("page.text");
   runSchedule([...header("coarse", 3), "begin 0 add 5"]);

@@ -64,9 +64,43 @@ async function driveViews() {
   check("and all again", isSeen("list") && isSeen("calls") && isSeen("top"));
   drivePicture();
   driveHiding();
+  await driveLeaving();
   if (frame.clientWidth === 1300) driveOneScreen();
   if (frame.clientWidth === 1300) await driveSteady();
   await driveListing();
+}
+
+// The pairs of these parts of which one covers the other.
+function covering(...ids) {
+  const boxes = ids.map((id) => [id, part(id).getBoundingClientRect()]);
+  const isAside = (one, other) => one.right <= other.left + 1 || one.bottom <= other.top + 1;
+  const isOver = (one, other) => !isAside(one, other) && !isAside(other, one);
+  const pairs = boxes.flatMap((one, at) => boxes.slice(at + 1).map((other) => [one, other]));
+  return pairs.filter(([[, one], [, other]]) => isOver(one, other)).map(([[one], [other]]) => `${one} and ${other}`);
+}
+
+// No part of a slide covers another, a button leads back, and the address has the view as long as that is shown.
+async function driveLeaving() {
+  const own = "#example=stale-pred&event=20";
+  await showView(`${own}&view=lecture`, "event 20 ");
+  const over = covering("leave", "question-box", "said", "list", "calls", "contents", "code-column");
+  const wideOf = (one) => one.getBoundingClientRect().width;
+  const isWide = wideOf(part("said")) > wideOf(frame.contentDocument.body) / 2;
+  check(`at ${frame.clientWidth} no part of a slide covers another: ${over}`, over.length === 0 && isWide);
+  check("a button leads back", tabTo(part("leave")) && part("leave").getAttribute("aria-label") === "leave this view");
+  typeKey("Enter");
+  check(`by the keyboard too, and the address follows at once: ${hashOf()}`, !hasClass("lecture") && !isSeen("leave") && hashOf() === own);
+  check("the focus is at what opens it again", !isSeen("lecture") || focused() === part("lecture"));
+  part("lecture").click();
+  check(`the address has the view at once: ${hashOf()}`, hasClass("lecture") && hashOf() === `${own}&view=lecture`);
+  press("Escape");
+  check(`and loses it by Escape: ${hashOf()}`, !hasClass("lecture") && hashOf() === own);
+  frame.contentWindow.location.hash = "#learn&view=lecture";
+  await until(() => isSeen("leave") && placeIs("learn", "map"));
+  part("leave").click();
+  await sleep(KEEPS);
+  check(`so does that of a map: ${hashOf()}`, hashOf() === "#learn" && isSeen("map-learn"));
+  pick("snip");
 }
 
 // At 1920 x 1080 the labels of a lecture are large: a text of 18 pixels is 20 high, with what goes below its line.
@@ -199,6 +233,7 @@ async function driveInSight() {
   const [said, list, dock] = ["said", "list", "dock"].map((id) => part(id).getBoundingClientRect());
   check(`the picture is in sight: ${said.top} to ${list.bottom}, ${dock.top}`, said.top >= 0 && list.bottom <= dock.top);
   await showPlaceOf("#break=1", "event 0 ");
+  check("the task of a level is told", isSeen("break-title") && isSeen("break-question") && textOf("break-question").includes("Run the threads"));
   const box = part("list");
   check(`the chain of a level is seen whole: ${box.scrollWidth} of ${box.clientWidth}`, box.scrollWidth <= box.clientWidth);
 }

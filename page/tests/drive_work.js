@@ -63,6 +63,7 @@ const BAD_ADDRESSES = [
   ["#examples=snip", 'the address has a part "examples", which is none'],
   ["#list=lazy&threads=2&quota=4&s=x0.6", '"x0.6" is no s of an address'],
   ["#list=lazy&threads=2&s=b0.add.5", 'the address has no "quota"'],
+  ["#list=lazy&threads=2&quota=4&s=b0.add.5&lacks=3", "lacks=3 is a broken FineList, and the address has list=lazy"],
   ["#list=skip&threads=2&quota=4&s=b0.add.5", "listset: line 2: Kind"],
   ["#list=lazy&threads=2&quota=4&s=b0.add.5,g1.1&event=0", "line 6: Idle"],
 ];

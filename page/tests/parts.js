@@ -140,7 +140,7 @@ function checkRoom() {
     const [wide, high] = [width / zoom, height / zoom];
     check(`a slide at ${width} x ${height}: ${wide} x ${high}`, wide > 1279.9 && high > 719.9 && Math.min(wide - 1280, high - 720) < 0.1);
   }
-  check("on a phone a slide is no smaller than the rest", slideZoom(390, 844) === 1);
+  check("in one column a slide is no smaller than the rest", [390, 700, 800].every((width) => slideZoom(width, 844) === 1));
   const trace = (total) => ({ kind: "lazy", threads: 2, total });
   const size = { width: 600, height: 200 };
   const grown = (run) => roomOf(run, () => size, size, 800, true);
@@ -284,7 +284,42 @@ function checkAddresses(engine, texts) {
   check("a bad line", refusalOf("#list=lazy&threads=2&quota=4&s=b0.add.5,x0.6").endsWith("is no s of an address"));
   check("a bad event", refusalOf("#example=snip&event=x") === '"x" is no event of an address');
   check("a part that is missing", refusalOf("#list=lazy&threads=2&s=b0.add.5") === 'the address has no "quota"');
+  checkLacking(readAddress);
   check("two things", refusalOf("#example=snip&list=lazy") === 'the address names an example, and has "list" too');
+}
+
+// A broken list is named by its number or its name, and is one of the list that the address names.
+function checkLacking(readAddress) {
+  for (const [at, [name, kind]] of Object.entries(inPage("LACKING")).entries()) {
+    const named = [name, at + 1].map((which) => readAddress(`#list=${kind}&threads=2&quota=4&lacks=${which}`).lacks);
+    check(`${name} by its name and number: ${named}`, named.every((one) => one === name));
+  }
+  const faults = {
+    "#list=lazy&threads=2&quota=4&lacks=3": "lacks=3 is a broken FineList, and the address has list=lazy",
+    "#list=fine&threads=2&quota=4&lacks=mark": "lacks=mark is a broken LockFreeList, and the address has list=fine",
+    "#example=snip&lacks=mark": "lacks=mark is a broken LockFreeList, and the address has example=snip",
+    "#break=3&lacks=1": "lacks=1 is a broken CoarseList, and the address has no list",
+  };
+  for (const which of ["0", "15", "luck", "Mark", "constructor"]) {
+    const expected = `there is no broken list "${which}": expected 1 to 14, or a name that "listset show --help" prints`;
+    faults[`#list=lazy&threads=2&quota=4&lacks=${which}`] = expected;
+  }
+  for (const [hash, fault] of Object.entries(faults)) check(`${hash}: ${refusalOf(hash)}`, refusalOf(hash) === fault);
+}
+
+// The box of the set that is shown now has its text inside, at each event.
+function checkContents(engine, texts) {
+  const [scaleOf, drawContents] = ["scaleOf", "drawContents"].map(inPage);
+  let boxes = 0;
+  for (const trace of texts.map((text) => traceOf(engine, text))) {
+    for (let count = 0; count <= trace.total; count++) {
+      const drawn = drawContents(trace, scaleOf(trace, count, 860, true));
+      const [, wide, text] = /class="content now"><title>[^<]*<\/title><rect [^>]*width="([\d.]+)"[^>]*><\/rect><text [^>]*>([^<]*)</.exec(drawn);
+      if (text !== "" && Number(wide) < 5 + 7 * text.length) check(`event ${count} of ${trace.text.slice(0, 100)}: ${text} in ${wide}`, false);
+      boxes++;
+    }
+  }
+  check("boxes of contents were drawn", boxes > 500);
 }
 
 // The traces beside the page are what the engine prints.
@@ -409,6 +444,7 @@ async function main() {
   checkOlder();
   const texts = names.map((name) => engine.ask("listset_example", name).text);
   checkAddresses(engine, texts);
+  checkContents(engine, texts);
   checkForms();
   checkFaults(engine);
   checkGoingOn(engine, texts);

@@ -168,14 +168,17 @@ export function drawCalls(trace, scale) {
   return tag("svg", frame, ...lanes, drawCursor(scale, height, scale.y(0) - scale.bar / 2 - 2), ...stems, ...bars, ...points, signs);
 }
 
+const KEY_WIDTH = 8; // pixels, of each character of the contents
+
 function drawContent(part, scale) {
   const left = part.from <= scale.first ? HISTORY_LEFT - 6 : scale.x(part.from);
   const end = part.to > scale.last ? scale.edge : scale.x(part.to);
-  const right = scale.now < part.to && scale.now <= scale.last ? Math.max(left, scale.x(Math.max(scale.now, scale.first))) : end;
+  const isLast = scale.now < part.to; // of what is shown: right of it nothing stands
+  const shown = isLast && scale.now <= scale.last ? Math.max(left, scale.x(Math.max(scale.now, scale.first))) : end;
   const all = `{${part.keys.join(", ")}}`;
-  const free = scale.now < part.to ? scale.edge : right; // right of what is shown now nothing stands
-  const room = Math.floor((free - left - 10) / 8);
+  const room = Math.floor(((isLast ? scale.edge : shown) - left - 10) / KEY_WIDTH);
   const text = all.length <= room ? all : room > 6 ? `${all.slice(0, room - 2)}…` : "";
+  const right = text === "" ? shown : Math.max(shown, left + 10 + KEY_WIDTH * text.length);
   const isNow = scale.count < part.to && (scale.count >= part.from || part.from <= scale.first);
   return tag(
     "g",
@@ -193,6 +196,14 @@ function drawWindow(scale, total, x) {
   return label({ class: "note", y: 42, ...place }, `events ${scale.first} to ${scale.last} of ${total}`);
 }
 
+// What the row of the contents is called. A broken list may have other keys than the points of its calls say.
+function nameOfContents({ lacks }) {
+  if (lacks === null) return label({ class: "name", x: 6, y: 17 }, "set");
+  const lines = ["set by", "points"].map((words, line) => label({ class: "name", x: 2, y: 10 + 12 * line }, words));
+  return tag("g", {}, title(`${BY_POINTS}; the list may have other keys`), ...lines);
+}
+const BY_POINTS = "the set by the linearization points of the calls";
+
 // The contents of the set, and below them the number of the event.
 export function drawContents(trace, scale) {
   const told = contentsIn(trace, scale.first, scale.last).filter((part) => part.from <= Math.max(scale.now, scale.first));
@@ -200,11 +211,10 @@ export function drawContents(trace, scale) {
   const now = told.findLast((part) => part.from <= Math.max(scale.count, scale.first));
   const x = Math.min(Math.max(scale.x(scale.count), HISTORY_LEFT + 12), scale.width - 44);
   const number = scale.count > 0 ? label({ class: "number", x, y: 42 }, `event ${scale.count}`) : "";
-  const name = label({ class: "name", x: 6, y: 17 }, "set");
-  const what = trace.lacks === null ? "the set" : "the set by the linearization points of the calls";
+  const what = trace.lacks === null ? "the set" : BY_POINTS;
   const words = `${what} after event ${scale.count}: {${now.keys.slice(0, 40).join(", ")}}`;
   const frame = { width: scale.width, height: 50, viewBox: `0 0 ${scale.width} 50`, role: "img", "aria-label": words };
-  return tag("svg", frame, name, ...parts, drawCursor(scale, 24), number, drawWindow(scale, trace.total, x));
+  return tag("svg", frame, nameOfContents(trace), ...parts, drawCursor(scale, 24), number, drawWindow(scale, trace.total, x));
 }
 
 // The order of the calls: those that are reached and, where nothing is hidden, pale those that come later.

@@ -77,7 +77,7 @@ export function listenToBar() {
   byId("slider").oninput = () => goByHand(Number(byId("slider").value));
   byId("keys").onclick = toggleKeys;
   byId("skip").onclick = skipToRun;
-  byId("lecture").onclick = toggleLecture;
+  for (const name of ["lecture", "leave"]) byId(name).onclick = toggleLecture;
   byId("link-here").onclick = copyLink;
   byId("long-cancel").onclick = cancelLong;
 }

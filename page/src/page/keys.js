@@ -6,6 +6,7 @@ import { page, show, tell } from "./now.js";
 import { isAtMap, setView, where } from "./places.js";
 import { goByHand, goToTurn, togglePlay } from "./play.js";
 import { isAtRest, oneStep, stepsToEnd, stepsToRow, tellRest } from "./steps.js";
+import { keepView } from "./visit.js";
 import { redo, undo } from "./work.js";
 
 // What is waited for after a key: e and r ask for a thread; t asks for two digits of one.
@@ -74,8 +75,11 @@ export function toggleKeys() {
   byId("keys").setAttribute("aria-expanded", String(!byId("key-help").hidden));
 }
 
-// The lecture view, and back.
+// The lecture view, and back: whoever leaves it by the key Tab is at the button that opens it.
 export function toggleLecture() {
+  const isLeft = document.activeElement === byId("leave");
   setView(page.view === null ? "lecture" : null);
+  keepView();
   show();
+  if (isLeft) byId(where.activity === "compare" ? "sides-lecture" : "lecture").focus();
 }

@@ -36,9 +36,11 @@ export function setProgress(id, done, total) {
   byId(id).setAttribute("aria-label", `${done} of ${total}`);
 }
 
-// How large a slide is drawn: as large as the window has room for; on a phone, where it is scrolled, as everything else.
+const ONE_COLUMN = 800; // pixels, as in style/views.css: in a window that is no wider the parts of a slide stand below one another
+
+// How large a slide is drawn: as large as the window has room for; in one column, where it is scrolled, as everything else.
 export function slideZoom(width, height) {
-  if (width <= 560) return 1;
+  if (width <= ONE_COLUMN) return 1;
   return Math.max(0.75, Math.min(3, width / 1280, height / 720));
 }
 

@@ -28,6 +28,14 @@ export function keepNow() {
   if (visit.isRead && page.isRun && page.text !== "" && !isAtMap()) setAddress();
 }
 
+// The address has the view from now on, or has it no longer: a page that is loaded again shows what was shown.
+export function keepView() {
+  const parts = location.hash.slice(1).split("&").filter((part) => part !== "" && !part.startsWith("view="));
+  if (page.view !== null) parts.push(`view=${page.view}`);
+  const hash = parts.length === 0 ? "" : `#${parts.join("&")}`;
+  history.replaceState(history.state, "", location.pathname + location.search + hash);
+}
+
 // The address of what an activity shows that is no run, while it is still shown.
 export function keepAddressOf(activity, address) {
   clearTimeout(visit.timer);

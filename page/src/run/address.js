@@ -1,10 +1,12 @@
 // The address of a schedule, as #list=lazy&threads=2&quota=4&s=b0.add.5,g0.11&event=12, of an example, as #example=snip&event=17,
 // of a course of lessons, as #course=.. with its text packed, or of two lists side by side. With &view=lecture, list or history it
-// shows only that; with &lacks=3 the schedule is run on the third broken list, whose name would tell too much.
+// shows only that; with &lacks=3 the schedule is run on the third broken list, or on that of a name. The page writes the number, since
+// the name would tell too much.
 // #watch, #learn, #judge, #break, #compare and #read are the maps of the activities; #learn=one-lock a lesson, also with a schedule behind
 // it, #break=3 a level, #seed=lazy.2.4.2.17 the run of a number, and &judge asks the reader to judge it.
 // An address is made a text again; whether that is a schedule says the engine.
 import { LACKING } from "../../made/classics.js";
+import { LISTS } from "../../made/rows.js";
 
 export const LONGEST_ADDRESS = 30000; // characters; a longer schedule has no address
 const SHORT_WORDS = { begin: "b", go: "g" };
@@ -19,7 +21,7 @@ const ADDRESS_PARTS = {
   opening: /^\d+(\.\d+)*$/,
   s: new RegExp(`^(${SHORT_EVENT}(,${SHORT_EVENT})*)?$`),
   event: /^\d+$/,
-  lacks: /^\d+$/,
+  lacks: /^(\d+|[A-Za-z-]+)$/,
   view: /^(lecture|list|history)$/,
   course: /^[A-Za-z0-9_-]+$/,
   sides: /^(coarse|fine|optimistic|lazy|lock-free)\.(coarse|fine|optimistic|lazy|lock-free)$/,
@@ -77,10 +79,9 @@ export const exampleAddress = (name, event) => `#example=${name}&event=${event}`
 // What an address names: an example, a text, a course or two lists, each null where it names none; the event, the list that lacks a
 // check, and the view.
 export function readAddress(hash) {
-  const { view = null, course = null, lacks: number, seed = null, ...rest } = partsOf(hash);
+  const { view = null, course = null, lacks: which, seed = null, ...rest } = partsOf(hash);
   const { place, isJudged, parts } = placeOf(rest, seed);
-  const lacks = number === undefined ? null : Object.keys(LACKING)[number - 1];
-  if (lacks === undefined) throw new AddressFault(`there is no broken list ${number}`);
+  const lacks = which === undefined ? null : lackingNamed(which, parts);
   const own = { view, course, sides: null, lacks, place, seed, isJudged };
   const named = { example: parts.example ?? null, text: null, event: Number(parts.event ?? 0), ...own };
   if (parts.sides !== undefined) return { ...named, sides: parts };
@@ -90,6 +91,18 @@ export function readAddress(hash) {
   }
   if (ofSchedule.length > 0) named.text = textOfParts(parts);
   return named;
+}
+
+// The name of the broken list that an address names by its number or its name: it is one of the list that the address names.
+function lackingNamed(which, { list, example }) {
+  const names = Object.keys(LACKING);
+  const lacks = names.includes(which) ? which : names[which - 1];
+  if (lacks === undefined) {
+    throw new AddressFault(`there is no broken list "${which}": expected 1 to ${names.length}, or a name that "listset show --help" prints`);
+  }
+  if (list === LACKING[lacks]) return lacks;
+  const named = list !== undefined ? `list=${list}` : example !== undefined ? `example=${example}` : "no list";
+  throw new AddressFault(`lacks=${which} is a broken ${LISTS[LACKING[lacks]].name}, and the address has ${named}`);
 }
 
 // The activity that an address names, with its value; whether its run is to be judged; and the parts of the run.
