@@ -24,7 +24,7 @@ class Checks:
     def __init__(self, root=toolchain.TOP):
         self.root, self.lock, self.room, self.crates = root, threading.Lock(), None, {}
         if toolchain.checks_over_libraries():
-            self.crates = {it.name: it for it in toolchain.rtlib().crates_below(str(root))}
+            self.crates = toolchain.crates_of(root)
 
     def library(self, name):
         """The folder of a library that rt ci built."""
@@ -73,7 +73,7 @@ class Checks:
     def reads(self, other, name):
         """Whether a crate of another repository is read, without a proof, over the libraries here, and what is said; by `rt check` where
         these are not there."""
-        crate = toolchain.checks_over_libraries() and {it.name: it for it in toolchain.rtlib().crates_below(str(other))}[name]
+        crate = toolchain.checks_over_libraries() and toolchain.crates_of(other)[name]
         if crate and all(self.library(it.name).is_dir() for it in crate.below()):
             for it in crate.below():
                 it.rlib = str(self.library(it.name))
@@ -97,7 +97,7 @@ class CheckOver:
 
     def __init__(self, name, room):
         self.name, self.room = name, room
-        self.crates = {it.name: it for it in toolchain.rtlib().crates_below(str(toolchain.TOP))}
+        self.crates = toolchain.crates_of(toolchain.TOP)
         self.sums = {}  # of the libraries that are built here, each with those below it
 
     def is_of_room(self, it):

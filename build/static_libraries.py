@@ -15,7 +15,7 @@ def unbuilt_below(name):
     names = [it for it in crates_txt.below([name]) if it != name]
     if not toolchain.has("crates_below", "Crate.is_built"):
         return names
-    crates = {it.name: it for it in toolchain.rtlib().crates_below(str(toolchain.TOP))}
+    crates = toolchain.crates_of(toolchain.TOP)
     return [it for it in names if not crates[it].is_built()]
 
 
@@ -34,7 +34,7 @@ def static_library(name, room, over=None):
         if over:
             return static_library(name, room)
         return source / "out" / archive.name, None
-    crate = {it.name: it for it in toolchain.rtlib().crates_below(str(over or toolchain.TOP))}[name]
+    crate = toolchain.crates_of(over or toolchain.TOP)[name]
     made = [toolchain.folder() / "bin" / "rattle", "build", *crate.words(["--jobs", "1"]), *([] if over else ["--incremental", "out/incremental"])]
     status, said = processes.status_and_words([*made, "--toolchain", toolchain_that_keeps(room, module), "-o", archive], source)
     if status:
@@ -53,7 +53,7 @@ def object_of(name, root):
     source = root / "crates" / name
     made = source / "out" / f"{name}.o"
     if not made.exists() and toolchain.checks_over_libraries():
-        crate = {it.name: it for it in toolchain.rtlib().crates_below(str(root))}[name]
+        crate = toolchain.crates_of(root)[name]
         words = ["build", *crate.words(["--jobs", "1"], keeps=False), "--toolchain", toolchain.folder() / "toolchain", "-o", made]
         status, said = processes.status_and_words([toolchain.folder() / "bin" / "rattle", *words], source)
         if status:

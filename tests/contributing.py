@@ -1,5 +1,5 @@
-"""Each command that CONTRIBUTING.md names runs. Those that a step of `./gate` or `./gate --quick` makes, alone or with more, are left to
-that step; those of `rt` are made in a small crate, and the others in a copy of the repository. What `page/test --parts` tries in node is a
+"""Each command that CONTRIBUTING.md names runs. Those that a step of `./gate`, of `--quick` or of `--browser` makes, alone or with more, are
+left to that step; those of `rt` are made in a small crate, and the others in a copy of the repository. What `page/test --parts` tries in node is a
 part of the step `page/test --node`, so here it is run without node.
 """
 
@@ -38,8 +38,8 @@ def commands():
 
 
 def steps(_room):
-    """The words of each step of the two gates."""
-    told = "".join(well(TOP / "gate", *quick, "--steps") for quick in ([], ["--quick"]))
+    """The words of each step of the gates."""
+    told = "".join(well(TOP / "gate", *kind, "--steps") for kind in ([], ["--quick"], ["--browser"]))
     return [line.partition(": ")[2].split() for line in told.splitlines()]
 
 

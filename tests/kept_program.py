@@ -8,11 +8,20 @@ import pathlib
 import shutil
 import signal
 
-from harness.cases import comes, left_of, same, test_on
+from harness.cases import comes, left_of, same, test as test_alone, test_on
 from harness.programs import ran, wants
+from harness.small_clone import small_clone
 from harness.stand_in_toolchain import BUILDING, KEPT, SOURCES, Repository, ended
 
 test = test_on(Repository)
+OF_NOTHING = '''"""Of nothing."""
+from harness.cases import test
+
+
+@test
+def nothing(_case):
+    pass
+'''
 
 
 # ---- the program that is kept
@@ -177,3 +186,20 @@ def the_checks_are_kept(repository):
     same(building.communicate(timeout=600)[1].count("built in"), 1, "builds")
     same([ran(program, word).returncode for word in ("", "ab", "abc", "abcd")], [0, 0, -4, -4],
          "the statuses of two sums, one past the greatest byte, and an index past the end")
+
+
+@test_alone
+def tests_are_of_the_program_of_the_youngest_sources(case):
+    """tests/run takes the program that was built last, and tells of a source that is younger than it."""
+    texts = {"crates.txt": "listset:\n", "crates/listset/src/main.rt": "fn main() {}\n", "tests/of_nothing.py": OF_NOTHING}
+    proved, unproved = "crates/listset/out/listset", "crates/listset/out/unproved/listset"
+    tree = small_clone(case.room / "tree", ["build", "tests/run", "tests/harness"], texts | {proved: "", unproved: ""})
+    ages = {proved: 2, unproved: 1, "crates/listset/src/main.rt": 0}
+    for youngest, program, is_told in ((proved, proved, False), (unproved, unproved, False), ("crates/listset/src/main.rt", unproved, True)):
+        ages[youngest] = max(ages.values()) + 1
+        for path, age in ages.items():
+            (tree / path).chmod(0o755)
+            os.utime(tree / path, (age, age))
+        told = ran(tree / "tests/run", "of_nothing", cwd=tree).stderr
+        same(f"the program is {tree / program}\n" in told, True, f"the program that is tested, in {told}")
+        same("main.rt is younger than this program" in told, is_told, f"whether a younger source is told, in {told}")

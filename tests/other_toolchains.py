@@ -170,7 +170,7 @@ def over_the_least_kit(case):
     told = other_kit.run("tests/version", "--toolchain")
     for words in ("rattle-kit-13b", "rt ci keeps nothing between runs", "proves all from nothing"):
         same(words in told, True, f"'{words}' is told, in {told!r}")
-    proved = other_kit.room / "proved"
+    proved = other_kit.tree / "out/proved"  # (a folder of the repository itself, with crates of the same names)
     shutil.rmtree(other_kit.tree / "crates/lset_command")
     same(other_kit.run("build/prove_all", "--in", proved, "--anew").splitlines()[-1], "2 passed, 0 failed", "rt ci")
     other_kit.run("crates/listset/out/listset", status=3)
