@@ -126,8 +126,8 @@ template <class S> void stops(const char *how, const char *judged, bool own_proc
     std::cout << verdict << "\n";
     expect(!verdict && verdict.said.rfind(how, 0) == 0 && verdict.said.find("\nunder way:\ncall ") != std::string::npos, how);
     expect(verdict.said.find(judged) != std::string::npos && text_of(verdict.file) == verdict.recording, how);
-    // (what was under way stands there too)
-    expect(open_calls(verdict.recording) == open_calls(verdict.said), how);
+    // (what was under way stands there too; the calls that show a refusal may have one of them again)
+    expect(open_calls(verdict.recording) == open_calls(verdict.said.substr(0, verdict.said.find("up to there: "))), how);
     expect(verdict.recording.size() > 4 && verdict.recording.substr(verdict.recording.size() - 5) == "\ncut\n", "it was cut off");
 }
 

@@ -48,8 +48,8 @@ final class Tests {
             fail(words + ": " + Judge.judge(make, how));
         } catch (Judge.NotEnded found) {
             System.out.println(found.getMessage());
-            // (what was under way stands there too)
-            if (openCalls(found.recording) != openCalls(found.said) || !found.recording.endsWith("\ncut\n")) fail("under way");
+            // (what was under way stands there too; the calls that show a refusal may have one of them again)
+            if (openCalls(found.recording) != openCalls(found.said.split("\nup to there: ")[0]) || !found.recording.endsWith("\ncut\n")) fail("under way");
             boolean isSaid = found.said.startsWith(words + "\nunder way:\ncall ");
             if (!isSaid || !found.said.contains("\nup to there: " + judged) || !found.recording.equals(textOf(found.file))) fail(words);
         }
