@@ -195,11 +195,11 @@ def tests_are_of_the_program_of_the_youngest_sources(case):
     proved, unproved = "crates/listset/out/listset", "crates/listset/out/unproved/listset"
     tree = small_clone(case.room / "tree", ["build", "tests/run", "tests/harness"], texts | {proved: "", unproved: ""})
     ages = {proved: 2, unproved: 1, "crates/listset/src/main.rt": 0}
-    for youngest, program, is_told in ((proved, proved, False), (unproved, unproved, False), ("crates/listset/src/main.rt", unproved, True)):
+    for youngest, program, is_named in ((proved, proved, False), (unproved, unproved, False), ("crates/listset/src/main.rt", unproved, True)):
         ages[youngest] = max(ages.values()) + 1
         for path, age in ages.items():
             (tree / path).chmod(0o755)
             os.utime(tree / path, (age, age))
         told = ran(tree / "tests/run", "of_nothing", cwd=tree).stderr
         same(f"the program is {tree / program}\n" in told, True, f"the program that is tested, in {told}")
-        same("main.rt is younger than this program" in told, is_told, f"whether a younger source is told, in {told}")
+        same("main.rt is younger than this program" in told, is_named, f"whether a younger source is named, in {told}")

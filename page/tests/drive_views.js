@@ -233,7 +233,7 @@ async function driveInSight() {
   const [said, list, dock] = ["said", "list", "dock"].map((id) => part(id).getBoundingClientRect());
   check(`the picture is in sight: ${said.top} to ${list.bottom}, ${dock.top}`, said.top >= 0 && list.bottom <= dock.top);
   await showPlaceOf("#break=1", "event 0 ");
-  check("the task of a level is told", isSeen("break-title") && isSeen("break-question") && textOf("break-question").includes("Run the threads"));
+  check("the task of a level is shown", isSeen("break-title") && isSeen("break-question") && textOf("break-question").includes("Run the threads"));
   const box = part("list");
   check(`the chain of a level is seen whole: ${box.scrollWidth} of ${box.clientWidth}`, box.scrollWidth <= box.clientWidth);
 }
