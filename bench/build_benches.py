@@ -11,9 +11,9 @@ import tempfile
 BENCH = pathlib.Path(__file__).resolve().parent
 TOP = BENCH.parent
 sys.path.insert(0, str(TOP / "build"))
-import checks_over_libraries  # noqa: E402
 import crates_txt  # noqa: E402
 import toolchain  # noqa: E402
+import unproved_programs  # noqa: E402
 
 SOURCES = BENCH / "crates"
 BUILT = BENCH / "out"  # git does not track it
@@ -77,17 +77,13 @@ def by_rustc(source, room):
     return program
 
 
-def read(over=None):
-    """Reads each bench, without a proof, over the libraries that `rt ci` has just built in the repository `over`: that names and types
-    still fit. Gives the status."""
-    if not over or not pathlib.Path(over, "crates.txt").is_file():
-        sys.exit("bench: --read takes the folder of a repository in which rt ci has built the libraries")
-    failed, checks = 0, checks_over_libraries.Checks(pathlib.Path(over).resolve())
+def read():
+    """Reads each bench with the libraries below it, without a proof: that names and types still fit. Gives the status."""
+    failed = 0
     with tempfile.TemporaryDirectory(prefix="bench-") as room:
         lay_out(pathlib.Path(room), NAMES)
-        (pathlib.Path(room) / ".git").mkdir()
         for name in NAMES:
-            status, said = checks.reads(pathlib.Path(room), name)
+            status, said = unproved_programs.read(name, pathlib.Path(room))
             if status:
                 print(f"{said[-3000:].rstrip()}\nbench: {name} is not read")
                 failed += 1

@@ -1,16 +1,14 @@
-"""The crates of the repository, as crates.txt has them: which stand below which, how many lines they have and how much memory
-a check of each may take, and a repository of some."""
+"""The crates of the repository, as crates.txt has them: which stand below which, and a repository of some."""
 
 import pathlib
 import re
 import shutil
 
 TOP = pathlib.Path(__file__).resolve().parent.parent
-PARTS = ["src", "specs", "proofs"]
-# The crates that are tests: ./gate builds them without a proof, and proves them with --tests-proved
-TESTS = re.compile(r"\w+_tests|memory_calls")
-LEFT_OUT = shutil.ignore_patterns(".git", "out", "__pycache__")
-OF_CRATES = {"crates", "crates.txt", "HANDLES"}
+# The crates that are tests: ./gate builds them without a proof
+TESTS = re.compile(r"tests_\w+|memory_calls")
+LEFT_OUT = shutil.ignore_patterns(".git", "out", "dist", "target", "__pycache__")
+NO_EDITS = shutil.ignore_patterns("out", "must-fail")
 
 
 def lines_by_crate(text):
@@ -22,6 +20,11 @@ def lines_by_crate(text):
 def lines_of(root=TOP):
     """Those of crates.txt in a repository."""
     return lines_by_crate((root / "crates.txt").read_text())
+
+
+def tests():
+    """The crates that are tests."""
+    return [it for it in lines_of() if TESTS.fullmatch(it)]
 
 
 def below(names, root=TOP, lines=None):
@@ -41,40 +44,17 @@ def below(names, root=TOP, lines=None):
     return list(found)
 
 
-def lines_in(name, root=TOP):
-    """The lines of a crate's sources, and of its specs and proofs."""
-    def count(pattern):
-        return sum(file.read_bytes().count(b"\n") for file in (root / "crates" / name).glob(pattern))
-
-    return count("src/**/*.rt"), count("specs/**/*.antt") + count("proofs/**/*.antt")
-
-
-def memory_of(name, root=TOP):
-    """The most memory that a check of a crate is likely to take, in bytes: as rt ci plans it."""
-    own, antt = lines_in(name, root)
-    others = sum(lines_in(it, root)[0] for it in below([name], root) if it != name)
-    return 1_000_000_000 + 1_000_000 * own + 200_000 * antt + 80_000 * others
-
-
-def lay_out(to, names, is_whole=False, root=TOP):
-    """Makes a repository of these crates in a folder: with all that lies beside the crates, if it `is_whole`, so that rt ci looks at
-    that too."""
+def lay_out(to, names, is_whole=False):
+    """Makes a repository of these crates in a folder, without their must-fail edits. If it `is_whole`, it has these, and all that lies
+    beside the listed crates, so that rt ci looks at that."""
     to.mkdir(parents=True, exist_ok=True)
     (to / ".git").mkdir()
-    for it in sorted(root.iterdir()) if is_whole else ():
-        if it.name in OF_CRATES or it.name in (".git", "out", "__pycache__"):
-            continue
-        if it.is_dir() and not it.is_symlink():
-            shutil.copytree(it, to / it.name, symlinks=True, ignore=LEFT_OUT)
-        else:
-            shutil.copy2(it, to / it.name, follow_symlinks=False)
-    for name in names:
-        shutil.copytree(root / "crates" / name, to / "crates" / name, symlinks=True, ignore=LEFT_OUT)
-    # (a folder that crates.txt does not name is seen as in the repository itself)
-    for it in sorted((root / "crates").iterdir()) if is_whole else ():
-        if it.name not in lines_of(root):
-            shutil.copytree(it, to / "crates" / it.name, symlinks=True, ignore=LEFT_OUT)
-    lines = lines_of(root)
+    lines = lines_of()
+    left_out = {f"{TOP}/crates": lines.keys() - set(names), str(TOP): {"crates.txt"}}
+    if is_whole:
+        shutil.copytree(TOP, to, symlinks=True, dirs_exist_ok=True, ignore=lambda at, all_names: {*LEFT_OUT(at, all_names), *left_out.get(at, ())})
+    else:
+        shutil.copy2(TOP / "HANDLES", to)
+        for name in names:
+            shutil.copytree(TOP / "crates" / name, to / "crates" / name, symlinks=True, ignore=NO_EDITS)
     (to / "crates.txt").write_text("".join(f"{lines[name]}\n" for name in names))
-    if (root / "HANDLES").exists():
-        shutil.copy2(root / "HANDLES", to)

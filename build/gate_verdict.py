@@ -1,5 +1,4 @@
-"""What the last whole gate said of this clone, for build/release: the commit, the day, the counts, and the sums of what it has built
-and tried. It lies in git's folder; a gate over a tree with changes leaves none."""
+"""The verdict of the last whole gate here, for build/release, in git's folder; a gate over a tree with changes leaves none."""
 
 import datetime
 import hashlib
@@ -10,24 +9,20 @@ import subprocess
 TOP = pathlib.Path(__file__).resolve().parent.parent
 TRIED = ["crates/listset/out/listset.o", "foreign/out/lib/liblistset.a", "foreign/out/lib/liblistset.so", "page/listset.wasm"]
 
-# the verdicts on planted mutants that a gate has tried again, and how many are fresh
-WRITTEN = {"mutants/tried.tsv", "docs/TRIED.md"}
-
 
 def git(*words):
-    """What git says, or nothing where it has nothing to say or is not there."""
-    if not shutil.which("git"):
-        return ""
-    return subprocess.run(["git", "-C", TOP, *words], stdout=subprocess.PIPE, stderr=subprocess.DEVNULL, text=True).stdout.strip()
+    """What git says, or nothing if it has nothing to say or is not there."""
+    how = {"stdout": subprocess.PIPE, "stderr": subprocess.DEVNULL, "text": True}
+    return subprocess.run(["git", "-C", TOP, *words], **how).stdout.strip() if shutil.which("git") else ""
 
 
 def changes():
-    """The lines of git about what is changed here, and not committed, but for what the gate itself writes."""
-    return [it for it in git("status", "--porcelain").splitlines() if it.split()[-1] not in WRITTEN]
+    """The lines of git about what is changed here, and not committed."""
+    return git("status", "--porcelain").splitlines()
 
 
 def clean_commit():
-    """The commit that is checked out, where nothing is changed; else None."""
+    """The commit that is checked out, if nothing is changed; else None."""
     return None if changes() else git("rev-parse", "HEAD") or None
 
 
@@ -40,13 +35,13 @@ def sum_of(file):
 
 
 def write(commit, passed, failed):
-    """Keeps the verdict of a gate that began over this commit, if it is the one here still; else takes away the one before."""
-    if commit is None or commit != clean_commit():
-        place().unlink(missing_ok=True)
-        return
+    """Keeps the verdict of a gate that began over this commit, if it is the one here still; else removes the one before."""
     day = datetime.datetime.now(datetime.timezone.utc).strftime("%Y-%m-%d")
     lines = [f"commit {commit}", f"day {day}", f"passed {passed}", f"failed {failed}", *(f"{it} {sum_of(it)}" for it in TRIED)]
-    place().write_text("".join(f"{line}\n" for line in lines))
+    if commit and commit == clean_commit():
+        place().write_text("".join(f"{line}\n" for line in lines))
+    else:
+        place().unlink(missing_ok=True)
 
 
 def read():

@@ -46,21 +46,19 @@ def man_page(said, version, date):
 def for_bash(said):
     rows = [f'    {name}) said="{" ".join(f"--{it}" for it, _, _ in said.options(name))}" ;;' for name in said.pages]
     lists = f'  case $COMP_CWORD:${{COMP_WORDS[1]}} in {" | ".join(f"2:{it}" for it in OF_A_LIST)}) said="$said {LISTS}" ;; esac'
-    return "\n".join([
-        "# completions of listset for bash",
-        "_listset() {",
-        '  local said=""',
-        '  case "${COMP_WORDS[1]}" in',
-        *rows,
-        "  esac",
-        lists,
-        "  [ \"${COMP_WORDS[1]}\" != example ] || said=\"$said $(listset example | cut -d' ' -f1)\"",
-        f'  [ "$COMP_CWORD" -gt 1 ] || said="{" ".join(said.about)} --help --version"',
-        '  mapfile -t COMPREPLY < <(compgen -W "$said" -- "$2")',
-        "}",
-        "complete -o default -F _listset listset",
-        "",
-    ])
+    return f"""# completions of listset for bash
+_listset() {{
+  local said=""
+  case "${{COMP_WORDS[1]}}" in
+{chr(10).join(rows)}
+  esac
+{lists}
+  [ "${{COMP_WORDS[1]}}" != example ] || said="$said $(listset example | cut -d' ' -f1)"
+  [ "$COMP_CWORD" -gt 1 ] || said="{" ".join(said.about)} --help --version"
+  mapfile -t COMPREPLY < <(compgen -W "$said" -- "$2")
+}}
+complete -o default -F _listset listset
+"""
 
 
 def for_zsh(said):
@@ -77,20 +75,18 @@ def for_zsh(said):
         files = "'*:list:(" + LISTS + ")'" if name in OF_A_LIST else "'*:file:_files'"
         rows.append(f"  {name}) _arguments {options} {files} ;;")
     words = [f"  '{name}:{told(about)}'" for name, about in said.about.items()]
-    return "\n".join([
-        "#compdef listset",
-        "local -a words_of_listset",
-        "words_of_listset=(",
-        *words,
-        ")",
-        "if (( CURRENT == 2 )); then _describe command words_of_listset; return; fi",
-        'local name=$words[2]',
-        "shift words; (( CURRENT-- ))",
-        "case $name in",
-        *rows,
-        "esac",
-        "",
-    ])
+    return f"""#compdef listset
+local -a words_of_listset
+words_of_listset=(
+{chr(10).join(words)}
+)
+if (( CURRENT == 2 )); then _describe command words_of_listset; return; fi
+local name=$words[2]
+shift words; (( CURRENT-- ))
+case $name in
+{chr(10).join(rows)}
+esac
+"""
 
 
 def for_fish(said):

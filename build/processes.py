@@ -1,5 +1,6 @@
-"""Processes that scripts start, which end with the script, however that ends; the folders that one that was killed leaves; free memory."""
+"""Processes that scripts start, which end with the script, however that ends; and the folders that one that was killed leaves."""
 
+import contextlib
 import os
 import pathlib
 import re
@@ -10,29 +11,12 @@ import sys
 import tempfile
 import threading
 
-TICKS = os.sysconf("SC_CLK_TCK")
-
 
 def script(main):
-    """Runs a script's main and ends with its status. A signal that ends the script leaves what it is in, so that its folders go."""
-    for it in (signal.SIGTERM, signal.SIGHUP):
-        signal.signal(it, lambda number, _: sys.exit(128 + number))
-    try:
-        sys.exit(main())
-    except KeyboardInterrupt:
-        sys.exit(128 + signal.SIGINT)
-
-
-def remove_when_ended(folder):
-    """Has a signal that ends this process remove a folder before. (Threads would wait for what they run; that ends with the process.)"""
-    for ending in (signal.SIGINT, signal.SIGTERM, signal.SIGHUP):
-        signal.signal(ending, lambda number, _: (shutil.rmtree(folder, ignore_errors=True), os._exit(128 + number)))
-
-
-def end_at_once_on_signals():
-    """Has a signal end this process at once, and with it what it started under `guarded`."""
-    for ending in (signal.SIGINT, signal.SIGTERM, signal.SIGHUP):
-        signal.signal(ending, lambda number, _: os._exit(128 + number))
+    """Runs a script's main and ends with its status. A signal ends what the script has started, and then the script, whose folders go."""
+    for it in (signal.SIGINT, signal.SIGTERM, signal.SIGHUP):
+        signal.signal(it, lambda number, _: (end_guarded(), sys.exit(128 + number)))
+    sys.exit(main())
 
 
 def become(program, words):
@@ -43,16 +27,16 @@ def become(program, words):
     os.execv(program, [program, *words])
 
 
+_guarding, _lock = {}, threading.RLock()
+
+
 def _group():
-    """The process group of a shell that ends all in it once this process does not hold its pipe any more."""
+    """A shell, the first of a process group, that ends all in it once this process does not hold its pipe any more; and the pipe."""
     ends, held = os.pipe()
     how = {"stdin": ends, "stdout": subprocess.DEVNULL, "stderr": subprocess.DEVNULL}
     guard = subprocess.Popen(["sh", "-c", "read _; kill -9 0"], preexec_fn=os.setpgrp, **how)
     os.close(ends)
     return guard, held
-
-
-_guarding, _lock = {}, threading.Lock()
 
 
 def guarded():
@@ -66,30 +50,29 @@ def guarded():
     return [sys.executable, "-ISc", f"{joins}; os.execvp(sys.argv[1], sys.argv[1:])"]
 
 
-def sweep(*kinds, folder=None):
-    """Removes what runs that were killed left in a folder, or among the temporary files: folders KIND-PROCESS-.."""
-    for it in pathlib.Path(folder or tempfile.gettempdir()).glob("*-*-*"):
-        found = re.match(r"([.a-z-]+)-(\d+)-", it.name)
+def end_guarded():
+    """Ends what this process started under `guarded`, and waits until its group is gone."""
+    with _lock:
+        if group := _guarding.pop(os.getpid(), None):
+            os.close(group[1])
+            group[0].wait()
+
+
+def sweep(*kinds):
+    """Removes what runs that were killed left among the temporary files: folders KIND-PROCESS-.."""
+    for it in pathlib.Path(tempfile.gettempdir()).glob("*-*-*"):
+        found = re.match(r"([a-z-]+)-(\d+)-", it.name)
         if found and found[1] in kinds and not os.path.exists(f"/proc/{found[2]}"):
             shutil.rmtree(it, ignore_errors=True)
 
 
-def running():
-    """Of each process of the machine its number, with when it began, its parent, its processor seconds so far, its words and its folder."""
-    for pid in filter(str.isdigit, os.listdir("/proc")):
-        try:
-            with open(f"/proc/{pid}/stat") as stat, open(f"/proc/{pid}/cmdline", errors="replace") as words:
-                fields = stat.read().rpartition(") ")[2].split()
-                seconds = (int(fields[11]) + int(fields[12])) / TICKS
-                yield (int(pid), int(fields[19])), int(fields[1]), seconds, words.read().split("\0"), os.readlink(f"/proc/{pid}/cwd")
-        except OSError:
-            pass
-
-
-def free_memory():
-    """The bytes of memory that are free."""
-    found = re.search(r"MemAvailable: +(\d+)", pathlib.Path("/proc/meminfo").read_text())
-    return int(found[1]) * 1024
+@contextlib.contextmanager
+def room(kind):
+    """A temporary folder of this process; first it removes those that runs of this kind left which were killed."""
+    sweep(kind)
+    with tempfile.TemporaryDirectory(prefix=f"{kind}-{os.getpid()}-", ignore_cleanup_errors=True) as folder:
+        os.chmod(folder, 0o711)  # rt, run as root, runs programs as nobody, who has to come through
+        yield pathlib.Path(folder)
 
 
 def status_and_words(words, cwd, **environment):

@@ -13,7 +13,6 @@ CLAUSES = re.compile(r"\s*(?:(?://[^\n]*)\s*)*(?:requires|ensures)\b")
 END_OF_SIGNATURE = re.compile(r"\n\s*(?:requires|ensures|//)|\s*\{|;(?![^\[\]\n]*\])")
 NAME = r"[^\W\d][\w'\-]*"  # of the logic
 USE = re.compile(r"^\s*(?:ghost )?(?:pub )?use Rattle\.([^\s{;]+?)(?:\.\{([^}]*)\})?(?: as (" + NAME + r"))?;?[ ]*$", re.M)
-TEST = re.compile(r"^\s*#\[test\]$", re.M)
 DECLARED = re.compile(r"^(?:pub(?:\(\w+\))? )?(?:(?:struct|enum) (\w+)(?:[^\n]*;$|.*?^[})])|(?:const|type) (\w+).*?;$)", re.M | re.S)
 
 
@@ -147,22 +146,13 @@ class Function:
         return self.source.lines[self.first - 1 : self.last]
 
     @property
-    def text(self):
-        return "\n".join(self.lines)
-
-    @property
     def comment(self):
         return comment_above(self.source.lines, self.first - 1)
 
     @property
-    def whole_contract(self):
-        """Its signature with the clauses after it, as they stand."""
-        return contract_at(self.source.lines, self.first)
-
-    @property
     def contract(self):
         """Its signature with the clauses after it."""
-        return self.whole_contract.strip()
+        return contract_at(self.source.lines, self.first).strip()
 
     @property
     def signature(self):
@@ -222,11 +212,6 @@ class Source:
         """The variants of a public enum, each with the lines of its comment."""
         body = re.search(rf"^pub enum {name} \{{\n(.*?)^\}}", self.text, re.M | re.S)[1].split("\n")
         return {it[1]: comment_above(body, at) for at, line in enumerate(body) if (it := re.match(r"    ([A-Z]\w+)", line))}
-
-    @property
-    def tests(self):
-        """How many tests it has."""
-        return len(TEST.findall(self.text))
 
     @property
     def exports(self):

@@ -2,7 +2,7 @@
 not: the one that was built last.
 
 `tests/harness/fail_allocation.c`, which the toolchain's own clang compiles, refuses the block of memory of one number, and overwrites what is given
-back, so that a read of it shows. A run that does not end within 60 seconds fails.
+back, so that a read of it shows. A run that does not end within 5 seconds of a processor, or 60 in all, fails.
 
 PROGRAM, for each command of ASKED and each growth from the first on, says that it is out of memory and prints nothing else; or
 does as ever, where std asks for less room than it guessed at first. A fault for whose line there is no memory has its status.
@@ -14,15 +14,19 @@ where std guessed, and else a call that asks for memory and does not say so. Whi
 takes a block in the name of each call that asks for none, and of each other one that has no growth of its own.
 """
 
-import collections
+import functools
 import os
 import pathlib
+import resource
 import shutil
 import subprocess
 
-from harness.cases import SECONDS, TOP, Wrong, cases, lacking, once, same, test
+import pytest
+
+from harness.programs import SECONDS, TOP
 
 REFUSED = 1000  # the block that is refused: more than the growths of the calls
+PROCESSOR_SECONDS = 5  # of one run
 
 HARNESS = pathlib.Path(__file__).resolve().parent / "harness"
 EXAMPLES = TOP / "examples" / "schedules"
@@ -118,8 +122,8 @@ BACK = "work (Memory, all comes back)"
 
 def refuser(folder):
     """What stands before the C library and refuses the block."""
-    if not (rt := shutil.which("rt")):
-        raise Wrong("the command rt is missing")
+    rt = shutil.which("rt")
+    assert rt, "the command rt is missing"
     clang = pathlib.Path(rt).resolve().parent.parent / "toolchain/bin/clang"
     compiled, linked = f"{folder}/refuse.o", f"{folder}/refuse.so"
     subprocess.run(["clang", "-c", "-O1", "-fPIC", HARNESS / "fail_allocation.c", "-o", compiled], executable=clang, check=True)
@@ -127,56 +131,39 @@ def refuser(folder):
     return linked
 
 
-def answer_where(program, growth, refuse):
-    """The line that the program prints, and its status, where this growth is refused."""
-    room = {**os.environ, "LD_PRELOAD": refuse, "REFUSE": str(REFUSED), "MALLOC_PERTURB_": "165"}
-    try:
-        ran = subprocess.run([program], input=f"{REFUSED - growth}\n", env=room, capture_output=True, text=True, timeout=SECONDS)
-    except subprocess.TimeoutExpired:
-        raise Wrong(f"with growth {growth} refused: no end within {SECONDS} seconds")
-    return ran.stdout.rstrip("\n") + ran.stderr, ran.returncode
+def ran_where(refuse, number, *words, **how):
+    """The status, the output and the line of a program where the block with this number is refused."""
+    room = {**os.environ, "LD_PRELOAD": refuse, "REFUSE": str(number), "MALLOC_PERTURB_": "165"}
+    limit = functools.partial(resource.setrlimit, resource.RLIMIT_CPU, (PROCESSOR_SECONDS, PROCESSOR_SECONDS))
+    made = subprocess.run(words, env=room, capture_output=True, text=True, timeout=SECONDS, preexec_fn=limit, **how)
+    return made.returncode, made.stdout, made.stderr
 
 
 def answers(program, refuse):
-    """The line and the status of each growth, from the first on, and of the first that no call asks for."""
+    """What CALLS says where each growth is refused, from the first on, and where the first is that no call asks for."""
     told = []
     for growth in range(1, REFUSED):
-        told.append(answer_where(program, growth, refuse))
-        line, status = told[-1]
-        if line == REFUSAL_TO_COME or status != 0:
-            return told
-    raise Wrong(f"growth {REFUSED - 1} is that of a call, so there are more: raise REFUSED")
+        status, line, fault = ran_where(refuse, REFUSED, program, input=f"{REFUSED - growth}\n")
+        assert (status, fault) == (0, ""), f"with growth {growth} refused: {line}"
+        told.append(line.rstrip("\n").removesuffix(" wanted memory"))
+        if told[-1] == REFUSAL_TO_COME:
+            assert told[0] == "World::new"
+            return told[:-1]
+    raise AssertionError(f"growth {REFUSED - 1} is that of a call, so there are more: raise REFUSED")
 
 
-def calls_refused(told):
-    """The call that wants memory where each growth is refused, or that none does."""
-    for growth, (line, status) in enumerate(told, start=1):
-        if status != 0:
-            raise Wrong(f"with growth {growth} refused: {line} (status {status})")
-    calls = [line.removesuffix(" wanted memory") for line, _ in told]
-    if calls[0] != "World::new":
-        raise Wrong(f"the first run refuses a growth of {calls[0]}, and not of World::new")
-    return calls[:-1]
-
-
-def passed_over(calls):
-    """How many growths were passed over in each call that may guess."""
-    found, call = collections.Counter(), None
+def look_at_passed_over(calls):
+    """Growths are passed over in calls that may guess alone."""
+    call = None
     for growth, name in enumerate(calls, start=1):
-        if name != PASSED_OVER:
-            call = name
-        elif call in GUESSING:
-            found[call] += 1
-        else:
-            raise Wrong(f"growth {growth}, of {call} or behind it, is refused and no call tells it")
-    return found
+        call = call if name == PASSED_OVER else name
+        assert name != PASSED_OVER or call in GUESSING, f"growth {growth}, of {call} or behind it, is refused and no call tells it"
 
 
 def look_at_work(calls):
     """`work` gives set and seats back at each growth that is refused, also at that of the keys."""
     worked = [name for name in calls if name.startswith("work (Memory")]
-    if len(worked) < 2 or worked != [BACK] * len(worked):
-        raise Wrong(f"the growths of work, in turn: {', '.join(worked)}")
+    assert len(worked) > 1 and {*worked} == {BACK}
 
 
 OUT_OF_MEMORY = 3, "", "listset: out of memory\n"
@@ -184,46 +171,24 @@ SPAWN = 1, "", "listset: work: Spawn\n"
 LAST = 10  # so many growths, one after another, are not passed over: then there are no more
 
 
-def asked(program, words, number, refuse):
-    """The status, the output and the line of a command where the block with this number is refused."""
-    room = {**os.environ, "LD_PRELOAD": refuse, "REFUSE": str(number), "MALLOC_PERTURB_": "165"}
-    how = {"stdin": subprocess.DEVNULL, "capture_output": True, "text": True, "timeout": SECONDS}
-    try:
-        made = subprocess.run([program, *words], cwd=EXAMPLES, env=room, **how)
-    except subprocess.TimeoutExpired:
-        raise Wrong(f"{' '.join(words)}: with growth {number} refused: no end within {SECONDS} seconds")
-    return made.returncode, made.stdout, made.stderr
-
-
 def told_and_over(program, words, refuse):
     """How many growths of a command are told, and how many are passed over."""
-    wanted = asked(program, words, 0, refuse)
-    met = {OUT_OF_MEMORY} | ({SPAWN} if words[0] == "run" else set())
-    if wanted[2]:
-        met.add((wanted[0], "", ""))
+    how = {"cwd": EXAMPLES, "stdin": subprocess.DEVNULL}
+    due = ran_where(refuse, 0, program, *words, **how)
+    met = {OUT_OF_MEMORY} | ({SPAWN} if words[0] == "run" else set()) | ({(due[0], "", "")} if due[2] else set())
     told = over = passed = 0
     for number in range(1, 10 * REFUSED):
-        found = asked(program, words, number, refuse)
-        if found in met:
-            told, over, passed = told + 1, over + passed, 0
-        elif found == wanted:
-            passed += 1
-        else:
-            raise Wrong(f"{' '.join(words)}: with growth {number} refused: status {found[0]}, {found[1:]}")
+        found = ran_where(refuse, number, program, *words, **how)
+        assert found in met or found == due, f"with growth {number} refused"
+        told, over, passed = (told + 1, over + passed, 0) if found in met else (told, over, passed + 1)
         if passed == LAST:
             return told, over
-    raise Wrong(f"{' '.join(words)}: there are more growths")
+    raise AssertionError("there are more growths")
 
 
-def commands():
-    """The commands, and of each how many growths are passed over."""
-    rows = (line.partition(" ") for line in ASKED.strip().splitlines())
-    return {f"command/{words}": (int(over), words) for over, _, words in rows}
-
-
-def texts(case):
-    """Texts in the case's room, by their names: most of them schedules for one thread."""
-    files = {name: case.room / f"{name.lower()}.text" for name in ("OPENING", "ENDED", "TRIES", "CHAIN", "ORDERED", "DRAWN")}
+def texts(program, room):
+    """Texts in the room, by their names: most of them schedules for one thread."""
+    files = {name: room / f"{name.lower()}.text" for name in ("OPENING", "ENDED", "TRIES", "CHAIN", "ORDERED", "DRAWN")}
     few, many = ("".join(f"opening {key}\n" for key in range(1, most)) for most in (13, 6_001))
     one, two = ("listset-schedule 2\nlist coarse\nthreads {}\nquota 5\n".format(threads) for threads in (1, 2))
     files["OPENING"].write_text(f"{one}{few}begin 0 remove 4\ngo 0 14\n")
@@ -232,27 +197,24 @@ def texts(case):
     files["CHAIN"].write_text(f"{one}{many}" + "begin 0 add 0\ngo 0 7\nbegin 0 remove 0\ngo 0 6\n" * 2)
     files["ORDERED"].write_text(ORDERED)
     with open(files["DRAWN"], "w") as drawn:
-        subprocess.run([case.program, *"gen coarse 1 40 60 2 1".split()], stdout=drawn, check=True)
+        subprocess.run([program, *"gen coarse 1 40 60 2 1".split()], stdout=drawn, check=True)
     return {name: str(file) for name, file in files.items()}
 
 
-@cases(commands)
-def each_growth_of_a_command(case, over, command):
-    made = texts(case)
-    words = [made.get(word, word) for word in command.split()]
-    told, passed = told_and_over(case.program, words, once(refuser))
-    if told == 0 or passed != over:
-        raise Wrong(f"{told} growths are told, and {passed} passed over, not {over}")
+@pytest.mark.parametrize("row", ASKED.strip().splitlines())
+def test_each_growth_of_a_command(program, room, once, row):
+    over, *words = row.split()
+    made = texts(program, room)
+    told, passed = told_and_over(program, [made.get(word, word) for word in words], once(refuser))
+    assert told > 0 and passed == int(over)
 
 
-@test
-def each_growth_of_the_calls(case):
+def test_each_growth_of_the_calls(once, lacking):
     """Of the calls that are made one by one; each of BLOCKS has a block in its name."""
     built = [TOP / it for it in CALLS if (TOP / it).exists()]
     if not built:
-        lacking(f"{CALLS[1]} is missing: tests/unproved memory_calls --to {CALLS[1]} builds it, ./gate --tests-proved the proved one")
-    program = max(built, key=lambda it: it.stat().st_mtime)
-    calls = calls_refused(answers(program, once(refuser)))
-    passed_over(calls)
+        lacking(f"{CALLS[1]} is missing: tests/unproved memory_calls builds it")
+    calls = answers(max(built, key=lambda it: it.stat().st_mtime), once(refuser))
+    look_at_passed_over(calls)
     look_at_work(calls)
-    same(sorted(BLOCKS - {*calls}), [], "the calls in whose name no block is taken")
+    assert BLOCKS <= {*calls}

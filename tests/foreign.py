@@ -3,41 +3,24 @@ LISTSET_PREFIX if that is set, and the programs of docs/FOREIGN.md. A sanitizer 
 and undefined behaviour, and in threads that for races. They see the callers; the libraries are not compiled with them.
 """
 
-import ast
 import os
 import pathlib
 import re
 import shutil
 import sys
+import warnings
 
-from harness.cases import TOP, Wrong, each, given, lacking, needs, test_on, usable
-from harness.programs import LONG, QUICK_CARGO, ran, well
+import pytest
+import same_output
+from harness.programs import LONG, QUICK_CARGO, TOP, ran, well
 from judge_in_a_test import FORMS, go_words
 
 FOREIGN, EXAMPLES = TOP / "foreign", TOP / "examples" / "schedules"
 TESTS, PREFIX = FOREIGN / "tests", pathlib.Path(os.environ.get("LISTSET_PREFIX", FOREIGN / "out"))
-TAKES_TURNS = True  # (each has more threads than there are processors)
+needs = pytest.mark.needs
+pytestmark = pytest.mark.xdist_group("foreign")  # (they take turns: each has more threads than there are processors)
 WARN = ["-Wall", "-Wextra", "-Werror", "-O1", "-g"]
 MEMORY, RACES = "-fsanitize=address,undefined", "-fsanitize=thread"
-OF_C = TOP / "crates" / "ffi_sets" / "src"
-BINDINGS = {"c": "listset.h", "cpp": "listset.hpp", "rust": "rust/src/sets.rs", "python": "listset.py"}
-# where each has the lists, in order
-LISTS = {"c": r"enum \{ (LISTSET_COARSE.*?) \};", "cpp": r"enum class list : uint8_t \{ (.*?) \};", "rust": r"pub enum List \{(.*?)\}"}
-LISTS |= {"python": r"^LISTS = \[(.*?)\]"}
-# of each fault what listset.h says beside its number, and the sentence of the bindings
-FAULTS = {
-    "BAD_SEATS": ("not 1 to 64", "the seats are not 1 to 64"),
-    "BAD_QUOTA": ("above 16,384", "the quota is above 16384"),
-    "BAD_KEYS": ("they do not rise, or are more than 1,048,576", "the keys do not rise or are too many"),
-    "OUT_OF_MEMORY": ("", "out of memory"),
-    "BAD_KIND": ("", None),  # (the bindings' types have no such list, and open onto no full seat)
-    "IS_SEAT": ("`out` is full", None),
-    "SEATS_OUT": ("not all seats are gathered", "not all seats are gathered"),
-    "NO_MORE": ("no seat is left to be split off", "no seat is left to be split off"),
-    "NO_GATHER": ("not two seats of one list and number", "not two seats of one set"),
-    "NO_SEAT": ("the seat is empty, or of a closed set", "there is no seat"),
-}
-IN_RUST = {"NO_GATHER": "the seats are of two sets", "NO_SEAT": None}  # (the types rule the others out)
 WRAPPED = [f"-Wl,--wrap={it}" for it in ("malloc", "realloc", "free")]
 
 
@@ -49,8 +32,6 @@ class InstalledLibraries:
     """The libraries as they are installed, and a room for what is made of them."""
 
     def __init__(self, room):
-        if not PREFIX.exists():
-            lacking("foreign/out is missing: foreign/build --unproved builds the libraries")
         self.room, self.library, self.share = room, PREFIX / "lib", PREFIX / "share" / "listset"
         self.include = f"-I{PREFIX / 'include'}"
 
@@ -65,7 +46,7 @@ class InstalledLibraries:
         source.write_text("int main(void) { return 0; }\n")
         found = ran("gcc", sanitizer, source, "-o", made, seconds=LONG).returncode == 0 and ran(made).returncode == 0
         if not found:
-            print(f"foreign: {sanitizer} does not work here: left out", file=sys.stderr, flush=True)
+            warnings.warn(f"{sanitizer} does not work here: left out")
         return found
 
     def built(self, name, *flags):
@@ -75,7 +56,7 @@ class InstalledLibraries:
         return made
 
     def flags(self):
-        """What a compiler is told of the installed library, by pkg-config where that is here."""
+        """The flags for the installed library, by pkg-config if that is installed."""
         flags = [self.include, f"-L{self.library}", "-llistset"]
         if shutil.which("pkg-config"):
             how = {**os.environ, "PKG_CONFIG_PATH": str(self.library / "pkgconfig")}
@@ -85,38 +66,39 @@ class InstalledLibraries:
     def page(self, language, ending, name="listset.{1,3}judge"):
         """The file of the program of docs/FOREIGN.md that calls the function of this name."""
         found = re.findall(rf"^```{language}\n(.*?)^```$", (TOP / "docs" / "FOREIGN.md").read_text(), re.M | re.S)
-        found = [it for it in found if re.search(name, it)]
-        if len(found) != 1:
-            raise Wrong(f"docs/FOREIGN.md has {len(found)} programs in {language} that call {name}")
+        program, = (it for it in found if re.search(name, it))
         made = self.room / f"first.{ending}"
-        made.write_text(found[0])
+        made.write_text(program)
         return made
 
-    def first_program(self, language, *words, **how):
+    def first_program(self, *words, **how):
         """What comes of a first program on calls that an order explains, and on some that none does."""
         refused = (TOP / "examples" / "recorders" / "both-true.calls").read_text()
         right = refused.replace("call 1 add 5 2 - 3 true", "call 1 add 5 2 - 3 false")
         for text, status, says in ((right, 0, "ok 3 calls\n"), (refused, 1, "not linearizable\n")):
             done = ran(*words, text=text, seconds=LONG, **how)
-            if done.returncode != status or not done.stdout.startswith(says):
-                raise Wrong(f"the program in {language} of docs/FOREIGN.md on {text}: {done}")
+            assert (done.returncode, done.stdout[:len(says)]) == (status, says), done.stderr
 
 
-test = test_on(InstalledLibraries)
+@pytest.fixture
+def installed(room, lacking):
+    if not PREFIX.exists():
+        lacking("foreign/out is missing: foreign/build --unproved builds the libraries")
+    return InstalledLibraries(room)
 
 
 @needs("gcc")
-@test
-def words(installed):
+def test_words(installed, program):
     """A program in C has the bytes and statuses of the program on the words of same_output, by each library."""
     shared, run_path = installed.room / "shared", f"-Wl,-rpath,{installed.library}"
     well("gcc", "-std=c11", *WARN, installed.include, TESTS / "words.c", f"-L{installed.library}", "-llistset", run_path, "-o", shared)
-    well(TOP / "tests/run", "--program", usable(given.program), "--beside", installed.built("words.c"), "--beside", shared, "same_output")
+    forms = [same_output.Form(it) for it in (program, installed.built("words.c"), shared)]
+    for words in same_output.WORDS:
+        same_output.print_the_same(words, *forms)
 
 
 @needs("gcc")
-@test
-def threads(installed):
+def test_threads(installed):
     """The judge in eight threads."""
     for flags in ([], [MEMORY], [RACES]):
         if all(map(installed.works, flags)):
@@ -124,8 +106,7 @@ def threads(installed):
 
 
 @needs("gcc")
-@test
-def memory(installed):
+def test_memory(installed):
     """The judge, with each allocation refused in turn."""
     schedule, report = EXAMPLES / "one-add.schedule", EXAMPLES / "one-add.report"
     draft = min((TOP / "tests" / "transcripts" / "data" / "drafts").glob("*.draft"), key=lambda it: it.stat().st_size)
@@ -135,8 +116,7 @@ def memory(installed):
 
 
 @needs("gcc")
-@test
-def sets(installed):
+def test_sets(installed):
     """The lists in threads, beside models and counts, and recorded and judged: with more threads than processors, and a million calls."""
     for flags, sizes in (([], [250_000, 4]), ([], [500, 64]), ([MEMORY], [5_000, 4]), ([RACES], [2_000, 4])):
         if all(map(installed.works, flags)):
@@ -145,31 +125,27 @@ def sets(installed):
 
 
 @needs("gcc")
-@test
-def misuse(installed):
+def test_misuse(installed):
     """What the sets refuse, and their allocations refused in turn."""
     flags = [MEMORY] if installed.works(MEMORY) else []
     well(installed.built("misuse.c", *flags, *WRAPPED))
 
 
 @needs("gcc")
-@test
-def largest_set(installed):
+def test_largest_set(installed):
     """Of each list the set with the most keys that there may be."""
     well(installed.built(TOP / "tests" / "harness" / "largest_set.c"))
 
 
 @needs("gcc")
-@test
-def c(installed):
+def test_c(installed):
     made = installed.room / "first"
     well("gcc", "-std=c99", *WARN, installed.page("c", "c"), *installed.flags(), "-o", made)
-    installed.first_program("c", made)
+    installed.first_program(made)
 
 
 @needs("g++")
-@test
-def cpp(installed):
+def test_cpp(installed):
     made, first, how = installed.room / "made", installed.room / "first", [MEMORY] if installed.works(MEMORY) else []
     # (g++ takes three times as long for what it optimizes and a sanitizer looks at; the header is optimized in the programs of the page)
     elsewhere, flags = installed.room / "elsewhere.o", ["-std=c++17", *WARN, "-O0", *how, "-pthread"]
@@ -182,18 +158,16 @@ def cpp(installed):
     well("g++", "-std=c++17", *WARN, installed.page("cpp", "cpp", "listset::open"), *installed.flags(), "-pthread", "-o", first)
     well(first)
     well("g++", "-std=c++17", *WARN, installed.page("cpp", "cpp"), *installed.flags(), "-o", first)
-    installed.first_program("cpp", first)
+    installed.first_program(first)
 
 
 @needs("cargo")
-@test
-def rust(installed):
+def test_rust(installed):
     crate, target, cargo = installed.share / "rust", ["--target-dir", installed.room / "target"], [*QUICK_CARGO, "--offline"]
     how = {**os.environ, "LISTSET_EXAMPLES": str(EXAMPLES)}
     said = well(*cargo, "test", "--locked", *target, "--manifest-path", crate / "Cargo.toml", env=how)
     passed = [line for line in said.splitlines() if line.startswith("test result: ok.") and " 0 passed" not in line]
-    if len(passed) != 6:
-        raise Wrong(f"cargo ran {len(passed)} kinds of tests:\n{said[-2000:]}")
+    assert len(passed) == 6, said
     manifest, made = installed.room / "Cargo.toml", installed.room / "target" / "debug"
     how = {"env": {**in_room(installed), "LISTSET_LIB": str(installed.library)}}
     parts = f"[dependencies]\nlistset = {{ path = '{crate}' }}\nlistset_judge = {{ path = '{FORMS / 'rust'}' }}\n"
@@ -201,15 +175,14 @@ def rust(installed):
         parts += f"\n[[bin]]\nname = '{name}'\npath = '{source}'\n"
     manifest.write_text(f"[package]\nname = 'first'\nversion = '0.0.0'\nedition = '2021'\n\n{parts}")
     well(*cargo, "build", *target, "--manifest-path", manifest, **how)
-    installed.first_program("rust", made / "first")
+    installed.first_program(made / "first")
     well(made / "judged")
     first = ["--test", "sets", "--", "my_set_is_linearizable", "check_then_act_is_refused", "--nocapture"]
     is_judged(well(*cargo, "test", "--locked", *target, "--manifest-path", FORMS / "rust" / "Cargo.toml", *first, **how), installed.proof())
 
 
 @needs("go", "pkg-config", "gcc")
-@test
-def go(installed):
+def test_go(installed):
     how = {**in_room(installed), "PKG_CONFIG_PATH": str(installed.library / "pkgconfig"), "LD_LIBRARY_PATH": str(installed.library)}
     shutil.copytree(FORMS / "go", installed.room / "go")
     first = go_words("test", "-count=1", "-tags", "listset", "-run", "TestIsLinearizable|TestCheckThenActIsRefused", "-v")
@@ -223,77 +196,14 @@ def in_room(installed):
 
 def is_judged(said, proof):
     """That a set of one's own was judged by the library."""
-    if f"; judge: liblistset, {proof}" not in said:
-        raise Wrong(f"the library was no judge: {said[-2000:]}")
+    assert f"; judge: liblistset, {proof}" in said
 
 
-@test
-def python(installed):
+def test_python(installed):
     how = {"env": {**in_room(installed), "PYTHONPATH": str(installed.share)}}
     well(sys.executable, "-B", TESTS / "judge.py", EXAMPLES, **how)
     of_library = ("my_set_is_linearizable", "check_then_act_is_refused")
     first = [sys.executable, "-B", "-m", "unittest", *(f"test_sets.Sets.test_{it}" for it in of_library)]
     is_judged(well(*first, cwd=FORMS / "python", **how), installed.proof())
     well(sys.executable, "-B", TESTS / "sets.py", **how)
-    installed.first_program("python", sys.executable, "-B", installed.page("python", "py"), **how)
-
-
-def source(language):
-    return (FOREIGN / BINDINGS[language]).read_text()
-
-
-def part(pattern, text):
-    """What a pattern finds that is there once."""
-    found = re.findall(pattern, text, re.M | re.S)
-    if len(found) != 1:
-        raise Wrong(f"{pattern} is there {len(found)} times")
-    return found[0]
-
-
-@each(BINDINGS)
-def order_of_lists(_case, language):
-    """Each binding has the lists by the numbers of the crate ffi_sets."""
-    due = re.findall(r"^ +(\d+) => Held::(\w+)\(open_of", (OF_C / "each.rt").read_text(), re.M)
-    found = re.findall(r"[\w-]+", part(LISTS[language], source(language)))
-    found = [re.sub("^listset|[_-]", "", it.lower()) for it in found]
-    if len(due) != 5 or [(str(at), it) for at, it in enumerate(found)] != [(at, it.lower()) for at, it in due]:
-        raise Wrong(f"{BINDINGS[language]} has the lists {found}, and ffi_sets has {due}")
-
-
-def numbers_in(text, pattern):
-    return {name: int(number) for name, number in re.findall(pattern, text, re.M)}
-
-
-def sentences_in_c(text, _numbers):
-    return {int(number): said for number, said in re.findall(r"^ +LISTSET_\w+ = (\d+),? *(?:/\* (.*?) \*/)?$", text, re.M)}
-
-
-def sentences_in_cpp(text, numbers):
-    found = re.findall(r"case LISTSET_(\w+): return \"(.*)\";", text)
-    return {**{numbers[name]: said for name, said in found}, numbers["NO_SEAT"]: part(r"default: return \"(.*?)\";", text)}
-
-
-def sentences_in_rust(text, _numbers):
-    said = dict(re.findall(r"Fault::(\w+) => \"(.*)\",", text))
-    return {int(number): said[name] for number, name in re.findall(r"^ +(\d+) => Fault::(\w+),", text, re.M)}
-
-
-def sentences_in_python(text, _numbers):
-    return ast.literal_eval(part(r"^FAULTS = (\{.*?\})", text))
-
-
-SENTENCES = {"c": sentences_in_c, "cpp": sentences_in_cpp, "rust": sentences_in_rust, "python": sentences_in_python}
-
-
-@each(BINDINGS)
-def sentences_of_faults(_case, language):
-    """Each fault has in each binding the number of the crate ffi_sets, and its sentence."""
-    numbers = numbers_in((OF_C / "codes.rt").read_text(), r"^pub const (\w+): u8 = (\d+);")
-    in_c = numbers_in(source("c"), r"^ +LISTSET_(\w+) = (\d+)")
-    if wrong := {name for name in FAULTS if in_c.get(name) != numbers[name]} | (numbers.keys() - FAULTS.keys() - {"DONE"}):
-        raise Wrong(f"listset.h has other numbers than ffi_sets for {sorted(wrong)}")
-    told = SENTENCES[language](source(language), numbers)
-    for name, (beside, sentence) in FAULTS.items():
-        due = beside if language == "c" else IN_RUST.get(name, sentence) if language == "rust" else sentence
-        if told.get(numbers[name]) != due:
-            raise Wrong(f"{BINDINGS[language]} says {told.get(numbers[name])!r} of {name}, {numbers[name]}, and not {due!r}")
+    installed.first_program(sys.executable, "-B", installed.page("python", "py"), **how)

@@ -1,11 +1,9 @@
-"""The judge in a test of one's own: the forms of examples/in-a-test, by their own tests, in each language that is installed; if what a
-case needs is not, it is skipped.
+"""The judge in a test of one's own: the forms of examples/in-a-test, by their own tests, in each language that is installed.
 
 A right set has to be `ok` there, and three wrong ones refused; what hangs or crashes is judged up to there; a long run is kept in parts,
 which the program judges as one recording, whole and by keys. The verdict counts the calls of all runs, and a run that fails is named. If
 there is no judge, or one that answers something else, the first test has to fail with a sentence that says so. The page's engine in node
-is another judge (tests/foreign.py tries the library). Every wait is bounded.
-"""
+is another judge (tests/foreign.py tries the library). Every wait is bounded."""
 
 import importlib.util
 import os
@@ -13,13 +11,12 @@ import pathlib
 import re
 import shutil
 import sys
-import unittest
 
-from harness.cases import NEEDED_BY_CASES, TOP, Wrong, each, given, needs, once, same
-from harness.programs import QUICK_CARGO, ran, well
+import pytest
+from harness.programs import QUICK_CARGO, TOP, ran, well
 
 FORMS = TOP / "examples" / "in-a-test"
-SECONDS = 300  # for each compiler, and for each run of tests
+SECONDS = 300  # for each run of tests
 JUNIT = pathlib.Path("/usr/share/java/junit-platform-console-standalone.jar")
 # What is no judge, and what a form has to say then: `{}` is its path.
 NO_VERDICT = "{} gave no verdict, but said: %s. Take a newer listset"
@@ -34,74 +31,50 @@ NO_JUDGES = {
     "ok that is killed": ("#!/bin/sh\necho ok 9 calls; echo 3 of them overlap\nkill -9 $$\n", NO_VERDICT % "ok 9 calls"),
 }
 JUDGES_NOT_IN_PATH = [
-    ("listset", None, "there is no listset in PATH: build it, and put it there or name it by LISTSET"),
-    ("node", pathlib.Path("/no/such/listset.js"), "node is not in PATH, which runs the /no/such/listset.js that LISTSET names"),
+    (None, "there is no listset in PATH: build it, and put it there or name it by LISTSET"),
+    ("/no/such/listset.js", "node is not in PATH, which runs the /no/such/listset.js that LISTSET names"),
 ]
 
 
-def judged(where, words, judge=None, **also):
-    """The status of a command, with this judge or with none and with these variables also, and what it said."""
-    environment = {name: it for name, it in os.environ.items() if name not in ("LISTSET", "RUST_BACKTRACE")}
-    environment |= {"LISTSET": str(judge)} if judge else {}
-    environment |= {"TMPDIR": str(judge.parent)} if judge and judge.parent.exists() else {}
-    environment |= also
-    done = ran(*words, cwd=where, env=environment, seconds=SECONDS)
-    return done.returncode, done.stdout + done.stderr
+# ---- of each language what builds its tests, once for all, and where a test of this room runs them, by which words
 
 
-def build_tests(where, *words):
-    well(*words, cwd=where, seconds=SECONDS)
-
-
-def judge_script(path, script):
-    """The path of a script that can be run; if it is empty, of none."""
-    if script:
-        path.write_text(script)
-        path.chmod(0o755)
-    return path
-
-
-# ---- of each language what builds its tests, once for all cases, and where a case of this room runs them, by which words
-
-
-def folder_in(room, name):
-    """A new folder."""
-    (room / name).mkdir()
-    return room / name
-
-
-def built_rust(room):
-    target = room / "built rust"
-    build_tests(room, *QUICK_CARGO, "test", "--no-run", "--offline", "--locked", "--target-dir", target, "--manifest-path", FORMS / "rust/Cargo.toml")
-    (tests,) = (it for it in (target / "debug/deps").glob("sets-*") if not it.suffix)
+def built_rust(folder):
+    build = ["test", "--no-run", "--offline", "--locked", "--target-dir", folder, "--manifest-path", FORMS / "rust/Cargo.toml"]
+    well(*QUICK_CARGO, *build, cwd=folder)
+    (tests,) = (it for it in (folder / "debug/deps").glob("sets-*") if not it.suffix)
     return tests
 
 
-def rust(room):
+def rust(room, once):
     return room, [once(built_rust)]
 
 
-def built_cpp(room):
-    built = room / "built cpp"
-    build_tests(FORMS / "cpp", "g++", "-O1", "-Wall", "-Wextra", "-Wshadow", "-Werror", "-std=c++17", "-pthread", "tests.cpp", "-o", built)
-    return built
+def built_cpp(folder):
+    warn = ["-Wall", "-Wextra", "-Wshadow", "-Werror"]
+    well("g++", "-O1", *warn, "-std=c++17", "-pthread", "tests.cpp", "-o", folder / "tests", cwd=FORMS / "cpp")
+    return folder / "tests"
 
 
-def cpp(room):
+def cpp(room, once):
     return room, [once(built_cpp)]
 
 
-def googletest(room):
-    build_tests(FORMS / "cpp", "g++", "-std=c++17", "-pthread", "googletest.cpp", "-lgtest", "-lgtest_main", "-o", room / "tests")
-    return room, [room / "tests"]
+def built_googletest(folder):
+    well("g++", "-std=c++17", "-pthread", "googletest.cpp", "-lgtest", "-lgtest_main", "-o", folder / "tests", cwd=FORMS / "cpp")
+    return folder / "tests"
 
 
-def python(_):
+def googletest(room, once):
+    return room, [once(built_googletest)]
+
+
+def python(_room, _once):
     return FORMS / "python", [sys.executable, "-B", "-m", "unittest", "test_sets", "test_servers"]
 
 
-def pytest(_):
-    return FORMS / "python", [sys.executable, "-B", "-m", "pytest", "-q", "-p", "no:cacheprovider", "test_sets.py"]
+def by_pytest(_room, _once):
+    return FORMS / "python", [sys.executable, "-B", "-m", "pytest", "-q", "-c", os.devnull, "-p", "no:cacheprovider", "test_sets.py"]
 
 
 def in_jvm(*words):
@@ -109,39 +82,37 @@ def in_jvm(*words):
     return [shutil.which("env"), "JAVA_TOOL_OPTIONS=-XX:TieredStopAtLevel=1 -XX:+UseSerialGC", *words]
 
 
-def built_java(room):
-    classes = folder_in(room, "built java")
-    build_tests(FORMS / "java", *in_jvm("javac"), "-Xlint:all,-serial", "-Werror", "-d", classes, "Judge.java", "Sets.java", "Tests.java")
-    return classes
+def built_java(folder):
+    well(*in_jvm("javac"), "-Xlint:all,-serial", "-Werror", "-d", folder, "Judge.java", "Sets.java", "Tests.java", cwd=FORMS / "java")
+    return folder
 
 
-def java(room):
+def java(room, once):
     return room, [*in_jvm(shutil.which("java")), f"-Djava.io.tmpdir={room}", "-cp", once(built_java), "Tests"]
 
 
-def junit(room):
-    build_tests(FORMS / "java", *in_jvm("javac"), "-cp", JUNIT, "-d", room, "Judge.java", "Sets.java", "SetsTest.java")
+def junit(room, _once):
+    well(*in_jvm("javac"), "-cp", JUNIT, "-d", room, "Judge.java", "Sets.java", "SetsTest.java", cwd=FORMS / "java")
     return room, [*in_jvm("java"), f"-Djava.io.tmpdir={room}", "-jar", JUNIT, "-cp", room, "--scan-classpath", "--disable-banner"]
 
 
 def go_words(*words):
-    """A command of go that looks for nothing in the network. What it compiles is kept for all other tests, by go itself where it may."""
-    has_folder = any(it in os.environ for it in ("GOCACHE", "XDG_CACHE_HOME", "HOME"))
-    return ["env", "GOPROXY=off", *([] if has_folder else [f"GOCACHE={given.room / 'go cache'}"]), "go", *words]
+    """A command of go that looks for nothing in the network."""
+    return ["env", "GOPROXY=off", "go", *words]
 
 
-def built_go(room):
-    sources = shutil.copytree(FORMS / "go", room / "built go")
-    build_tests(sources, *go_words("test", "-c", "-o", sources / "tests"))
-    return sources / "tests"
+def built_go(folder):
+    sources = shutil.copytree(FORMS / "go", folder / "sources")
+    well(*go_words("test", "-c", "-o", folder / "tests"), cwd=sources)
+    return folder / "tests"
 
 
-def go(room):
+def go(room, once):
     return room, [once(built_go)]
 
 
-LANGUAGES = {"Rust": rust, "C++": cpp, "GoogleTest": googletest, "Python": python, "pytest": pytest, "Java": java, "JUnit": junit, "Go": go}
-TOOLS_OF_LANGUAGES = {"Rust": ["cargo"], "C++": ["g++"], "GoogleTest": ["g++"], "Java": ["javac", "java"], "JUnit": ["javac", "java"], "Go": ["go"]}
+LANGUAGES = {"Rust": rust, "C++": cpp, "GoogleTest": googletest, "Python": python, "pytest": by_pytest, "Java": java, "JUnit": junit, "Go": go}
+TOOLS = {"Rust": ["cargo"], "C++": ["g++"], "GoogleTest": ["g++"], "Java": ["javac", "java"], "JUnit": ["javac", "java"], "Go": ["go"]}
 TEST_LIBRARIES = {
     "GoogleTest": ("Debian's package libgtest-dev", pathlib.Path("/usr/include/gtest/gtest.h").exists),
     "pytest": ("Debian's package python3-pytest", lambda: importlib.util.find_spec("pytest")),
@@ -149,13 +120,9 @@ TEST_LIBRARIES = {
 }
 
 
-def look_for(language):
-    """Skips the case of a language that is not installed."""
-    if missing := [it for it in TOOLS_OF_LANGUAGES.get(language, []) if not shutil.which(it)]:
-        raise unittest.SkipTest(f"{missing[0]} is not installed: {NEEDED_BY_CASES[missing[0]]}")
-    package, is_there = TEST_LIBRARIES.get(language, ("", lambda: True))
-    if not is_there():
-        raise unittest.SkipTest(f"{language} is not installed: {package}")
+def each(languages):
+    """A test for each language, which needs what compiles it."""
+    return pytest.mark.parametrize("language", [pytest.param(it, marks=pytest.mark.needs(*TOOLS.get(it, []))) for it in languages])
 
 
 # Of each language how its first test alone is run, which prints its verdict
@@ -174,8 +141,6 @@ case $1 in judge) ;; *) exit 0 ;; esac
 echo 'listset: line 9: Line' >&2
 exit 1
 """
-
-
 # The program, but for how many calls of a recording overlap
 OVERLAPS_THREE = """#!/bin/sh
 '%s' "$@" | sed 's/^[0-9]* of them /3 of them /'
@@ -189,93 +154,107 @@ exit 1
 """
 
 
-def first_test_of(words, language, of=FIRST_TESTS):
-    """The words that run the first test of a language alone; all tests, of what has no word for it."""
-    return [it for it in words if not str(it).startswith("test_")] + of[language] if language in of else words
+class Form:
+    """The tests of a form: where they are run, and by which words."""
+
+    def __init__(self, language, room, where, words):
+        self.language, self.room, self.where, self.words = language, room, where, words
+
+    def script(self, name, text):
+        """The path of a script that can be run; if it is empty, of none."""
+        path = self.room / name
+        if text:
+            path.write_text(text)
+            path.chmod(0o755)
+        return path
+
+    def said(self, judge, words=None, **also):
+        """The status of the tests, with this judge and with these variables also, and what they said."""
+        environment = {name: it for name, it in os.environ.items() if name not in ("LISTSET", "RUST_BACKTRACE")}
+        environment |= {"LISTSET": str(judge)} if judge else {}
+        done = ran(*words or self.words, cwd=self.where, env=environment | {"TMPDIR": str(self.room)} | also, seconds=SECONDS)
+        return done.returncode, done.stdout + done.stderr
+
+    def first(self, judge, of=FIRST_TESTS, **also):
+        """The same of the first test alone; of all tests, if no word names it."""
+        own = [it for it in self.words if not str(it).startswith("test_")] + of[self.language] if self.language in of else None
+        return self.said(judge, own, **also)
+
+    def left(self):
+        return sorted(it.name for it in self.room.glob("listset-*"))
 
 
-def first_said(where, words, language, judge):
-    """What the first test of a language says, of all its twenty runs, with this judge."""
-    status, said = judged(where, first_test_of(words, language), judge)
-    if status:
-        raise Wrong(f"the first test ended with status {status}\n{said[-3000:]}")
-    return said
+@pytest.fixture
+def form(language, room, once, lacking):
+    package, is_there = TEST_LIBRARIES.get(language, ("", lambda: True))
+    if not is_there():
+        lacking(f"{language} is not installed: {package}")
+    return Form(language, room, *LANGUAGES[language](room, once))
 
 
-def files_of_judging(room):
-    return sorted(it.name for it in room.glob("listset-*"))
-
-
-def proof_of(program):
-    """The line in which a program says whether it is proved."""
-    return ran(program, "--version", "--long").stdout.splitlines()[3]
-
-
-def tells_judge(said, judge, proof):
-    if f"; judge: {judge}, {proof}" not in said:
-        raise Wrong(f"the judge is not told: {said}")
-
-
-def is_judged_in_parts(case, parts):
-    """Whether the program judges the parts of a long run as one recording, and by keys."""
-    asked = [[], *(["--keys", f"{it}/4"] for it in range(4))]
-    said = [judged(case.room, [case.program, "judge", *it, *parts])[1] for it in asked]
-    counts = [int(it.split()[3]) for it in said if it.startswith(f"ok {len(parts)} parts, ")]
-    if len(parts) < 3 or len(counts) < len(asked) or counts[0] != sum(counts[1:]):
-        raise Wrong(f"of {len(parts)} parts: {said}")
+def are_judged_as_one(program, parts):
+    """That the program judges the parts of a long run as one recording, and by keys."""
+    said = [well(program, "judge", *it, *parts).split() for it in ([], *(["--keys", f"{it}/4"] for it in range(4)))]
+    assert [it[:3] for it in said] == [["ok", str(len(parts)), "parts,"]] * 5
+    whole, *of_keys = (int(it[3]) for it in said)
+    assert (len(parts) >= 3, whole) == (True, sum(of_keys))
 
 
 def says_its_threads(recording):
-    """Whether a recording says as many threads as its calls have numbers, so that `show` draws a row for no other."""
+    """That a recording says as many threads as its calls have numbers, so that `show` draws a row for no other."""
     text = recording.read_text()
     numbers = {int(it) for it in re.findall(r"^call (\d+) ", text, re.M)}
-    same(re.findall(r"^threads (\d+)$", text, re.M), [str(max(numbers, default=0) + 1)], f"the threads of {recording.name}")
+    assert re.findall(r"^threads (\d+)$", text, re.M) == [str(max(numbers, default=0) + 1)]
 
 
 @each(LANGUAGES)
-def a_form_judges(case, language):
-    look_for(language)
-    where, words = LANGUAGES[language](case.room)
-    status, said = judged(where, words, judge_script(case.room / "judge", f"#!/bin/sh\necho progress >&2\nexec '{case.program}' \"$@\"\n"))
-    if status:
-        raise Wrong(f"the tests ended with status {status}\n{said[-3000:]}")
-    if FEW_OVERLAPS.get(language, "") not in said:
-        raise Wrong(f"nothing says that few calls overlapped: {said[-3000:]}")
+def test_a_form_judges(form, language, program):
+    status, said = form.said(form.script("judge", f"#!/bin/sh\necho progress >&2\nexec '{program}' \"$@\"\n"))
+    assert status == 0, said
+    assert FEW_OVERLAPS.get(language, "") in said
     if language in FIRST_TESTS:
-        parts = sorted((case.room / "recorded").iterdir())
-        is_judged_in_parts(case, parts)
-        for it in [*parts, *case.room.glob("listset-seed-*")]:
+        parts = sorted((form.room / "recorded").iterdir())
+        are_judged_as_one(program, parts)
+        for it in [*parts, *form.room.glob("listset-seed-*")]:
             says_its_threads(it)
-        left = files_of_judging(case.room)
-        same([it for it in left if not it.startswith("listset-seed-")], [], "the files that are left beside recordings")
-        judge = judge_script(case.room / "judge of overlaps", OVERLAPS_THREE % case.program)
-        said = first_said(where, words, language, judge)
-        tells_judge(said, judge, proof_of(case.program))
-        if ", of which 60 overlapped a change of their key" not in said:
-            raise Wrong(f"of twenty recordings with three calls each that overlap: {said[-3000:]}")
-        same(files_of_judging(case.room), left, "the files that a test which passes leaves")
-        judge = judge_script(case.room / "judge of old", KNOWS_NO_CUT)
-        _, said = judged(where, first_test_of(words, language, CRASHING_TESTS), judge)
-        if f"up to there: {judge} gave no verdict, but said: listset: line 9: Line. Take a newer listset" not in said:
-            raise Wrong(f"with an old judge: {said[-3000:]}")
-    for name, judge, due in JUDGES_NOT_IN_PATH if language in FIRST_TESTS else ():
-        status, said = judged(where, first_test_of(words, language), judge, PATH=str(case.room / "empty"))
-        if status == 0 or due not in said:
-            raise Wrong(f"without {name} in PATH: status {status}\n{said[-3000:]}")
-    for name, (script, due) in list(NO_JUDGES.items())[: 1 if language in TEST_LIBRARIES else None]:
-        judge = judge_script(case.room / f"judge {name}", script)
-        status, said = judged(where, first_test_of(words, language), judge)
-        if status == 0 or due.format(judge) not in said:
-            raise Wrong(f"with a judge that is {name}: status {status}\n{said[-3000:]}")
+        assert [it for it in form.left() if not it.startswith("listset-seed-")] == []
 
 
 @each(FIRST_TESTS)
-def the_run_that_fails_is_named(case, language):
-    look_for(language)
-    where, words = LANGUAGES[language](case.room)
-    status, said = judged(where, first_test_of(words, language), judge_script(case.room / "judge", REFUSES_THE_SECOND))
-    if status == 0 or "seed 2: not linearizable" not in said or "/listset-seed-2-" not in said:
-        raise Wrong(f"where the second run is refused: status {status}\n{said[-3000:]}")
+def test_the_verdict_names_its_judge_and_counts_the_calls_that_overlap(form, language, program):
+    judge = form.script("judge", OVERLAPS_THREE % program)
+    status, said = form.first(judge)
+    proof = well(program, "--version", "--long").splitlines()[3]
+    assert (status, form.left()) == (0, []), said
+    assert f"; judge: {judge}, {proof}" in said and ", of which 60 overlapped a change of their key" in said
+
+
+@each(FIRST_TESTS)
+def test_an_old_judge_that_knows_no_cut_is_named(form, language):
+    judge = form.script("judge", KNOWS_NO_CUT)
+    _, said = form.first(judge, CRASHING_TESTS)
+    assert f"up to there: {judge} gave no verdict, but said: listset: line 9: Line. Take a newer listset" in said
+
+
+@each(FIRST_TESTS)
+def test_a_judge_that_is_not_in_path_is_named(form, language):
+    for judge, due in JUDGES_NOT_IN_PATH:
+        status, said = form.first(judge, PATH=str(form.room / "empty"))
+        assert status != 0 and due in said
+
+
+@each(LANGUAGES)
+def test_what_is_no_judge_is_named(form, language):
+    for name, (script, due) in [*NO_JUDGES.items()][: 1 if language in TEST_LIBRARIES else None]:
+        judge = form.script(f"judge {name}", script)
+        status, said = form.first(judge)
+        assert status != 0 and due.format(judge) in said
+
+
+@each(FIRST_TESTS)
+def test_the_run_that_fails_is_named(form, language):
+    status, said = form.first(form.script("judge", REFUSES_THE_SECOND))
+    assert status != 0 and "seed 2: not linearizable" in said and "/listset-seed-2-" in said
 
 
 ENGINE = TOP / "page" / "listset.js"
@@ -292,17 +271,10 @@ if (process.argv[2] === "judge" && fs.existsSync(asked)) {
 """
 
 
-@needs("node")
+@pytest.mark.needs("node")
 @each(FIRST_TESTS)
-def the_engine_in_node_judges(case, language):
-    if "judge" not in ran("node", ENGINE, "--words").stdout.split():
-        raise unittest.SkipTest("page/listset.js has no word judge")
-    look_for(language)
-    where, words = LANGUAGES[language](case.room)
-    if language == "Python":
-        return tells_judge(first_said(where, words, language, ENGINE), ENGINE, "proof unknown")
-    judge = judge_script(case.room / "judge.js", ENGINE_FOR_ONE % ENGINE)
-    status, said = judged(where, first_test_of(words, language), judge)
-    if status == 0 or "seed 2: not linearizable" not in said:
-        raise Wrong(f"with the engine for one run: status {status}\n{said[-3000:]}")
-    tells_judge(said, judge, "proof unknown")
+def test_the_engine_in_node_judges(form, language):
+    judge = ENGINE if language == "Python" else form.script("judge.js", ENGINE_FOR_ONE % ENGINE)
+    status, said = form.first(judge)
+    assert f"; judge: {judge}, proof unknown" in said
+    assert status == 0 if language == "Python" else "seed 2: not linearizable" in said

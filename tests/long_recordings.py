@@ -8,22 +8,18 @@ import random
 import re
 import subprocess
 
-from harness.cases import SECONDS, Wrong, each, given, test, usable
-from harness.programs import ran, wants
+import pytest
+
+from harness.programs import SECONDS, ran, wants
 from harness.set_model import SetModel
 
-TEXTS = 40 if given.few else 400
-SEEDS = range(1, 5)
+TEXTS, SEEDS = 100, range(1, 5)  # of each seed; --few: 10
 THREADS, KEYS = 4, 3
 LAST = 2**63 - 1
 LONGEST_LINE = 128
 TITLE = "listset-calls 3"
 
 Call = collections.namedtuple("Call", "thread word key begin end reply")
-
-
-def program():
-    return usable(given.program)
 
 
 def drawn(rng, calls):
@@ -75,11 +71,10 @@ def long_text(calls, opening, keys, is_cut, far=0):
     return text_of([TITLE, *lines_of(moved, opening, keys, is_cut)])
 
 
-def verdict(text):
+def verdict(program, text):
     """The status, and the first two lines, which have the verdict and the key."""
-    done = ran(program(), "judge", text=text)
-    if done.stderr:
-        raise Wrong(f"{done.stderr!r} of {text!r}")
+    done = ran(program, "judge", text=text)
+    assert not done.stderr, text
     return done.returncode, done.stdout.splitlines()[:2]
 
 
@@ -87,27 +82,23 @@ def of_key(key, calls, opening, keys):
     return [it for it in calls if it.key == key], [it for it in opening if it == key], [it for it in keys if it == key]
 
 
-@each(SEEDS)
-def both_versions_have_one_verdict(_case, seed):
+@pytest.mark.parametrize("seed", SEEDS)
+def test_both_versions_have_one_verdict(program, few, seed):
     rng, found = random.Random(seed), collections.Counter()
-    for _ in range(TEXTS // len(SEEDS)):
+    for _ in range(TEXTS // 10 if few else TEXTS):
         calls, opening, keys = drawn(rng, rng.randrange(1, 40))
         if rng.random() < 0.1:
             keys = sorted(set(keys) ^ {rng.randrange(KEYS)})
         is_cut, far = rng.random() < 0.3, rng.choice([0, 2**32, LAST - 1000])
-        status, short = verdict(short_text(calls, opening, keys, is_cut))
-        long_status, long = verdict(long_text(calls, opening, keys, is_cut, far))
-        if (status, short[0]) != (long_status, long[0]):
-            raise Wrong(f"{short} and {long} of {long_text(calls, opening, keys, is_cut, far)!r}")
+        text = long_text(calls, opening, keys, is_cut, far)
+        (status, short), (long_status, long) = verdict(program, short_text(calls, opening, keys, is_cut)), verdict(program, text)
+        assert (status, short[0]) == (long_status, long[0]), text
         found[status] += 1
         if status:
             key = int(re.search("of key ([0-9]+)", long[1])[1])
-            of_it = verdict(short_text(*of_key(key, calls, opening, keys), is_cut))
             moved = re.sub("up to moment ([0-9]+)", lambda it: f"up to moment {int(it[1]) - far}", long[1])
-            if of_it != (1, [short[0], moved]):
-                raise Wrong(f"of key {key} {of_it} and {long}")
-    if not given.few and min(found[0], found[1]) < TEXTS // len(SEEDS) // 5:
-        raise Wrong(f"by status there are {found}")
+            assert verdict(program, short_text(*of_key(key, calls, opening, keys), is_cut)) == (1, [short[0], moved]), text
+    assert few or min(found[0], found[1]) >= TEXTS // 5, f"by status there are {found}"
 
 
 # ---- faults
@@ -197,27 +188,24 @@ def damaged(rng, text):
     return "\n".join(lines)
 
 
-@each(SEEDS)
-def the_first_fault_is_named(_case, seed):
-    rng, found = random.Random(seed), collections.Counter()
-    for _ in range(TEXTS // len(SEEDS)):
+@pytest.mark.parametrize("seed", SEEDS)
+def test_the_first_fault_is_named(program, few, seed):
+    rng, found = random.Random(seed), set()
+    for _ in range(TEXTS // 10 if few else TEXTS):
         calls, opening, keys = drawn(rng, rng.randrange(1, 12))
         text = damaged(rng, long_text(calls, opening, keys, rng.random() < 0.3))
-        fault = fault_of(text)
-        done = ran(program(), "judge", text=text)
-        told = f"listset: line {fault[0]}: {fault[1]}\n" if fault else ""
-        if done.stderr != told or (fault and (done.returncode, done.stdout) != (1, "")):
-            raise Wrong(f"{done.stderr!r} and not {told!r} of {text!r}")
-        found[fault and fault[1]] += 1
-    if not given.few and len(found) < 6:
-        raise Wrong(f"by cause there are {found}")
+        fault, done = fault_of(text), ran(program, "judge", text=text)
+        assert done.stderr == (f"listset: line {fault[0]}: {fault[1]}\n" if fault else ""), text
+        assert not fault or (done.returncode, done.stdout) == (1, ""), text
+        found.add(fault and fault[1])
+    assert few or len(found) >= 6, f"the causes are {found}"
 
 
 # ---- pieces
 
-def in_pieces(text, size):
+def in_pieces(program, text, size):
     """How `judge` ends on a text that comes in pieces of so many bytes, each written by itself."""
-    with subprocess.Popen([program(), "judge"], stdin=subprocess.PIPE, stdout=subprocess.PIPE, stderr=subprocess.PIPE, bufsize=0) as judge:
+    with subprocess.Popen([program, "judge"], stdin=subprocess.PIPE, stdout=subprocess.PIPE, stderr=subprocess.PIPE, bufsize=0) as judge:
         try:
             for at in range(0, len(text), size):
                 judge.stdin.write(text[at:at + size].encode())
@@ -227,45 +215,29 @@ def in_pieces(text, size):
     return judge.returncode, output.decode(), faults.decode()
 
 
-@each([1, 2, 7, 15, 16, 17, 4096, 5000])
-def pieces_of_any_size(_case, size):
+@pytest.mark.parametrize("size", [1, 2, 7, 15, 16, 17, 4096, 5000])
+def test_pieces_of_any_size(program, size):
+    """Of a long recording, of one without its end, and of a text of version 2, whose first line says so in whatever pieces it comes."""
     rng = random.Random(size)
     for many in (3, 30, 400):
-        calls, opening, keys = drawn(rng, many)
-        text = long_text(calls, opening, keys, False, 10**9)
-        done = ran(program(), "judge", text=text)
-        if in_pieces(text, size) != (done.returncode, done.stdout, done.stderr):
-            raise Wrong(f"in pieces of {size}, of {text!r}")
-        short = text.replace("\nend\n", "\nend")
-        wants(ran(program(), "judge", text=short), 1, "", [f"listset: line {short.count(chr(10)) + 1}: NotEnded\n"])
-        if in_pieces(short, size)[2] != f"listset: line {short.count(chr(10)) + 1}: NotEnded\n":
-            raise Wrong(f"in pieces of {size}, without its end: {in_pieces(short, size)}")
+        made = drawn(rng, many)
+        long = long_text(*made, False, 10**9)
+        for text in (long, long.replace("\nend\n", "\nend"), short_text(*made, False)):
+            done = ran(program, "judge", text=text)
+            assert in_pieces(program, text, size) == (done.returncode, done.stdout, done.stderr), text
 
 
-@test
-def a_text_of_version_2_in_pieces(case):
-    """The first line decides, in whatever pieces it comes."""
-    rng = random.Random(1)
-    calls, opening, keys = drawn(rng, 30)
-    text = short_text(calls, opening, keys, False)
-    done = ran(case.program, "judge", text=text)
-    for size in (1, 3, 15, 16, 17):
-        if in_pieces(text, size) != (done.returncode, done.stdout, done.stderr):
-            raise Wrong(f"in pieces of {size}, of {text!r}")
-    for front in ("", "l", "listset-calls", "listset-calls 3", "listset-calls 2", "listset-calls 4\n"):
-        wants(ran(case.program, "judge", text=front), 1, "", ["listset: line 1: "])
+@pytest.mark.parametrize("front", ["", "l", "listset-calls", "listset-calls 3", "listset-calls 2", "listset-calls 4\n"])
+def test_a_front_of_a_first_line_is_none(program, front):
+    wants(ran(program, "judge", text=front), 1, "", ["listset: line 1: "])
 
 
-@test
-def a_fault_is_told_before_the_input_ends(case):
+def test_a_fault_is_told_before_the_input_ends(program):
     """A recorder may go on for hours: a line with a fault ends the program while the pipe is open."""
-    with subprocess.Popen([case.program, "judge"], stdin=subprocess.PIPE, stdout=subprocess.PIPE, stderr=subprocess.PIPE, bufsize=0) as judge:
+    with subprocess.Popen([program, "judge"], stdin=subprocess.PIPE, stdout=subprocess.PIPE, stderr=subprocess.PIPE, bufsize=0) as judge:
         judge.stdin.write(f"{TITLE}\ncall 0 add 5 1 2 true\ncall 0 add 5 2 3 true\n".encode())
         try:
             status = judge.wait(timeout=SECONDS)
-        except subprocess.TimeoutExpired:
+        finally:
             judge.kill()
-            raise Wrong("the program waits for the end of an input with a fault")
-        said = judge.stdout.read().decode(), judge.stderr.read().decode()
-    if (status, *said) != (1, "", "listset: line 3: History\n"):
-        raise Wrong(f"status {status}, {said}")
+        assert (status, judge.stdout.read(), judge.stderr.read()) == (1, b"", b"listset: line 3: History\n")

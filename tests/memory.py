@@ -9,7 +9,8 @@ import pathlib
 import re
 import socket
 
-from harness.cases import Wrong, each, same, test
+import pytest
+
 from harness.programs import printed, ran
 from harness.serve_client import SOON, asks, resets, serving
 
@@ -20,7 +21,7 @@ STACK = 512  # kilobytes of the stack of a thread
 def printed_within(kilobytes, program, *words, text=b""):
     """What a command prints that has so much address space, and ends with the status 0."""
     done = ran("bash", "-c", f'ulimit -s {STACK} && ulimit -v "$0" && exec "$@"', kilobytes, program, *words, text=text)
-    same((done.returncode, done.stderr), (0, b""), f"{' '.join(map(str, words[:3]))} within {kilobytes} KB: status and standard error")
+    assert (done.returncode, done.stderr) == (0, b""), f"{' '.join(map(str, words[:3]))} within {kilobytes} KB"
     return done.stdout
 
 
@@ -44,17 +45,16 @@ def round_of(number):
                    for of, word, second, begin, end, reply in CALLS_OF_ROUND)
 
 
-@test
-def long_recordings(case):
+def test_long_recordings(program, room):
     """`judge` keeps nothing of a call that has ended but the state of its key, nor of its thread, be it read from a file or from the input."""
-    file = case.room / "long.calls"
+    file = room / "long.calls"
     with open(file, "w", encoding="ascii") as out:
         out.write("listset-calls 3\nopening 4294967295\ncall 9 remove 4294967295 1 - -\n")
         out.writelines(map(round_of, range(ROUNDS)))
         out.write("end\n")
     for words, given in (((file,), b""), ((), file.read_bytes())):
-        said = printed_within(LITTLE, case.program, "judge", *words, text=given)
-        same(said, b"ok %d calls\n" % (1 + ROUNDS * len(CALLS_OF_ROUND)), "judge of a long recording")
+        said = printed_within(LITTLE, program, "judge", *words, text=given)
+        assert said == b"ok %d calls\n" % (1 + ROUNDS * len(CALLS_OF_ROUND))
 
 
 # ---- parts
@@ -71,14 +71,13 @@ def part_of(number):
     return f"listset-calls 2\nlist lazy\nthreads 4\nquota 16384\n{opening}{calls}{left}end\n"
 
 
-@test
-def parts(case):
+def test_parts(program, room):
     """`judge` holds one part in memory at a time, and of those before only what the last one left."""
-    files = [case.room / f"{number}.calls" for number in range(PARTS)]
+    files = [room / f"{number}.calls" for number in range(PARTS)]
     for number, file in enumerate(files):
         file.write_text(part_of(number))
-    said = printed_within(LITTLE, case.program, "judge", *files)
-    same(said.split(b"\n")[0], b"ok %d parts, %d calls" % (PARTS, PARTS * CALLS_OF_PART), "judge of parts")
+    said = printed_within(LITTLE, program, "judge", *files)
+    assert said.split(b"\n")[0] == b"ok %d parts, %d calls" % (PARTS, PARTS * CALLS_OF_PART)
 
 
 # ---- events
@@ -96,33 +95,31 @@ def long_walks():
 def events_of(schedule):
     """How many events a schedule of walks has."""
     many = WALKS + sum(map(int, re.findall(rb"^go 0 (\d+)$", schedule, re.M)))
-    same(many > 2 * OPENING * WALKS, True, f"that {many} events go past all keys")
+    assert many > 2 * OPENING * WALKS  # (they go past all keys)
     return many
 
 
-@test
-def drafts(case):
+def test_drafts(program):
     """`draft` of hundreds of thousands of events."""
-    events_of(printed_within(LITTLE, case.program, "draft", text=long_walks()))
+    events_of(printed_within(LITTLE, program, "draft", text=long_walks()))
 
 
-@test
-def traces(case):
+def test_traces(program):
     """`trace` of as many: their text has tens of megabytes."""
-    schedule = printed(case.program, "draft", text=long_walks())
-    trace = printed_within(LITTLE, case.program, "trace", text=schedule)
-    same((trace.count(b"\nevent "), trace[-5:]), (events_of(schedule), b"\nend\n"), "the events of the trace, and its end")
+    schedule = printed(program, "draft", text=long_walks())
+    trace = printed_within(LITTLE, program, "trace", text=schedule)
+    assert (trace.count(b"\nevent "), trace[-5:]) == (events_of(schedule), b"\nend\n")
 
 
-@each(["replay", "show", "show --from 400000", "show --svg --from 400000", "replay --lacks mark-in-contains",
-       "show --lacks mark-in-contains --from 400000"])
-def events(case, words):
+@pytest.mark.parametrize("words", ["replay", "show", "show --from 400000", "show --svg --from 400000", "replay --lacks mark-in-contains",
+                                   "show --lacks mark-in-contains --from 400000"])
+def test_events(program, words):
     """Commands that execute as many, also on a broken list, and print only calls."""
-    schedule = printed(case.program, "draft", text=long_walks())
-    same(events_of(schedule) > 400_000, True, "that a picture has few moments from 400000 on")
-    said = printed_within(LITTLE, case.program, *words.split(), text=schedule)
+    schedule = printed(program, "draft", text=long_walks())
+    assert events_of(schedule) > 400_000  # (of which a picture has few from there on)
+    said = printed_within(LITTLE, program, *words.split(), text=schedule)
     due = [b"call %d " % (WALKS - 1), b"place %d " % (WALKS - 1)] if "replay" in words else [b": %d calls" % WALKS]
-    same([it for it in due if it not in said], [], f"what {words} does not print")
+    assert [it for it in due if it not in said] == []
 
 
 # ---- rounds
@@ -130,11 +127,10 @@ def events(case, words):
 CALLS_OF_RUN, LIVES = 10_000, 100  # as many as there may be; a reply takes 8 bytes
 
 
-@test
-def rounds(case):
+def test_rounds(program):
     """`run` holds the replies of one round at a time: of all rounds they are 8,000 KB."""
-    said = printed_within(LITTLE, case.program, "run", "lazy", 1, 1, CALLS_OF_RUN, 1, 1, LIVES)
-    same(said.split(b"\n")[0], b"calls %d" % (CALLS_OF_RUN * LIVES), "run of many rounds")
+    said = printed_within(LITTLE, program, "run", "lazy", 1, 1, CALLS_OF_RUN, 1, 1, LIVES)
+    assert said.startswith(b"calls %d\n" % (CALLS_OF_RUN * LIVES))
 
 
 # ---- a server
@@ -183,17 +179,15 @@ def serves(server, sessions):
             speak(connection)
 
 
-@test
-def served_sessions(case):
+def test_served_sessions(program):
     """The memory of a server does not grow with the sessions and calls that it has served, nor with a line, beside a client that says nothing."""
     rounds = FEW + MANY
     sessions, calls = 1 + len(SESSIONS) * rounds + LONG_LINES, CALLS_OF_SESSIONS * rounds
-    with serving(case.program, "lazy", SEATS, 2 * rounds, sessions) as server:
+    with serving(program, "lazy", SEATS, 2 * rounds, sessions) as server:
         with server.connect() as idle:
             serves(server, SESSIONS * FEW)
             before = most_resident(server)
             serves(server, [sends_a_long_line] * LONG_LINES + SESSIONS * MANY)
-            if (grown := most_resident(server) - before) > GROWTH:
-                raise Wrong(f"the server has grown by {grown} KB, from {before} KB")
+            assert most_resident(server) <= before + GROWTH
             asks(idle, b"QUIT\n", b"BYE\n")
         server.ends(sessions, calls, calls, [])

@@ -13,13 +13,14 @@ import collections
 import random
 import re
 
-from harness.cases import Wrong, cases, each, given, same
+import pytest
+
 from harness.orders_model import Refusals, changes, found_order
 from harness.programs import ran
 from long_recordings import KEYS, THREADS, Call, call_line, drawn, long_text, short_text, text_of
 
 SEEDS = range(1, 5)
-REPORTS, RECORDINGS = (20, 20) if given.few else (200, 200)  # of each seed
+MANY = 200  # of each seed; --few: 20
 MOST_QUOTA = 16384
 HEADER = 4  # lines
 GREATEST = 2**32 - 1  # key and moment
@@ -96,44 +97,42 @@ class Recording:
         return 1, "", f"listset: line {HEADER + len(self.opening) + next(lines) + 1}: Point\n"
 
 
-@each(SEEDS)
-def a_report_has_the_order_of_the_model(case, seed):
+@pytest.mark.parametrize("seed", SEEDS)
+def test_a_report_has_the_order_of_the_model(program, few, seed):
     rng, found = random.Random(f"reports {seed}"), collections.Counter()
-    for _ in range(REPORTS):
+    for _ in range(MANY // 10 if few else MANY):
         points = rng.choice(["no", "no", "some"])
         it = Recording(rng, points)
         quota = rng.choice([MOST_QUOTA, it.needed, max(it.needed - 1, 0)]) if points == "no" else MOST_QUOTA
         text = it.text(rng, quota)
-        done, due = ran(case.program, "report", text=text), it.due(quota)
-        same((done.returncode, done.stdout, done.stderr), due, f"of {text!r}")
+        done, due = ran(program, "report", text=text), it.due(quota)
+        assert (done.returncode, done.stdout, done.stderr) == due, text
         found[due[0], bool(due[1])] += 1
-    if not given.few and (found[0, True] < REPORTS // 3 or len(found) < 3):
-        raise Wrong(f"by status, and whether a text is printed, there are {found}")
+    assert few or found[0, True] >= MANY // 3 and len(found) == 3, f"by status, and whether a text is printed, there are {found}"
 
 
-@each(SEEDS)
-def a_picture_of_recorded_calls_has_the_order_of_the_model(case, seed):
+@pytest.mark.parametrize("seed", SEEDS)
+def test_a_picture_of_recorded_calls_has_the_order_of_the_model(program, few, seed):
     """Also if the calls have points that say another order."""
     rng, shown = random.Random(f"pictures {seed}"), 0
-    for _ in range(REPORTS // 2):
+    for _ in range(MANY // 20 if few else MANY // 2):
         it = Recording(rng, rng.choice(["no", "some", "all"]), may_lack_changes=True)
         text = it.text(rng, MOST_QUOTA)
         if it.order is not None:
-            of_calls, of_report = ran(case.program, "show", text=text), ran(case.program, "show", text=it.report(MOST_QUOTA))
-            same((of_calls.returncode, of_calls.stdout), (0, of_report.stdout), f"of {text!r}")
+            of_calls, of_report = ran(program, "show", text=text), ran(program, "show", text=it.report(MOST_QUOTA))
+            assert (of_calls.returncode, of_calls.stdout) == (0, of_report.stdout), text
             shown += 1
-    if not given.few and shown < REPORTS // 8:
-        raise Wrong(f"{shown} recordings have an order")
+    assert few or shown >= MANY // 8
 
 
-@each(["-", "2"])
-def calls_that_nothing_needs_have_no_place(case, point):
+@pytest.mark.parametrize("point", ["-", "2"])
+def test_calls_that_nothing_needs_have_no_place(program, point):
     """No call has ended, and none is needed, whatever its point says: an order without a call is drawn."""
     lines = [f"call 0 add 5 1 {point} - -", "call 1 remove 7 3 - - -", "key 7", "end"]
     report = ["call 0 0 add 5 1 open", "call 1 1 remove 7 3 open", "key 7", "end"]
-    of_calls = ran(case.program, "show", text=text_of([*head("calls", 4, [7]), *lines]))
-    of_report = ran(case.program, "show", text=text_of([*head("report", 4, [7]), *report]))
-    same((of_calls.returncode, of_calls.stdout), (0, of_report.stdout), "show")
+    of_calls = ran(program, "show", text=text_of([*head("calls", 4, [7]), *lines]))
+    of_report = ran(program, "show", text=text_of([*head("report", 4, [7]), *report]))
+    assert (of_calls.returncode, of_calls.stdout) == (0, of_report.stdout)
 
 
 # Recordings, and their order: each call by its number, and its reply.
@@ -176,10 +175,10 @@ ORDERS = {
 }
 
 
-@cases(lambda: {f"orders/{name.replace(' ', '_')}": order for name, order in ORDERS.items()})
-def an_order_is_the_one_that_is_known(case, lines, order):
-    done = ran(case.program, "report", text=text_of(["listset-calls 2", "list lazy", "threads 10", "quota 4", *lines, "end"]))
-    same((done.stderr, ", ".join(it[6:] for it in done.stdout.splitlines() if it.startswith("place"))), ("", order), "the order")
+@pytest.mark.parametrize("lines, order", ORDERS.values(), ids=ORDERS)
+def test_an_order_is_the_one_that_is_known(program, lines, order):
+    done = ran(program, "report", text=text_of(["listset-calls 2", "list lazy", "threads 10", "quota 4", *lines, "end"]))
+    assert (done.stderr, ", ".join(it[6:] for it in done.stdout.splitlines() if it.startswith("place"))) == ("", order)
 
 
 # ---- what is said if there is none
@@ -211,10 +210,8 @@ def read_call(line):
 def shows_few(said, refusals):
     """The calls that are shown of a refusal are not to be ordered, and each of them that changes nothing is needed for that."""
     window = WINDOW.search(said)
-    if not window:
-        raise Wrong(f"no calls are shown, in {said!r}")
-    shown = [*map(read_call, window[4].splitlines())]
-    same(refusals.fault_of_window(int(window[1]), not window[2], shown), None, f"the fault of the calls that are shown in {said!r}")
+    assert window, said
+    assert refusals.fault_of_window(int(window[1]), not window[2], [*map(read_call, window[4].splitlines())]) is None, said
 
 
 def kind_of(refusals):
@@ -234,19 +231,18 @@ def ways_to_ask(rng, calls, opening, keys, is_cut):
         yield ["--keys", f"{rest}/2"], text, Refusals([it for it in calls if it.key % 2 == rest], opened, left), 2
 
 
-@each(SEEDS)
-def a_refusal_names_the_key_and_the_moment_of_the_model(case, seed):
+@pytest.mark.parametrize("seed", SEEDS)
+def test_a_refusal_names_the_key_and_the_moment_of_the_model(program, few, seed):
     rng, found = random.Random(f"refusals {seed}"), collections.Counter()
-    for _ in range(RECORDINGS):
+    for _ in range(MANY // 10 if few else MANY):
         asked = [*ways_to_ask(rng, *spread(rng, *drawn(rng, rng.randrange(1, 12))), rng.random() < 0.2)]
         for words, text, refusals, version in asked:
-            done, due = ran(case.program, "judge", *words, text=text), refusals.lines(version)
-            same((done.returncode, done.stdout.splitlines()[:len(due)]), (int(refusals.is_refused()), due), f"{words} of {text!r}")
+            done, due = ran(program, "judge", *words, text=text), refusals.lines(version)
+            assert (done.returncode, done.stdout.splitlines()[:len(due)]) == (int(refusals.is_refused()), due), text
             if version == 2 and refusals.is_refused():
                 shows_few(done.stdout, refusals)
         found[kind_of(asked[0][2])] += 1
-    if not given.few and min(found.values()) < RECORDINGS // 20 or len(found) < 4:
-        raise Wrong(f"by kind there are {found}")
+    assert few or min(found.values()) >= MANY // 20 and len(found) == 4, f"by kind there are {found}"
 
 
 def with_full(rng, calls):
@@ -262,24 +258,22 @@ def with_full(rng, calls):
             yield it
 
 
-@each(SEEDS)
-def a_refusal_beside_full_and_ceilings_is_that_of_the_model(case, seed):
+@pytest.mark.parametrize("seed", SEEDS)
+def test_a_refusal_beside_full_and_ceilings_is_that_of_the_model(program, few, seed):
     """Of a ceiling begins and ends say nothing, and of a `full` that its key was not there."""
     rng, found = random.Random(f"full {seed}"), collections.Counter()
-    for _ in range(RECORDINGS):
+    for _ in range(MANY // 10 if few else MANY):
         calls, opening, keys = spread(rng, *drawn(rng, rng.randrange(1, 12)), most_wrong=(0, 0, 2))
         calls, is_cut = [*with_full(rng, calls)], rng.random() < 0.2
         refusals, text = Refusals(calls, opening, None if is_cut else keys), short_text(calls, opening, keys, is_cut)
-        done, due = ran(case.program, "judge", text=text), refusals.lines(2)
+        done, due = ran(program, "judge", text=text), refusals.lines(2)
         said = done.stdout.splitlines()[:len(due)]
         if refusals.is_refused():
-            same((done.returncode, said), (1, due), f"judge of {text!r}")
+            assert (done.returncode, said) == (1, due), text
             shows_few(done.stdout, refusals)
-        elif said[:1] == ["not linearizable"]:
-            raise Wrong(f"{said} of {text!r}")
+        assert refusals.is_refused() or said[:1] != ["not linearizable"], text
         found[refusals.is_refused(), " full\n" in done.stdout] += 1
-    if not given.few and (found[True, True] < RECORDINGS // 20 or found[False, False] < RECORDINGS // 5):
-        raise Wrong(f"by whether they are refused, and show a full, there are {found}")
+    assert few or found[True, True] >= MANY // 20 and found[False, False] >= MANY // 5, f"by whether they are refused, and show a full, there are {found}"
 
 
 def no_order(key, moment=None):
@@ -304,22 +298,22 @@ REFUSALS = {
     "a key with calls that is lost is named before one that comes from nowhere": (["call 0 add 5 1 - 2 true", "key 3"], [no_order(5)]),
     "a key with calls that comes from nowhere is named before one without": (["call 0 contains 5 1 - 2 false", "key 3", "key 5"], [no_order(5)]),
     "a lost key without calls and a greater one with calls": (["opening 3", "call 0 add 5 1 - 2 true"], [no_order(5), no_order(3)]),
-    "a lost key and a smaller one of which only a look is pending": (["opening 7", "call 0 contains 5 1 - - -", "key 5"], [no_order(7), no_order(5)]),
+    "a lost key and a smaller one of which only a look is pending": (["opening 7", "call 0 contains 5 1 - - -", "key 5"], [no_order(7)]),
     "a key of which only a look is pending and a smaller one without calls": (
-        ["call 0 contains 5 1 - - -", "key 3", "key 5"], [no_order(3), no_order(5)]),
+        ["call 0 contains 5 1 - - -", "key 3", "key 5"], [no_order(3)]),
 }
 
 
-@cases(lambda: {f"refusals/{name.replace(' ', '_')}": refusal for name, refusal in REFUSALS.items()})
-def a_refusal_is_the_one_that_is_known(case, lines, said):
+@pytest.mark.parametrize("lines, said", REFUSALS.values(), ids=REFUSALS)
+def test_a_refusal_is_the_one_that_is_known(program, lines, said):
     long_lines = [" ".join([*it.split()[:5], *it.split()[6:]]) if it.startswith("call") else it for it in lines]
     for title, its_lines, due in (("listset-calls 2\nlist lazy\nthreads 4\nquota 0", lines, said[0]), ("listset-calls 3", long_lines, said[-1])):
-        answer = ran(case.program, "judge", text=text_of([title, *its_lines, "end"])).stdout
-        same(answer.splitlines()[:2], ["not linearizable", due], title.splitlines()[0])
+        answer = ran(program, "judge", text=text_of([title, *its_lines, "end"])).stdout
+        assert answer.splitlines()[:2] == ["not linearizable", due], title
 
 
-@each(["contains", "ceiling"])
-def a_pending_look_is_not_shown(case, word):
+@pytest.mark.parametrize("word", ["contains", "ceiling"])
+def test_a_pending_look_is_not_shown(program, word):
     lines = ["listset-calls 2", "list lazy", "threads 4", "quota 4", "call 0 add 5 1 - 2 true", f"call 1 {word} 5 3 - - -", "end"]
     due = ["not linearizable", no_order(5), "key 5 is there at moment 2", "no later call changes it"]
-    same(ran(case.program, "judge", text=text_of(lines)).stdout.splitlines(), due, "judge")
+    assert ran(program, "judge", text=text_of(lines)).stdout.splitlines() == due

@@ -9,9 +9,9 @@ import collections
 import signal
 import subprocess
 
+import pytest
 from harness import points_model
-from harness.cases import SECONDS, TOP, comes, left_of, needs, same, test
-from harness.programs import ran
+from harness.programs import SECONDS, TOP, comes, left_of, printed, ran, well
 
 HERE = TOP / "examples" / "recorders"
 TEXTS = 500
@@ -57,55 +57,53 @@ def report_of(recorded, room):
     return room / "report"
 
 
-@test
-def tell_refused_names_what_is_wrong(case):
-    for it in RECORDED:
-        done = ran(HERE / "tell_refused", report_of(it, case.room), case.program)
-        same((done.stdout.splitlines()[:1], done.returncode), ([it.said], it.status), it.name)
+@pytest.mark.parametrize("recorded", RECORDED, ids=lambda it: it.name)
+def test_tell_refused_names_what_is_wrong(program, room, recorded):
+    done = ran(HERE / "tell_refused", report_of(recorded, room), program)
+    assert (done.stdout.splitlines()[:1], done.returncode) == ([recorded.said], recorded.status)
 
 
-@test
-def tell_refused_counts_the_calls_that_overlap_a_change_of_their_key(case):
-    beside, far = "call 1 1 contains 5 2 6 true", "call 1 1 contains 7 2 6 false"
-    late, within = "call 1 1 contains 5 4 6 true", "call 1 1 contains 5 2 3 true"
-    for call, place, many in ((beside, "true", 1), (far, "false", 0), (late, "true", 0), (within, "true", 1)):
-        end = 4 if call == within else 3
-        report = Recorded("ok", [f"call 0 0 add 5 1 {end} true", call], f"place 0 true, place 1 {place}, key 5", "ok", RIGHT)
-        same(ran(HERE / "tell_refused", report_of(report, case.room), case.program).stdout, f"ok\n{many} of 2 calls overlap a change of their key\n", call)
+BESIDE, FAR = "call 1 1 contains 5 2 6 true", "call 1 1 contains 7 2 6 false"
+LATE, WITHIN = "call 1 1 contains 5 4 6 true", "call 1 1 contains 5 2 3 true"
 
 
-@test
-def tell_refused_prints_five_counts_at_most(case):
-    for many, told in ((5, []), (8, ["3 more keys of which the counts do not fit"])):
-        lost = Recorded("many lost", [f"call {i} 0 add {i} {2 * i + 1} {2 * i + 2} true" for i in range(many)],
-                    ", ".join(f"place {i} true" for i in range(many)), "refused WrongSet", BUG)
-        lines = ran(HERE / "tell_refused", report_of(lost, case.room), case.program).stdout.splitlines()
-        same([line.split(":")[0] for line in lines[1:6]], [f"key {i}" for i in range(5)], "the keys that are told")
-        same(lines[6:-1], told, "what follows the counts")
+@pytest.mark.parametrize("call, place, many", [(BESIDE, "true", 1), (FAR, "false", 0), (LATE, "true", 0), (WITHIN, "true", 1)])
+def test_tell_refused_counts_the_calls_that_overlap_a_change_of_their_key(program, room, call, place, many):
+    end = 4 if call == WITHIN else 3
+    report = report_of(Recorded("ok", [f"call 0 0 add 5 1 {end} true", call], f"place 0 true, place 1 {place}, key 5", "ok", RIGHT), room)
+    assert printed(HERE / "tell_refused", report, program) == f"ok\n{many} of 2 calls overlap a change of their key\n"
 
 
-def due_by_order(case, line, done):
+@pytest.mark.parametrize("many, told", [(5, []), (8, ["3 more keys of which the counts do not fit"])])
+def test_tell_refused_prints_five_counts_at_most(program, room, many, told):
+    calls = [f"call {i} 0 add {i} {2 * i + 1} {2 * i + 2} true" for i in range(many)]
+    lost = Recorded("many lost", calls, ", ".join(f"place {i} true" for i in range(many)), "refused WrongSet", BUG)
+    lines = ran(HERE / "tell_refused", report_of(lost, room), program).stdout.splitlines()
+    assert [line.split(":")[0] for line in lines[1:6]] == [f"key {i}" for i in range(5)]
+    assert lines[6:-1] == told
+
+
+def due_by_order(program, room, line, done):
     """What `report` has to print of calls that lack a point: a report that `check` takes if `judge` knows of an order, else why not."""
-    judged = ran(case.program, "judge", case.room / "calls")
+    judged = ran(program, "judge", room / "calls")
     if judged.returncode == 0 or done.returncode == 0:
-        (case.room / "report").write_text(done.stdout)
-        same(ran(case.program, "check", case.room / "report").stdout, "ok\n", "what check says of the order")
+        (room / "report").write_text(done.stdout)
+        assert printed(program, "check", room / "report") == "ok\n"
         return 0, done.stdout, ""
     if judged.stdout:
         return 1, "no order explains these calls: judge shows why\n", ""
     return 1, "", f"listset: line {line}: Point\n"
 
 
-@test
-def report_is_that_of_a_plain_model(case):
+def test_report_is_that_of_a_plain_model(program, room):
     for seed in range(TEXTS):
-        (case.room / "calls").write_text(text := points_model.random_text(seed))
-        done = ran(case.program, "report", case.room / "calls")
+        (room / "calls").write_text(text := points_model.random_text(seed))
+        done = ran(program, "report", room / "calls")
         try:
             due = points_model.due(text)
         except points_model.NoPoint as lacking:
-            due = due_by_order(case, *lacking.args, done)
-        same((done.returncode, done.stdout, done.stderr), due, f"seed {seed}")
+            due = due_by_order(program, room, *lacking.args, done)
+        assert (done.returncode, done.stdout, done.stderr) == due, f"seed {seed}"
 
 
 # A program that does not end, nor what it has started; both have the room among their words.
@@ -116,62 +114,49 @@ tail -f "{room}/there"
 """
 
 
-def hanging(room):
+@pytest.fixture
+def hangs(room):
+    """The words of tell_refused with that program, but for the seconds that it gives it."""
     program = room / "hangs"
     program.write_text(HANGS.format(room=room))
     program.chmod(0o755)
-    return program
+    return [HERE / "tell_refused", HERE / "late-ticket.report", program]
 
 
-def words_of(program, seconds):
-    return [str(it) for it in (HERE / "tell_refused", HERE / "late-ticket.report", program, seconds)]
+def test_what_hangs_is_ended_with_all_it_started(room, hangs):
+    assert ran(*hangs, 1).returncode == TROUBLE
+    comes(lambda: not left_of(room), "the end of all that was started")
 
 
-@test
-def what_hangs_is_ended_with_all_it_started(case):
-    same(ran(*words_of(hanging(case.room), 1)).returncode, TROUBLE, "the status")
-    comes(lambda: not left_of(case.room), "the end of all that was started")
+@pytest.mark.parametrize("number", [signal.SIGTERM, signal.SIGINT])
+def test_what_is_ended_ends_all_it_started(room, hangs, number):
+    process = subprocess.Popen([*hangs, str(SECONDS)], stdin=subprocess.DEVNULL, stdout=subprocess.DEVNULL, stderr=subprocess.DEVNULL)
+    comes((room / "there").exists, "the program")
+    process.send_signal(number)
+    process.wait(SECONDS)
+    comes(lambda: not left_of(room), "the end of all that was started")
 
 
-@test
-def what_is_ended_ends_all_it_started(case):
-    for number in (signal.SIGTERM, signal.SIGINT):
-        (case.room / "there").unlink(missing_ok=True)
-        how = {"stdin": subprocess.DEVNULL, "stdout": subprocess.DEVNULL, "stderr": subprocess.DEVNULL}
-        process = subprocess.Popen(words_of(hanging(case.room), SECONDS), **how)
-        comes((case.room / "there").exists, "the program")
-        process.send_signal(number)
-        process.wait(SECONDS)
-        comes(lambda: not left_of(case.room), f"the end of all that was started, by signal {number}")
-
-
-def built(room):
-    """exact.rs, as a program."""
-    done = ran("rustc", "--edition", "2021", "-O", HERE / "exact.rs", "-o", room / "exact")
-    same(done.returncode, 0, f"the status of rustc, which says {done.stderr}")
-    return room / "exact"
-
-
-def is_refused(case, exact, seed, wrong=""):
+def is_refused(program, room, exact, seed, wrong=""):
     """Whether a run of exact.rs is refused, by its points."""
-    calls, report = case.room / "calls", case.room / "report"
+    calls, report = room / "calls", room / "report"
     calls.write_text(ran("env", f"WRONG={wrong}", exact, 8, 2000, 16, seed).stdout)
-    reported = ran(case.program, "report", calls)
+    reported = ran(program, "report", calls)
     if wrong and reported.stderr.endswith(": Point\n"):
         return True
-    same(reported.stderr, "", "what report says")
+    assert reported.stderr == ""
     report.write_text(reported.stdout)
-    said = ran(case.program, "check", report).stdout
-    same(said.split()[0], "ok" if said == "ok\n" else "refused", "what check says")
+    said = ran(program, "check", report).stdout
+    assert said == "ok\n" or said.startswith("refused ")
     return said != "ok\n"
 
 
-@needs("rustc")
-@test
-def exact_is_right_and_without_marks_refused(case):
-    exact = built(case.room)
+@pytest.mark.needs("rustc")
+def test_exact_is_right_and_without_marks_refused(program, room):
+    exact = room / "exact"
+    well("rustc", "--edition", "2021", "-O", HERE / "exact.rs", "-o", exact)
     for words in ("", "8 1 1", "65 1 1 1", "0 1 1 1", "8 1 0 1", "8 x 1 1", "8 1 1 1 1"):
         done = ran(exact, *words.split())
-        same((done.returncode, done.stdout, done.stderr.count("\n")), (2, "", 1), f"what is said of the words {words!r}")
-    same([it for it in range(1, 4) if is_refused(case, exact, it)], [], "the runs that are refused")
-    same(any(is_refused(case, exact, it, "no-mark") for it in range(1, 21)), True, "whether one of 20 runs without marks is refused")
+        assert (done.returncode, done.stdout, done.stderr.count("\n")) == (2, "", 1), words
+    assert not any(is_refused(program, room, exact, it) for it in range(1, 4))
+    assert any(is_refused(program, room, exact, it, "no-mark") for it in range(1, 21))

@@ -9,14 +9,13 @@ import socket
 import subprocess
 import sys
 import tarfile
-import unittest
 
-from harness.cases import TOP, UNPROVED, each, given, lacking, needs, once, same, test
-from harness.programs import LONG, ran, well
+import pytest
+import version_stamp
+from harness.programs import LONG, TOP, UNPROVED, ran, well
 from harness.small_clone import bare_path, clone_by_git
 
-sys.path.insert(0, str(TOP / "build"))
-import version_stamp  # noqa: E402
+needs = pytest.mark.needs
 
 SCHEDULES = TOP / "examples" / "schedules"
 REPLAYED_EXAMPLES = ["snip", "opens-with-keys", "read-in-anothers-step", "two-removers"]
@@ -59,60 +58,65 @@ edition = "2021"
 """
 
 
-def proof():
-    return version_stamp.NOT_PROVED if pathlib.Path(given.program or "").resolve() == UNPROVED.resolve() else version_stamp.PROVED
+def proof_of(program):
+    return version_stamp.NOT_PROVED if pathlib.Path(program).resolve() == UNPROVED.resolve() else version_stamp.PROVED
 
 
-def words_of_trial():
-    return [TOP / "build" / "release", *(["--unproved"] if proof() == version_stamp.NOT_PROVED else []), "--trial"]
+def trial_of(program):
+    """The words by which packages are made of the program that is tested, but for their folder."""
+    return [TOP / "build" / "release", *(["--unproved"] if proof_of(program) == version_stamp.NOT_PROVED else []), "--trial"]
 
 
-def trial_packages(room):
-    """The packages, in a folder of this room. A machine that cannot make them skips the tests, and so does a clone with nothing built."""
-    made = pathlib.Path(room) / "dist"
-    done = ran(*words_of_trial(), made, seconds=LONG)
-    if "install Debian's package" in done.stderr:
-        raise unittest.SkipTest(done.stderr.strip())
-    if done.returncode:
-        lacking(done.stderr.strip())
-    return made
+def made_packages(folder, program):
+    """The packages, in a folder, or why this machine or clone has none."""
+    done = ran(*trial_of(program), folder / "dist", seconds=LONG)
+    return folder / "dist" if done.returncode == 0 else done.stderr.strip()
 
 
-def released_file(pattern):
-    found = [*once(trial_packages).glob(pattern)]
-    same(len(found), 1, f"the number of files {pattern}")
-    return found[0]
+class Release:
+    """The packages that all tests take."""
+
+    def __init__(self, folder, room):
+        self.folder, self.room = folder, room
+
+    def file(self, pattern):
+        found, = self.folder.glob(pattern)
+        return found
+
+    def unpacked(self, pattern):
+        """The folder of a package that is a .tar.gz."""
+        with tarfile.open(self.file(pattern)) as archive:
+            archive.extractall(self.room)
+        return self.room / f"listset-{version_stamp.version()}"
 
 
-def unpacked_release(pattern, folder):
-    """The folder of a package that is a .tar.gz."""
-    with tarfile.open(released_file(pattern)) as archive:
-        archive.extractall(folder)
-    return folder / f"listset-{version_stamp.version()}"
+@pytest.fixture
+def release(program, room, once, lacking):
+    made = once(made_packages, program)
+    if isinstance(made, str):
+        lacking(made)
+    return Release(made, room)
 
 
 def replays(program, enter, **how):
     """That the program of a package gives the bytes of the one that is tested."""
     for name in REPLAYED_EXAMPLES:
         text = (SCHEDULES / f"{name}.schedule").read_text()
-        same(well(*enter, "replay", text=text, **how), well(program, "replay", text=text), name)
+        assert well(*enter, "replay", text=text, **how) == well(program, "replay", text=text)
 
 
 def told_of_broken(program):
     """What a judge says of itself and of a broken report, as the programs here print it."""
     done = ran(program, "check", SCHEDULES / "snip.broken.report")
-    return f"{version_stamp.told(proof())}{(done.stdout + done.stderr).strip()} {done.returncode}\n"
+    return f"{version_stamp.told(proof_of(program))}{(done.stdout + done.stderr).strip()} {done.returncode}\n"
 
 
-@test
-def the_same_bytes_come_twice(case):
-    first, again = once(trial_packages), trial_packages(case.room)
-    same(sorted(it.name for it in again.iterdir()), sorted(it.name for it in first.iterdir()), "the files")
-    for file in first.iterdir():
-        same((again / file.name).read_bytes() == file.read_bytes(), True, f"{file.name} has the same bytes")
+def test_the_same_bytes_come_twice(release, program, room):
+    again, first = made_packages(room, program), release.folder
+    assert sorted(it.name for it in again.iterdir()) == sorted(it.name for it in first.iterdir())
+    assert [it.name for it in first.iterdir() if it.read_bytes() != (again / it.name).read_bytes()] == []
     well("sha256sum", "--check", "--strict", "SHA256SUMS", cwd=first)
-    told = version_stamp.told(proof())
-    same((first / "PROVENANCE").read_text()[: len(told)], told, "PROVENANCE")
+    assert (first / "PROVENANCE").read_text().startswith(version_stamp.told(proof_of(program)))
 
 
 REFUSALS = {
@@ -126,9 +130,9 @@ REFUSALS = {
 
 
 @needs("gcc")
-@each(REFUSALS)
-def nothing_is_made(case, name):
-    at, path = case.room / "clone", os.environ["PATH"]
+@pytest.mark.parametrize("name", REFUSALS)
+def test_nothing_is_made(room, name):
+    at, path = room / "clone", os.environ["PATH"]
     commit = clone_by_git(at, [f"build/{it}" for it in MAKERS_OF_PACKAGES])
     verdict = f"commit {commit}\nday 2026-01-01\npassed 9\nfailed 0\ncrates/listset/out/listset.o {'0' * 64}\n"
     if name == "older_gate":
@@ -136,116 +140,109 @@ def nothing_is_made(case, name):
     elif name == "failed_gate":
         verdict = verdict.replace("failed 0", "failed 2")
     elif name == "a_missing_tool":
-        path = str(bare_path(case.room / "bare", "git", "rt"))
+        path = str(bare_path(room / "bare", "git", "rt"))
     elif name == "a_change":
         (at / "README.md").write_text("changed\n")
     if name != "no_gate":
         (at / ".git" / "gate-verdict").write_text(verdict)
     done = ran(at / "build" / "release", seconds=LONG, env={**os.environ, "PATH": path})
     line = f"build/release: {REFUSALS[name].replace('@', commit[:12])}; nothing was made\n"
-    same((done.returncode, done.stderr, done.stdout), (1, line, ""), "status, error and output")
-    same([*at.glob("dist*"), *at.glob(".dist*")], [], "what is made")
+    assert (done.returncode, done.stderr, done.stdout) == (1, line, "")
+    assert [*at.glob("dist*"), *at.glob(".dist*")] == []
 
 
-@test
-def a_folder_that_cannot_be_made_is_told(case):
-    file = case.room / "file"
+@pytest.mark.usefixtures("release")
+def test_a_folder_that_cannot_be_made_is_told(program, room):
+    file = room / "file"
     file.write_text("")
-    done = ran(*words_of_trial(), file / "dist", seconds=LONG)
-    same((done.returncode, done.stderr.count("\n"), "nothing was made" in done.stderr), (1, 1, True), f"what comes of {done}")
-    same(([*case.room.iterdir()], file.read_text()), ([file], ""), "what is there")
+    done = ran(*trial_of(program), file / "dist", seconds=LONG)
+    assert (done.returncode, done.stderr.count("\n"), "nothing was made" in done.stderr) == (1, 1, True)
+    assert ([*room.iterdir()], file.read_text()) == ([file], "")
 
 
-@test
-def the_program_is_alone_in_its_root(case):
+@pytest.mark.skipif(os.geteuid() != 0, reason="only root may chroot")
+def test_the_program_is_alone_in_its_root(release, program):
     """It replays, runs four threads and serves a session where nothing but its package is."""
-    top = unpacked_release("*-linux-x86_64.tar.gz", case.room)
-    if os.geteuid():
-        raise unittest.SkipTest("only root may chroot")
-    enter = [shutil.which("chroot"), top, "/bin/listset"]
-    same(well(*enter, "--version", "--long", env={}), version_stamp.told(proof()), "--version --long")
-    replays(case.program, enter, env={})
-    same(well(*enter, "run", "lock-free", 4, 1000, 1000, 50, 7, env={}).splitlines()[0], "calls 4000", "the calls of four threads")
+    enter = [shutil.which("chroot"), release.unpacked("*-linux-x86_64.tar.gz"), "/bin/listset"]
+    assert well(*enter, "--version", "--long", env={}) == version_stamp.told(proof_of(program))
+    replays(program, enter, env={})
+    assert well(*enter, "run", "lock-free", 4, 1000, 1000, 50, 7, env={}).splitlines()[0] == "calls 4000"
     how = {"stdin": subprocess.DEVNULL, "stdout": subprocess.PIPE, "text": True, "env": {}}
     with subprocess.Popen([*map(str, [*enter, "serve", "lazy", 1, 8, 0, 1])], **how) as process:
         port = int(re.search(r"(\d+)$", process.stdout.readline().strip())[1])
         with socket.create_connection(("127.0.0.1", port), 30) as client:
             client.sendall(b"ADD 5\nCONTAINS 5\nQUIT\n")
             answers = b"".join(iter(lambda: client.recv(4096), b""))
-        same(answers, b"TRUE\nTRUE\nBYE\n", "a session")
-        same(process.stdout.read().splitlines()[-1], "key 5", "what it leaves")
+        assert answers == b"TRUE\nTRUE\nBYE\n"
+        assert process.stdout.read().splitlines()[-1] == "key 5"
 
 
-@each(["c", "cpp", "rust", "python"])
-def a_language_takes_the_unpacked_library(case, language):
-    how = {"env": {**WITHOUT_RATTLE, "LISTSET_PREFIX": str(unpacked_release("*-linux-x86_64.tar.gz", case.room))}}
-    well(TOP / "tests" / "run", "--program", case.program, f"foreign/{language}", **how)
+OF_LANGUAGES = [pytest.param(it, marks=needs(tool)) for it, tool in {"c": "gcc", "cpp": "g++", "rust": "cargo", "python": "python3"}.items()]
 
 
-@test
-def the_man_page_and_the_completions_are_read(case):
-    top = unpacked_release("*-linux-x86_64.tar.gz", case.room) / "share"
+@pytest.mark.parametrize("language", OF_LANGUAGES)
+def test_a_language_takes_the_unpacked_library(release, program, language):
+    how = {"env": {**WITHOUT_RATTLE, "LISTSET_PREFIX": str(release.unpacked("*-linux-x86_64.tar.gz"))}}
+    well(sys.executable, "-m", "pytest", "-q", TOP / f"tests/foreign.py::test_{language}", "--program", program, **how)
+
+
+def test_the_man_page_and_the_completions_are_read(release):
+    top = release.unpacked("*-linux-x86_64.tar.gz") / "share"
     if shutil.which("man"):
         page = well("man", "-l", top / "man/man1/listset.1.gz", env={**WITHOUT_RATTLE, "MANWIDTH": "200"})
-        same("listset serve" in page and "--width <N>" in page, True, f"the man page: {page[:2000]}")
+        assert "listset serve" in page and "--width <N>" in page
     asked = "COMP_WORDS=(listset show --w); COMP_CWORD=2; _listset listset --w; echo ${COMPREPLY[*]}"
-    same(well("bash", "-c", f"source {top}/bash-completion/completions/listset; {asked}", env=WITHOUT_RATTLE), "--width\n", "a completion")
+    assert well("bash", "-c", f"source {top}/bash-completion/completions/listset; {asked}", env=WITHOUT_RATTLE) == "--width\n"
     for shell, file in (("zsh", "zsh/vendor-completions/_listset"), ("fish", "fish/vendor_completions.d/listset.fish")):
         if shutil.which(shell):
             well(shell, "-n", top / file, env=WITHOUT_RATTLE)
 
 
 @needs("dpkg-deb")
-@test
-def the_deb_is_installed(case):
+def test_the_deb_is_installed(release, program, room):
     """In LISTSET_ROOT, if that is given; else it is unpacked."""
-    file, top = released_file("*.deb"), case.room / "deb"
+    file, top = release.file("*.deb"), room / "deb"
     well("dpkg-deb", "--extract", file, top)
     control = well("dpkg-deb", "--field", file)
-    same(f"Version: {version_stamp.version()}\n" in control and "No licence is given" in control, True, f"its control: {control}")
-    same(well(top / "usr/bin/listset", "--version", "--long", env=WITHOUT_RATTLE), version_stamp.told(proof()), "--version --long")
+    assert f"Version: {version_stamp.version()}\n" in control and "No licence is given" in control
+    assert well(top / "usr/bin/listset", "--version", "--long", env=WITHOUT_RATTLE) == version_stamp.told(proof_of(program))
     if DEBIAN_ROOT is None:
         return
     shutil.copy(file, pathlib.Path(DEBIAN_ROOT) / "root")
     well("chroot", DEBIAN_ROOT, "dpkg", "--install", f"/root/{file.name}")
-    replays(case.program, ["chroot", DEBIAN_ROOT, "listset"])
+    replays(program, ["chroot", DEBIAN_ROOT, "listset"])
     well("chroot", DEBIAN_ROOT, "dpkg", "--remove", "listset")
-    same([str(it) for it in pathlib.Path(DEBIAN_ROOT).glob("usr/**/*listset*")], [], "what is left of it")
+    assert [*pathlib.Path(DEBIAN_ROOT).glob("usr/**/*listset*")] == []
 
 
-@test
-def the_wheel_is_installed(case):
-    file, top = released_file("*.whl"), case.room / "wheel"
+def test_the_wheel_is_installed(release, program, room):
+    file, top = release.file("*.whl"), room / "wheel"
     if ran(sys.executable, "-m", "pip", "--version").returncode:
-        raise unittest.SkipTest("pip is not installed")
+        pytest.skip("pip is not installed")
     well(sys.executable, "-m", "pip", "install", "--no-index", "--no-deps", "--quiet", "--target", top, file, env=WITHOUT_RATTLE)
     how = {"env": {**WITHOUT_RATTLE, "PYTHONPATH": str(top)}}
-    same(well(sys.executable, "-B", "-c", PROGRAM_WITH_WHEEL, SCHEDULES / "snip.broken.report", **how), told_of_broken(case.program), "the judge")
-    said, proved = well(sys.executable, "-B", "-c", TEST_WITH_WHEEL, **how), version_stamp.told(proof()).splitlines()[3]
-    same((said[:14], said.rpartition("; ")[2]), ("ok: 200 calls,", f"judge: liblistset, {proved}\n"), "the judge in a test")
+    assert well(sys.executable, "-B", "-c", PROGRAM_WITH_WHEEL, SCHEDULES / "snip.broken.report", **how) == told_of_broken(program)
+    said, proved = well(sys.executable, "-B", "-c", TEST_WITH_WHEEL, **how), version_stamp.told(proof_of(program)).splitlines()[3]
+    assert (said[:14], said.rpartition("; ")[2]) == ("ok: 200 calls,", f"judge: liblistset, {proved}\n")
 
 
 @needs("cargo")
-@test
-def the_crate_is_built_offline(case):
-    own = case.room / "own"
+def test_the_crate_is_built_offline(release, program, room):
+    own = room / "own"
     (own / "src").mkdir(parents=True)
     (own / "src" / "main.rs").write_text(PROGRAM_WITH_CRATE)
     (own / "Cargo.toml").write_text(MANIFEST)
-    well("cargo", "add", "--offline", "--quiet", "--path", unpacked_release("*.crate", case.room), cwd=own, env=WITHOUT_RATTLE)
+    well("cargo", "add", "--offline", "--quiet", "--path", release.unpacked("*.crate"), cwd=own, env=WITHOUT_RATTLE)
     well("cargo", "build", "--offline", "--quiet", cwd=own, env=WITHOUT_RATTLE)
-    same(well(own / "target/debug/own", SCHEDULES / "snip.broken.report", env=WITHOUT_RATTLE), told_of_broken(case.program), "the judge")
+    assert well(own / "target/debug/own", SCHEDULES / "snip.broken.report", env=WITHOUT_RATTLE) == told_of_broken(program)
 
 
 @needs("node")
-@test
-def the_page_in_one_file_has_the_engine(case):
-    page, script = released_file("listset-page-*.html"), TOP / "tests" / "harness" / "one_file.js"
-    replays(case.program, ["node", script, page], env=WITHOUT_RATTLE)
+def test_the_page_in_one_file_has_the_engine(release, program):
+    script = TOP / "tests" / "harness" / "one_file.js"
+    replays(program, ["node", script, release.file("listset-page-*.html")], env=WITHOUT_RATTLE)
 
 
 @needs("node")
-@test
-def the_page_of_the_package_has_the_commands(case):
-    top = unpacked_release("*-linux-x86_64.tar.gz", case.room)
-    replays(case.program, ["node", top / "share/listset/page/listset.js"], env=WITHOUT_RATTLE)
+def test_the_page_of_the_package_has_the_commands(release, program):
+    replays(program, ["node", release.unpacked("*-linux-x86_64.tar.gz") / "share/listset/page/listset.js"], env=WITHOUT_RATTLE)

@@ -1,4 +1,4 @@
-"""What clients of `listset serve` are told, at once and one after another.
+"""The answers of `listset serve` to clients, at once and one after another.
 
 For each list: 64 clients on keys that they share, whose answers have to add up, and 64 clients at once, each on keys of its
 own, so that each of its answers is known, and of a ceiling the few that are right; after them, alone, one more client asks
@@ -18,11 +18,12 @@ import struct
 import threading
 import time
 
-from harness.cases import KINDS, Wrong, each, same, test
+import pytest
+from harness.programs import KINDS
 from harness.serve_client import SECONDS, SOON, Client, answer_of, asks, have_ended, read_all, resets, serving, takes_turns
 from harness.set_model import SetModel, reply_of
 
-TAKES_TURNS = True  # (each has more clients than there are processors)
+pytestmark = pytest.mark.xdist_group("serve")  # (they take turns: each has more clients than there are processors)
 ONE_LIST = "lazy"
 CLIENTS = 64
 REQUESTS = 1000
@@ -36,7 +37,7 @@ CEILINGS = [{"NONE", *(f"AT {least}" for least in range(key, KEYS))} for key in 
 
 
 def asks_each_ceiling(server, keys, span):
-    """A client that asks for the ceiling of each key up to `span`, where just `keys` are there and none changes them. Gives how
+    """A client that asks for the ceiling of each key up to `span`, if just `keys` are there and no one changes them. Gives how
     many calls it makes."""
     with server.connect() as connection:
         takes_turns(connection, [(b"CEILING %d\n" % key, [answer_of(reply_of("ceiling", key, keys))]) for key in range(span + 1)])
@@ -98,8 +99,7 @@ class Sharing(Client):
         if self.manner == "all at once":
             reader.start()
         reader.join(SECONDS)
-        if reader.is_alive():
-            raise TimeoutError("answers do not end")
+        assert not reader.is_alive(), "answers do not end"
         self.compare_answers(lines, ends)
 
     def send(self, connection, text):
@@ -117,28 +117,26 @@ class Sharing(Client):
 
     def compare_answers(self, lines, ends):
         answers = self.bytes.decode().split("\n")
-        if answers.pop() != "" or len(answers) != len(lines) + len(ends) or answers[len(lines):] != ends:
-            raise Wrong(f"{len(answers)} answers to {len(lines)} lines, the last {answers[-2:]}")
+        assert len(answers) == len(lines) + len(ends) + 1
+        assert answers[len(lines):] == [*ends, ""]
         for (line, call), answer in zip(lines, answers):
-            if not (can_answer(call, answer) if call else answer == "BAD"):
-                raise Wrong(f"{line!r} is answered {answer!r}")
+            assert can_answer(call, answer) if call else answer == "BAD", line
             if call:
                 self.told.append((call, answer))
 
 
-@each(KINDS)
-def shared_keys(case, kind):
-    """All answers are there, and what the clients were told adds up with what one more client is told, and with what the server
+@pytest.mark.parametrize("kind", KINDS)
+def test_shared_keys(program, kind):
+    """All answers are there. They add up with those to one more client, and with what the server
     says as it ends."""
-    with serving(case.program, kind, CLIENTS, QUOTA, CLIENTS + 1) as server:
+    with serving(program, kind, CLIENTS, QUOTA, CLIENTS + 1) as server:
         clients = [Sharing(server, number, kind) for number in range(CLIENTS)]
         have_ended(clients)
         left = collections.Counter()
         for (word, key), answer in itertools.chain.from_iterable(client.told for client in clients):
             if answer == "TRUE" and word in ("ADD", "REMOVE"):
                 left[key] += 1 if word == "ADD" else -1
-        if any(count not in (0, 1) for count in left.values()):
-            raise Wrong(f"the clients were told {left}")
+        assert {*left.values()} <= {0, 1}
         keys = {key for key in left if left[key]}
         calls = sum(len(client.told) for client in clients) + asks_each_ceiling(server, keys, KEYS)
         unread = sum(client.unread for client in clients)
@@ -183,11 +181,11 @@ class Alone(Client):
         asks(connection, b"QUIT\n", b"BYE\n")
 
 
-@each(KINDS)
-def keys_of_their_own(case, kind):
+@pytest.mark.parametrize("kind", KINDS)
+def test_keys_of_their_own(program, kind):
     """Each answer is the right one, and all clients have their first answer before any goes on. No seat runs out of slots,
     so `FULL` is wrong."""
-    with serving(case.program, kind, CLIENTS, ROOM, CLIENTS + 1) as server:
+    with serving(program, kind, CLIENTS, ROOM, CLIENTS + 1) as server:
         first_answers = threading.Barrier(CLIENTS)
         clients = [Alone(server, number, kind, first_answers) for number in range(CLIENTS)]
         have_ended(clients)
@@ -213,18 +211,16 @@ class Queued(Client):
     def speak(self, connection):
         if self.resets:
             connection.sendall(b"CONTAINS %d\n" % self.key * 3)
-            if connection.recv(1) != b"F":
-                raise Wrong("no answer")
+            assert connection.recv(1) == b"F"
             resets(connection)
             return
         asks(connection, *(text.replace(b"{0}", b"%d" % self.key) for text in (self.LINES, self.ANSWERS)))
 
 
-@test
-def queue(case):
+def test_queue(program):
     """More sessions than seats, threads of a set and waiting places; a session that ends with a fault ends no more."""
     sessions = 200
-    with serving(case.program, ONE_LIST, 8, ROOM, sessions) as server:
+    with serving(program, ONE_LIST, 8, ROOM, sessions) as server:
         clients = [Queued(server, number) for number in range(sessions)]
         have_ended(clients)
         served = [client.key for client in clients if not client.resets]
@@ -235,11 +231,10 @@ def queue(case):
 # ---- one seat
 
 
-@test
-def one_after_another(case):
+def test_one_after_another(program):
     """As many connections as may be asked for, one after another, on few keys."""
     sessions, keys = 10_000, 1000
-    with serving(case.program, ONE_LIST, 1, ROOM, sessions) as server:
+    with serving(program, ONE_LIST, 1, ROOM, sessions) as server:
         for number in range(sessions):
             key, told = number % keys, b"TRUE" if number < keys else b"FALSE"
             with server.connect() as connection:
@@ -247,12 +242,11 @@ def one_after_another(case):
         server.ends(sessions, 2 * sessions, 2 * sessions, range(keys))
 
 
-@test
-def few_open_files(case):
+def test_few_open_files(program):
     """A server with room for few open files has let go of a connection when the next one comes, however a session ends."""
     sessions, files = 200, 32
     limited = ["sh", "-c", f'ulimit -n {files} && exec "$@"', "sh"]
-    with serving(case.program, ONE_LIST, 1, ROOM, sessions, before=limited) as server:
+    with serving(program, ONE_LIST, 1, ROOM, sessions, before=limited) as server:
         for number in range(sessions):
             with server.connect() as connection:
                 connection.settimeout(SOON)
@@ -261,7 +255,7 @@ def few_open_files(case):
                     asks(connection, b"QUIT\n", b"BYE\n")
                 elif number % 3 == 1:
                     connection.shutdown(socket.SHUT_WR)
-                    same(connection.recv(1), b"", "what comes after the end of the lines")
+                    assert connection.recv(1) == b""
                 else:
                     resets(connection)
         server.ends(sessions, sessions, sessions, [])
@@ -274,13 +268,11 @@ def drips(connection, end):
             connection.sendall(b"?")
 
 
-@test
-def one_seat(case):
+def test_one_seat(program):
     """One client after another, on a seat with 2 slots; none from another address; and one more than are served."""
-    with serving(case.program, ONE_LIST, 1, 2, 6) as server:
-        with contextlib.suppress(ConnectionRefusedError):
-            server.connect("127.0.0.2").close()
-            raise Wrong("a connection to 127.0.0.2 is accepted")
+    with serving(program, ONE_LIST, 1, 2, 6) as server:
+        with pytest.raises(ConnectionRefusedError):
+            server.connect("127.0.0.2")
         for lines, answers in [(b"ADD 7\n", b"TRUE\n"), (b"CONTAINS 7\n", b"TRUE\n")]:
             connection = server.connect()
             asks(connection, lines, answers)
@@ -303,18 +295,16 @@ def one_seat(case):
                 one_more.sendall(b"CONTAINS 8\n")
                 asks(last, b"QUIT\n", b"BYE\n")
                 with contextlib.suppress(ConnectionResetError):
-                    if told := one_more.recv(10):
-                        raise Wrong(f"one client more than are served is told {told!r}")
+                    assert not one_more.recv(10)
         server.ends(6, 13, 15, [8])
 
 
-@test
-def a_port_that_is_asked_for(case):
+def test_a_port_that_is_asked_for(program):
     """A server listens on the port that its words name, which was free just before."""
     with socket.create_server(("127.0.0.1", 0)) as free:
         port = free.getsockname()[1]
-    with serving(case.program, ONE_LIST, 1, ROOM, 1, port) as server:
-        same(server.port, port, "the port that it says")
+    with serving(program, ONE_LIST, 1, ROOM, 1, port) as server:
+        assert server.port == port
         with server.connect() as connection:
             asks(connection, b"CONTAINS 7\nQUIT\n", b"FALSE\nBYE\n")
         server.ends(1, 1, 1, [])
@@ -323,14 +313,13 @@ def a_port_that_is_asked_for(case):
 # ---- one line after another
 
 
-@test
-def one_line_after_another(case):
+def test_one_line_after_another(program):
     """A client that waits for each answer before it sends its next line has all of them: answers of each kind, keys of each length, and
     some thousands in all."""
     keys, rounds = [10**digits for digits in range(10)], 300
     turns = [(f"CEILING {key}", f"AT {key}") for key in keys]
     turns += [("ADD 5", "FULL"), ("ADD 1", "FALSE"), ("CONTAINS 1", "TRUE"), (f"CEILING {keys[-1] + 1}", "NONE"), ("MOVE 7", "BAD")]
-    with serving(case.program, ONE_LIST, 1, len(keys), 1) as server:
+    with serving(program, ONE_LIST, 1, len(keys), 1) as server:
         with server.connect() as connection:
             connection.settimeout(SOON)
             for line, answer in [(f"ADD {key}", "TRUE") for key in keys] + turns * rounds + [("QUIT", "BYE")]:
@@ -339,10 +328,9 @@ def one_line_after_another(case):
         server.ends(1, calls, calls, keys)
 
 
-@test
-def a_client_that_says_nothing_is_waited_for(case):
+def test_a_client_that_says_nothing_is_waited_for(program):
     """A client may say nothing for some seconds, also within a line, and then goes on: no read of a session has a time."""
-    with serving(case.program, ONE_LIST, 1, 1, 1) as server:
+    with serving(program, ONE_LIST, 1, 1, 1) as server:
         with server.connect() as connection:
             connection.settimeout(SOON)
             asks(connection, b"ADD 7\n", b"TRUE\n")
@@ -377,21 +365,19 @@ class Burst(Client):
         asks(connection, b"QUIT\n", b"BYE\n")
 
 
-@test
-def all_lines_at_once(case):
+def test_all_lines_at_once(program):
     """The answers to a thousand lines are more than a server holds back, and all of them leave before it waits for the next
     line."""
     clients = 8
-    with serving(case.program, ONE_LIST, clients, ROOM, clients) as server:
+    with serving(program, ONE_LIST, clients, ROOM, clients) as server:
         have_ended([Burst(server, number) for number in range(clients)])
         server.ends(clients, clients * REQUESTS, clients * REQUESTS, [])
 
 
-@test
-def answers_that_fill_their_room(case):
+def test_answers_that_fill_their_room(program):
     """Answers wait in a room of 4,096 bytes: as many as fill it, one fewer, and twice as many leave before the next line comes."""
     counts = [1023, 1024, 2048]
-    with serving(case.program, ONE_LIST, 1, ROOM, len(counts)) as server:
+    with serving(program, ONE_LIST, 1, ROOM, len(counts)) as server:
         for count in counts:
             with server.connect() as connection:
                 connection.settimeout(SOON)
@@ -405,15 +391,13 @@ def segments_with_data(connection):
     return struct.unpack_from("I", connection.getsockopt(socket.IPPROTO_TCP, socket.TCP_INFO, 160), 152)[0]
 
 
-@test
-def answers_leave_together(case):
+def test_answers_leave_together(program):
     """The answers to lines that come together leave in a few pieces, and not one by one or byte by byte."""
     lines = 6000
-    with serving(case.program, ONE_LIST, 1, ROOM, 1) as server:
+    with serving(program, ONE_LIST, 1, ROOM, 1) as server:
         with server.connect() as connection:
             asks(connection, b"CONTAINS 7\n" * lines, b"FALSE\n" * lines)
-            if (pieces := segments_with_data(connection)) > lines // 60:
-                raise Wrong(f"{lines} answers come in {pieces} pieces")
+            assert segments_with_data(connection) <= lines // 60
             asks(connection, b"QUIT\n", b"BYE\n")
         server.ends(1, lines, lines, [])
 
@@ -427,11 +411,10 @@ def sends_until_stuck(connection):
     return sent // len(line)
 
 
-@test
-def no_answer_is_read(case):
+def test_no_answer_is_read(program):
     """A client that reads no answer keeps its seat and no more: the others are served, and when it goes away the server ends."""
     key = 4_294_967_295
-    with serving(case.program, ONE_LIST, 2, ROOM, 5) as server:
+    with serving(program, ONE_LIST, 2, ROOM, 5) as server:
         with server.connect() as connection:
             asks(connection, b"ADD %d\nQUIT\n" % key, b"TRUE\nBYE\n")
         with server.connect() as stuck:
@@ -461,16 +444,15 @@ class Beyond(Client):
         connection.sendall(self.lines + b"?" * BEYOND)
         time.sleep(self.late)
         told = read_all(connection)
-        if told != self.answers:
-            raise Wrong(f"{told.count(10)} answers of {self.answers.count(10)}, the last {told[-6:]!r}")
+        assert told.count(b"\n") == self.answers.count(b"\n")
+        assert told == self.answers
 
 
-@test
-def bytes_past_the_end(case):
+def test_bytes_past_the_end(program):
     """Every answer arrives, whatever the client has sent behind its last line. One client reads so late that the server has let
     its connection go: an answer that the system has not handed over by then would be lost with bytes left unread."""
     few, many = 100, 100_000
-    with serving(case.program, ONE_LIST, 5, ROOM, 10) as server:
+    with serving(program, ONE_LIST, 5, ROOM, 10) as server:
         short = b"REMOVE 1\n" * few + b"QUIT\n", b"FALSE\n" * few + b"BYE\n"
         clients = [
             Beyond(server, "QUIT after a few lines", *short),

@@ -15,8 +15,8 @@ import socket
 import subprocess
 import threading
 
-from harness.cases import KINDS, Wrong, each, given, once, same, usable
-from harness.programs import ran
+import pytest
+from harness.programs import KINDS, ran
 
 THREADS = 8
 QUOTA = 16_384
@@ -50,13 +50,12 @@ def ended_run(program, kind, limit):
     made = ran(*limited(limit, words), seconds=SECONDS)
     if made.returncode == 0 and made.stderr == "" and outcome_is_whole(made.stdout):
         return "outcome"
-    if made.stdout == "" and (made.returncode, made.stderr) in REFUSALS:
-        return REFUSALS[made.returncode, made.stderr]
-    raise Wrong(f"run {kind} under {limit} KiB: status {made.returncode}, {made.stdout[:200]!r}, {made.stderr[:200]!r}")
+    assert made.stdout == "" and (made.returncode, made.stderr) in REFUSALS
+    return REFUSALS[made.returncode, made.stderr]
 
 
 def answers_of(port):
-    """What a client is told, and nothing where it is turned away."""
+    """The answers to a client: none if it is turned away."""
     told = b""
     try:
         with socket.create_connection(("127.0.0.1", port), timeout=SECONDS) as connection:
@@ -83,11 +82,10 @@ def ended_serve(program, kind, limit):
         server.kill()
     if (server.returncode, rest, faults, told) == (0, "sessions 1\ncalls 2\nkey 7\n", "", ANSWERS):
         return "outcome"
-    why = REFUSALS.get((server.returncode, faults))
-    # (the threads are started after the first line)
-    if why and told == b"" and rest == "" and (why != "thread refused" or first.startswith("listening 127.0.0.1:")):
-        return why
-    raise Wrong(f"serve {kind} under {limit} KiB: status {server.returncode}, {first!r}, {rest!r}, {faults!r}, {told!r}")
+    assert (rest, told) == ("", b"") and (server.returncode, faults) in REFUSALS
+    why = REFUSALS[server.returncode, faults]
+    assert why != "thread refused" or first.startswith("listening 127.0.0.1:")  # (the threads are started after this line)
+    return why
 
 
 def begins(program, limit):
@@ -95,9 +93,10 @@ def begins(program, limit):
     return ran(*limited(limit, [program, "example", "full"]), seconds=SECONDS).returncode == 0
 
 
-def limits(_room):
+@pytest.fixture
+def limits(program):
     """Limits in KiB, down to the least under which the program begins: half a stack apart, and closer at the end."""
-    program, (stack, _) = usable(given.program), resource.getrlimit(resource.RLIMIT_STACK)
+    stack, _ = resource.getrlimit(resource.RLIMIT_STACK)
     stack = 8192 if stack == resource.RLIM_INFINITY else stack // 1024
     limit = 4 * (THREADS + 2) * stack
     found = []
@@ -109,34 +108,25 @@ def limits(_room):
     return found
 
 
-def all_ends(case, kind, way):
-    """That each end under these limits is right, and some have an outcome, and some are refused a thread."""
-    ends = collections.Counter(way(case.program, kind, limit) for limit in once(limits))
-    if not ends["outcome"] or not ends["thread refused"]:
-        raise Wrong(f"how it ends: {dict(ends)}")
+@pytest.mark.parametrize("kind", KINDS)
+@pytest.mark.parametrize("way", [ended_run, ended_serve])
+def test_each_end_is_right(program, kind, way, limits):
+    """Under each limit; under some there is an outcome, and under some a thread is refused."""
+    ends = collections.Counter(way(program, kind, limit) for limit in limits)
+    assert ends["outcome"] and ends["thread refused"]
 
 
-@each(KINDS)
-def run(case, kind):
-    all_ends(case, kind, ended_run)
-
-
-@each(KINDS)
-def serve(case, kind):
-    all_ends(case, kind, ended_serve)
-
-
-@each(KINDS)
-def serve_without_a_set(case, kind):
+@pytest.mark.parametrize("kind", KINDS)
+def test_serve_without_a_set(program, kind):
     """The largest set has no room in 40 MB: no line says that the server is ready."""
-    made = ran(*limited(40_000, [case.program, "serve", kind, "64", "16384", "0", "1"]), seconds=SECONDS)
-    same((made.returncode, made.stdout, made.stderr), (3, "", "listset: out of memory\n"), "its status, its output and its fault")
+    made = ran(*limited(40_000, [program, "serve", kind, "64", "16384", "0", "1"]), seconds=SECONDS)
+    assert (made.returncode, made.stdout, made.stderr) == (3, "", "listset: out of memory\n")
 
 
-@each(KINDS)
-def serve_without_files(case, kind):
+@pytest.mark.parametrize("kind", KINDS)
+def test_serve_without_files(program, kind):
     """The system refuses the first connection before a client comes."""
-    words = [case.program, "serve", kind, "2", "4", "0", "1"]
+    words = [program, "serve", kind, "2", "4", "0", "1"]
     made = ran("sh", "-c", 'ulimit -n "$0" && exec "$@"', str(FILES), *words, seconds=SECONDS)
-    same(bool(re.fullmatch(r"listening 127\.0\.0\.1:\d+\n", made.stdout)), True, f"its first line alone, in {made.stdout!r}")
-    same((made.returncode, made.stderr), (1, "listset: serve: Accept\n"), "its status and its fault")
+    assert re.fullmatch(r"listening 127\.0\.0\.1:\d+\n", made.stdout)
+    assert (made.returncode, made.stderr) == (1, "listset: serve: Accept\n")

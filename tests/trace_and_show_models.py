@@ -14,16 +14,13 @@ what each broken list makes of 5 schedules (1), with its traces. Windows and wid
 import random
 import re
 
-from harness.cases import KINDS, TOP, Wrong, cases, given
-from harness.lists_model import LACKING, Call, List
+from harness.lists_model import LACKING
 from harness.pictures_model import Drawn, fitted, picture_of_run
-from harness.programs import ran
+from harness.programs import KINDS, TOP, ran
 from harness.reports_model import RandomCalls, call_text, calls_text, picture_of_report, read_report, window_of, with_looks
-from harness.traces_model import read_schedule, run_of
+from harness.traces_model import enabled, read_schedule, run_of
 
-DRAWN, FEW = 40, 4
-PICTURES = 40
-REPORTS, RECORDINGS, BROKEN = (20, 10, 1) if given.few else (200, 100, 5)
+EXAMPLES = {file.stem: file for file in sorted((TOP / "examples" / "schedules").glob("*.schedule"))}
 GREATEST = 4294967295
 
 
@@ -46,44 +43,19 @@ def drawn_schedule(kind, seed):
     return "\n".join(lines) + "\n"
 
 
-def enabled(text, lacks=None):
-    """The schedule without the steps that come after a call's end, so that few of its events are refused."""
-    plan = read_schedule(text)
-    model, kept, number = List(plan.kind, plan.threads, plan.quota, plan.opening, lacks), text.splitlines()[: 4 + len(plan.opening)], 0
-    for _, pieces in plan.lines:
-        t = int(pieces[1])
-        if pieces[0] == "begin":
-            if model.threads[t].pc == 0:
-                model.begin(t, Call(number, t, pieces[2], int(pieces[3]), 0))
-                number += 1
-                kept.append(" ".join(pieces))
-            continue
-        count, most_steps = 0, int(pieces[2])
-        while count < most_steps and model.threads[t].pc:
-            model.go(t)
-            count += 1
-        kept += [f"go {t} {count}"] if count else []
-    return "\n".join(kept) + "\n"
-
-
 class Compared:
     """A text, and what the program prints of it where models say what is due; `words` name the list that runs it, if it is a broken one."""
 
     def __init__(self, program, name, text, *words):
         self.program, self.name, self.text, self.words = program, name, text, words
-        self.as_model_says, self.unlike_model = 0, []
 
     def said(self, *words):
         done = ran(self.program, *words, *self.words, text=self.text.encode())
         return done.stdout.decode().splitlines(), done.returncode
 
     def compare(self, words, due, found):
-        if found == due:
-            self.as_model_says += 1
-            return
         at = next((n for n, it in enumerate(zip(due, found)) if it[0] != it[1]), min(len(due), len(found)))
-        lines = [it[at] if at < len(it) else "(no line)" for it in (due, found)]
-        self.unlike_model.append(f"{self.name}: {' '.join(words)}: line {at + 1} is {lines[1]!r}, that of the model {lines[0]!r}")
+        assert found == due, f"{' '.join(words)} of {self.text!r}: line {at + 1} is {found[at:at + 1]}, that of the model {due[at:at + 1]}"
 
     def traces(self, run):
         status = 1 if run.refused else 0
@@ -129,10 +101,6 @@ class Compared:
         done = ran(self.program, "show", *self.words, text=self.text)
         self.compare(["show"], [other.returncode, other.stderr], [done.returncode, done.stderr])
 
-    def tell(self):
-        if self.unlike_model or not self.as_model_says:
-            raise Wrong("; ".join(self.unlike_model[:5]))
-
 
 def options(words, asked):
     """A command with options, and the window and the width that they ask for; one that is None is not given."""
@@ -150,28 +118,30 @@ def status_of(picture):
     return 1 if picture.refusal or picture.refused else 0
 
 
-def drawn():
-    """The examples and the drawn schedules, each with the widths at which it is drawn besides."""
-    found = {file.stem: file.read_text() for file in sorted((TOP / "examples" / "schedules").glob("*.schedule"))}
-    for kind in KINDS:
-        for seed in range(FEW if given.few else DRAWN):
-            text = drawn_schedule(kind, seed)
-            found[f"{kind} {seed}"] = text if seed % 4 == 0 else enabled(text)
-    every, widths = max(1, len(found) // PICTURES), range(20, 201, 20 if given.few else 1)
-    return {name: (text, [] if at % every else widths) for at, (name, text) in enumerate(found.items())}
+def pytest_generate_tests(metafunc):
+    """The names and the seeds of what is drawn; with --few a tenth."""
+    part = 10 if metafunc.config.option.few else 1
+    named = {"schedule": [*EXAMPLES, *(f"{kind} {seed}" for kind in KINDS for seed in range(40 // part))], "report": range(200 // part),
+             "recording": range(100 // part), "broken": [f"{name} {seed}" for name in LACKING for seed in range(max(1, 5 // part))]}
+    for it in named.keys() & {*metafunc.fixturenames}:
+        metafunc.parametrize(it, named[it])
 
 
-@cases(drawn)
-def trace_and_pictures_are_those_of_the_model(case, text, widths):
-    if ran(case.program, "trace", text=text.encode()).stdout.startswith(b"listset-trace"):  # (else it is no schedule)
+def test_trace_and_pictures_are_those_of_the_model(program, few, schedule):
+    if schedule in EXAMPLES:
+        text, seed = EXAMPLES[schedule].read_text(), 1
+    else:
+        kind, seed = schedule.split()
+        text, seed = drawn_schedule(kind, int(seed)), int(seed)
+        text = text if seed % 4 == 0 else enabled(text)
+    if ran(program, "trace", text=text.encode()).stdout.startswith(b"listset-trace"):  # (else it is no schedule)
         plan = read_schedule(text)
         run = run_of(plan)
-        looked, picture = Compared(case.program, case.name, text), picture_of_run(plan, run)
+        looked, picture = Compared(program, schedule, text), picture_of_run(plan, run)
         looked.traces(run)
         looked.pictures(picture)
-        for width in widths:
+        for width in range(20, 201, 20 if few else 1) if seed % 5 == 0 else ():
             looked.picture(picture, (None, None, width))
-        looked.tell()
 
 
 # ---- pictures of reports, of recorded calls, and of what broken lists make of schedules
@@ -207,39 +177,31 @@ def compare_report(looked, report):
 CHANGE = re.compile("^call [0-9]+ (add|remove) .* true$", re.M)  # (without one `report` looks for no order)
 
 
-def named(what, count):
-    return lambda: {f"{what}/{seed}": (random.Random(f"{what} {seed}"), seed) for seed in range(count)}
+def test_pictures_of_reports_are_those_of_the_model(program, report):
+    text = RandomCalls(random.Random(f"reports {report}")).report(faults=[0, 1, 1, 2][report % 4])
+    compare_report(Compared(program, f"reports {report}", text), read_report(text))
 
 
-@cases(named("reports", REPORTS))
-def pictures_of_reports_are_those_of_the_model(case, draw, seed):
-    text = RandomCalls(draw).report(faults=[0, 1, 1, 2][seed % 4])
-    looked = Compared(case.program, case.name, text)
-    compare_report(looked, read_report(text))
-    looked.tell()
-
-
-@cases(named("recordings", RECORDINGS))
-def pictures_of_recorded_calls_are_those_of_the_model(case, draw, seed):
+def test_pictures_of_recorded_calls_are_those_of_the_model(program, recording):
     """Of the report of the order that `report` finds; if none explains the calls, of those alone that `judge` shows; and if begins and ends do
     not decide, by their points, with each key once, or with an error."""
-    drawn_texts = iter(lambda: RandomCalls(draw).recorded(has_points=seed % 4 > 0, faults=seed % 2), None)
+    draw = random.Random(f"recordings {recording}")
+    drawn_texts = iter(lambda: RandomCalls(draw).recorded(has_points=recording % 4 > 0, faults=recording % 2), None)
     text = next(it for it in drawn_texts if CHANGE.search(it))
-    looked, plain = Compared(case.program, case.name, text), without_points(text)
-    found, by_points = (ran(case.program, "report", text=it) for it in (plain, text))
+    looked, plain = Compared(program, f"recordings {recording}", text), without_points(text)
+    found, by_points = (ran(program, "report", text=it) for it in (plain, text))
     if by_points.stderr and "Point" not in by_points.stderr:  # (with points the quota may be used up)
         looked.fault(by_points)
     elif found.returncode == 0:
         compare_report(looked, read_report(found.stdout))
     elif found.stdout:
-        said = ran(case.program, "judge", text=plain).stdout.splitlines()
+        said = ran(program, "judge", text=plain).stdout.splitlines()
         looked.pictures(picture_of_report(window_of(read_calls(text), said)), ["", *said])
     elif by_points.returncode == 0:
         report = read_report(by_points.stdout)
         compare_report(looked, report._replace(keys=sorted({*report.keys})))
     else:
         looked.fault(by_points)
-    looked.tell()
 
 
 def without_points(text):
@@ -253,19 +215,14 @@ def read_calls(text):
     return read_report("".join(it for it in text.splitlines(keepends=True) if not it.startswith("call")))
 
 
-def broken():
-    return {f"broken/{name}/{seed}": (name, kind, seed) for name, (kind, _) in LACKING.items() for seed in range(BROKEN)}
-
-
-@cases(broken)
-def traces_and_pictures_of_a_broken_list_are_those_of_the_model(case, name, kind, seed):
+def test_traces_and_pictures_of_a_broken_list_are_those_of_the_model(program, broken):
     """The trace; and the picture of the report that `replay` prints, or its error."""
-    text = drawn_schedule(kind, seed)
-    text = enabled(text, name) if seed % 4 else text
-    looked, report = Compared(case.program, case.name, text, "--lacks", name), ran(case.program, "replay", "--lacks", name, text=text)
+    name, seed = broken.split()
+    text = drawn_schedule(LACKING[name][0], int(seed))
+    text = enabled(text, name) if int(seed) % 4 else text
+    looked, report = Compared(program, broken, text, "--lacks", name), ran(program, "replay", "--lacks", name, text=text)
     looked.traces(run_of(read_schedule(text), name))
     if report.returncode:
         looked.fault(report)
     else:
         compare_report(looked, read_report(report.stdout))
-    looked.tell()

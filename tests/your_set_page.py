@@ -7,9 +7,8 @@ import re
 import shutil
 import sys
 
-from harness.cases import TOP, each, same
-from harness.programs import QUICK_CARGO, well
-from judge_in_a_test import FORMS, go_words, in_jvm, look_for
+from harness.programs import QUICK_CARGO, TOP, well
+from judge_in_a_test import FORMS, TEST_LIBRARIES, each, go_words, in_jvm
 
 PAGE = TOP / "docs" / "YOUR-SET.md"
 CPP = """#include "listset_judge.hpp"
@@ -170,11 +169,12 @@ LANGUAGES = {"GoogleTest": cpp, "Rust": rust, "Java": java, "Python": python, "G
 
 
 @each(LANGUAGES)
-def the_lines_of_the_page_judge(case, language):
-    look_for(language)
-    own = case.room / "own"
+def test_the_lines_of_the_page_judge(program, room, lacking, language):
+    if language == "GoogleTest" and not TEST_LIBRARIES[language][1]():
+        lacking(f"GoogleTest is not installed: {TEST_LIBRARIES[language][0]}")
+    own = room / "own"
     own.mkdir()
-    well(*LANGUAGES[language](own), cwd=own, env={**os.environ, "LISTSET": str(case.program), "TMPDIR": str(case.room)})
+    well(*LANGUAGES[language](own), cwd=own, env={**os.environ, "LISTSET": program, "TMPDIR": str(room)})
     if language == "GoogleTest":
         parts = sorted((own / "recorded").iterdir())
-        same(well(case.program, "judge", *parts), f"ok {len(parts)} parts, 48000 calls\n", f"the verdict on {len(parts)} parts")
+        assert well(program, "judge", *parts) == f"ok {len(parts)} parts, 48000 calls\n"

@@ -30,7 +30,8 @@ def part(top, name):
     usage = re.search(r"Usage: (.+)", said)
     lines = ["", "    " + (usage[1] if usage else f"listset {name}"), ""]
     if table := list(rows(said)):
-        lines += ["| Argument | Meaning |", "|---|---|", *(f"| `{it}` | {does} |" for it, does in table), ""]
+        told = {it: does.partition(":")[0] if it == "--lacks NAME" and name != "replay" else does for it, does in table}
+        lines += ["| Argument | Meaning |", "|---|---|", *(f"| `{it}` | {does} |" for it, does in told.items()), ""]
     return "\n".join(lines)
 
 

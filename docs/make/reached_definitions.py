@@ -1,12 +1,11 @@
 #!/usr/bin/env python3
 """Which definitions of specs/ the public contracts of the libraries reach, so that whoever relies on these believes them.
 
-A contract is public if a library's root file gives its function, type or trait to other crates. From the names in its signature and its
-clauses the definitions of specs/ are followed, name by name, and the types and constants of Rust (reached_types.py). A definition is here
-the path of the module in which it stands, and its name. Lemmas are not followed: the check proves them. Nor are the invariants of types.
-One of proofs/ that is reached is a fault: what is to be believed stands in specs/.
+From the names in the signature and the clauses of each public function, type and trait, definitions are followed name by name, and the
+types and constants of Rust too (reached_types.py). A definition is here the path of its module, and its name. Lemmas are not followed:
+the prover checks them; nor are invariants of types.
 
-    docs/make/reached_definitions.py --list    prints each file with the names in it that are reached and, of definitions, the others
+    docs/make/reached_definitions.py    prints each file with the names in it that are reached
 """
 
 import functools
@@ -33,7 +32,7 @@ def place_of(path, name, modules):
 def named_by(path, name, modules):
     """What a definition, type or constant names; None for what is none of these."""
     if (path, name) in rust_types():
-        return rust_types()[path, name].shows
+        return rust_types()[path, name]
     module = modules.get(path)
     if not module or name not in module.items or not module.items[name].is_definition:
         return None
@@ -54,28 +53,25 @@ def closure(seeds, modules):
 
 
 def contracts_of(library):
-    """Each public function, `impl` or trait of a library: its name, its kind, the names that its clauses reach at once, and its text."""
+    """Each public function, `impl` or trait of a library: its name, the names that its clauses reach at once, and its text."""
     for module, source in library.modules.items():
-        for name, kind, head, stated in [*stated_by_blocks(library, source), *stated_by_functions(library, module, source)]:
-            yield library.name, name, kind, named_in(head + stated, library, module), stated
+        for name, head, stated in [*stated_by_blocks(library, source), *stated_by_functions(library, module, source)]:
+            yield library.name, name, named_in(head + stated, library, module), stated
 
 
 def stated_by_functions(library, module, source):
     for it in source.functions:
         owner = it.block.subject if it.block else None
         if it.is_public and (owner or it.name) in library.public and not (it.block and it.block.is_of_trait):
-            name = (f"{owner}::" if owner else library.prefix(module)) + it.name
-            yield name, "method" if owner else "function", f"{owner or ''} ", it.contract
+            yield (f"{owner}::" if owner else library.prefix(module)) + it.name, f"{owner or ''} ", it.contract
 
 
 def stated_by_blocks(library, source):
     """What traits and `impl`s of traits state: a trait its functions' clauses too, and no invariant."""
     for block in source.blocks:
         if block.subject in library.public and (block.kind == "trait" or block.is_of_trait):
-            stated = block.seen
-            if block.kind == "trait":
-                stated += "".join(it.contract for it in source.functions if it.block is block)
-            yield block.subject, "Model" if "Model for" in block.head else block.kind, f"{block.subject} ", stated
+            functions = [it.contract for it in source.functions if it.block is block and block.kind == "trait"]
+            yield block.subject, f"{block.subject} ", block.seen + "".join(functions)
 
 
 def public_contracts():
@@ -83,34 +79,19 @@ def public_contracts():
         yield from contracts_of(library)
 
 
-def types_by_file(reached):
-    """The types and constants among what is reached, by their files; but for those that contracts see by a `Value`, a definition."""
-    files = {}
-    for at in sorted(reached & rust_types().keys(), key=lambda it: (it[1].isupper(), it[1])):
-        if not rust_types()[at].has_value:
-            files.setdefault(rust_types()[at].file, []).append(at[1])
-    return dict(sorted(files.items()))
-
-
 @functools.cache
 def analysis():
-    """The modules of definitions, the public contracts, and what these reach."""
+    """The modules of definitions, the public contracts (crate, name, seeds), and what these reach."""
     modules = modules_in(TOP / "crates", "specs", "proofs")
-    contracts = [it[:4] for it in public_contracts()]
-    return modules, contracts, closure(set().union(*(seeds for _, _, _, seeds in contracts)), modules)
+    contracts = [it[:3] for it in public_contracts()]
+    return modules, contracts, closure(set().union(*(seeds for *_, seeds in contracts)), modules)
 
 
 def main():
     modules, _, reached = analysis()
-    if "--list" not in sys.argv:
-        sys.exit(__doc__)
     for path, module in modules.items():
-        reached_here = [name for name in module.items if (path, name) in reached]
-        others = [name for name in module.items if (path, name) not in reached]
-        if reached_here or ".specs." in path:
-            print(f"{module.file}\n  reached:  {', '.join(reached_here) or 'none'}\n  not:      {', '.join(others) or 'none'}")
-    for file, names in types_by_file(reached).items():
-        print(f"{file}\n  reached:  {', '.join(names)}")
+        if names := [name for name in module.items if (path, name) in reached]:
+            print(f"{module.file}: {', '.join(names)}")
 
 
 if __name__ == "__main__":

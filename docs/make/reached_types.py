@@ -7,20 +7,11 @@ the ghost fields that narrow a struct. Of any other type the variants and the pu
 import functools
 import re
 from pathlib import Path
-from typing import NamedTuple
 
 from antt_definitions import bare, named
 from rattle_sources import Library, imports, uses
 
 CRATES = Path(__file__).resolve().parent.parent.parent / "crates"
-
-
-class RustType(NamedTuple):
-    """A type or constant: its file, whether contracts see it by a `Value`, and the definitions, types and constants that it shows."""
-
-    file: str
-    has_value: bool
-    shows: set
 
 
 @functools.cache
@@ -61,15 +52,12 @@ def named_in(text, library, module):
 
 @functools.cache
 def rust_types():
-    """All types and constants, by their places."""
+    """All types and constants by their places, each with the definitions, types and constants that it shows."""
     found = {}
     for library in libraries():
         for module, source in library.modules.items():
             models = {it.subject: it.seen for it in source.blocks if it.is_of_trait and "Model for" in it.head}
             for name, shown in source.declared.items():
                 seen = models.get(name, "")
-                has_value = "ghost Value" in seen
-                shows = named_in(seen if has_value else seen + shown, library, module)
-                file = f"{library.name}/src/{module.replace('.', '/')}.rt"
-                found[places()[library.name][module][name]] = RustType(file, has_value, shows)
+                found[places()[library.name][module][name]] = named_in(seen if "ghost Value" in seen else seen + shown, library, module)
     return found

@@ -1,33 +1,14 @@
 """The rows of docs/TABLES.md, made from the definitions of the lists' tables (`specs/`): for each row the tests of `pc` are taken, and the
-step, what the thread sets after it and where it stands then are said in words. What a row is in the book stands here (`BOOK`)."""
+step, what the thread sets after it and its next row are said in words. The column "In the book" is the page's own."""
+
 import functools
+import re
 
 from antt_expressions import definitions_in
 
 LISTS = ["coarse", "fine", "optimistic", "lazy", "lock_free"]
 REGISTERS = ["pred", "curr", "succ", "node", "pkey", "ckey"]
-
-# What each row is in the book: no source says that.
-WALK = ["test of the loop, then of the key", "one node further"]
-FILL = ["the new node's key", "its next", "link it in"]
-UNLINK = ["read `curr`'s next", "unlink `curr`"]
-BOOK = {
-    "coarse": ["lock the list", "`pred` is the head, `curr` its next", *WALK, *FILL, *UNLINK, "unlock the list"],
-    "fine": ["lock the head", "`curr` is its next", "lock `curr`, with `pred` still locked", WALK[0],
-             "unlock `pred`: hand over hand", WALK[1], *FILL, *UNLINK, "unlock `curr`", "unlock `pred`"],
-    "optimistic": ["start of an attempt", "test of the loop", WALK[1], "lock `pred`", "lock `curr`; validate from the head",
-                   "one node further", "has the walk reached `pred`, or passed it", "does `pred` still lead to `curr`", *FILL, *UNLINK,
-                   "unlock `pred`", "unlock `curr`; if not valid, try again"],
-    "lazy": ["start of an attempt", "test of the loop", WALK[1], "lock `pred`", "lock `curr`", "`pred` is not marked, leads to `curr`",
-             "`curr` is not marked", *FILL, "mark `curr`: it is removed", UNLINK[1], "unlock `curr`",
-             "unlock `pred`; if not valid, try again"],
-    "lock_free": ["start of `find`", "read next and mark together", "snip the marked `curr`; if that fails, start again", WALK[0],
-                  *FILL[:2], "link it in; if that fails, start again, with the same slot", UNLINK[0],
-                  "mark `curr`: it is removed; if that fails, start again", "one try to unlink it; else a later `find` does it"],
-    "reads": [WALK[1] + ", marked or not", WALK[0], "is the node of the key marked",
-              WALK[1] + ", marked or not", "stop at the first key not below K", "if marked, start again"],
-}
-
+READ_ROWS = range(20, 26)
 
 CHANGE = "('call', 'Some', ('call', 'key_of', 'l.call', '%s'))"
 
@@ -244,10 +225,12 @@ def in_words(tree, row, action, change="", inner=False):
     return "; ".join(filter(None, [", ".join(parts), f"{said}: {first}", after if second.test else f"else {after}"]))
 
 
-def in_table(table, rows, name):
+def in_table(top, table, rows, name):
+    """The table of these rows, with the last column as it is on the page."""
+    page = (top / "docs/TABLES.md").read_text(encoding="utf-8").partition(f"<!-- made: rows-{name} -->")[2].partition("<!-- end -->")[0]
+    book = dict(re.findall(r"^\| (\d+) \|.*\| ([^|]*) \|$", page, re.M))
     lines = ["| Row | Step | Then | In the book |", "|---|---|---|---|"]
-    for row, book in zip(rows, BOOK[name], strict=True):
-        lines.append(f"| {row} | {table.step(row)} | {table.then(row)} | {book} |")
+    lines += [f"| {row} | {table.step(row)} | {table.then(row)} | {book.get(str(row), '?')} |" for row in rows]
     return "\n".join(lines)
 
 
@@ -263,13 +246,13 @@ def rows_of(name, top):
     calls, row = ("All calls", begin[2]) if begin[1:2] == ("begun",) else ("`add` and `remove`", first_rows(table)["add"])
     leave = f"leave at row {targets['leaves']}." if targets["leaves"] else "leave by answering."
     said = f"{calls} begin at row {row}, add at row {targets['adds']}, remove at row {targets['removes']} and {leave}"
-    return f"{said}\n\n{in_table(table, table.rows(), name)}"
+    return f"{said}\n\n{in_table(top, table, table.rows(), name)}"
 
 
 def rows_of_reads(top):
     """The rows of `contains` and `ceiling`, which are the same in both lists that mark."""
     lazy, lock_free = (Table(top / "crates", name) for name in ("lazy", "lock_free"))
-    made, other = (in_table(table, range(20, 26), "reads") for table in (lazy, lock_free))
+    made, other = (in_table(top, table, READ_ROWS, "reads") for table in (lazy, lock_free))
     if made != other:
         raise ValueError("the lists read by other rows")
     begin = first_rows(lazy)

@@ -24,7 +24,7 @@ def is_last(lines, number):
 def steps_of(found, lines):
     """The steps of a file. Where a row has several, each says whether calls begin there, and whether they answer."""
     rows = [row for *_, made in found for row in made]
-    for number, _, step, _, made in found:
+    for number, step, made in found:
         told = {"line": number, "rows": made}
         if any(rows.count(row) > 1 for row in made):
             told |= {"begins": step in loops_and_rows.BEGINS, "answers": step not in loops_and_rows.BEGINS and is_last(lines, number)}
@@ -35,7 +35,7 @@ def code_of(file):
     """The functions of a file that have steps: each with its lines, its steps, and what it calls of the others at which line."""
     source = rattle_sources.Source(loops_and_rows.text_of(file))
     lines = source.lines
-    steps = [*steps_of([step for step in loops_and_rows.lines_of(file) if step[-1]], lines)]
+    steps = [*steps_of([*loops_and_rows.lines_of(file)], lines)]
     made = {}
     for it in source.functions:
         own = [step for step in steps if it.top <= step["line"] <= it.last]

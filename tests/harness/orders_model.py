@@ -151,11 +151,14 @@ class Refusals:
             return said
         return [*said, f"key {key} is {'' if key in self.opening else 'not '}there at moment 0", "no later call changes it"]
 
+    def has_call(self, key):
+        """Whether a call of the key has ended, or may change it."""
+        return any(it.end or changes(it) for it in self.calls if it.key == key)
+
     def by_version_2(self, key):
-        """A key with a call that has ended or may change it; then one that was there as the set opened; each time the least."""
-        has_call = any(it.end or changes(it) for it in self.calls if it.key == key)
-        return not has_call, not has_call and key not in self.opening, key
+        """A key with such a call; then one that was there as the set opened; each time the least."""
+        return not self.has_call(key), not self.has_call(key) and key not in self.opening, key
 
     def by_version_3(self, key):
-        """A key with a call, or that was there as the set opened; each time the least."""
-        return key not in self.opening and all(it.key != key for it in self.calls), key
+        """A key with such a call, or that was there as the set opened; each time the least."""
+        return key not in self.opening and not self.has_call(key), key

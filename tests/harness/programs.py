@@ -1,13 +1,27 @@
 """How a test runs a program to its end: how that ends (`ran`), what it prints if nothing may be wrong (`printed`), and what a compiler or
-another language's test says that has to end well (`well`)."""
+another language's test says that has to end well (`well`). And waiting, and the processes that belong to a folder."""
 
+import contextlib
+import os
+import pathlib
+import shutil
+import signal
 import subprocess
+import time
 
-from harness.cases import SECONDS, Wrong
+from toolchain import NEEDS, TOP
 
+PROVED, UNPROVED = TOP / "crates/listset/out/listset", TOP / "crates/listset/out/unproved/listset"
+KINDS = ["coarse", "fine", "optimistic", "lazy", "lock-free"]
+SECONDS = 60  # for each wait
 LONG = 600  # seconds, for a compiler and for a whole test
-# cargo, where what it builds is built once: in half the time
+# cargo, for what is built once: in half the time
 QUICK_CARGO = ["env", "CARGO_INCREMENTAL=0", "CARGO_PROFILE_DEV_DEBUG=0", "cargo"]
+
+
+def not_installed(*commands):
+    """Of the first of these commands that is not installed, how to install it."""
+    return next((f"{it} is not installed: {NEEDS[it]}" for it in commands if not shutil.which(it)), None)
 
 
 def ran(*words, text=None, seconds=SECONDS, **how):
@@ -23,29 +37,59 @@ def ran(*words, text=None, seconds=SECONDS, **how):
 def printed(*words, **how):
     """What a program prints that has to end with the status 0 and nothing on its standard error."""
     done = ran(*words, **how)
-    if done.returncode or done.stderr:
-        given = f" of {how['text']!r}" if "text" in how else ""
-        raise Wrong(f"{' '.join(map(str, words[1:]))}: status {done.returncode}, {done.stderr!r}{given}")
+    given = f" of {how['text']!r}" if "text" in how else ""
+    assert (done.returncode, done.stderr) == (0, type(done.stderr)()), f"{' '.join(map(str, words[1:]))}{given}"
     return done.stdout
 
 
 def well(*words, seconds=LONG, **how):
     """What a program prints that has to end with the status 0, and may warn."""
     done = ran(*words, seconds=seconds, **how)
-    if done.returncode:
-        raise Wrong(f"{words[0]} ended with status {done.returncode}\n{done.stdout[-3000:]}{done.stderr[-3000:]}".strip())
+    assert done.returncode == 0, f"{words[0]} ended so:\n{done.stdout[-3000:]}{done.stderr[-3000:]}".strip()
     return done.stdout
 
 
 def wants(run, status=0, output=None, tells=(), no=()):
     """That a run ended so, and that its standard error has these texts, and not those."""
     found = f"{' '.join(run.args)}: status {run.returncode}, output {run.stdout[:300]!r}, standard error {run.stderr[-600:]!r}"
-    if run.returncode != status or (output is not None and run.stdout != output):
-        raise Wrong(f"not status {status} and output {output!r}: {found}")
+    assert run.returncode == status and output in (None, run.stdout), found
     for text in tells:
-        if text not in run.stderr:
-            raise Wrong(f"not told {text!r}: {found}")
+        assert text in run.stderr, found
     for text in no:
-        if text in run.stderr:
-            raise Wrong(f"told {text!r}: {found}")
+        assert text not in run.stderr, found
     return run
+
+
+def comes(condition, what):
+    """Waits until something is so."""
+    end = time.monotonic() + SECONDS
+    while not condition():
+        assert time.monotonic() < end, f"{what} does not come"
+        time.sleep(0.02)
+
+
+def is_running(process):
+    """Whether a process is there, and not only its end untold."""
+    try:
+        return pathlib.Path(f"/proc/{process}/stat").read_text().rpartition(")")[2].split()[0] != "Z"
+    except OSError:
+        return False
+
+
+def left_of(folder):
+    """The processes that are in this folder, or have it among their words or in their environment."""
+    found = []
+    for process in pathlib.Path("/proc").glob("[0-9]*"):
+        with contextlib.suppress(OSError):
+            has_it = any(str(folder).encode() in (process / it).read_bytes() for it in ("cmdline", "environ"))
+            if has_it or os.readlink(process / "cwd").startswith(str(folder)):
+                found.append(int(process.name))
+    return [it for it in found if it != os.getpid()]
+
+
+def clear(folder):
+    """Ends what is left of a folder, and removes it."""
+    for process in left_of(folder):
+        with contextlib.suppress(OSError):
+            os.kill(process, signal.SIGKILL)
+    shutil.rmtree(folder, ignore_errors=True)

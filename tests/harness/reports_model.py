@@ -6,9 +6,9 @@ import collections
 import itertools
 import types
 
-from harness.cases import KINDS
 from harness.lists_model import Call
 from harness.pictures_model import GREATEST, Picture, Place, Refusal, keys_text
+from harness.programs import KINDS
 from harness.set_model import CHANGES, SetModel
 
 Report = collections.namedtuple("Report", "kind threads quota opening calls ends order keys")

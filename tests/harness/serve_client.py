@@ -7,8 +7,6 @@ import struct
 import subprocess
 import threading
 
-from harness.cases import Wrong
-
 SECONDS = 120
 SOON = 15
 
@@ -19,8 +17,7 @@ class Server:
     def __init__(self, process):
         self.process = process
         first = process.stdout.readline()
-        if not first.startswith("listening 127.0.0.1:"):
-            raise Wrong(f"the server says {first!r}")
+        assert first.startswith("listening 127.0.0.1:")
         self.port = int(first.rpartition(":")[2])
 
     def connect(self, address="127.0.0.1"):
@@ -29,12 +26,10 @@ class Server:
     def ends(self, sessions, least, most, keys):
         """Compares the last lines with so many sessions, at least and at most so many calls, and these keys."""
         lines = self.process.stdout.read().splitlines()
-        if self.process.wait(SECONDS) != 0:
-            raise Wrong(f"the server ends with status {self.process.returncode}")
-        if lines[:1] != [f"sessions {sessions}"] or lines[2:] != [f"key {key}" for key in sorted(keys)]:
-            raise Wrong(f"the server says {lines}, the clients were told {sorted(keys)}")
-        if not least <= int(lines[1].removeprefix("calls ")) <= most:
-            raise Wrong(f"the server says {lines[1]}, the clients had {least} answers and no more than {most}")
+        assert self.process.wait(SECONDS) == 0
+        calls = int(lines.pop(1).removeprefix("calls "))
+        assert lines == [f"sessions {sessions}", *(f"key {key}" for key in sorted(keys))]
+        assert least <= calls <= most
 
 
 @contextlib.contextmanager
@@ -59,14 +54,8 @@ def answer_of(reply):
 
 
 def read_all(connection):
-    """The answers up to the end."""
-    pieces = []
-    try:
-        while piece := connection.recv(65_536):
-            pieces.append(piece)
-    except ConnectionResetError:
-        raise Wrong(f"{b''.join(pieces).count(10)} answers, and then a reset") from None
-    return b"".join(pieces)
+    """The answers up to the end, which is no reset."""
+    return b"".join(iter(lambda: connection.recv(65_536), b""))
 
 
 def read_lines(connection, count):
@@ -74,31 +63,25 @@ def read_lines(connection, count):
     text = b""
     while text.count(b"\n") < count:
         piece = connection.recv(4096)
-        if not piece:
-            raise Wrong(f"{text!r}, and then the end, where {count} answers should be")
+        assert piece, f"the end after {text!r}, where {count} answers should be"
         text += piece
     return text
 
 
 def asks(connection, lines, answers):
-    """Sends lines and wants these answers; after a `BYE` it wants the end."""
+    """Sends lines, which these answers follow, and after a `BYE` the end."""
     connection.sendall(lines)
-    told = read_lines(connection, answers.count(b"\n"))
-    if told != answers:
-        raise Wrong(f"{lines!r} is answered {told!r}")
-    if answers.endswith(b"BYE\n") and connection.recv(1):
-        raise Wrong(f"{lines!r} is answered past BYE")
+    assert read_lines(connection, answers.count(b"\n")) == answers, lines
+    assert not (answers.endswith(b"BYE\n") and connection.recv(1)), lines
 
 
 def takes_turns(connection, turns):
-    """Sends the lines of these turns, and wants for each one of its right answers."""
+    """Sends the lines of these turns; the answer to each is one of its right answers."""
     connection.sendall(b"".join(line for line, _ in turns))
     told = read_lines(connection, len(turns)).splitlines(keepends=True)
-    if len(told) != len(turns):
-        raise Wrong(f"{len(turns)} lines have {len(told)} answers")
+    assert len(told) == len(turns)
     for (line, right), answer in zip(turns, told):
-        if answer not in right:
-            raise Wrong(f"{line!r} is answered {answer!r}")
+        assert answer in right, line
 
 
 def resets(connection):
@@ -128,5 +111,5 @@ def have_ended(clients):
     for client in clients:
         client.join(SECONDS)
     for client in clients:
-        if client.is_alive() or client.wrong:
-            raise Wrong(client.wrong or f"{client.manner}: a client does not end")
+        assert not client.wrong
+        assert not client.is_alive(), client.manner

@@ -5,8 +5,7 @@ import os
 import shutil
 import sys
 
-from harness.cases import TOP
-from harness.programs import well
+from harness.programs import TOP, well
 
 # what the scripts may call of the system without saying that it is missing
 COMMANDS = "awk bash cat chmod cp cut date dirname env find grep mv readlink rm sed sh sha256sum sleep sort touch xargs".split()

@@ -28,7 +28,7 @@ use Rattle.lset_judge.specs.Events.{rule_explains}
 use Rattle.lset_judge.specs.Marks.{ruled_on, noted_at, AreMarks}
 use Rattle.lset_judge.specs.declared.window.Window.{Window}
 use Rattle.lset_judge.specs.Verdict.{IsUnexplained, calls_by, of_key, with_quota}
-use Rattle.lset_judge.specs.Window.{AreChosen, BeginsAfter, calls_numbered, HaveNone, ShowsNoneAtAll, IsForcedAtAll, IsSameWindow}
+use Rattle.lset_judge.specs.Window.{AreChosen, BeginsAfter, calls_numbered, HaveNone, ShowsNoneAtAll, IsForcedAtAll, IsSameWindow, HaveOrder, IsReached}
 use Rattle.lset_judge.proofs.Runs.{IsRunOf, known_at, run_judges}
 
 -- ---- one more
@@ -192,3 +192,6 @@ same_bool true true e = refl
 same_bool true false e = sym e
 same_bool false true e = e
 same_bool false false e = refl
+
+pub reached_same : (h : HistoryValue) (old new : Window) → IsSameWindow old new → IsReached h old → IsReached h new
+reached_same h old new s f = subst (λ (k : Key). HaveOrder h k.0 new.since) (sym s.key) (subst (HaveOrder h old.key.0) (sym s.since) f)

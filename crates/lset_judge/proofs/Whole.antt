@@ -20,8 +20,9 @@ use Rattle.lset_judge.specs.declared.verdict.Refusal.{Refusal}
 use Rattle.lset_judge.specs.declared.window.Window.{Window}
 use Rattle.lset_judge.specs.Rule.{opened}
 use Rattle.lset_judge.specs.Marks.{AreMarks}
-use Rattle.lset_judge.specs.Verdict.{IsUnexplained, with_quota, calls_by, of_key, IsRefusedBy, IsRefused}
-use Rattle.lset_judge.specs.Window.{calls_numbered, ShowsNoneAtAll, IsForcedAtAll, IsWhole, IsWindowOf, changes_after, left_by, moment_or}
+use Rattle.lset_judge.specs.Verdict.{IsUnexplained, with_quota, calls_by, of_key, IsRefusedBy, IsRefused, IsPlain, IsExplained}
+use Rattle.lset_judge.specs.Window.{calls_numbered, ShowsNoneAtAll, IsForcedAtAll, IsReached, HaveOrder, IsWhole, IsWindowOf, changes_after, left_by, moment_or}
+use Rattle.lset_judge.proofs.AloneLemmas.{rising_alone}
 use Rattle.lset_judge.proofs.EventLemmas.{begun_below}
 use Rattle.lset_judge.proofs.Chosen.{by_own, left_forced}
 
@@ -134,6 +135,33 @@ module _ (h : HistoryValue) (told : IsHistory h.opening.threads h.calls) (keys :
       (opened (has_key k h.opening.keys)) refl refl refl opened_so
       ∙ sym there
 
+  reached : IsReached h w
+  reached =
+      let start = recursion_from_All (λ (x : CallRecord). 0 < x.begun) h.calls (λ i d l. (calls_of h.opening.threads h.calls told i d l).counted) in
+      let left : List ℕ = if has_key k h.opening.keys then k ∷ [] else [] in
+      let Ordered : List CallRecord → Type 0 = λ cs. IsPlain cs → (ks : List ℕ) × IsExplained (record {
+        opening = record { threads = h.opening.threads; quota = length cs; keys = left };
+        calls = cs;
+      }) ks in
+      let none : Ordered [] = λ _. (
+        left,
+        (
+          [],
+          record {
+            linearizes = record {
+              known = λ i d low. absurd (omega (arith, low));
+              once = λ i j d low high. absurd (omega (arith, high));
+              ended = λ n e q low is. absurd (omega (arith, low));
+              legal = tt;
+              in_time = λ i j d low high. absurd (omega (arith, high));
+            };
+            keys_left = refl;
+            rising = rising_alone (has_key k h.opening.keys) k left refl;
+          },
+        ),
+      ) in
+      subst (λ (q : Key). HaveOrder h q.0 w.since) (sym key) (subst (HaveOrder h k) (sym since) (subst Ordered (sym (none_by_zero k h.calls start)) none))
+
   no_change : M ≡ latest_moment h.calls → w.calls.items ≡ [] → (i : ℕ) (d : CallRecord) → i < length h.calls
       → changes_after k w.since (get_or h.calls i d) ≡ false
   no_change all empty i d low =
@@ -153,7 +181,7 @@ module _ (h : HistoryValue) (told : IsHistory h.opening.threads h.calls) (keys :
   whole (Some m) e is = subst (λ o. IfSome o (λ l. IsWhole h w)) (sym is) tt
 
   pub whole_is : IsWindowOf h keys r w
-  whole_is = record { key_is = key; left_is = left; shows = shows; forced = forced; whole = whole r.moment until left }
+  whole_is = record { key_is = key; left_is = left; shows = shows; forced = forced; reached = reached; whole = whole r.moment until left }
 
 -- what holds without a condition holds of what there is
 pub in_any_case : {A : Type 0} (P : Type 0) (o : Option A) → P → IfSome o (λ a. P)

@@ -13,7 +13,7 @@ use Rattle.lset_history.specs.History.{HistoryValue}
 use Rattle.lset_history.specs.Faults.{Explains}
 use Rattle.lset_judge.specs.declared.verdict.Refusal.{Refusal}
 use Rattle.lset_judge.specs.declared.window.Window.{Window}
-use Rattle.lset_judge.specs.Verdict.{IsUnexplained, is_true_or_open, with_quota, of_key}
+use Rattle.lset_judge.specs.Verdict.{IsPlain, IsExplained, IsUnexplained, is_true_or_open, with_quota, without_quota, of_key}
 
 -- the calls with these numbers
 abbrev pub calls_numbered : List CallRecord → List ℕ → List CallRecord
@@ -46,6 +46,14 @@ pub record ShowsNone (h : HistoryValue) (w : Window) : Type 0 where
 -- each order of the calls of the key that begin by the window's moment leaves the key there, or not, as the window has it
 abbrev pub IsForced : HistoryValue → Window → Type 0
 IsForced h w = (order : List Placed) (keys : List ℕ) → Explains (of_key w.key.0 w.since h) order keys → has_key w.key.0 keys ≡ w.there
+
+-- the calls of a key that begin by a moment have an order, if each of them that ended answered true or false
+abbrev pub HaveOrder : HistoryValue → ℕ → ℕ → Type 0
+HaveOrder h key moment = IsPlain (of_key key moment h).calls → (keys : List ℕ) × IsExplained (without_quota (of_key key moment h)) keys
+
+-- so do those that begin by the window's moment
+abbrev pub IsReached : HistoryValue → Window → Type 0
+IsReached h w = HaveOrder h w.key.0 w.since
 
 -- an add or a remove
 abbrev pub may_change : Call → Bool
@@ -80,6 +88,7 @@ pub record IsWindowOf (h : HistoryValue) (keys : List ℕ) (refusal : Refusal) (
   pub left_is : w.left ≡ left_by keys refusal.key.0 refusal.moment
   pub shows : ShowsNoneAtAll h w
   pub forced : IsForcedAtAll h w
+  pub reached : IsReached h w
   pub whole : IfSome w.left (λ left. IsWhole h w)
 
 -- ---- what the functions on the way say

@@ -25,7 +25,7 @@ fn calls_numbered(
 }
 
 /// The key, if it is there.
-fn key_if(alloc: Global, there: bool, key: u32) -> Result<Vec<u32>, AllocError>
+pub(crate) fn key_if(alloc: Global, there: bool, key: u32) -> Result<Vec<u32>, AllocError>
     ensures { IfOk result (λ keys. keys.items ≡ (if there then key ∷ [] else [])) }
 {
     let mut keys = Vec::new(alloc);

@@ -13,6 +13,7 @@ ghost use Rattle.lset_judge.specs.Events.{kind_if, until_if, begin_event, end_ev
 ghost use Rattle.lset_judge.specs.Leaving.{may_be_left};
 ghost use Rattle.lset_judge.specs.Stream.{record_of, stream_history, behind_all, state_for, pending_of, no_pending, IsBefore, IsNearest, IsMet, IsStreamOf, MayCome, failed_verdict, verdict_of_key, moment_of, pending_in, IsStreamVerdict, IsStreamVerdictCutOff};
 ghost use Rattle.lset_judge.specs.Verdict.{is_plain};
+ghost use Rattle.lset_judge.specs.declared.stream.StreamFault.TheVariants.{Memory};
 
 use crate::event::{Event, Kind, begin_event, end_event, ended_kind, open_kind};
 use crate::judged::is_answer;
@@ -60,6 +61,14 @@ pub enum StreamFault {
     /// There was no memory.
     #[error("out of memory")]
     Memory,
+}
+
+impl From<AllocError> for StreamFault {
+    ghost from_gives = { λ _ fault. fault ≡ Memory };
+
+    fn from(_refused: AllocError) -> StreamFault {
+        StreamFault::Memory
+    }
 }
 
 /// What the stream says.
@@ -196,6 +205,28 @@ fn meet_key(
     Ok(goes_on)
 }
 
+/// Whether a pending call has a moment of the call, or else is of its thread.
+fn clash(pending: &[Pending], call: StreamCall) -> Option<StreamFault>
+    ensures { MatchOption result
+        (All (λ p. (p.end ≢ call.begun) × IfSome call.ended (λ end. p.end ≢ end.0)) pending.now
+        × All (λ p. p.thread ≡ call.thread → p.end ≤ call.begun) pending.now)
+        (λ fault. All (λ p. (p.end ≢ call.begun) × IfSome call.ended (λ end. p.end ≢ end.0)) pending.now
+        → All (λ p. p.thread ≡ call.thread → p.end ≤ call.begun) pending.now → ⊥) }
+{
+    let mut is_free = true;
+    for it in pending {
+        if !it.is_apart(call) {
+            return Some(StreamFault::Taken);
+        }
+        is_free = is_free && it.is_free(call);
+    }
+    if is_free {
+        None
+    } else {
+        Some(StreamFault::Busy)
+    }
+}
+
 /// The pending call whose end is nearest, if it is before a moment.
 fn nearest_end(pending: &[Pending], before: u64) -> Option<usize>
     ensures inside { IfSome result (λ place. place < length pending.now) }
@@ -294,12 +325,8 @@ impl Stream {
             Some(StreamFault::Ends)
         } else if !call.is_plain() {
             Some(StreamFault::NotPlain)
-        } else if !self.pending.iter().all(|pending| pending.is_apart(call)) {
-            Some(StreamFault::Taken)
-        } else if !self.pending.iter().all(|pending| pending.is_free(call)) {
-            Some(StreamFault::Busy)
         } else {
-            None
+            clash(&self.pending, call)
         }
     }
 
@@ -307,6 +334,10 @@ impl Stream {
     fn meet(&mut self, key: u32, moment: u64, event: Event) -> Result<(), AllocError>
         ensures { OnOk result (IsMet self.old key moment event self.new) }
     {
+        if matches!(event, Event::Idle) {
+            self.moment = moment;
+            return Ok(());
+        }
         if self.failed.is_none() {
             let goes_on = meet_key(
                 &mut self.states,
@@ -398,10 +429,8 @@ impl Stream {
         if let Some(fault) = self.find_fault(call) {
             return Err(fault);
         }
-        match self.take(call) {
-            Ok(()) => Ok(()),
-            Err(_) => Err(StreamFault::Memory),
-        }
+        self.take(call)?;
+        Ok(())
     }
 
     /// A key with a state that is not left as its calls may leave it.

@@ -12,6 +12,7 @@ ghost use Rattle.lset_judge.specs.Window.{
   ShowsNoneAtAll,
   LeaveIt,
   IsForcedAtAll,
+  IsReached,
   IsSameWindow,
   IsWhole,
   IsWindowOf,
@@ -22,12 +23,13 @@ ghost use Rattle.lset_judge.specs.Window.{
   moment_or,
 };
 
-use crate::Refusal;
+use crate::alone::key_if;
 use crate::event::{Event, Kind, event_of, kind_of};
 use crate::judging::walk;
 use crate::keys::is_among;
 use crate::marks::{Mark, latest_moment, marks_of};
 use crate::rule::KeyState;
+use crate::{Refusal, Verdict, judge_cut_off};
 use lset_history::History;
 use lset_words::{Call, CallRecord, Key, Reply};
 use std::alloc::{AllocError, Global};
@@ -171,6 +173,20 @@ fn is_forced(alloc: Global, history: &History, window: &Window) -> Result<bool, 
     match left_by(alloc, &before, window.key, opening)? {
         Some(there) => Ok(there == window.there),
         None => Ok(false),
+    }
+}
+
+/// Whether the calls before a window have an order, as far as the judge decides it.
+fn is_reached(alloc: Global, history: &History, window: &Window) -> Result<bool, AllocError>
+    ensures { IfOk result (λ reached. IsTrue reached → IsReached history.now window.now) }
+{
+    let before = calls_by(alloc, history.calls(), window.key, window.since)?;
+    let there = is_among(history.opening(), window.key.0);
+    let opening = key_if(alloc, there, window.key.0)?;
+    let own = History::from_calls(history.threads(), history.quota(), opening, before);
+    match judge_cut_off(alloc, &own)? {
+        Verdict::Linearizable | Verdict::Undecided => Ok(true),
+        Verdict::NotLinearizable(_) => Ok(false),
     }
 }
 
@@ -376,7 +392,10 @@ fn short_window(
             left,
             calls: numbers_between(alloc, calls, key, since, end)?,
         };
-        if shows_none(alloc, history, &window)? && is_forced(alloc, history, &window)? {
+        if shows_none(alloc, history, &window)?
+            && is_forced(alloc, history, &window)?
+            && is_reached(alloc, history, &window)?
+        {
             shorten(alloc, history, &mut window)?;
             if is_whole(calls, &window) {
                 return Ok(Some(window));
@@ -413,10 +432,7 @@ fn numbers_by(
 fn moment_or(latest: u32, moment: Option<u32>) -> u32
     ensures { result ≡ moment_or latest moment }
 {
-    match moment {
-        Some(moment) => moment,
-        None => latest,
-    }
+    moment.unwrap_or(latest)
 }
 
 /// All calls of a refusal's key up to its moment, from the opening on.
@@ -445,9 +461,10 @@ fn whole_window(
 }
 
 /// The calls that show why no order explains a history and leaves the keys, as a refusal of `first_refused` or `judge_without_quota` has
-/// it: calls of its key, from a moment at which each order of the calls before leaves the key there, or each not there. These calls alone,
-/// from that state of the key, have no order, or none that leaves it as it is left. Mostly they are two to four: they begin as no change of
-/// the key was pending, and those that change nothing and are not needed are left out. If there is none, no later call changes the key.
+/// it: calls of its key, from a moment at which each order of the calls before leaves the key there, or each not there. The calls before
+/// have an order, if each that ended answered true or false. The calls of the window alone, from that state of the key, have no order, or
+/// none that leaves it as it is left. Mostly they are two to four: they begin as no change of the key was pending, and those that change
+/// nothing and are not needed are left out. If there is none, no later call changes the key.
 ///
 /// `keys` are the keys left, and `refusal` is the answer on this history and these keys. It fails only if memory is refused.
 pub fn window_of_refusal(

@@ -91,25 +91,25 @@ struct CallPieces<'a> {
 fn is_dash(piece: &[u8]) -> bool
     ensures { result ≡ bytes_eq piece.now (codes "-") }
 {
-    piece == b"-".as_slice()
+    matches!(piece, b"-")
 }
 
 fn is_call(piece: &[u8]) -> bool
     ensures { result ≡ bytes_eq piece.now (codes "call") }
 {
-    piece == b"call".as_slice()
+    matches!(piece, b"call")
 }
 
 fn is_true(piece: &[u8]) -> bool
     ensures { result ≡ bytes_eq piece.now (codes "true") }
 {
-    piece == b"true".as_slice()
+    matches!(piece, b"true")
 }
 
 fn is_false(piece: &[u8]) -> bool
     ensures { result ≡ bytes_eq piece.now (codes "false") }
 {
-    piece == b"false".as_slice()
+    matches!(piece, b"false")
 }
 
 fn open_call(pieces: CallPieces<'_>) -> Result<Line, LongCause>

@@ -1,5 +1,5 @@
--- Progress of calls, as laws of runs (Herlihy and Shavit's terms). Nothing is asked of the schedule: each law speaks of each
--- moment of each run.
+-- Progress of calls, as laws of runs. Nothing is asked of the schedule: each law speaks of each moment of each run. The laws of
+-- the lists with locks say that there is no deadlock; livelock is not excluded.
 use Rattle.std.specs.Prelude.{◌≡◌, ◌≢◌, ℕ, zero, suc, ◌+◌, ◌*◌, ◌%◌, ◌<◌, ◌≤◌, ◌⊎◌, Bool, true, false, Some, slice_index}
 use Rattle.lset_words.specs.declared.Call.{Call}
 use Rattle.lset_words.specs.declared.Call.TheVariants as call
@@ -77,8 +77,8 @@ pub record GetsOn (T : Table) (s : State) (t : ℕ) : Type 0 where
   pub enabled : Enabled s (Go t)
   pub tries : (x old new : ℕ) → IsLockWord x → T.next (local_of s t) ≡ Exchange x old new → slice_index s.words x ≡ old
 
--- [Some thread gets on]: while a call is pending, some thread has one whose next step is no failed try of a lock (freedom from
--- deadlock).
+-- [Some thread gets on]: while a call is pending, some thread has one whose next step is no failed try of a lock (no deadlock;
+-- livelock is not excluded).
 abbrev pub SomeThreadGetsOn : Table → Type 0
 SomeThreadGetsOn T = (op : Opening) (k t : ℕ) (es : ℕ → Event) → Run T op es k → t < op.threads
     → IsPending (state_at T op es k) t

@@ -1,6 +1,9 @@
 //! Progress of the five lists, as laws of the runs of their step machines: each law is a function whose contract is the law, and
 //! whose call does nothing. Nothing is asked of the schedule.
 //!
+//! The laws of the lists with locks say that there is no deadlock. They do not exclude livelock, so they are weaker than what
+//! Herlihy and Shavit call freedom from deadlock: that in each fair run some pending call ends.
+//!
 //! N is the number of nodes: head, tail, one for each slot of each thread, and one for each opening key.
 #![tactic(auto)]
 
@@ -74,49 +77,49 @@ pub fn a_lock_free_ceiling_may_never_end()
 {}
 
 /// Theorem: while a call of a CoarseList is pending, some thread can make a step that is not a failed attempt to take the
-/// lock. (Freedom from deadlock.)
+/// lock. (No deadlock; livelock is not excluded.)
 pub fn some_coarse_call_gets_on()
     ensures { SomeThreadGetsOn coarse }
 {}
 
 /// Theorem: while a call of a CoarseList is pending, there are at most `2N + 3` steps of one thread, of which the last ends
-/// a call. (Freedom from deadlock.)
+/// a call. (No deadlock; livelock is not excluded.)
 pub fn some_coarse_call_can_end()
     ensures { SomeCallCanEnd coarse coarse_steps }
 {}
 
 /// Theorem: while a call of a FineList is pending, some thread can make a step that is not a failed attempt to take a lock.
-/// (Freedom from deadlock: Herlihy and Shavit's order of the nodes.)
+/// (No deadlock, by Herlihy and Shavit's order of the nodes; livelock is not excluded.)
 pub fn some_fine_call_gets_on()
     ensures { SomeThreadGetsOn fine }
 {}
 
 /// Theorem: while a call of a FineList is pending, there are at most `n(4N + 3) + 7` steps of the n threads, of which the
-/// last ends a call. (Freedom from deadlock.)
+/// last ends a call. (No deadlock; livelock is not excluded.)
 pub fn some_fine_call_can_end()
     ensures { SomeCallCanEnd fine (for_each fine_steps) }
 {}
 
 /// Theorem: while a call of an OptimisticList is pending, some thread can make a step that is not a failed attempt to take a
-/// lock. (Freedom from deadlock: Herlihy and Shavit's order of the nodes.)
+/// lock. (No deadlock, by Herlihy and Shavit's order of the nodes; livelock is not excluded.)
 pub fn some_optimistic_call_gets_on()
     ensures { SomeThreadGetsOn optimistic }
 {}
 
 /// Theorem: while a call of an OptimisticList is pending, there are at most `n(8N + 9) + 7` steps of the n threads, of which
-/// the last ends a call. (Freedom from deadlock.)
+/// the last ends a call. (No deadlock; livelock is not excluded.)
 pub fn some_optimistic_call_can_end()
     ensures { SomeCallCanEnd optimistic (for_each optimistic_steps) }
 {}
 
 /// Theorem: while a call of a LazyList is pending, some thread can make a step that is not a failed attempt to take a lock.
-/// (Freedom from deadlock: Herlihy and Shavit's order of the nodes.)
+/// (No deadlock, by Herlihy and Shavit's order of the nodes; livelock is not excluded.)
 pub fn some_lazy_call_gets_on()
     ensures { SomeThreadGetsOn lazy }
 {}
 
 /// Theorem: while a call of a LazyList is pending, there are at most `n(4N + 15) + 7` steps of the n threads, of which the
-/// last ends a call. (Freedom from deadlock.)
+/// last ends a call. (No deadlock; livelock is not excluded.)
 pub fn some_lazy_call_can_end()
     ensures { SomeCallCanEnd lazy (for_each lazy_steps) }
 {}

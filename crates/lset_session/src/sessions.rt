@@ -211,7 +211,7 @@ fn bytes_in<R: Wait, W: Sink, S: SetCalls>(
 ///
 /// Each line ends with a newline. `ADD k`, `REMOVE k`, `CONTAINS k` and `CEILING k` are answered by `TRUE`, `FALSE`, `FULL`,
 /// `AT x` (the key x) or `NONE` (no key), `QUIT` by `BYE`, and any other line by `BAD`. Each answer is written whole before
-/// the next call is made. `server_tests` has uses of it, in `src/`.
+/// the next call is made.
 ///
 /// The session ends with:
 /// - `Quit`: a line was `QUIT`;

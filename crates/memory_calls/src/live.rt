@@ -201,13 +201,56 @@ fn running_set<M: Running, R: Wait>(rt: &R, alloc: Global, calls: &mut Calls) ->
     gather_and_close(alloc, calls, set, zero, one)
 }
 
-/// Opens a set whose reads do not block, and looks for a key that is there and for one that is not.
+/// Typed calls of a seat with this key, which is not in the set, and is then.
+fn add_typed<M: Running, R: Wait>(
+    rt: &R,
+    set: &LiveSet<M>,
+    seat: &mut Seat<M>,
+    key: u32,
+) -> Result<()>
+    requires { seat.old.set ≡ set.now }
+    ensures { seat.new.set ≡ set.now }
+{
+    check(!seat.remove(rt, set, Key(key)) && !seat.contains(rt, set, Key(key)))?;
+    check(seat.add(rt, set, Key(key)) == Added::New)?;
+    check(seat.add(rt, set, Key(key)) == Added::Already && seat.contains(rt, set, Key(key)))?;
+    check(seat.ceiling(rt, set, Key(key)) == Some(Key(key)))
+}
+
+const MANY: u32 = 1_100;
+
+/// A seat adds falling keys, each right behind the head, and takes them out.
+fn fill_and_empty<M: Running, R: Wait>(rt: &R, set: &LiveSet<M>, seat: &mut Seat<M>) -> Result<()>
+    requires { seat.old.set ≡ set.now }
+    ensures { seat.new.set ≡ set.now }
+{
+    add_typed(rt, set, seat, u32::MAX)?;
+    for key in (0..MANY).rev() {
+        add_typed(rt, set, seat, key)?;
+    }
+    for key in 0..MANY {
+        check(seat.remove(rt, set, Key(key)))?;
+    }
+    Ok(())
+}
+
+/// More than a thousand calls of each kind, of a seat that has gathered another, with small keys and the greatest.
+fn many_calls<M: Running, R: Wait>(rt: &R, alloc: Global, calls: &mut Calls) -> Result<()> {
+    let (set, mut seats) = answer!(calls, "open", OpenFault::Memory, open::<M>(alloc, 2, 1_101))?;
+    let one = last_seat(&set, &mut seats)?;
+    let mut zero = last_seat(&set, &mut seats)?;
+    set.gather(&mut zero, one);
+    fill_and_empty(rt, &set, &mut zero)
+}
+
+/// Opens a set whose reads do not block, and looks for keys that are there and for some that are not.
 fn read_now<M: RunningReads, R: Wait>(rt: &R, alloc: Global, calls: &mut Calls) -> Result<()> {
     let (set, mut zero, mut one) = opened::<M>(alloc, calls)?;
     add_six(rt, &set, &mut one)?;
     calls.announce(alloc, "LiveSet::contains_now")?;
     check(set.contains_now(&mut zero, Key(4)))?;
-    check(!set.contains_now(&mut zero, Key(7)))
+    check(!set.contains_now(&mut zero, Key(7)))?;
+    check(!set.contains_now(&mut zero, Key(u32::MAX)))
 }
 
 pub fn running_sets<R: Wait>(rt: &R, alloc: Global, calls: &mut Calls) -> Result<()> {
@@ -216,6 +259,11 @@ pub fn running_sets<R: Wait>(rt: &R, alloc: Global, calls: &mut Calls) -> Result
     running_set::<OptimisticList, R>(rt, alloc, calls)?;
     running_set::<LazyList, R>(rt, alloc, calls)?;
     running_set::<LockFreeList, R>(rt, alloc, calls)?;
+    many_calls::<CoarseList, R>(rt, alloc, calls)?;
+    many_calls::<FineList, R>(rt, alloc, calls)?;
+    many_calls::<OptimisticList, R>(rt, alloc, calls)?;
+    many_calls::<LazyList, R>(rt, alloc, calls)?;
+    many_calls::<LockFreeList, R>(rt, alloc, calls)?;
     read_now::<LazyList, R>(rt, alloc, calls)?;
     read_now::<LockFreeList, R>(rt, alloc, calls)
 }

@@ -18,17 +18,27 @@ macro_rules! answer {
 }
 
 mod calls;
-mod groups;
 mod live;
 mod prelude;
 mod sets;
 mod threads;
 
-use calls::Calls;
-use groups::make_calls;
-use std::alloc::{AllocError, Global};
+use prelude::{AllocError, Calls, Global, Host, Net, Result, TcpListener, TcpStream};
 use std::io::{self, Read};
 use std::process::ExitCode;
+
+fn make_calls<R: Host + Net<Listener = TcpListener, Stream = TcpStream>>(
+    rt: &R,
+    alloc: Global,
+    calls: &mut Calls,
+) -> Result<()> {
+    sets::worlds(alloc, calls)?;
+    sets::oracles(alloc, calls)?;
+    sets::histories(alloc, calls)?;
+    live::running_sets(rt, alloc, calls)?;
+    threads::programs_on_threads(rt, alloc, calls)?;
+    threads::a_session(rt, alloc, calls)
+}
 
 /// The number on the input, 0 if there is none.
 fn number_on(input: &mut impl Read) -> io::Result<u32> {

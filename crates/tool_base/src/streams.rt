@@ -1,12 +1,17 @@
 ghost use Rattle.std.specs.Prelude.{◌≡◌, ◌≢◌, ◌⊎◌, ◌+◌, ◌++◌, ℕ, List, ◌<◌, ◌≤◌, length, true, false, Err, IfErr, IfOk, IfSome, IsTrue, MatchOption, Option};
 ghost use Rattle.std.specs.Io.KnownBytes.{Appends};
 ghost use Rattle.tool_base.specs.Heads.{IsHead, ReadsOn, after_long_title, begins_long};
+ghost use Rattle.tool_base.specs.declared.streams.InputFault.TheVariants.{CannotRead, Memory};
 
-use std::alloc::Global;
+use std::alloc::{AllocError, Global};
+use std::io;
 use std::io::{Read, Write};
 
 /// The maximum number of bytes of an input.
 pub const LONGEST: usize = 67_108_864;
+
+/// The maximum number of bytes that one read takes.
+pub const READ_SIZE: usize = 4096;
 
 /// The first line of a long recording, with its newline.
 const LONG_TITLE: &[u8] = b"listset-calls 3\n";
@@ -18,7 +23,23 @@ pub enum InputFault {
     TooLong,
     /// The first line is that of a long recording.
     LongRecording,
-    Memory,
+    Memory(AllocError),
+}
+
+impl From<io::Error> for InputFault {
+    ghost from_gives = { λ _ fault. fault ≡ CannotRead };
+
+    fn from(_error: io::Error) -> InputFault {
+        InputFault::CannotRead
+    }
+}
+
+impl From<AllocError> for InputFault {
+    ghost from_gives = { λ error fault. fault ≡ Memory error };
+
+    fn from(error: AllocError) -> InputFault {
+        InputFault::Memory(error)
+    }
 }
 
 /// Reads once, and puts what it gives behind the bytes, which may be `LONGEST`: whether it gave any.
@@ -29,22 +50,18 @@ fn read_on<R: Read>(bytes: &mut Vec<u8>, input: &mut R) -> Result<bool, InputFau
     ensures longer { IfOk result (λ some. IsTrue some → length bytes.old.items < length bytes.new.items) }
     ensures too_long { result ≡ Err InputFault.TooLong
         → IfSome (R.remaining input.old) (λ rest. LONGEST < length bytes.old.items + length rest) }
+    ensures near { IfErr result (λ fault. fault ≡ InputFault.TooLong → LONGEST < length bytes.old.items + READ_SIZE) }
     ensures other { IfErr result (λ fault. fault ≢ InputFault.LongRecording) }
 {
-    let mut buffer = [0u8; 4096];
-    let count = match input.read(&mut buffer) {
-        Ok(count) => count,
-        Err(_) => return Err(InputFault::CannotRead),
-    };
+    let mut buffer = [0u8; READ_SIZE];
+    let count = input.read(&mut buffer)?;
     if count == 0 {
         return Ok(false);
     }
     if count > LONGEST - bytes.len() {
         return Err(InputFault::TooLong);
     }
-    if bytes.extend_from_slice(&buffer[..count]).is_err() {
-        return Err(InputFault::Memory);
-    }
+    bytes.extend_from_slice(&buffer[..count])?;
     Ok(true)
 }
 
@@ -57,18 +74,12 @@ fn read_on<R: Read>(bytes: &mut Vec<u8>, input: &mut R) -> Result<bool, InputFau
 pub fn head_of<R: Read>(alloc: Global, input: &mut R) -> Result<Vec<u8>, InputFault>
     ensures head { IfOk result (λ v. IsHead (R.remaining input.old) (R.remaining input.new) v.items) }
     ensures short { IfOk result (λ v. length v.items ≤ LONGEST) }
-    ensures other { IfErr result (λ fault. (fault ≡ InputFault.CannotRead) ⊎ (fault ≡ InputFault.Memory)) }
+    ensures other { IfErr result (λ fault. (fault ≢ InputFault.TooLong) × (fault ≢ InputFault.LongRecording)) }
 {
     let mut bytes = Vec::new(alloc);
     while bytes.len() < LONG_TITLE.len() {
-        match read_on(&mut bytes, input) {
-            Ok(true) => {}
-            Ok(false) => return Ok(bytes),
-            Err(InputFault::Memory) => return Err(InputFault::Memory),
-            // (so few bytes are not too long)
-            Err(InputFault::CannotRead | InputFault::TooLong | InputFault::LongRecording) => {
-                return Err(InputFault::CannotRead);
-            }
+        if !read_on(&mut bytes, input)? {
+            return Ok(bytes);
         }
     }
     Ok(bytes)
@@ -94,13 +105,8 @@ pub fn rest_of<R: Read>(head: Vec<u8>, input: &mut R) -> Result<Vec<u8>, InputFa
     if bytes.len() < LONG_TITLE.len() {
         return Ok(bytes);
     }
-    loop {
-        match read_on(&mut bytes, input) {
-            Ok(true) => {}
-            Ok(false) => return Ok(bytes),
-            Err(fault) => return Err(fault),
-        }
-    }
+    while read_on(&mut bytes, input)? {}
+    Ok(bytes)
 }
 
 /// Returns what comes after the first line of a long recording, `listset-calls 3`; `None` if the bytes do not begin with that line. Does
@@ -125,10 +131,7 @@ pub fn input_of<R: Read>(alloc: Global, input: &mut R) -> Result<Vec<u8>, InputF
     ensures too_long { result ≡ Err InputFault.TooLong → IfSome (R.remaining input.old) (λ bytes. LONGEST < length bytes) }
     ensures long { result ≡ Err InputFault.LongRecording → IfSome (R.remaining input.old) (λ bytes. begins_long bytes ≡ true) }
 {
-    let head = match head_of(alloc, input) {
-        Ok(head) => head,
-        Err(fault) => return Err(fault),
-    };
+    let head = head_of(alloc, input)?;
     if let Some(_rest) = after_long_title(&head) {
         return Err(InputFault::LongRecording);
     }

@@ -161,7 +161,7 @@ impl From<InputFault> for Trouble {
             InputFault::CannotRead => Trouble::CannotRead,
             InputFault::TooLong => Trouble::TooLong,
             InputFault::LongRecording => Trouble::LongRecording,
-            InputFault::Memory => Trouble::Memory,
+            InputFault::Memory(_) => Trouble::Memory,
         }
     }
 }

@@ -13,7 +13,6 @@ use Rattle.lset_long.specs.Kept.{IsAnswered}
 use Rattle.lset_long.proofs.TextFound.{text_found}
 use Rattle.tool_base.specs.declared.answer.Answer.{Answer}
 use Rattle.tool_base.specs.declared.trouble.Trouble.{Trouble}
-use Rattle.tool_base.specs.declared.trouble.Trouble.TheVariants.{CannotRead, Memory}
 use Rattle.tool_base.specs.declared.streams.InputFault.{InputFault}
 use Rattle.tool_base.specs.declared.streams.InputFault.TheVariants as input
 use Rattle.tool_base.specs.declared.streams.TheConstants.{LONGEST}
@@ -80,20 +79,19 @@ if_read (Some xs) (Some ys) bytes P read each = subst P (sym read) (each ys)
 
 -- ---- inputs that are not read
 
-pub head_refused : (all : Option (List ℕ)) (e : InputFault) (t : Trouble) → t ≡ of_input e → (e ≡ input.CannotRead) ⊎ (e ≡ input.Memory)
-    → IfSome all (λ bytes. JudgesAny bytes (Err t))
-head_refused all e t is (inl cannot) = if_known all (λ bytes. JudgesAny bytes (Err t)) (λ bytes.
-    subst (λ u. JudgesAny bytes (Err u)) (sym (is ∙ ap of_input cannot)) (each (begins_long bytes) bytes))
+pub head_refused : (all : Option (List ℕ)) (e : InputFault) (t : Trouble) → t ≡ of_input e
+    → (e ≢ input.TooLong) × (e ≢ input.LongRecording) → IfSome all (λ bytes. JudgesAny bytes (Err t))
+head_refused all e t is other = if_known all (λ bytes. JudgesAny bytes (Err t)) (λ bytes.
+    subst (λ u. JudgesAny bytes (Err u)) (sym is) (by e other (begins_long bytes) bytes))
   where
-    each : (b : Bool) (bytes : List ℕ) → JudgesIf b bytes (Err CannotRead)
-    each true bytes = inl refl
-    each false bytes = inl tt
-head_refused all e t is (inr memory) = if_known all (λ bytes. JudgesAny bytes (Err t)) (λ bytes.
-    subst (λ u. JudgesAny bytes (Err u)) (sym (is ∙ ap of_input memory)) (each (begins_long bytes) bytes))
-  where
-    each : (b : Bool) (bytes : List ℕ) → JudgesIf b bytes (Err Memory)
-    each true bytes = inr (inl refl)
-    each false bytes = inl tt
+    by : (e : InputFault) → (e ≢ input.TooLong) × (e ≢ input.LongRecording) → (b : Bool) (bytes : List ℕ)
+        → JudgesIf b bytes (Err (of_input e))
+    by input.CannotRead other true bytes = inl refl
+    by input.CannotRead other false bytes = inl tt
+    by input.TooLong other b bytes = absurd (other.0 refl)
+    by input.LongRecording other b bytes = absurd (other.1 refl)
+    by (input.Memory refused) other true bytes = inr (inl refl)
+    by (input.Memory refused) other false bytes = inl tt
 
 pub rest_refused : (all : Option (List ℕ)) (e : InputFault) (t : Trouble) → t ≡ of_input e → e ≢ input.LongRecording
     → (e ≡ input.TooLong → IfSome all (λ bytes. LONGEST < length bytes)) → IfSome all (λ bytes. begins_long bytes ≡ false)
@@ -106,4 +104,4 @@ rest_refused (Some xs) e t is other long short =
     by input.CannotRead other long = tt
     by input.TooLong other long = long refl
     by input.LongRecording other long = absurd (other refl)
-    by input.Memory other long = tt
+    by (input.Memory refused) other long = tt

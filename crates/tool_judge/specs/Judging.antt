@@ -152,8 +152,8 @@ pub record IsJudgedAs (c : CallsValue) (h : HistoryValue) (left : List ℕ) (ver
 abbrev pub IsUndecided : CallsValue → Type 0
 IsUndecided c = (h : HistoryValue) × (left : List ℕ) × IsJudgedAs c h left Undecided
 
--- NOT REFUTED: begins and ends alone refute nothing of recorded calls: the judge's rule fails on no key; and if the judge decides their
--- history, with its quota, some order explains it
+-- [Not refuted by the rule]: the judge's rule, which ignores each ceiling and takes from a full only that its key was absent, fails on no
+-- key of recorded calls; and if the judge decides their history, with its quota, some order explains it
 pub record IsUnrefuted (c : CallsValue) : Type 0 where
   pub whole : c.cut_off ≡ false
   pub history : HistoryValue
@@ -211,7 +211,7 @@ IsDecision c (ByPoints left) = (h : HistoryValue) × IsJudgedAs c h left.items U
 abbrev pub IsRefusalOfCalls : CallsValue → Trouble → Type 0
 IsRefusalOfCalls c t = (refusal : ClashFault) × (t ≡ of_clash refusal) × IsRefusal c refusal
 
--- of one that may need the points: that, or, only of calls of which begins and ends refute nothing, the first change that has none
+-- of one that may need the points: that, or, only of calls on whose keys the judge's rule does not fail, the first change that has none
 abbrev pub IsFaultOfCalls : CallsValue → Trouble → Type 0
 IsFaultOfCalls c t =
     IsRefusalOfCalls c t ⊎ ((fault : CallsFault) × (t ≡ of_calls fault) × PointsAreGiven c (Err fault) × IsUnrefuted c)

@@ -142,8 +142,8 @@ fn answer_on(alloc: Global, bytes: &[u8]) -> Result<Answer, Trouble>
 /// more says so. If begins and ends do not decide it the answer is `undecided`, with status 1.
 ///
 /// The error is `TooLong` for more than `LONGEST` bytes, `Line` with the first fault of the text, or with the first line whose call cannot
-/// stand beside those of the lines above, or, only if begins and ends do not decide the calls, with the first change that has no point;
-/// and `Memory` if memory was refused.
+/// stand beside those of the lines above, or with the first change that has no point, but only if the judge does not decide the calls, and
+/// its rule, which does not look at `ceiling` and `full`, refutes nothing; and `Memory` if memory was refused.
 ///
 /// A text whose first line is `listset-calls 3` is a long recording, and may have more bytes; its answer has no more lines than `ok N calls`,
 /// or than the key and how far its calls have no order.

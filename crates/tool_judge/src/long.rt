@@ -11,7 +11,7 @@ use lset_judge::StreamVerdict;
 use lset_long::{LongAnswer, LongReader};
 use std::alloc::{AllocError, Global};
 use std::io::Read;
-use tool_base::{Answer, Trouble};
+use tool_base::{Answer, READ_SIZE, Trouble};
 
 fn long_answer(alloc: Global, said: LongAnswer) -> Result<Answer, AllocError>
     ensures { IfOk result (λ a. tools.view (Ok a) ≡ Ok (long_answer said.verdict said.calls said.cut_off)) }
@@ -58,7 +58,7 @@ pub(crate) fn judge_long<R: Read>(
 {
     let mut reader = LongReader::new(alloc);
     reader.feed(front)?;
-    let mut buffer = [0u8; 4096];
+    let mut buffer = [0u8; READ_SIZE];
     for _ in 0..u64::MAX {
         let count = match input.read(&mut buffer) {
             Ok(count) => count,

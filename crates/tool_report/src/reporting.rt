@@ -84,7 +84,7 @@ fn answer_on(alloc: Global, bytes: &[u8]) -> Result<Answer, Trouble>
 /// # Errors
 ///
 /// `TooLong` if there are more than `LONGEST` bytes. `Line` with the first error of the text; or with the first line whose
-/// call conflicts with a line above; or, only if no order is found and begins and ends refute nothing, as of a `ceiling`,
+/// call conflicts with a line above; or, only if no order is found and the judge's rule fails on no key, as of a `ceiling`,
 /// with the first change that has no point. `LongReport` if the report has more than `LONGEST` bytes, so that `check` could
 /// not read it. `Memory` if an allocation fails.
 pub fn report_bytes(alloc: Global, bytes: &[u8]) -> Result<Answer, Trouble>

@@ -59,7 +59,7 @@ pub record IsDecided (c : CallsValue) (v : PictureValue) : Type 0 where
   pub picture_is : IsPictureOfOrder c.kind history left v
       ⊎ ((refusal : Refusal) × (window : Window) × IsPictureOfRefusal c.kind history left refusal window v)
 
--- of others, and only if begins and ends refute nothing: their report by their points, with each key left once, in increasing order
+-- of others, and only if the judge's rule fails on no key: their report by their points, with each key left once, in increasing order
 pub record IsByPoints (c : CallsValue) (v : PictureValue) : Type 0 where
   pub unrefuted : IsUnrefuted c
   pub points : PointsAreGiven c (Ok tt)

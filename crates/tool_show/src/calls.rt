@@ -116,7 +116,7 @@ fn by_points(alloc: Global, calls: Calls) -> Result<Drawing, Trouble>
     })
 }
 
-/// The picture of calls that begins and ends decide; none only if they refute nothing.
+/// The picture of calls that begins and ends decide; none only if the judge's rule fails on no key.
 fn by_order(alloc: Global, calls: Calls) -> Result<Option<Drawing>, Trouble>
     requires { AreCalls (view calls) }
     ensures drawn { IfOk result (IsDrawnIf (view calls)) }

@@ -172,7 +172,7 @@ fn answer_of(alloc: Global, bytes: &[u8], form: Form, window: Window) -> Result<
 
 /// Draws a schedule, a report or recorded calls, given as the bytes of the text, in the moments of `window`. Of recorded
 /// calls it draws an order that explains them; if there is none, the calls of the window that `judge` shows, with its lines
-/// below; and, only if begins and ends refute nothing, their report by their points. Allocates.
+/// below; and, only if the judge's rule fails on no key, their report by their points. Allocates.
 ///
 /// The status is 1 if the order of the report or an event of the schedule is refused, or if no order explains the calls,
 /// else 0. A schedule with such an event is drawn up to it.
@@ -181,8 +181,8 @@ fn answer_of(alloc: Global, bytes: &[u8], form: Form, window: Window) -> Result<
 ///
 /// - `TooLong`: there are more than `LONGEST` bytes.
 /// - `Line`: the first error of `read_report` in a text with the first line of a report, of either version; in one with that
-///   of recorded calls that of `read_calls`, or the first line whose call conflicts with a line above, or, only if begins and
-///   ends refute nothing, as of a `ceiling`, the first change that has no point; and of `read_schedule` in any other.
+///   of recorded calls that of `read_calls`, or the first line whose call conflicts with a line above, or, only if the judge's
+///   rule fails on no key, as of a `ceiling`, the first change that has no point; and of `read_schedule` in any other.
 /// - `Bad(From)`: all that happens in the picture is before `window.from`.
 /// - `Memory`: an allocation failed.
 pub fn shown(alloc: Global, bytes: &[u8], form: Form, window: Window) -> Result<Answer, Trouble>

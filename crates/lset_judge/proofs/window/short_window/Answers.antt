@@ -4,7 +4,7 @@ use Rattle.std.specs.declared.alloc.Global.{Global}
 use Rattle.lset_words.specs.declared.history.CallRecord.{CallRecord}
 use Rattle.lset_words.specs.History.{IsHistory}
 use Rattle.lset_judge.specs.Window.{AreChosen, IsWhole, changes_after}
-use Rattle.lset_judge.proofs.Chosen.{chosen_history, chosen_few, forced_same}
+use Rattle.lset_judge.proofs.Chosen.{chosen_history, chosen_few, forced_same, reached_same}
 use Rattle.lset_judge.proofs.Whole.{in_any_case}
 use Rattle.lset_judge.proofs.window.short_window.Goals as goal
 
@@ -36,6 +36,7 @@ returns-then-is_whole c =
       left_is = same.left ∙ c.left_as-left.ensures;
       shows = c.in_ok-shorten.ensures.shows;
       forced = forced_same h _ w same (c.in_ok-is_forced.ensures c.if-branch-2.true);
+      reached = reached_same h _ w same (c.in_ok-is_reached.ensures c.if-branch-3.true);
       whole = in_any_case (IsWhole h w) w.left (λ empty. subst (All (λ (x : CallRecord). changes_after w.key.0 w.since x ≡ false))
           c.calls-calls.ensures.value (c.is_whole.ensures c.if-is_whole.true empty));
     }

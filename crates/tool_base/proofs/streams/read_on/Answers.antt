@@ -5,12 +5,12 @@ use Rattle.tool_base.proofs.streams.read_on.Goals as goal
 
 pub returns-then-count-eq0-clause-read : goal.returns-then-count-eq0-clause-read
 returns-then-count-eq0-clause-read g c =
-    let none : take c.in-Ok.count c.read.new.buf ≡ [] = rw c.if-count-eq0.true refl in
+    let none : take c.in_ok-count.count c.read.new.buf ≡ [] = rw c.if-count-eq0.true refl in
     let room : 0 < length c.read.new.buf = search rules in
-    ([], sym (append-nil _), subst (Consumes _ _) none c.in-Ok.ensures.bytes.0, λ _. (refl, c.in-Ok.ensures.bytes.1 c.if-count-eq0.true room))
+    ([], sym (append-nil _), subst (Consumes _ _) none c.in_ok-count.ensures.bytes.0, λ _. (refl, c.in_ok-count.ensures.bytes.1 c.if-count-eq0.true room))
 
 pub returns-clause-read : goal.returns-clause-read
 returns-clause-read g c =
-    let more : c.extend_from_slice.new.self.items ≡ c.args.bytes.now.items ++ take c.in-Ok.count c.read.new.buf =
+    let more : c.extend_from_slice.new.self.items ≡ c.args.bytes.now.items ++ take c.in_ok-count.count c.read.new.buf =
     grind (arith, common_steps) in
-    (take c.in-Ok.count c.read.new.buf, more, c.in-Ok.ensures.bytes.0, λ bad. absurd cc)
+    (take c.in_ok-count.count c.read.new.buf, more, c.in_ok-count.ensures.bytes.0, λ bad. absurd cc)

@@ -6,7 +6,7 @@ use Rattle.tool_base.proofs.streams.rest_of.Goals as goal
 pub loop-bytes-preserved : goal.loop-bytes-preserved
 loop-bytes-preserved g c =
     let inv = c.loop-bytes.invariant in
-    let on = c.in-Ok-true.ensures.read in
+    let on = c.in_ok-read_on.ensures.read in
     let more = ap length on.1 in
     let enough = inv.enough in
     record {

@@ -1,0 +1,116 @@
+//! Random runs of each broken list: the order of some run is refused.
+
+ghost use Rattle.std.specs.Prelude.{⊤};
+
+use crate::prelude::*;
+use broken_lists::{ALL, BrokenList, BrokenMachine, BrokenWorld, Task, on_broken, run_broken};
+use lset_replay::{Listener, TracedEvent};
+use lset_schedule::read_schedule;
+use lset_text::{call_word, kind_word};
+
+/// So many runs are enough.
+const RUNS: u64 = 2_000;
+
+const EVENTS: u32 = 120;
+
+/// The key with which a list opens.
+const OPENING: [u32; 1] = [5];
+
+/// Hears of events, and keeps nothing.
+#[derive(Drop)]
+struct Silent {}
+
+impl Listener for Silent {
+    ghost has_heard = { λ _ _ _. ⊤ };
+
+    fn hear(&mut self, _number: u32, _event: TracedEvent) -> Result<(), AllocError> {
+        Ok(())
+    }
+}
+
+fn drawn_call(rng: &mut Pcg32) -> Call {
+    let key = Key(3 + 2 * (rng.next_u32() % 3));
+    match rng.next_u32() % 7 {
+        0 | 1 => Call::Add(key),
+        2 | 3 => Call::Remove(key),
+        4 | 5 => Call::Contains(key),
+        _ => Call::Ceiling(key),
+    }
+}
+
+/// Writes a random schedule of two threads, each of which goes on for some steps.
+#[derive(Clone, Copy)]
+struct Drawing {
+    alloc: Global,
+    broken: BrokenList,
+    seed: u64,
+}
+
+impl Task for Drawing {
+    type Out = Result<String, Fail>;
+
+    ghost may = { λ _. ⊤ };
+
+    ghost done = { λ _ _ _. ⊤ };
+
+    fn run<M: BrokenMachine>(self) -> Result<String, Fail> {
+        let mut rng = Pcg32::seed_from_u64(self.seed);
+        let layout = layout_opening(2, 2, 1)?;
+        let mut world = BrokenWorld::<M>::opened(self.alloc, &layout, &OPENING)?;
+        let list = kind_word(self.broken.kind());
+        let mut text = format!(in self.alloc;
+            "listset-schedule 2\nlist {list}\nthreads 2\nquota 2\nopening 5\n"
+        )?;
+        let mut thread = 0u32;
+        for _event in 0..EVENTS {
+            if rng.next_u32() % 4 == 0 {
+                thread = 1 - thread % 2;
+            }
+            let call = drawn_call(&mut rng);
+            if world.step(Event::Go(thread)).is_ok() {
+                writeln!(&mut text, "go {thread} 1")?;
+            } else if world.step(Event::Begin(thread, call)).is_ok() {
+                let word = call_word(call);
+                let key = call.key().0;
+                writeln!(&mut text, "begin {thread} {word} {key}")?;
+            }
+        }
+        Ok(text)
+    }
+}
+
+/// Whether the order of a random run is refused.
+fn is_run_refused(alloc: Global, broken: BrokenList, seed: u64) -> Result<bool, Fail> {
+    let drawing = Drawing {
+        alloc,
+        broken,
+        seed,
+    };
+    let text = on_broken(broken, drawing)?;
+    let schedule = read_schedule(alloc, text.as_bytes())?;
+    let (_silent, run) = run_broken(alloc, broken, &schedule, false, Silent {})?;
+    match run {
+        Ok(report) => {
+            Ok(check_order(alloc, &report.history, &report.order, &report.keys).is_err())
+        }
+        Err((_line, fault)) => Err(fault.into()),
+    }
+}
+
+/// Whether some random run is refused.
+fn is_refused(alloc: Global, broken: BrokenList) -> Result<bool, Fail> {
+    for seed in 0..RUNS {
+        if is_run_refused(alloc, broken, seed)? {
+            return Ok(true);
+        }
+    }
+    Ok(false)
+}
+
+#[test]
+fn some_run_of_each_broken_list_is_refused(rt: HostRuntime) -> Result<(), Fail> {
+    for broken in &ALL {
+        assert!(rt; is_refused(rt.alloc(), *broken)?, "{}", broken.name());
+    }
+    Ok(())
+}

@@ -1,0 +1,212 @@
+//! Histories and recordings as large as they may be, and the time that they take: a test has a minute, and a search of all pairs would
+//! take longer.
+
+use crate::made::{FIVE, in_turn, rising_keys};
+use crate::orders::is_found;
+use crate::prelude::*;
+use lset_long::{LongAnswer, LongReader};
+
+/// So many calls a report may have.
+const MOST_CALLS: u32 = 1_000_000;
+
+fn true_calls<F: Fn(u32) -> Call>(
+    alloc: Global,
+    count: u32,
+    call: F,
+) -> Result<Vec<(u32, Call, Reply)>, AllocError>
+    requires { F.IsAlwaysCallable call }
+{
+    let mut calls = Vec::new(alloc);
+    for number in 0..count {
+        calls.push((number % MOST_THREADS, call(number), Reply::True))?;
+    }
+    Ok(calls)
+}
+
+/// The threads take turns, and each call finds a key of its own, of a set that opens with as many keys as a list may.
+#[test]
+fn a_million_calls_are_judged_and_an_order_of_them_is_found(rt: HostRuntime) -> Result<(), Fail> {
+    let alloc = rt.alloc();
+    let calls = true_calls(alloc, MOST_CALLS, |number| Call::Contains(Key(number)))?;
+    let keys = rising_keys(alloc, MOST_OPENING)?;
+    let opened = History::opened(alloc, MOST_THREADS, 0, rising_keys(alloc, MOST_OPENING)?);
+    let history = in_turn(opened, &calls)?;
+    assert!(rt; judge(alloc, &history, &keys)? == Verdict::Linearizable);
+    assert!(rt; judge_cut_off(alloc, &history)? == Verdict::Linearizable);
+    assert!(rt; is_found(alloc, &history, &keys)?);
+    Ok(())
+}
+
+/// How often key 5 goes in and out.
+const TIMES: u32 = 100_000;
+
+/// The threads in turn put key 5 in and take it out; at last a call finds it, or does not.
+fn in_and_out(alloc: Global, last: Reply) -> Result<History, Fail> {
+    let mut calls = true_calls(alloc, 2 * TIMES, |number| {
+        if number % 2 == 0 {
+            Call::Add(FIVE)
+        } else {
+            Call::Remove(FIVE)
+        }
+    })?;
+    calls.push((0, Call::Contains(FIVE), last))?;
+    Ok(in_turn(History::new(alloc, MOST_THREADS, MOST_QUOTA), &calls)?)
+}
+
+#[test]
+fn the_last_of_many_changes_of_a_key_is_wrong(rt: HostRuntime) -> Result<(), Fail> {
+    let alloc = rt.alloc();
+    let right = in_and_out(alloc, Reply::False)?;
+    assert!(rt; judge(alloc, &right, &[])? == Verdict::Linearizable);
+    let refused = Verdict::NotLinearizable(Refusal {
+        key: FIVE,
+        moment: Some(4 * TIMES + 2),
+    });
+    assert!(rt; judge(alloc, &in_and_out(alloc, Reply::True)?, &[])? == refused);
+    Ok(())
+}
+
+/// An order of all calls of a history in their turn, the last one of which answers so.
+fn in_their_turn(alloc: Global, last: Reply) -> Result<Vec<Placed>, AllocError> {
+    let mut order = Vec::new(alloc);
+    for number in 0..2 * TIMES {
+        order.push(Placed {
+            call: number,
+            reply: Reply::True,
+        })?;
+    }
+    order.push(Placed {
+        call: 2 * TIMES,
+        reply: last,
+    })?;
+    Ok(order)
+}
+
+/// Of an order of many calls the last place is wrong, or missing, or stands twice, or has no call, or the keys are wrong.
+#[test]
+fn an_order_of_many_calls_is_wrong_at_last(rt: HostRuntime) -> Result<(), Fail> {
+    let alloc = rt.alloc();
+    let last = 2 * TIMES;
+    let history = in_and_out(alloc, Reply::False)?;
+    let mut order = in_their_turn(alloc, Reply::False)?;
+    assert!(rt; check_order(alloc, &history, &order, &[]).is_ok());
+    assert!(rt; check_order(alloc, &history, &order, &[5]) == Err(OrderFault::WrongSet));
+    assert!(rt; order.pop().is_some());
+    assert!(rt; check_order(alloc, &history, &order, &[]) == Err(OrderFault::Missing(last)));
+    for (call, fault) in [
+        (last, OrderFault::WrongReply(last)),
+        (last - 1, OrderFault::Twice(last - 1)),
+        (last + 1, OrderFault::Unknown(last + 1)),
+    ] {
+        let reply = Reply::True;
+        order.push(Placed { call, reply })?;
+        let judged = check_order(alloc, &history, &order, &[]);
+        assert!(rt; judged == Err(fault), "{fault}");
+        assert!(rt; order.pop().is_some());
+    }
+    Ok(())
+}
+
+/// So many keys have one call each.
+const MANY_KEYS: u32 = 500_000;
+
+/// All keys are put in, and none is left; or all are taken out of a set that opened empty: the first of them is named.
+#[test]
+fn each_of_many_keys_is_wrong(rt: HostRuntime) -> Result<(), Fail> {
+    let alloc = rt.alloc();
+    let adds = true_calls(alloc, MANY_KEYS, |number| Call::Add(Key(number)))?;
+    let removes = true_calls(alloc, MANY_KEYS, |number| Call::Remove(Key(number)))?;
+    for (calls, moment) in [(adds, None), (removes, Some(2))] {
+        let history = in_turn(History::new(alloc, MOST_THREADS, MOST_QUOTA), &calls)?;
+        let refused = Verdict::NotLinearizable(Refusal {
+            key: Key(0),
+            moment,
+        });
+        assert!(rt; judge(alloc, &history, &[])? == refused);
+    }
+    Ok(())
+}
+
+/// Each of so many threads adds a key of its own, and no call ends.
+const MANY_PENDING: u32 = 3_000;
+
+#[test]
+fn a_stream_of_thousands_of_pending_calls(rt: HostRuntime) -> Result<(), Fail> {
+    let mut stream = Stream::new(rt.alloc(), &[])?;
+    for thread in 0..MANY_PENDING {
+        stream.add(StreamCall {
+            thread,
+            call: Call::Add(Key(thread)),
+            begun: LAST_MOMENT - u64::from(MANY_PENDING - thread),
+            ended: None,
+        })?;
+    }
+    assert!(rt; stream.close(&[0, 500, 2999])? == StreamVerdict::Linearizable);
+    Ok(())
+}
+
+/// More keys than a list opens with.
+const MORE_KEYS: u32 = 1_100_000;
+
+/// Each of the keys is looked for.
+#[test]
+fn a_stream_of_calls_of_more_keys_than_a_list_has(rt: HostRuntime) -> Result<(), Fail> {
+    let keys = rising_keys(rt.alloc(), MORE_KEYS)?;
+    let mut stream = Stream::new(rt.alloc(), &keys)?;
+    for key in &keys {
+        let begun = 2 * u64::from(*key) + 1;
+        stream.add(StreamCall {
+            thread: *key % 8,
+            call: Call::Contains(Key(*key)),
+            begun,
+            ended: Some((begun + 1, Reply::True)),
+        })?;
+    }
+    assert!(rt; stream.close(&keys)? == StreamVerdict::Linearizable);
+    Ok(())
+}
+
+/// So many keys are there as a long recording begins, and so many calls look for one.
+const LONG_KEYS: u32 = 200_000;
+
+const LONG_CALLS: u32 = 100_000;
+
+/// The reader takes a line of a call, one byte after another.
+fn feed_call(alloc: Global, reader: &mut LongReader, number: u32) -> Result<(), Fail> {
+    let (thread, key) = (number % 8, number % LONG_KEYS);
+    let begun = 2 * u64::from(number) + 1;
+    let end = begun + 1;
+    let line = format!(in alloc; "call {thread} contains {key} {begun} {end} true\n")?;
+    for byte in line.as_bytes() {
+        reader.feed(&[*byte])?;
+    }
+    Ok(())
+}
+
+/// The reader takes a line of each key, which begins with the word.
+fn feed_keys(alloc: Global, reader: &mut LongReader, word: &str) -> Result<(), Fail> {
+    for key in 0..LONG_KEYS {
+        let line = format!(in alloc; "{word} {key}\n")?;
+        reader.feed(line.as_bytes())?;
+    }
+    Ok(())
+}
+
+#[test]
+fn a_long_recording_of_many_keys_in_pieces_of_a_byte(rt: HostRuntime) -> Result<(), Fail> {
+    let alloc = rt.alloc();
+    let mut reader = LongReader::new(alloc);
+    feed_keys(alloc, &mut reader, "opening")?;
+    for number in 0..LONG_CALLS {
+        feed_call(alloc, &mut reader, number)?;
+    }
+    feed_keys(alloc, &mut reader, "key")?;
+    reader.feed(b"end\n")?;
+    let judged = LongAnswer {
+        verdict: StreamVerdict::Linearizable,
+        calls: u64::from(LONG_CALLS),
+        cut_off: false,
+    };
+    assert!(rt; reader.finish()? == judged);
+    Ok(())
+}

@@ -1,0 +1,37 @@
+//! Keys and histories that several tests are about.
+ghost use Rattle.std.specs.Prelude.{◌≡◌, IfOk, length};
+ghost use Rattle.std.specs.List.Sorted.{IsStrictlyIncreasing};
+
+use crate::prelude::*;
+
+pub const FIVE: Key = Key(5);
+
+/// The keys from 0 on, so many.
+pub fn rising_keys(alloc: Global, count: u32) -> Result<Vec<u32>, AllocError>
+    ensures rising { IfOk result (λ v. IsStrictlyIncreasing v.items) }
+    ensures many { IfOk result (λ v. length v.items ≡ count) }
+{
+    let mut keys = Vec::new(alloc);
+    for number in 0..count {
+        keys.push(number)?;
+    }
+    Ok(keys)
+}
+
+/// After this history, which has none yet, calls of threads one after another, at the moments from 1 on.
+pub fn in_turn(
+    mut history: History,
+    calls: &[(u32, Call, Reply)],
+) -> Result<History, HistoryFault> {
+    let mut at = 0u32;
+    for (thread, call, reply) in calls {
+        let number = history.begin(*thread, *call, at.saturating_add(1))?;
+        at = at.saturating_add(2);
+        history.end(number, *reply, at)?;
+    }
+    Ok(history)
+}
+
+pub fn reply_of(is_true: bool) -> Reply {
+    if is_true { Reply::True } else { Reply::False }
+}

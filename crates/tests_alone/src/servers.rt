@@ -1,0 +1,223 @@
+//! A server whose output fails. Its port is another in each run, so its first line is compared but for the port's digits.
+use crate::devices::{CANNOT_WRITE, Failure, Plan, WHOLE, Way, Writer, planned};
+use crate::prelude::*;
+use crate::tools::texts_of;
+use std::io::{self, Read, Write};
+use std::net::Shutdown;
+use tool_serve::tool_serve;
+
+const LISTENING: &str = "listening 127.0.0.1:";
+
+/// What comes after the first line if the client was served.
+const ONE_SESSION: &str = "sessions 1\ncalls 1\nkey 7\n";
+
+/// More calls than a run makes on its output.
+const MOST_CALLS: usize = 100;
+
+/// How the output fails, and how many bytes it takes at a call.
+const WAYS: [Way; 3] = [
+    (Failure::Interrupted, 1),
+    (Failure::BrokenPipe, 3),
+    (Failure::Nothing, 7),
+];
+
+/// A client that asks for a call and takes its leave before the server accepts it, so that it needs no thread of its own.
+fn client<R: Net<Listener = TcpListener, Stream = TcpStream>>(
+    rt: &R,
+    port: u16,
+) -> io::Result<TcpStream> {
+    let mut stream = TcpStream::connect(rt, ("127.0.0.1", port))?;
+    stream.write_all(b"ADD 7\nQUIT\n")?;
+    stream.shutdown(Shutdown::Write)?;
+    Ok(stream)
+}
+
+/// The port that a whole first line names.
+fn port_in(text: &[u8]) -> Option<u16> {
+    let text = std::str::from_utf8(text).ok()?;
+    text.strip_prefix(LISTENING)?
+        .strip_suffix("\n")?
+        .parse()
+        .ok()
+}
+
+/// The output of a server. When the first line is flushed, a client connects.
+#[derive(Drop)]
+struct Door<'r, R> {
+    rt: &'r R,
+    writer: Writer,
+    client: Option<TcpStream>,
+    /// Whether the flush succeeded.
+    is_open: bool,
+}
+
+impl<R: Net<Listener = TcpListener, Stream = TcpStream>> Write for Door<'_, R> {
+    fn write(&mut self, buf: &[u8]) -> io::Result<usize> {
+        self.writer.write(buf)
+    }
+
+    fn flush(&mut self) -> io::Result<()> {
+        if let Some(port) = port_in(&self.writer.taken) {
+            self.client = Some(client(self.rt, port)?);
+        }
+        self.writer.flush()?;
+        self.is_open = true;
+        Ok(())
+    }
+}
+
+/// Whether the client got its answers, and then the end.
+fn is_answered(client: Option<TcpStream>) -> bool {
+    let Some(mut stream) = client else {
+        return false;
+    };
+    let mut answers = [0u8; 9];
+    stream.read_exact(&mut answers).is_ok()
+        && answers.as_slice() == b"TRUE\nBYE\n".as_slice()
+        && matches!(stream.read(&mut [0u8; 1]), Ok(0))
+}
+
+/// Whether the client, if there was one, got no byte.
+fn is_turned_away(client: Option<TcpStream>) -> bool {
+    let Some(mut stream) = client else {
+        return true;
+    };
+    matches!(stream.read(&mut [0u8; 9]), Ok(0) | Err(_))
+}
+
+/// The rest of a text after its first digits, and how many those are.
+fn after_digits(text: &str) -> (&str, usize) {
+    let rest = text.trim_start_matches(|letter: char| letter.is_ascii_digit());
+    (rest, text.len().saturating_sub(rest.len()))
+}
+
+/// Whether the bytes are a front of the first line and of the text after it.
+fn is_front(bytes: &[u8], after: &str) -> Option<bool> {
+    let text = std::str::from_utf8(bytes).ok()?;
+    let Some(named) = text.strip_prefix(LISTENING) else {
+        return Some(LISTENING.starts_with(text));
+    };
+    let (rest, digits) = after_digits(named);
+    match rest.strip_prefix("\n") {
+        Some(rest) => Some(digits > 0 && after.starts_with(rest)),
+        None => Some(rest.is_empty()),
+    }
+}
+
+/// Whether the bytes are the first line and the text after it.
+fn is_whole(bytes: &[u8], after: &str) -> Option<bool> {
+    let ends = bytes.ends_with(after.as_bytes());
+    Some(ends && is_front(bytes, after)?)
+}
+
+/// What a server did with its devices.
+#[derive(Drop)]
+struct Run<'r, R> {
+    status: u8,
+    door: Door<'r, R>,
+    faults: Writer,
+}
+
+/// Runs the tool on the values of KIND, PORT and SESSIONS, on devices of these plans: of its output and of `faults`.
+fn ran<'r, R: Host + Net<Listener = TcpListener, Stream = TcpStream>>(
+    rt: &'r R,
+    alloc: Global,
+    [kind, port, sessions]: [&str; 3],
+    [output, faults]: [Plan; 2],
+) -> Result<Run<'r, R>, AllocError> {
+    let values = texts_of(alloc, &[kind, "1", "4", port, sessions])?;
+    let mut door = Door {
+        rt,
+        writer: Writer::new(alloc, output),
+        client: None,
+        is_open: false,
+    };
+    let mut faults = Writer::new(alloc, faults);
+    let status = tool_serve(rt, alloc, &values, &mut door, &mut faults);
+    Ok(Run {
+        status,
+        door,
+        faults,
+    })
+}
+
+/// A server of one session whose output fails as planned, and whether it did.
+fn output_fails<R: Host + Net<Listener = TcpListener, Stream = TcpStream>>(
+    rt: &R,
+    alloc: Global,
+    plan: Plan,
+) -> Result<bool, Fail> {
+    let run = ran(rt, alloc, ["lazy", "0", "1"], [plan, WHOLE])?;
+    let calls = run.door.writer.calls;
+    if run.status == 0 {
+        assert!(rt; is_whole(&run.door.writer.taken, ONE_SESSION) == Some(true));
+        assert!(rt; run.faults.taken.is_empty() && calls <= plan.fails_at);
+        assert!(rt; is_answered(run.door.client));
+        return Ok(false);
+    }
+    assert!(rt; run.status == 1 && run.faults.taken.as_slice() == CANNOT_WRITE);
+    assert!(rt; is_front(&run.door.writer.taken, ONE_SESSION) == Some(true));
+    assert!(rt; calls == plan.fails_at.saturating_add(1));
+    if run.door.is_open {
+        assert!(rt; is_answered(run.door.client));
+    } else {
+        assert!(rt; is_turned_away(run.door.client));
+    }
+    Ok(true)
+}
+
+/// How many runs there are in which the output fails, at each of its calls in turn, until a run ends without a failure.
+fn each_call_fails<R: Host + Net<Listener = TcpListener, Stream = TcpStream>>(
+    rt: &R,
+    alloc: Global,
+    way: Way,
+) -> Result<usize, Fail> {
+    for fails_at in 0..MOST_CALLS {
+        if !output_fails(rt, alloc, planned(way, fails_at))? {
+            return Ok(fails_at);
+        }
+    }
+    Err(Fail::new("no run ends without a failure"))
+}
+
+/// Each write and the flush in turn, until a run ends without a failure. If the first line is not out, whole and flushed,
+/// no client is accepted.
+#[test]
+fn each_call_on_the_output_fails_in_turn(rt: HostRuntime) -> Result<(), Fail> {
+    for way in &WAYS {
+        let runs = each_call_fails(&rt, rt.alloc(), *way)?;
+        assert!(rt; runs.saturating_mul(way.1) > LISTENING.len());
+    }
+    Ok(())
+}
+
+/// A server that does not begin, and the write with a number of the line about it fails: the status stays.
+fn line_fails<R: Host + Net<Listener = TcpListener, Stream = TcpStream>>(
+    rt: &R,
+    alloc: Global,
+    [kind, port]: [&str; 2],
+    (status, line): (u8, &[u8]),
+) -> Result<(), Fail> {
+    for write in 0..=line.len() {
+        let faults = planned((Failure::BrokenPipe, 1), write);
+        let run = ran(rt, alloc, [kind, port, "1"], [WHOLE, faults])?;
+        assert!(rt; run.status == status && run.door.writer.calls == 0);
+        if write < line.len() {
+            assert!(rt; run.faults.stopped_within(line));
+        } else {
+            assert!(rt; run.faults.taken.as_slice() == line);
+        }
+    }
+    Ok(())
+}
+
+/// A wrong value, and a port that is taken.
+#[test]
+fn each_write_of_a_line_fails_in_turn(rt: HostRuntime) -> Result<(), Fail> {
+    let listener = TcpListener::bind(&rt, "127.0.0.1:0")?;
+    let port = listener.local_addr()?.port().to_string(rt.alloc())?;
+    let bad: &[u8] = b"listset: bad KIND\n";
+    let taken: &[u8] = b"listset: cannot listen\n";
+    line_fails(&rt, rt.alloc(), ["skip", "0"], (2, bad))?;
+    line_fails(&rt, rt.alloc(), ["lazy", port.as_str()], (1, taken))
+}

@@ -1,0 +1,329 @@
+//! Each function of the libraries that can run out of memory, at each size from 0 to 200: it succeeds there, with the answer that is right.
+ghost use Rattle.std.specs.Prelude.{◌≤◌};
+
+use crate::made::{in_turn, rising_keys};
+use crate::orders::is_found;
+use crate::prelude::*;
+use crate::worlds::make_call;
+use lset_calls::{history_of, read_calls, recording_of, report_of};
+use lset_claims::{Claim, claim_of};
+use lset_judge::{overlapped, window_of_refusal};
+use lset_long::LongReader;
+use lset_order::{Found, find_order};
+use lset_parts::Parts;
+use lset_points::judge_by_points;
+use lset_report::{read_report, write_report};
+use lset_schedule::{programs, read_schedule, write_schedule};
+
+const MOST_SIZE: u32 = 200;
+
+/// So many threads of that many.
+fn threads_of(size: u32) -> u32
+    ensures some { 1 ≤ result }
+    ensures few { result ≤ 64 }
+{
+    1 + size % MOST_THREADS
+}
+
+/// A list with so many slots of each thread, which opens with so many keys.
+fn has_world<M: Machine, R: Abort>(rt: &R, alloc: Global, size: u32) -> Result<(), Fail>
+    requires { size ≤ 200 }
+{
+    let keys = rising_keys(alloc, size)?;
+    let layout = layout_opening(threads_of(size), size, size)?;
+    let mut world = World::<M>::opened(alloc, layout, &keys)?;
+    assert!(rt; world.content()? == keys, "{size}");
+    assert!(rt; world.chain()?.len() == keys.len(), "{size}");
+    let added = make_call(&mut world, 0, Call::Add(Key(size)))?;
+    let reply = if size == 0 { Reply::Full } else { Reply::True };
+    assert!(rt; added.is_some_and(|(answer, _)| answer == reply), "{size}");
+    Ok(())
+}
+
+#[test]
+fn worlds_of_each_size(rt: HostRuntime) -> Result<(), Fail> {
+    let alloc = rt.alloc();
+    for size in 0..=MOST_SIZE {
+        has_world::<CoarseList, _>(&rt, alloc, size)?;
+        has_world::<FineList, _>(&rt, alloc, size)?;
+        has_world::<OptimisticList, _>(&rt, alloc, size)?;
+        has_world::<LazyList, _>(&rt, alloc, size)?;
+        has_world::<LockFreeList, _>(&rt, alloc, size)?;
+    }
+    Ok(())
+}
+
+/// The text of a schedule is read and written as it is, and so is the report of its run, whose order explains it.
+fn is_replayed<R: Abort>(rt: &R, alloc: Global, text: &[u8]) -> Result<usize, Fail> {
+    let schedule = read_schedule(alloc, text)?;
+    assert!(rt; write_schedule(alloc, &schedule)?.as_slice() == text);
+    let report = replay(alloc, &schedule)?;
+    let written = write_report(alloc, &report)?;
+    let read = read_report(alloc, &written)?;
+    assert!(rt; write_report(alloc, &read)? == written);
+    check_order(alloc, &read.history, &read.order, &read.keys)?;
+    Ok(read.history.calls().len())
+}
+
+/// A schedule of so many calls is drawn.
+fn has_schedule<M: Machine, R: Abort>(rt: &R, alloc: Global, size: u32) -> Result<(), Fail>
+    requires { size ≤ 200 }
+{
+    let (threads, seed) = (threads_of(size), u64::from(size));
+    let schedule = generate::<M>(alloc, threads, size, size, 1 + size, seed)?;
+    let calls = is_replayed(rt, alloc, &write_schedule(alloc, &schedule)?)?;
+    assert!(rt; size == 0 || calls > 0, "{size}");
+    Ok(())
+}
+
+/// One thread looks for each of so many opening keys, which in a LazyList takes two steps more than for the key before.
+fn looks_for_each(alloc: Global, size: u32) -> Result<String, Fail>
+    requires { size ≤ 200 }
+{
+    let mut text = String::from_str(alloc, "listset-schedule 2\nlist lazy\nthreads 1\nquota 0\n")?;
+    for key in 0..size {
+        writeln!(&mut text, "opening {key}")?;
+    }
+    for key in 0..size {
+        let steps = 2 * key + 3;
+        writeln!(&mut text, "begin 0 contains {key}\ngo 0 {steps}")?;
+    }
+    Ok(text)
+}
+
+#[test]
+fn schedules_and_reports_of_each_size(rt: HostRuntime) -> Result<(), Fail> {
+    let alloc = rt.alloc();
+    for size in 0..=MOST_SIZE {
+        has_schedule::<CoarseList, _>(&rt, alloc, size)?;
+        has_schedule::<FineList, _>(&rt, alloc, size)?;
+        has_schedule::<OptimisticList, _>(&rt, alloc, size)?;
+        has_schedule::<LazyList, _>(&rt, alloc, size)?;
+        has_schedule::<LockFreeList, _>(&rt, alloc, size)?;
+        let text = looks_for_each(alloc, size)?;
+        let calls = is_replayed(&rt, alloc, text.as_bytes())?;
+        assert!(rt; calls == size as usize, "{size}");
+        let drawn = programs(alloc, threads_of(size), size, 1 + size, 1)?;
+        assert!(rt;
+            drawn.iter().all(|program| program.len() == size as usize),
+            "{size}"
+        );
+    }
+    Ok(())
+}
+
+/// A set that opens with so many keys takes as many more, and is then full.
+fn has_oracle<R: Abort>(rt: &R, alloc: Global, size: u32) -> Result<(), Fail>
+    requires { size ≤ 200 }
+{
+    let mut oracle = Oracle::opened(alloc, 1, size, &rising_keys(alloc, size)?)?;
+    for key in size..2 * size {
+        assert!(rt;
+            oracle.apply(0, Call::Add(Key(key)))? == Reply::True,
+            "{size}"
+        );
+    }
+    assert!(rt;
+        oracle.apply(0, Call::Add(Key(u32::MAX)))? == Reply::Full,
+        "{size}"
+    );
+    assert!(rt; oracle.keys()? == rising_keys(alloc, 2 * size)?, "{size}");
+    let changes = Changes::opened(alloc, &rising_keys(alloc, size)?)?;
+    let least = changes.first_ceiling(0, (size > 0).then_some(0), 0, 9);
+    assert!(rt; least == Some(0), "{size}");
+    Ok(())
+}
+
+/// Threads in turn add so many keys.
+fn adds(alloc: Global, size: u32) -> Result<History, Fail>
+    requires { size ≤ 200 }
+{
+    let mut calls = Vec::new(alloc);
+    for key in 0..size {
+        calls.push((key % threads_of(size), Call::Add(Key(key)), Reply::True))?;
+    }
+    let history = History::new(alloc, threads_of(size), MOST_QUOTA);
+    Ok(in_turn(history, &calls)?)
+}
+
+/// So many adds have an order, and leave their keys.
+fn has_order<R: Abort>(rt: &R, alloc: Global, size: u32) -> Result<(), Fail>
+    requires { size ≤ 200 }
+{
+    let history = adds(alloc, size)?;
+    let keys = rising_keys(alloc, size)?;
+    assert!(rt;
+        judge(alloc, &history, &keys)? == Verdict::Linearizable,
+        "{size}"
+    );
+    assert!(rt;
+        judge_without_quota(alloc, &history, &keys)? == Verdict::Linearizable,
+        "{size}"
+    );
+    assert!(rt;
+        judge_cut_off(alloc, &history)? == Verdict::Linearizable,
+        "{size}"
+    );
+    assert!(rt; is_found(alloc, &history, &keys)?, "{size}");
+    assert!(rt;
+        matches!(claim_of(alloc, &history, &keys)?, Claim::Explained),
+        "{size}"
+    );
+    assert!(rt; overlapped(alloc, &history)? == 0, "{size}");
+    let mut parts = Parts::new(Vec::new(alloc));
+    assert!(rt;
+        parts.judge(alloc, 0, &history, &keys) == Ok(Verdict::Linearizable),
+        "{size}"
+    );
+    Ok(())
+}
+
+/// So many adds have no order that leaves nothing, and those of no key are shown.
+fn has_no_order<R: Abort>(rt: &R, alloc: Global, size: u32) -> Result<(), Fail>
+    requires { size ≤ 200 }
+{
+    let history = adds(alloc, size)?;
+    let Verdict::NotLinearizable(refusal) = judge(alloc, &history, &[])? else {
+        return Err(Fail::new("no key is lost"));
+    };
+    let window = window_of_refusal(alloc, &history, &[], refusal)?;
+    assert!(rt;
+        window.left == Some(false) && window.calls.is_empty(),
+        "{size}"
+    );
+    assert!(rt;
+        matches!(find_order(alloc, &history, &[])?, Found::NoOrder(_)),
+        "{size}"
+    );
+    assert!(rt;
+        matches!(claim_of(alloc, &history, &[])?, Claim::OfKey(_, _)),
+        "{size}"
+    );
+    Ok(())
+}
+
+/// Each of so many threads has an add pending, and each took effect.
+fn has_order_of_pending<R: Abort>(rt: &R, alloc: Global, threads: u32) -> Result<(), Fail>
+    requires some { 1 ≤ threads }
+    requires few { threads ≤ 64 }
+{
+    let mut history = History::new(alloc, threads, 1);
+    for thread in 0..threads {
+        history.begin(thread, Call::Add(Key(thread)), thread + 1)?;
+    }
+    let keys = rising_keys(alloc, threads)?;
+    assert!(rt;
+        judge(alloc, &history, &keys)? == Verdict::Linearizable,
+        "{threads}"
+    );
+    assert!(rt; is_found(alloc, &history, &keys)?, "{threads}");
+    Ok(())
+}
+
+#[test]
+fn sets_and_histories_of_each_size(rt: HostRuntime) -> Result<(), Fail> {
+    let alloc = rt.alloc();
+    for size in 0..=MOST_SIZE {
+        has_oracle(&rt, alloc, size)?;
+        has_order(&rt, alloc, size)?;
+        if size > 0 {
+            has_no_order(&rt, alloc, size)?;
+        }
+        has_order_of_pending(&rt, alloc, threads_of(size))?;
+    }
+    Ok(())
+}
+
+/// A stream of so many calls that find a key each, and of as many adds that are pending.
+fn stream_of(alloc: Global, size: u32) -> Result<Stream, Fail>
+    requires { size ≤ 200 }
+{
+    let mut stream = Stream::new(alloc, &rising_keys(alloc, size)?)?;
+    for number in 0..2 * size {
+        let begun = 2 * u64::from(number) + 1;
+        let (call, ended) = if number < size {
+            (Call::Contains(Key(number)), Some((begun + 1, Reply::True)))
+        } else {
+            (Call::Add(Key(number)), None)
+        };
+        let thread = number;
+        stream.add(StreamCall {
+            thread,
+            call,
+            begun,
+            ended,
+        })?;
+    }
+    Ok(stream)
+}
+
+/// The lines of a recording: so many opening keys, each of which is looked for, and is left.
+fn lines_of(alloc: Global, head: &str, size: u32, between: &str) -> Result<String, Fail>
+    requires { size ≤ 200 }
+{
+    let mut text = String::from_str(alloc, head)?;
+    for key in 0..size {
+        writeln!(&mut text, "opening {key}")?;
+    }
+    for key in 0..size {
+        let begun = 2 * key + 1;
+        let end = begun + 1;
+        writeln!(
+            &mut text,
+            "call 0 contains {key} {begun}{between} {end} true"
+        )?;
+    }
+    for key in 0..size {
+        writeln!(&mut text, "key {key}")?;
+    }
+    writeln!(&mut text, "end")?;
+    Ok(text)
+}
+
+/// A long recording of so many calls, whose lines behind the first are read in pieces of one byte more.
+fn is_long_read<R: Abort>(rt: &R, alloc: Global, size: u32) -> Result<(), Fail>
+    requires { size ≤ 200 }
+{
+    let text = lines_of(alloc, "", size, "")?;
+    let mut reader = LongReader::new(alloc);
+    for piece in text.as_bytes().chunks(size as usize + 1) {
+        reader.feed(piece)?;
+    }
+    let answer = reader.finish()?;
+    assert!(rt; answer.calls == u64::from(size), "{size}");
+    assert!(rt; answer.verdict == StreamVerdict::Linearizable, "{size}");
+    Ok(())
+}
+
+/// A recording of so many calls is a history, and a report.
+fn is_recording_read<R: Abort>(rt: &R, alloc: Global, size: u32) -> Result<(), Fail>
+    requires { size ≤ 200 }
+{
+    let head = "listset-calls 2\nlist lazy\nthreads 1\nquota 0\n";
+    let text = lines_of(alloc, head, size, " -")?;
+    let bytes = text.as_bytes();
+    let history = history_of(alloc, read_calls(alloc, bytes)?)?;
+    assert!(rt; history.calls().len() == size as usize, "{size}");
+    let recording = recording_of(alloc, read_calls(alloc, bytes)?)?;
+    assert!(rt; recording.keys == rising_keys(alloc, size)?, "{size}");
+    let report = report_of(alloc, read_calls(alloc, bytes)?)?;
+    assert!(rt; report.order.len() == size as usize, "{size}");
+    let pointed = judge_by_points(alloc, read_calls(alloc, bytes)?)?;
+    assert!(rt; pointed.fault.is_none(), "{size}");
+    Ok(())
+}
+
+#[test]
+fn recordings_of_each_size(rt: HostRuntime) -> Result<(), Fail> {
+    let alloc = rt.alloc();
+    for size in 0..=MOST_SIZE {
+        let keys = rising_keys(alloc, 2 * size)?;
+        let told = stream_of(alloc, size)?.close(&keys)?;
+        assert!(rt; told == StreamVerdict::Linearizable, "{size}");
+        let told = stream_of(alloc, size)?.close_cut_off()?;
+        assert!(rt; told == StreamVerdict::Linearizable, "{size}");
+        is_long_read(&rt, alloc, size)?;
+        is_recording_read(&rt, alloc, size)?;
+    }
+    Ok(())
+}

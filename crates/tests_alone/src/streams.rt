@@ -1,0 +1,114 @@
+//! Calls in a stream: which fault is named if a call has several, and what is said of calls without an order.
+
+use crate::prelude::*;
+
+fn add_of_six(thread: u32, begun: u64, ended: Option<(u64, Reply)>) -> StreamCall {
+    StreamCall {
+        thread,
+        call: Call::Add(Key(6)),
+        begun,
+        ended,
+    }
+}
+
+/// Calls of key 6, each with a reply with which no stream takes it.
+const NOT_PLAIN: [(Call, Reply); 5] = [
+    (Call::Add(Key(6)), Reply::Full),
+    (Call::Remove(Key(6)), Reply::Nothing),
+    (Call::Contains(Key(6)), Reply::At(Key(6))),
+    (Call::Ceiling(Key(6)), Reply::At(Key(6))),
+    (Call::Ceiling(Key(6)), Reply::True),
+];
+
+/// One of these calls, by thread 3.
+fn not_plain(made: (Call, Reply), begun: u64, end: u64) -> StreamCall {
+    let (call, reply) = made;
+    StreamCall {
+        thread: 3,
+        call,
+        begun,
+        ended: Some((end, reply)),
+    }
+}
+
+/// Calls after one of thread 3 from moment 2 to 7, each with all the faults that come after the one that is named, as far as one call
+/// can have them.
+fn with_faults(made: (Call, Reply)) -> [(StreamCall, StreamFault); 10] {
+    let late = LAST_MOMENT + 1;
+    [
+        (not_plain(made, 2, 2), StreamFault::Early),
+        (not_plain(made, 0, 0), StreamFault::Early),
+        (not_plain(made, late, 7), StreamFault::Early),
+        (not_plain(made, 5, late), StreamFault::Early),
+        (not_plain(made, 7, late), StreamFault::Early),
+        (not_plain(made, 5, 5), StreamFault::Ends),
+        (not_plain(made, 5, 1), StreamFault::Ends),
+        (not_plain(made, 7, 7), StreamFault::Ends),
+        (not_plain(made, 5, 7), StreamFault::NotPlain),
+        (not_plain(made, 7, 9), StreamFault::NotPlain),
+    ]
+}
+
+#[test]
+fn the_first_fault_of_a_call_is_named(rt: HostRuntime) -> Result<(), Fail> {
+    let mut stream = Stream::new(rt.alloc(), &[])?;
+    stream.add(add_of_six(3, 2, Some((7, Reply::True))))?;
+    for made in NOT_PLAIN {
+        for (call, fault) in with_faults(made) {
+            assert_eq!(rt; stream.add(call), Err(fault), "{call:?}");
+        }
+    }
+    let taken = add_of_six(3, 5, Some((7, Reply::False)));
+    assert_eq!(rt; stream.add(taken), Err(StreamFault::Taken));
+    // A later pending call takes the end, and an earlier one is of the thread.
+    stream.add(add_of_six(4, 3, Some((8, Reply::True))))?;
+    let both = add_of_six(3, 5, Some((8, Reply::True)));
+    assert!(rt; stream.add(both) == Err(StreamFault::Taken));
+    // An earlier call ends at its begin, and one that is still pending is of the thread.
+    stream.add(add_of_six(5, 4, Some((6, Reply::True))))?;
+    let begins_taken = add_of_six(3, 6, Some((9, Reply::True)));
+    assert!(rt; stream.add(begins_taken) == Err(StreamFault::Taken));
+    Ok(())
+}
+
+#[test]
+fn calls_that_cannot_come_next_in_a_stream(rt: HostRuntime) -> Result<(), Fail> {
+    let mut stream = Stream::new(rt.alloc(), &[])?;
+    stream.add(add_of_six(u32::MAX, 2, Some((7, Reply::True))))?;
+    let late = Some((LAST_MOMENT + 1, Reply::True));
+    let (full, taken) = (Some((6, Reply::Full)), Some((7, Reply::False)));
+    let ended = Some((6, Reply::False));
+    let others = [
+        (add_of_six(9, 2, ended), StreamFault::Early),
+        (add_of_six(9, 5, late), StreamFault::Early),
+        (add_of_six(9, 5, Some((5, Reply::True))), StreamFault::Ends),
+        (add_of_six(9, 5, full), StreamFault::NotPlain),
+        (add_of_six(9, 5, taken), StreamFault::Taken),
+        (add_of_six(9, 7, None), StreamFault::Taken),
+        (add_of_six(u32::MAX, 5, ended), StreamFault::Busy),
+    ];
+    for (call, fault) in others {
+        assert!(rt; stream.add(call) == Err(fault), "{fault}");
+    }
+    stream.add(add_of_six(9, 5, ended))?;
+    assert!(rt; stream.close(&[6])? == StreamVerdict::Linearizable);
+    Ok(())
+}
+
+/// Key 6 has no order, by this moment.
+fn refused_by(moment: Option<u64>) -> StreamVerdict {
+    let key = Key(6);
+    StreamVerdict::NotLinearizable(StreamRefusal { key, moment })
+}
+
+#[test]
+fn what_a_stream_says_of_calls_without_an_order(rt: HostRuntime) -> Result<(), Fail> {
+    let alloc = rt.alloc();
+    let mut stream = Stream::new(alloc, &[6])?;
+    stream.add(add_of_six(9, 5, Some((LAST_MOMENT, Reply::True))))?;
+    assert!(rt; stream.close_cut_off()? == refused_by(Some(LAST_MOMENT)));
+    let mut stream = Stream::new(alloc, &[6])?;
+    stream.add(add_of_six(9, 5, None))?;
+    assert!(rt; stream.close(&[])? == refused_by(None));
+    Ok(())
+}

@@ -1,0 +1,211 @@
+//! Runs of the tools, on devices that fail as planned. What they print is in `transcripts`.
+use crate::devices::{Plan, Reader, WHOLE, Writer};
+use crate::prelude::*;
+use tool_base::{tool_check, tool_gen, tool_replay};
+use tool_broken::{tool_replay_broken, tool_show_broken, tool_trace_broken};
+use tool_draft::tool_draft;
+use tool_drawing::Window;
+use tool_examples::tool_example;
+use tool_judge::tool_judge;
+use tool_parts::tool_judge_keys;
+use tool_report::tool_report;
+use tool_run::tool_run;
+use tool_show::{Form, tool_show};
+use tool_trace::tool_trace;
+
+/// Every moment.
+const ALL: Window = Window {
+    from: 1,
+    to: 4_294_967_295,
+};
+
+#[derive(Clone, Copy)]
+pub enum Tool {
+    Replay,
+    Check,
+    Judge,
+    /// Of these keys.
+    JudgeKeys(&'static str),
+    Report,
+    Draft,
+    /// As text.
+    Show,
+    /// As an SVG.
+    Svg,
+    Trace,
+    /// With the chains.
+    TraceChains,
+    /// By the list that lacks this check.
+    ReplayLacking(&'static str),
+    TraceLacking(&'static str),
+    ShowLacking(&'static str),
+    /// With this KIND, of one thread with one call.
+    Gen(&'static str),
+    /// Of this name.
+    Example(&'static str),
+    /// The broken report of this name.
+    Broken(&'static str),
+    /// With this KIND, of one thread with two calls.
+    Run(&'static str),
+}
+
+/// A tool and its input.
+pub type Row = (Tool, &'static str);
+
+pub const SCHEDULE: &str =
+    "listset-schedule 1\nlist coarse\nthreads 1\nquota 4\nbegin 0 add 5\ngo 0 7\n";
+
+/// With a step of a thread that has no call open.
+const IDLE: &str =
+    "listset-schedule 1\nlist coarse\nthreads 1\nquota 4\nbegin 0 add 5\ngo 0 1\ngo 0 7\n";
+
+const REPORT: &str =
+    "listset-report 1\nlist coarse\nthreads 1\nquota 4\ncall 0 0 add 5 1 8 true\nplace 0 true\nkey 5\nend\n";
+
+/// Its order leaves out its call.
+const LEFT_OUT: &str =
+    "listset-report 1\nlist coarse\nthreads 1\nquota 4\ncall 0 0 add 5 1 8 true\nkey 5\nend\n";
+
+/// Two calls that an order explains.
+const FEW: &str = "listset-calls 2\nlist lazy\nthreads 1\nquota 4\n\
+    call 0 add 5 1 - 2 true\ncall 0 contains 5 3 - 4 true\nkey 5\nend\n";
+
+/// Two adds of one key that changed the set.
+const BOTH: &str = "listset-calls 2\nlist lazy\nthreads 2\nquota 4\n\
+    call 0 add 5 1 - 4 true\ncall 1 add 5 2 - 3 true\nkey 5\nend\n";
+
+/// A long recording.
+const LONG: &str =
+    "listset-calls 3\nopening 7\ncall 0 add 5 1 4 true\ncall 1 remove 7 2 - -\nkey 5\nend\n";
+
+const DRAFT: &str = "listset-draft 2\nlist coarse\nthreads 1\nquota 4\nbegin 0 add 5\ngo 0 out\n";
+
+/// What a list lacks whose `contains` looks at no mark, and a schedule of one such call.
+const MARK: &str = "mark-in-contains";
+
+const LOOK: &str =
+    "listset-schedule 2\nlist lazy\nthreads 1\nquota 0\nbegin 0 contains 5\ngo 0 2\n";
+
+/// Those that write on the output, and those that write a line about an error alone.
+pub const ROWS: [Row; 37] = [
+    (Tool::Replay, SCHEDULE),
+    (Tool::Check, REPORT),
+    (Tool::Check, LEFT_OUT),
+    (Tool::Judge, FEW),
+    (Tool::Judge, BOTH),
+    (Tool::Judge, LONG),
+    (Tool::JudgeKeys("1/2"), FEW),
+    (Tool::Report, FEW),
+    (Tool::Report, BOTH),
+    (Tool::Draft, DRAFT),
+    (Tool::Show, SCHEDULE),
+    (Tool::Show, BOTH),
+    (Tool::Show, IDLE),
+    (Tool::Svg, SCHEDULE),
+    (Tool::TraceChains, SCHEDULE),
+    (Tool::Trace, IDLE),
+    (Tool::ReplayLacking(MARK), LOOK),
+    (Tool::TraceLacking(MARK), LOOK),
+    (Tool::ShowLacking(MARK), LOOK),
+    (Tool::Gen("coarse"), ""),
+    (Tool::Example("full"), ""),
+    (Tool::Broken("stale-pred"), ""),
+    (Tool::Run("coarse"), ""),
+    (Tool::Replay, REPORT),
+    (Tool::Check, SCHEDULE),
+    (Tool::Judge, REPORT),
+    (Tool::JudgeKeys("0/1"), REPORT),
+    (Tool::Report, REPORT),
+    (Tool::Draft, REPORT),
+    (Tool::Show, DRAFT),
+    (Tool::Trace, REPORT),
+    (Tool::ReplayLacking(MARK), REPORT),
+    (Tool::ShowLacking("lock"), LOOK),
+    (Tool::Gen("skip"), ""),
+    (Tool::Example("snap"), ""),
+    (Tool::Broken("full"), ""),
+    (Tool::Run("skip"), ""),
+];
+
+/// What a tool did with its devices.
+#[derive(Drop)]
+pub struct Run {
+    pub status: u8,
+    pub input: Reader,
+    pub output: Writer,
+    pub faults: Writer,
+}
+
+impl Run {
+    /// Whether the tool wrote this line about an error, and nothing on the output.
+    pub fn wrote_only(&self, line: &[u8]) -> bool {
+        self.output.calls == 0 && self.faults.taken.as_slice() == line
+    }
+
+    /// Whether the tool wrote and returned what it did in another run.
+    pub fn is_as(&self, other: &Run) -> bool {
+        self.status == other.status
+            && self.output.taken == other.output.taken
+            && self.faults.taken == other.faults.taken
+    }
+}
+
+pub fn texts_of(alloc: Global, words: &[&str]) -> Result<Vec<String>, AllocError> {
+    let mut values = Vec::new(alloc);
+    for word in words {
+        values.push(String::from_str(alloc, word)?)?;
+    }
+    Ok(values)
+}
+
+/// Runs the tool of a row on devices of these plans: of its input, its output and `faults`.
+pub fn ran<R: Host>(
+    rt: &R,
+    alloc: Global,
+    (tool, input): Row,
+    plans: [Plan; 3],
+) -> Result<Run, AllocError> {
+    let [of_input, output, faults] = plans;
+    let mut input = Reader::new(input, of_input);
+    let mut output = Writer::new(alloc, output);
+    let mut faults = Writer::new(alloc, faults);
+    let (from, to, also) = (&mut input, &mut output, &mut faults);
+    let status = match tool {
+        Tool::Replay => tool_replay(alloc, from, to, also),
+        Tool::Check => tool_check(alloc, from, to, also),
+        Tool::Judge => tool_judge(alloc, from, to, also),
+        Tool::JudgeKeys(keys) => tool_judge_keys(alloc, keys, from, to, also),
+        Tool::Report => tool_report(alloc, from, to, also),
+        Tool::Draft => tool_draft(alloc, from, to, also),
+        Tool::Show => tool_show(alloc, Form::Text(100), ALL, from, to, also),
+        Tool::Svg => tool_show(alloc, Form::Svg, ALL, from, to, also),
+        Tool::Trace => tool_trace(alloc, false, from, to, also),
+        Tool::TraceChains => tool_trace(alloc, true, from, to, also),
+        Tool::ReplayLacking(name) => tool_replay_broken(alloc, name, from, to, also),
+        Tool::TraceLacking(name) => tool_trace_broken(alloc, name, false, from, to, also),
+        Tool::ShowLacking(name) => {
+            tool_show_broken(alloc, name, Form::Text(100), ALL, from, to, also)
+        }
+        Tool::Example(name) => tool_example(alloc, false, Some(name), to, also),
+        Tool::Broken(name) => tool_example(alloc, true, Some(name), to, also),
+        Tool::Gen(kind) => {
+            let values = texts_of(alloc, &[kind, "1", "4", "1", "8", "1"])?;
+            tool_gen(alloc, &values, to, also)
+        }
+        Tool::Run(kind) => {
+            let values = texts_of(alloc, &[kind, "1", "4", "2", "8", "1"])?;
+            tool_run(rt, alloc, &values, to, also)
+        }
+    };
+    Ok(Run {
+        status,
+        input,
+        output,
+        faults,
+    })
+}
+
+/// The run of a row whose devices do not fail.
+pub fn whole_run<R: Host>(rt: &R, alloc: Global, row: Row) -> Result<Run, AllocError> {
+    ran(rt, alloc, row, [WHOLE, WHOLE, WHOLE])
+}

@@ -1,0 +1,163 @@
+//! Sessions whose answers wait: all lines that were read are answered before the next read.
+use crate::prelude::*;
+use crate::sessions::{end, held, held_buffered, one_seat, was_held};
+use std::cell::Cell;
+
+/// How many bytes of answers were written, and whether each read came after all of them.
+#[derive(Drop)]
+struct Seen {
+    written: Cell<u64>,
+    in_time: Cell<bool>,
+}
+
+/// A text, and how many bytes the lines are answered by that it ends.
+type Turn<'a> = (&'a [u8], u64);
+
+/// Gives texts, each in a read of its own, and looks at each read whether all lines that were read before are answered.
+#[derive(Drop)]
+struct Asking<'a> {
+    turns: &'a [Turn<'a>],
+    due: u64,
+    seen: &'a Seen,
+}
+
+impl Source for Asking<'_> {
+    ghost use Rattle.std.specs.Prelude.{None, false};
+
+    ghost remaining = { λ _. None };
+
+    ghost has_failed = { λ _. false };
+
+    fn read(&mut self, buffer: &mut [u8]) -> Option<usize> {
+        let answered = self.seen.written.get() == self.due;
+        self.seen.in_time.set(self.seen.in_time.get() && answered);
+        if self.turns.is_empty() {
+            return Some(0);
+        }
+        let (text, answers) = self.turns[0];
+        self.turns = &self.turns[1..];
+        self.due = self.due.wrapping_add(answers);
+        let count = buffer.len().min(text.len());
+        buffer[..count].copy_from_slice(&text[..count]);
+        Some(count)
+    }
+}
+
+/// Takes all that it is given, and counts the bytes.
+#[derive(Drop)]
+struct Counting<'a> {
+    seen: &'a Seen,
+}
+
+impl Sink for Counting<'_> {
+    ghost use Rattle.std.specs.Prelude.{None, false};
+
+    ghost written = { λ _. None };
+
+    ghost has_failed = { λ _. false };
+
+    fn write(&mut self, text: &[u8]) -> Option<usize> {
+        let written = self.seen.written.get().wrapping_add(text.len() as u64);
+        self.seen.written.set(written);
+        Some(text.len())
+    }
+}
+
+/// The lines of each text are answered before the session reads the next text, and so many of them are calls.
+fn are_answered_in_time<R: Host>(
+    rt: &R,
+    alloc: Global,
+    turns: &[Turn<'_>],
+    calls: u64,
+    buffered: bool,
+) {
+    let (set, mut seat) = one_seat(rt, alloc);
+    let seen = Seen {
+        written: Cell::new(0),
+        in_time: Cell::new(true),
+    };
+    let mut asking = Asking {
+        turns: &*turns,
+        due: 0,
+        seen: &seen,
+    };
+    let mut counting = Counting { seen: &seen };
+    let ended = if buffered {
+        buffered_session(rt, asking, counting, &set, &mut seat)
+    } else {
+        session(rt, &mut asking, &mut counting, &set, &mut seat)
+    };
+    assert!(rt; ended == end(EndReason::End, calls));
+    assert!(rt; seen.in_time.get(), "{buffered}");
+    let due = turns
+        .iter()
+        .fold(0u64, |due, turn| due.wrapping_add(turn.1));
+    assert!(rt; seen.written.get() == due, "{buffered}");
+}
+
+fn are_answered_in_both<R: Host>(rt: &R, alloc: Global, turns: &[Turn<'_>], calls: u64) {
+    are_answered_in_time(rt, alloc, turns, calls, true);
+    are_answered_in_time(rt, alloc, turns, calls, false);
+}
+
+/// A line, a read that has no room for more, and a read that ends within a line.
+#[test]
+fn answers_leave_before_each_read(rt: HostRuntime) {
+    let texts: &[Turn<'_>] = &[(b"\n", 4), (&[b'\n'; 4096], 4 * 4096), (b"\nA", 4)];
+    for turn in texts {
+        are_answered_in_both(&rt, rt.alloc(), &[*turn; 3], 0);
+    }
+}
+
+/// Lines on a set with a quota of 4, by which each kind of answer is asked for; and how long the answers are.
+const OF_EACH_ANSWER: [Turn<'static>; 9] = [
+    (b"CEILING 0\n", 5),
+    (b"ADD 4294967295\n", 5),
+    (b"ADD 4294967295\n", 6),
+    (b"CEILING 4\n", 14),
+    (b"ADD 1\nADD 2\nADD 3\n", 15),
+    (b"ADD 5\n", 5),
+    (b"CONTAINS 5\n", 6),
+    (b"REMOVE 1\n", 5),
+    (b"MOVE 7\n", 4),
+];
+
+/// A client that waits for its answer has it, whichever it is.
+#[test]
+fn each_answer_leaves_alone(rt: HostRuntime) {
+    are_answered_in_both(&rt, rt.alloc(), &OF_EACH_ANSWER, 10);
+}
+
+/// The text is answered as without waiting, and the session ends so too.
+fn is_answered_alike<R: Host>(rt: &R, alloc: Global, text: &[u8]) {
+    let (plain, ended) = held(rt, alloc, &mut Device::new(text));
+    let session = held_buffered(rt, alloc, Device::new(text));
+    was_held(rt, &session, &plain, ended);
+}
+
+/// So many empty lines, and then these bytes.
+fn lines_then<R: Abort>(rt: &R, alloc: Global, empty: usize, last: &[u8]) -> Vec<u8> {
+    let mut text = vec![in alloc; b'\n'; empty].expect(rt, "room");
+    text.extend_from_slice(last).expect(rt, "room");
+    text
+}
+
+/// The answers to the lines of one read are four times as many bytes as there is room for.
+#[test]
+fn answers_that_have_no_room_leave(rt: HostRuntime) {
+    let lasts: &[&[u8]] = &[b"".as_slice(), b"QUIT\n", &[b'A'; 65]];
+    for last in lasts {
+        let text = lines_then(&rt, rt.alloc(), 5000, last);
+        is_answered_alike(&rt, rt.alloc(), &text);
+    }
+}
+
+/// The longest answers, to the lines of one read: of some of them the front alone has room.
+#[test]
+fn answers_that_have_room_in_part_leave_whole(rt: HostRuntime) {
+    let mut text = Vec::from_slice(rt.alloc(), b"ADD 4294967295\n").expect(&rt, "room");
+    for _ in 0..1000 {
+        text.extend_from_slice(b"CEILING 0\n").expect(&rt, "room");
+    }
+    is_answered_alike(&rt, rt.alloc(), &text);
+}

@@ -1,0 +1,76 @@
+//! Clients of a server on the loopback.
+
+use crate::meeting::reaches;
+use crate::prelude::*;
+
+/// Sends the text, and reads that many bytes, which are to be the answers.
+fn is_answered(stream: &mut TcpStream, text: &[u8], answers: &[u8]) -> bool {
+    let mut got = [0u8; 64];
+    if answers.len() > 64 || stream.write_all(text).is_err() {
+        return false;
+    }
+    stream.read_exact(&mut got[..answers.len()]).is_ok() && &got[..answers.len()] == answers
+}
+
+/// Sends the text and reads its answers, and then the end.
+pub fn asks<R: Host + Net<Listener = TcpListener, Stream = TcpStream>>(
+    rt: &R,
+    port: u16,
+    text: &[u8],
+    answers: &[u8],
+) -> bool {
+    let Ok(mut stream) = TcpStream::connect(rt, ("127.0.0.1", port)) else {
+        return false;
+    };
+    is_answered(&mut stream, text, answers) && matches!(stream.read(&mut [0u8; 1]), Ok(0))
+}
+
+/// Sends a line, reads its answer, waits until the other client has done so too, and says good-bye.
+pub fn meets<R: Host + Net<Listener = TcpListener, Stream = TcpStream>>(
+    rt: &R,
+    port: u16,
+    line: &[u8],
+    met: &AtomicU64,
+) -> bool {
+    let Ok(mut stream) = TcpStream::connect(rt, ("127.0.0.1", port)) else {
+        return false;
+    };
+    let has_asked = is_answered(&mut stream, line, b"TRUE\n");
+    met.fetch_add(u64::from(has_asked), Ordering::SeqCst);
+    has_asked && reaches(rt, met, 2) && is_answered(&mut stream, b"QUIT\n", b"BYE\n")
+}
+
+/// So many clients, of which none goes away before all have their answers.
+pub fn all_meet<R: Host + Net<Listener = TcpListener, Stream = TcpStream>>(
+    rt: &R,
+    alloc: Global,
+    port: u16,
+    clients: u32,
+) -> bool {
+    let mut streams = Vec::new(alloc);
+    for _ in 0..clients {
+        let Ok(mut stream) = TcpStream::connect(rt, ("127.0.0.1", port)) else {
+            return false;
+        };
+        if !is_answered(&mut stream, b"CONTAINS 5\n", b"FALSE\n") {
+            return false;
+        }
+        streams.push(stream).expect(rt, "room");
+    }
+    for mut stream in streams {
+        if !is_answered(&mut stream, b"QUIT\n", b"BYE\n") {
+            return false;
+        }
+    }
+    true
+}
+
+/// Sends the text and goes away.
+pub fn leaves<R: Host + Net<Listener = TcpListener, Stream = TcpStream>>(
+    rt: &R,
+    port: u16,
+    text: &[u8],
+) -> bool {
+    let stream = TcpStream::connect(rt, ("127.0.0.1", port));
+    stream.is_ok_and(|mut stream| stream.write_all(text).is_ok())
+}

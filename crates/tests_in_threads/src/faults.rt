@@ -1,0 +1,125 @@
+//! Sessions of which one read or one write fails, each in turn.
+use crate::devices::{FailingReader, FailingWriter};
+use crate::prelude::*;
+use crate::sessions::{ANSWERS, CEILINGS, LINES, end, held, held_buffered, one_seat, was_held};
+
+/// Of the answers to these lines the write with this number fails.
+fn write_fails<R: Host>(rt: &R, alloc: Global, lines: &[u8], answers: &[u8], at: u64, calls: u64) {
+    let (set, mut seat) = one_seat(rt, alloc);
+    let mut writer = FailingWriter::new(alloc, at);
+    let (mut lines, mut taker) = (Device::new(lines), Device::new(&mut writer));
+    let ended = session(rt, &mut lines, &mut taker, &set, &mut seat);
+    assert!(rt; ended == end(EndReason::WriteFault, calls), "{at}");
+    writer.has_stopped(rt, answers);
+}
+
+/// So do all writes of these rows in turn: the first and the last of some, and the calls before each of them.
+fn writes_fail<R: Host>(
+    rt: &R,
+    alloc: Global,
+    lines: &[u8],
+    answers: &[u8],
+    rows: &[(u64, u64, u64)],
+) {
+    for &(from, to, calls) in rows {
+        for at in from..=to {
+            write_fails(rt, alloc, lines, answers, at, calls);
+        }
+    }
+}
+
+#[test]
+fn a_write_that_fails_is_the_last(rt: HostRuntime) {
+    let rows = [(1, 5, 1), (6, 11, 2), (12, 20, 3), (21, 29, 4)];
+    writes_fail(&rt, rt.alloc(), LINES, ANSWERS, &rows);
+    let lines = b"ADD 4294967295\nCEILING 0\nQUIT\n".as_slice();
+    let answers = b"TRUE\nAT 4294967295\nBYE\n".as_slice();
+    let rows = [(1, 5, 1), (6, 19, 2), (20, 23, 2)];
+    writes_fail(&rt, rt.alloc(), lines, answers, &rows);
+}
+
+/// The read with this number fails, also if answers wait: they have been written before.
+fn read_fails<R: Host>(rt: &R, alloc: Global, lines: &[u8], at: u64, answers: &[u8], calls: u64) {
+    let ended = end(EndReason::ReadFault, calls);
+    let mut reader = FailingReader::new(lines, at);
+    let session = held(rt, alloc, &mut Device::new(&mut reader));
+    was_held(rt, &session, answers, ended);
+    assert!(rt; reader.reads == at, "{at}");
+    let mut reader = FailingReader::new(lines, at);
+    let session = held_buffered(rt, alloc, Device::new(&mut reader));
+    was_held(rt, &session, answers, ended);
+    assert!(rt; reader.reads == at, "{at}, answers wait");
+}
+
+/// So do all reads of these rows in turn: the first and the last of some, the answers before each of them, and the calls.
+fn reads_fail<R: Host>(rt: &R, alloc: Global, lines: &[u8], rows: &[(u64, u64, &[u8], u64)]) {
+    for &(from, to, answers, calls) in rows {
+        for at in from..=to {
+            read_fails(rt, alloc, lines, at, answers, calls);
+        }
+    }
+}
+
+#[test]
+fn a_read_that_fails_is_the_last(rt: HostRuntime) {
+    let rows: [(u64, u64, &[u8], u64); 6] = [
+        (1, 6, b"", 0),
+        (7, 12, b"TRUE\n", 1),
+        (13, 23, b"TRUE\nFALSE\n", 2),
+        (24, 30, b"TRUE\nFALSE\nTRUE\n", 3),
+        (31, 39, b"TRUE\nFALSE\nTRUE\nBAD\n", 3),
+        (40, 44, b"TRUE\nFALSE\nTRUE\nBAD\nTRUE\n", 4),
+    ];
+    reads_fail(&rt, rt.alloc(), LINES, &rows);
+    let rows: [(u64, u64, &[u8], u64); 4] = [
+        (1, 10, b"", 0),
+        (11, 16, b"NONE\n", 1),
+        (17, 26, b"NONE\nTRUE\n", 2),
+        (27, 31, b"NONE\nTRUE\nAT 9\n", 3),
+    ];
+    reads_fail(&rt, rt.alloc(), CEILINGS, &rows);
+}
+
+/// Lines, their answers, and how many calls they make.
+type Lines = (&'static [u8], &'static [u8], u64);
+
+/// Calls that end by `QUIT`; a line that is too long; and lines of which none makes a call.
+const OF_EACH_END: [Lines; 3] = [
+    (LINES, ANSWERS, 4),
+    (&[b'A'; 65], b"LONG\n", 0),
+    (b"\nQUIT\n", b"BAD\nBYE\n", 0),
+];
+
+/// All lines come in one read, answers wait, and of those the write with this number fails: all calls are made.
+fn waiting_write_fails<R: Host>(rt: &R, alloc: Global, lines: Lines, at: u64) {
+    let (text, answers, calls) = lines;
+    let (set, mut seat) = one_seat(rt, alloc);
+    let mut writer = FailingWriter::new(alloc, at);
+    let (from, to) = (Device::new(text), Device::new(&mut writer));
+    let ended = buffered_session(rt, from, to, &set, &mut seat);
+    assert!(rt; ended == end(EndReason::WriteFault, calls), "{at}");
+    writer.has_stopped(rt, answers);
+}
+
+#[test]
+fn a_write_of_answers_that_waited_is_the_last_if_it_fails(rt: HostRuntime) {
+    for lines in OF_EACH_END {
+        for at in 1..=lines.1.len() as u64 {
+            waiting_write_fails(&rt, rt.alloc(), lines, at);
+        }
+    }
+}
+
+/// All lines come in one read, and of their answers the front alone has room: the first write fails, and no call follows.
+#[test]
+fn no_call_is_made_after_a_write_that_failed(rt: HostRuntime) {
+    let mut text = Vec::from_slice(rt.alloc(), b"ADD 4294967295\n").expect(&rt, "room");
+    for _ in 0..408 {
+        text.extend_from_slice(b"CEILING 0\n").expect(&rt, "room");
+    }
+    let (set, mut seat) = one_seat(&rt, rt.alloc());
+    let mut writer = FailingWriter::new(rt.alloc(), 1);
+    let (from, to) = (Device::new(text.as_slice()), Device::new(&mut writer));
+    let ended = buffered_session(&rt, from, to, &set, &mut seat);
+    assert!(rt; ended == end(EndReason::WriteFault, 294));
+}

@@ -1,0 +1,50 @@
+//! The tests that run threads or hold sessions: running sets, programs on threads, sessions over devices, servers on the loopback.
+#![tactic(auto)]
+
+/// Makes a check of each of the five lists.
+macro_rules! at_each_list {
+    ($check:ident, $rt:ident $(, $value:expr)*) => {
+        $check::<lset_coarse::CoarseList, HostRuntime>(&$rt, $rt.alloc() $(, $value)*);
+        $check::<lset_fine::FineList, HostRuntime>(&$rt, $rt.alloc() $(, $value)*);
+        $check::<lset_optimistic::OptimisticList, HostRuntime>(&$rt, $rt.alloc() $(, $value)*);
+        $check::<lset_lazy::LazyList, HostRuntime>(&$rt, $rt.alloc() $(, $value)*);
+        $check::<lset_lock_free::LockFreeList, HostRuntime>(&$rt, $rt.alloc() $(, $value)*);
+    };
+}
+
+#[cfg(test)]
+mod buffered;
+#[cfg(test)]
+mod clients;
+#[cfg(test)]
+mod devices;
+#[cfg(test)]
+mod faults;
+#[cfg(test)]
+mod limits;
+#[cfg(test)]
+mod meeting;
+#[cfg(test)]
+mod opened;
+#[cfg(test)]
+mod pauses;
+#[cfg(test)]
+mod prelude;
+#[cfg(test)]
+mod programs;
+#[cfg(test)]
+mod renewal;
+#[cfg(test)]
+mod rounds;
+#[cfg(test)]
+mod seats;
+#[cfg(test)]
+mod serving;
+#[cfg(test)]
+mod sessions;
+#[cfg(test)]
+mod sizes;
+#[cfg(test)]
+mod stopped;
+#[cfg(test)]
+mod typed;

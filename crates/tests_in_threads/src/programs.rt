@@ -1,0 +1,342 @@
+//! Programs on threads, and the gates that they pass.
+ghost use Rattle.std.specs.Prelude.{◌≡◌, ◌<◌, ◌^◌, IsTrue, All, length};
+
+use crate::meeting::Meeting;
+use crate::opened::{last_of, make_calls, two_seats};
+use crate::prelude::*;
+use crate::seats::ADDS;
+use lset_schedule::programs;
+use lset_work::{Outcome, WorkCause, WorkFault, work};
+use std::sync::atomic::AtomicU32;
+
+fn are_short(programs: &[Vec<Call>]) -> bool
+    ensures { IsTrue result → All (λ p. length p.items < 2 ^ 32) programs.now }
+{
+    programs.iter().all(
+        |program| -> bool
+            ensures { IsTrue result → length program.now.items < 2 ^ 32 }
+        { program.len() <= 4_294_967_295 },
+    )
+}
+
+/// `work`, once it is seen that the programs are short.
+fn tried<M: Running + Send + Sync, R: Host, G: Gate + Sync>(
+    rt: &R,
+    alloc: Global,
+    set: LiveSet<M>,
+    seats: Vec<Seat<M>>,
+    programs: Vec<Vec<Call>>,
+    gate: &G,
+) -> Result<Outcome, WorkFault<M>>
+    requires { All (λ s. s.set ≡ set) seats.items }
+{
+    assert!(rt; are_short(&programs));
+    work(rt, alloc, set, seats, programs, gate)
+}
+
+/// The outcome, which must not be refused.
+pub fn worked<M: Running + Send + Sync, R: Host, G: Gate + Sync>(
+    rt: &R,
+    alloc: Global,
+    set: LiveSet<M>,
+    seats: Vec<Seat<M>>,
+    programs: Vec<Vec<Call>>,
+    gate: &G,
+) -> Outcome
+    requires { All (λ s. s.set ≡ set) seats.items }
+{
+    match tried(rt, alloc, set, seats, programs, gate) {
+        Ok(outcome) => outcome,
+        Err(fault) => panic!(rt; "refused: {}", fault.cause),
+    }
+}
+
+/// A set that opens empty and has so many seats with a quota of 4.
+fn in_a_row<M: Running, R: Abort>(rt: &R, alloc: Global, seats: u32) -> (LiveSet<M>, Vec<Seat<M>>)
+    ensures { All (λ s. s.set ≡ result.0) result.1.items }
+{
+    open::<M>(alloc, seats, 4).expect(rt, "not opened")
+}
+
+/// Why the programs are refused on the two seats of a set.
+fn fault_of<R: Host, G: Gate + Sync>(
+    rt: &R,
+    alloc: Global,
+    programs: Vec<Vec<Call>>,
+    gate: &G,
+) -> WorkFault<LazyList> {
+    let (set, seats) = in_a_row::<LazyList, R>(rt, alloc, 2);
+    match tried(rt, alloc, set, seats, programs, gate) {
+        Ok(_) => panic!(rt; "not refused"),
+        Err(fault) => fault,
+    }
+}
+
+fn pair<R: Abort>(rt: &R, alloc: Global, first: &[Call], second: &[Call]) -> Vec<Vec<Call>> {
+    let first = Vec::from_slice(alloc, first).expect(rt, "room");
+    let second = Vec::from_slice(alloc, second).expect(rt, "room");
+    vec![in alloc; first, second].expect(rt, "room")
+}
+
+fn two_programs<R: Abort>(rt: &R, alloc: Global) -> Vec<Vec<Call>> {
+    let (key, add_2) = (Key(1), Call::Add(Key(2)));
+    let first = [Call::Add(key), Call::Contains(key), Call::Remove(key)];
+    pair(rt, alloc, &first, &[add_2, add_2])
+}
+
+fn are_answered(outcome: &Outcome, replies: &[&[Reply]]) -> bool {
+    outcome.replies.len() == replies.len()
+        && outcome
+            .replies
+            .iter()
+            .zip(replies)
+            .all(|pair| pair.0.as_slice() == *pair.1)
+}
+
+fn are_as_wanted(outcome: &Outcome, replies: &[&[Reply]], keys: &[u32]) -> bool {
+    outcome.keys.as_slice() == keys && are_answered(outcome, replies)
+}
+
+fn answers<M: Running + Send + Sync, R: Host>(rt: &R, alloc: Global) {
+    let (set, seats) = in_a_row::<M, R>(rt, alloc, 2);
+    let outcome = worked(rt, alloc, set, seats, two_programs(rt, alloc), &Always);
+    let first: &[Reply] = &[Reply::True, Reply::True, Reply::True];
+    let second: &[Reply] = &[Reply::True, Reply::False];
+    assert!(rt; are_as_wanted(&outcome, &[first, second], &[2]));
+}
+
+#[test]
+fn two_programs_are_answered_and_leave_their_key(rt: HostRuntime) {
+    at_each_list!(answers, rt);
+}
+
+/// The programs did not fit the seats, and so many seats came back with the set, which has two.
+fn gave_all_back<R: Abort>(rt: &R, fault: WorkFault<LazyList>, seats: usize) {
+    assert!(rt; fault.cause == WorkCause::Programs);
+    let (set, back) = fault.back.expect(rt, "nothing came back");
+    assert!(rt; set.seats() == 2);
+    assert!(rt; back.len() == seats);
+}
+
+#[test]
+fn one_program_for_two_seats_gives_set_and_seats_back(rt: HostRuntime) {
+    let mut programs = two_programs(&rt, rt.alloc());
+    let _ = programs.pop();
+    let fault = fault_of::<HostRuntime, Always>(&rt, rt.alloc(), programs, &Always);
+    gave_all_back(&rt, fault, 2);
+}
+
+fn alone<M: Running, R: Abort>(
+    rt: &R,
+    alloc: Global,
+    seat: Seat<M>,
+    program: &[Call],
+) -> (Vec<Seat<M>>, Vec<Vec<Call>>)
+    ensures { All (λ s. s.set ≡ seat.set) result.0.items }
+{
+    let calls = Vec::from_slice(alloc, program).expect(rt, "room");
+    let seats = vec![in alloc; seat].expect(rt, "room");
+    (seats, vec![in alloc; calls].expect(rt, "room"))
+}
+
+#[test]
+fn a_missing_seat_gives_set_and_seat_back(rt: HostRuntime) {
+    let (set, zero, _one) = two_seats::<LazyList, HostRuntime>(&rt, rt.alloc());
+    let (seats, programs) = alone(&rt, rt.alloc(), zero, &[Call::Add(Key(3))]);
+    match tried(&rt, rt.alloc(), set, seats, programs, &Always) {
+        Ok(_) => panic!(rt; "a seat is missing"),
+        Err(fault) => gave_all_back(&rt, fault, 1),
+    }
+}
+
+fn works_when_gathered<M: Running + Send + Sync, R: Host>(rt: &R, alloc: Global) {
+    let (set, mut zero, mut one) = two_seats::<M, R>(rt, alloc);
+    make_calls(rt, &set, &mut one, &ADDS);
+    set.gather(&mut zero, one);
+    let program = [Call::Contains(Key(9)), Call::Add(Key(3))];
+    let (seats, programs) = alone(rt, alloc, zero, &program);
+    let outcome = worked(rt, alloc, set, seats, programs, &Always);
+    let both: &[Reply] = &[Reply::True, Reply::True];
+    assert!(rt; are_as_wanted(&outcome, &[both], &[3, 9]));
+}
+
+#[test]
+fn a_gathered_seat_works(rt: HostRuntime) {
+    at_each_list!(works_when_gathered, rt);
+}
+
+#[test]
+fn a_program_may_be_empty(rt: HostRuntime) {
+    let programs = pair(&rt, rt.alloc(), &[Call::Add(Key(5))], &[]);
+    let (set, seats) = in_a_row::<LazyList, HostRuntime>(&rt, rt.alloc(), 2);
+    let outcome = worked(&rt, rt.alloc(), set, seats, programs, &Always);
+    assert!(rt; are_as_wanted(&outcome, &[&[Reply::True], &[]], &[5]));
+}
+
+/// Answers false at one call, and counts how often it is asked for each of the first three calls of three seats, and for other ones.
+#[derive(Drop)]
+struct Shut {
+    seat: u32,
+    call: u32,
+    counts: [AtomicU32; 10],
+}
+
+impl Shut {
+    fn new(seat: u32, call: u32) -> Shut {
+        Shut {
+            seat,
+            call,
+            counts: [0; 10].map(AtomicU32::new),
+        }
+    }
+
+    /// Whether it was asked so often.
+    fn was_asked(&self, wanted: &[u32]) -> bool {
+        self.counts
+            .iter()
+            .zip(wanted)
+            .all(|(count, wanted)| count.load(Ordering::SeqCst) == *wanted)
+    }
+}
+
+impl Gate for Shut {
+    fn pass(&self, seat: u32, call: u32) -> bool {
+        let at = if seat < 3 && call < 3 {
+            3 * seat + call
+        } else {
+            9
+        };
+        self.counts[at as usize].fetch_add(1, Ordering::SeqCst);
+        seat != self.seat || call != self.call
+    }
+}
+
+/// The seat and the call at which a gate answers false, and how often it is asked: for that program no more, for the other to its end.
+const SHUT: [(u32, u32, [u32; 10]); 5] = [
+    (0, 1, [1, 1, 0, 1, 1, 0, 0, 0, 0, 0]),
+    (0, 0, [1, 0, 0, 1, 1, 0, 0, 0, 0, 0]),
+    (0, 2, [1, 1, 1, 1, 1, 0, 0, 0, 0, 0]),
+    (1, 0, [1, 1, 1, 1, 0, 0, 0, 0, 0, 0]),
+    (1, 1, [1, 1, 1, 1, 1, 0, 0, 0, 0, 0]),
+];
+
+#[test]
+fn a_gate_that_answers_false_ends_its_program_alone(rt: HostRuntime) {
+    for (seat, call, wanted) in &SHUT {
+        let shut = Shut::new(*seat, *call);
+        let programs = two_programs(&rt, rt.alloc());
+        let fault = fault_of::<HostRuntime, Shut>(&rt, rt.alloc(), programs, &shut);
+        assert!(rt; fault.cause == WorkCause::Gate && fault.back.is_none());
+        assert!(rt; shut.was_asked(wanted), "{seat} {call}");
+    }
+}
+
+/// The seat 2, which has taken the seat 1 in, before the seat 0.
+fn two_before_zero<M: Running, R: Abort>(rt: &R, alloc: Global) -> (LiveSet<M>, Vec<Seat<M>>)
+    ensures { All (λ s. s.set ≡ result.0) result.1.items }
+{
+    let (set, mut seats) = in_a_row::<M, R>(rt, alloc, 3);
+    let mut two = last_of(rt, &set, &mut seats);
+    let one = last_of(rt, &set, &mut seats);
+    let zero = last_of(rt, &set, &mut seats);
+    set.gather(&mut two, one);
+    let seats = vec![in alloc; two, zero].expect(rt, "room");
+    (set, seats)
+}
+
+/// A gate is given the number of the seat's thread, and replies come in the order of the seats.
+#[test]
+fn seats_work_in_any_order(rt: HostRuntime) {
+    let (set, seats) = two_before_zero::<LazyList, HostRuntime>(&rt, rt.alloc());
+    let programs = pair(
+        &rt,
+        rt.alloc(),
+        &[Call::Add(Key(2))],
+        &[Call::Remove(Key(1))],
+    );
+    let asked = Shut::new(u32::MAX, 0);
+    let outcome = worked(&rt, rt.alloc(), set, seats, programs, &asked);
+    assert!(rt; asked.was_asked(&[1, 0, 0, 0, 0, 0, 1, 0, 0, 0]));
+    assert!(rt; are_as_wanted(&outcome, &[&[Reply::True], &[Reply::False]], &[2]));
+}
+
+/// So many programs of two adds, of keys that no other has.
+fn two_adds_each<R: Abort>(rt: &R, alloc: Global, seats: u32) -> Vec<Vec<Call>> {
+    let mut programs = Vec::new(alloc);
+    for seat in 0..seats {
+        let calls = [
+            Call::Add(Key(seat)),
+            Call::Add(Key(seat.saturating_add(seats))),
+        ];
+        let program = Vec::from_slice(alloc, &calls).expect(rt, "room");
+        programs.push(program).expect(rt, "room");
+    }
+    programs
+}
+
+/// No program waits for the end of another: all meet at their second calls.
+fn meet<M: Running + Send + Sync, R: Host>(rt: &R, alloc: Global, seats: u32) {
+    let (set, row) = in_a_row::<M, R>(rt, alloc, seats);
+    let meeting = Meeting::new(rt, u64::from(seats));
+    let programs = two_adds_each(rt, alloc, seats);
+    let outcome = worked(rt, alloc, set, row, programs, &meeting);
+    assert!(rt; meeting.was_held());
+    let both = [Reply::True; 2];
+    assert!(rt;
+        outcome
+            .replies
+            .iter()
+            .all(|replies| replies.as_slice() == both.as_slice())
+    );
+    assert!(rt; outcome.keys.len() == 2 * seats as usize);
+}
+
+#[test]
+fn two_workers_meet(rt: HostRuntime) {
+    at_each_list!(meet, rt, 2);
+}
+
+#[test]
+fn four_programs_meet(rt: HostRuntime) {
+    at_each_list!(meet, rt, 4);
+}
+
+#[test]
+fn programs_of_all_seats_meet(rt: HostRuntime) {
+    meet::<LazyList, HostRuntime>(&rt, rt.alloc(), MOST_THREADS);
+}
+
+/// How often each of 50 keys was put in, less how often it was taken out.
+fn balance_of(programs: &[Vec<Call>], replies: &[Vec<Reply>]) -> [u64; 50] {
+    let mut balance = [0u64; 50];
+    for (program, replies) in programs.iter().zip(replies) {
+        for (call, reply) in program.iter().zip(replies) {
+            let at = (call.key().0 % 50) as usize;
+            match (call, reply) {
+                (Call::Add(_), Reply::True) => balance[at] = balance[at].wrapping_add(1),
+                (Call::Remove(_), Reply::True) => balance[at] = balance[at].wrapping_sub(1),
+                _ => {}
+            }
+        }
+    }
+    balance
+}
+
+/// Four threads call with the same 50 keys.
+fn add_up<M: Running + Send + Sync, R: Host>(rt: &R, alloc: Global) {
+    let (set, seats) = open::<M>(alloc, 4, 2_000).expect(rt, "not opened");
+    let drawn = programs(alloc, 4, 2_000, 50, 7).expect(rt, "not drawn");
+    let again = programs(alloc, 4, 2_000, 50, 7).expect(rt, "not drawn");
+    let outcome = worked(rt, alloc, set, seats, drawn, &Always);
+    let are_answered = outcome.replies.iter().all(|replies| replies.len() == 2_000);
+    assert!(rt; are_answered && outcome.replies.len() == 4);
+    let balance = balance_of(&again, &outcome.replies);
+    for (key, left) in (0..).zip(&balance) {
+        assert_eq!(rt; *left, u64::from(outcome.keys.contains(&key)), "{key}");
+    }
+}
+
+#[test]
+fn each_key_left_was_put_in_once_more_than_taken_out(rt: HostRuntime) {
+    at_each_list!(add_up, rt);
+}

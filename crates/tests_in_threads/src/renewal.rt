@@ -1,0 +1,133 @@
+//! A set that was closed is opened again with its keys, with other seats and slots, and as another list.
+ghost use Rattle.std.specs.Prelude.{◌≡◌};
+
+use crate::opened::{close_with, gathered, keys_left, last_of, make_calls, rising_keys};
+use crate::prelude::*;
+use crate::sizes::{Draws, Sizes, runs_beside_models};
+use lset_words::Kind;
+
+/// Calls on a set that opened with the key 9 and without a slot.
+const CALLS_ON_A_KEY: [(Call, Reply); 3] = [
+    (Call::Contains(Key(9)), Reply::True),
+    (Call::Add(Key(4)), Reply::Full),
+    (Call::Remove(Key(9)), Reply::True),
+];
+
+/// Three seats without a slot, and the key 9: it takes no slot, and goes out as any other.
+fn opens_with_a_key<M: Running, R: Host>(rt: &R, alloc: Global) {
+    let (set, mut seats) = open_with::<M>(alloc, 3, 0, &[9]).expect(rt, "not opened");
+    let mut last = last_of(rt, &set, &mut seats);
+    make_calls(rt, &set, &mut last, &CALLS_ON_A_KEY);
+    seats.push(last).expect(rt, "room");
+    let seat = gathered(&set, seats).expect(rt, "no seat");
+    close_with(rt, set, seat, &[]);
+}
+
+#[test]
+fn a_closed_set_opens_again(rt: HostRuntime) {
+    at_each_list!(opens_with_a_key, rt);
+}
+
+/// Calls on a set that opened with the keys 0, 7 and the largest, and has two slots.
+const CALLS_ON_KEYS: [(Call, Reply); 7] = [
+    (Call::Add(Key(7)), Reply::False),
+    (Call::Remove(Key(0)), Reply::True),
+    (Call::Add(Key(0)), Reply::True),
+    (Call::Ceiling(Key(8)), Reply::At(Key(u32::MAX))),
+    (Call::Remove(Key(u32::MAX)), Reply::True),
+    (Call::Add(Key(8)), Reply::True),
+    (Call::Add(Key(9)), Reply::Full),
+];
+
+fn keeps_its_keys<M: Running, R: Host>(rt: &R, alloc: Global) {
+    let opened = open_with::<M>(alloc, 1, 2, &[0, 7, u32::MAX]);
+    let (set, mut seats) = opened.expect(rt, "not opened");
+    let mut seat = last_of(rt, &set, &mut seats);
+    make_calls(rt, &set, &mut seat, &CALLS_ON_KEYS);
+    close_with(rt, set, seat, &[0, 7, 8]);
+}
+
+#[test]
+fn the_smallest_and_the_largest_key_open_a_set_and_go_out(rt: HostRuntime) {
+    at_each_list!(keeps_its_keys, rt);
+}
+
+/// Seats, a quota, keys, and why no set is opened with them.
+const REFUSED: [(u32, u32, [u32; 2], OpenFault); 4] = [
+    (0, 16_385, [5, 5], OpenFault::Seats),
+    (1, 16_385, [5, 5], OpenFault::Quota),
+    (1, 1, [5, 5], OpenFault::Opening),
+    (1, 1, [6, 5], OpenFault::Opening),
+];
+
+#[test]
+fn open_with_refuses_seats_then_quota_then_keys_that_do_not_rise(rt: HostRuntime) {
+    for (seats, quota, keys, fault) in &REFUSED {
+        let found = open_with::<LazyList>(rt.alloc(), *seats, *quota, keys).err();
+        assert!(rt; found == Some(*fault), "{seats} {quota}");
+    }
+}
+
+/// A life of a set: it opens with these keys, threads run their programs, and it is closed. The keys that are left.
+fn life<R: Host>(
+    rt: &R,
+    alloc: Global,
+    kind: Kind,
+    sizes: Sizes,
+    keys: &[u32],
+    draws: &mut Draws,
+) -> Vec<u32> {
+    match kind {
+        Kind::Coarse => runs_beside_models::<CoarseList, R>(rt, alloc, sizes, keys, draws),
+        Kind::Fine => runs_beside_models::<FineList, R>(rt, alloc, sizes, keys, draws),
+        Kind::Optimistic => runs_beside_models::<OptimisticList, R>(rt, alloc, sizes, keys, draws),
+        Kind::Lazy => runs_beside_models::<LazyList, R>(rt, alloc, sizes, keys, draws),
+        Kind::LockFree => runs_beside_models::<LockFreeList, R>(rt, alloc, sizes, keys, draws),
+    }
+}
+
+/// The lists, with other numbers of seats and quotas each.
+const LIVES: [(Kind, u32, u32); 5] = [
+    (Kind::Coarse, 6, 40),
+    (Kind::Fine, 4, 30),
+    (Kind::Optimistic, 3, 0),
+    (Kind::Lazy, 2, 7),
+    (Kind::LockFree, 1, 16),
+];
+
+#[test]
+fn each_list_opens_with_the_keys_that_each_list_left(rt: HostRuntime) {
+    let mut draws = Draws::new(7);
+    let mut left = 0usize;
+    for (first, _, _) in LIVES {
+        let sizes = Sizes::new(6, 40, 0, 300, 60);
+        let keys = life(&rt, rt.alloc(), first, sizes, &[], &mut draws);
+        assert!(rt; !keys.is_empty());
+        for (next, threads, quota) in LIVES {
+            let sizes = Sizes::new(threads, quota, 0, 300, 60);
+            let last = life(&rt, rt.alloc(), next, sizes, &keys, &mut draws);
+            left = left.saturating_add(last.len());
+        }
+    }
+    assert!(rt; left > 0);
+}
+
+/// Calls on a set that opened with so many even keys as may be, and has one slot.
+const CALLS_ON_A_MILLION: [(Call, Reply); 3] = [
+    (Call::Contains(Key(2_097_150)), Reply::True),
+    (Call::Add(Key(1)), Reply::True),
+    (Call::Ceiling(Key(2_097_151)), Reply::Nothing),
+];
+
+#[test]
+fn a_million_keys_open_a_set_and_no_more(rt: HostRuntime) {
+    let keys = rising_keys(&rt, rt.alloc(), MOST_OPENING, 2);
+    let opened = open_with::<LockFreeList>(rt.alloc(), 1, 1, &keys);
+    let (set, mut seats) = opened.expect(&rt, "not opened");
+    let mut seat = last_of(&rt, &set, &mut seats);
+    make_calls(&rt, &set, &mut seat, &CALLS_ON_A_MILLION);
+    let left = keys_left(&rt, set, seat);
+    assert!(rt; left.len() == 1_048_577);
+    let found = open_with::<LazyList>(rt.alloc(), 1, 1, &left).err();
+    assert!(rt; found == Some(OpenFault::Opening));
+}

@@ -1,0 +1,81 @@
+//! Calls with few rounds: the walk of each loop is as long as is known here, and a lock that is held is not waited for.
+ghost use Rattle.std.specs.Prelude.{◌≡◌};
+
+use crate::opened::two_seats_on;
+use crate::pauses::Count;
+use crate::prelude::*;
+use lset_live::Rounds;
+
+/// So many rounds.
+struct UpTo<const N: u64>;
+
+impl<const N: u64> Rounds for UpTo<N> {
+    ghost MOST = { N };
+
+    const MOST: u64 = N;
+}
+
+/// A walk to a key looks at each key below it and at the first that is not.
+const KEYS: [u32; 5] = [10, 20, 30, 40, 50];
+
+/// The reply of a call in a set that was just opened, in so many rounds.
+fn reply_of<M: Bounded, R: Abort, N: Rounds>(rt: &R, alloc: Global, call: Call) -> Option<Reply> {
+    let (set, zero, _one) = two_seats_on::<M, R>(rt, alloc, &KEYS);
+    let (_zero, reply) = set.call_within::<Spin, N>(zero, call, &Spin::new())?;
+    Some(reply)
+}
+
+/// The walks to 25 and to 30 have three rounds: two are too few.
+fn has_rounds<M: Bounded, R: Abort>(rt: &R, alloc: Global) {
+    for call in [Call::Add(Key(25)), Call::Remove(Key(30))] {
+        assert!(rt; reply_of::<M, R, UpTo<2>>(rt, alloc, call).is_none());
+        assert!(rt; reply_of::<M, R, UpTo<3>>(rt, alloc, call) == Some(Reply::True));
+        assert!(rt; reply_of::<M, R, Countless>(rt, alloc, call) == Some(Reply::True));
+    }
+    let sought = Call::Ceiling(Key(25));
+    assert!(rt; reply_of::<M, R, UpTo<1>>(rt, alloc, sought).is_none());
+    assert!(rt; reply_of::<M, R, UpTo<100>>(rt, alloc, sought) == Some(Reply::At(Key(30))));
+}
+
+#[test]
+fn a_call_gives_up_after_its_rounds_and_not_before(rt: HostRuntime) {
+    at_each_list!(has_rounds, rt);
+}
+
+/// A `contains` walks past the last key under any bound.
+fn walks_on<M: Bounded, R: Abort>(rt: &R, alloc: Global) {
+    let (last, none) = (Call::Contains(Key(50)), Call::Contains(Key(55)));
+    assert!(rt; reply_of::<M, R, UpTo<1>>(rt, alloc, last) == Some(Reply::True));
+    assert!(rt; reply_of::<M, R, UpTo<1>>(rt, alloc, none) == Some(Reply::False));
+}
+
+#[test]
+fn a_contains_of_a_list_that_marks_has_no_rounds(rt: HostRuntime) {
+    walks_on::<LazyList, HostRuntime>(&rt, rt.alloc());
+    walks_on::<LockFreeList, HostRuntime>(&rt, rt.alloc());
+}
+
+/// A set in which a call had too few rounds and keeps its locks, and its other seat.
+fn stuck<M: Bounded, R: Abort>(rt: &R, alloc: Global) -> (LiveSet<M>, Seat<M>)
+    ensures { result.1.set ≡ result.0 }
+{
+    let (set, zero, one) = two_seats_on::<M, R>(rt, alloc, &KEYS);
+    let made = set.call_within::<Spin, UpTo<2>>(one, Call::Add(Key(25)), &Spin::new());
+    assert!(rt; made.is_none());
+    (set, zero)
+}
+
+/// Another call that comes to such a lock fails there once, and as often again as it has rounds, and gives up then.
+fn gives_up_at_a_lock<M: Bounded, R: Abort>(rt: &R, alloc: Global, call: Call) {
+    let (set, zero) = stuck::<M, R>(rt, alloc);
+    let count = Count::new(0);
+    let found = set.call_within::<Count, UpTo<100>>(zero, call, &count);
+    assert!(rt; found.is_none());
+    assert_eq!(rt; count.so_far().1, 101);
+}
+
+#[test]
+fn a_lock_is_tried_as_often_as_there_are_rounds(rt: HostRuntime) {
+    gives_up_at_a_lock::<CoarseList, HostRuntime>(&rt, rt.alloc(), Call::Contains(Key(10)));
+    gives_up_at_a_lock::<FineList, HostRuntime>(&rt, rt.alloc(), Call::Contains(Key(30)));
+}

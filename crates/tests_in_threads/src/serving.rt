@@ -1,0 +1,166 @@
+//! Servers on the loopback, and their clients.
+ghost use Rattle.std.specs.Prelude.{◌≡◌, All};
+
+use crate::clients::{all_meet, asks, leaves, meets};
+use crate::opened::last_of;
+use crate::prelude::*;
+use crate::sessions::{ANSWERS, CEILINGS, FOUND, LINES};
+use lset_server::{ServeCause, Served, serve};
+
+/// The list on which the tests serve.
+type Set = LiveSet<LazyList>;
+
+/// A set that opens empty, with a quota of 4, and its seats.
+fn opened<R: Abort>(rt: &R, alloc: Global, seats: u32) -> (Set, Vec<Seat<LazyList>>)
+    ensures { All (λ s. s.set ≡ result.0) result.1.items }
+{
+    open::<LazyList>(alloc, seats, 4).expect(rt, "not opened")
+}
+
+fn listening<R: Host + Net<Listener = TcpListener, Stream = TcpStream>>(rt: &R) -> TcpListener {
+    TcpListener::bind(rt, "127.0.0.1:0").expect(rt, "no port")
+}
+
+/// What a server makes of so many sessions on these seats, while clients ask at its port, and find what they want.
+fn served_on<
+    R: Host + Net<Listener = TcpListener, Stream = TcpStream>,
+    F: FnOnce(u16) -> bool + Send,
+>(rt: &R, alloc: Global, set: Set, seats: Vec<Seat<LazyList>>, sessions: u32, ask: F) -> Served
+    requires seats { All (λ s. s.set ≡ set) seats.items }
+    requires ask { F.IsAlwaysCallable ask }
+{
+    let listener = listening(rt);
+    let port = listener.local_addr().expect(rt, "no port").port();
+    let (served, asked) = join(
+        rt,
+        move ||
+            requires { All (λ s. s.set ≡ set) seats.items }
+        { serve(rt, alloc, listener, set, seats, sessions) },
+        move || ask(port),
+    );
+    assert!(rt; asked);
+    match served {
+        Ok(served) => served,
+        Err(fault) => panic!(rt; "{:?}", fault.cause),
+    }
+}
+
+/// So does a server with so many seats.
+fn served_while<
+    R: Host + Net<Listener = TcpListener, Stream = TcpStream>,
+    F: FnOnce(u16) -> bool + Send,
+>(rt: &R, alloc: Global, seats: u32, sessions: u32, ask: F) -> Served
+    requires { F.IsAlwaysCallable ask }
+{
+    let (set, seats) = opened(rt, alloc, seats);
+    served_on(rt, alloc, set, seats, sessions, ask)
+}
+
+fn made<R: Abort>(rt: &R, served: &Served, sessions: u64, calls: u64, keys: &[u32]) {
+    assert_eq!(rt; (served.sessions, served.calls), (sessions, calls));
+    assert_eq!(rt; served.keys.as_slice(), keys);
+}
+
+#[test]
+fn a_client_gets_its_six_lines(rt: HostRuntime) {
+    let ask = |port: u16| asks(&rt, port, LINES, ANSWERS);
+    let served = served_while(&rt, rt.alloc(), 1, 1, ask);
+    made(&rt, &served, 1, 4, &[]);
+}
+
+#[test]
+fn no_session_leaves_no_keys(rt: HostRuntime) {
+    let served = served_while(&rt, rt.alloc(), 2, 0, |_port: u16| true);
+    made(&rt, &served, 0, 0, &[]);
+}
+
+#[test]
+fn serve_with_a_missing_seat_gives_set_and_seats_back(rt: HostRuntime) {
+    let (set, mut seats) = opened(&rt, rt.alloc(), 2);
+    let _ = seats.pop();
+    let Err(fault) = serve(&rt, rt.alloc(), listening(&rt), set, seats, 1) else {
+        panic!(rt; "a seat is missing")
+    };
+    assert!(rt; fault.cause == ServeCause::Seats && fault.back.is_some());
+}
+
+/// Two clients, of which none goes away before both have their answers.
+fn both_meet<R: Host + Net<Listener = TcpListener, Stream = TcpStream>>(rt: &R, port: u16) -> bool {
+    let met = AtomicU64::new(0);
+    let both = join(
+        rt,
+        || meets(rt, port, b"ADD 1\n", &met),
+        || meets(rt, port, b"ADD 2\n", &met),
+    );
+    both.0 && both.1
+}
+
+#[test]
+fn two_sessions_meet(rt: HostRuntime) {
+    let served = served_while(&rt, rt.alloc(), 2, 2, |port: u16| both_meet(&rt, port));
+    made(&rt, &served, 2, 2, &[1, 2]);
+}
+
+/// On each of these seats a session is held at once, as long as there are sessions; and then those that are left.
+fn meets_on_each_seat<R: Host + Net<Listener = TcpListener, Stream = TcpStream>>(
+    rt: &R,
+    alloc: Global,
+    seats: u32,
+    sessions: u32,
+) {
+    let first = sessions.min(seats);
+    let rest = sessions.saturating_sub(first);
+    let served = served_while(rt, alloc, seats, sessions, |port: u16| {
+        all_meet(rt, alloc, port, first) && all_meet(rt, alloc, port, rest)
+    });
+    made(rt, &served, u64::from(sessions), u64::from(sessions), &[]);
+}
+
+/// Fewer sessions than seats, as many, and more.
+#[test]
+fn as_many_sessions_meet_as_there_are_seats(rt: HostRuntime) {
+    for (seats, sessions) in [(2, 1), (3, 3), (5, 7), (64, 65)] {
+        meets_on_each_seat(&rt, rt.alloc(), seats, sessions);
+    }
+}
+
+/// A set with four seats, of which two hold two each.
+fn two_pairs<R: Abort>(rt: &R, alloc: Global) -> (Set, Vec<Seat<LazyList>>)
+    ensures { All (λ s. s.set ≡ result.0) result.1.items }
+{
+    let (set, mut seats) = opened(rt, alloc, 4);
+    let three = last_of(rt, &set, &mut seats);
+    let two = last_of(rt, &set, &mut seats);
+    let mut one = last_of(rt, &set, &mut seats);
+    let mut zero = last_of(rt, &set, &mut seats);
+    set.gather(&mut zero, three);
+    set.gather(&mut one, two);
+    let pairs = vec![in alloc; zero, one].expect(rt, "room");
+    (set, pairs)
+}
+
+/// A worker for each of the gathered seats, and not for each seat of the set.
+#[test]
+fn gathered_seats_serve(rt: HostRuntime) {
+    let (set, pairs) = two_pairs(&rt, rt.alloc());
+    let ask = |port: u16| both_meet(&rt, port);
+    let served = served_on(&rt, rt.alloc(), set, pairs, 2, ask);
+    made(&rt, &served, 2, 2, &[1, 2]);
+}
+
+#[test]
+fn a_client_that_leaves_ends_its_session_alone(rt: HostRuntime) {
+    let ask = |port: u16| {
+        leaves(&rt, port, b"ADD 7\nADD") && asks(&rt, port, b"CONTAINS 7\nQUIT\n", b"TRUE\nBYE\n")
+    };
+    let served = served_while(&rt, rt.alloc(), 1, 2, ask);
+    made(&rt, &served, 2, 2, &[7]);
+}
+
+#[test]
+fn a_ceiling_finds_the_key_of_another_session(rt: HostRuntime) {
+    let (lines, answers) = (b"CEILING 9\nCEILING 10\nQUIT\n", b"AT 9\nNONE\nBYE\n");
+    let ask = |port: u16| asks(&rt, port, CEILINGS, FOUND) && asks(&rt, port, lines, answers);
+    let served = served_while(&rt, rt.alloc(), 1, 2, ask);
+    made(&rt, &served, 2, 5, &[9]);
+}

@@ -1,0 +1,359 @@
+//! Programs on threads, of log-uniform sizes up to each limit, beside a model. Each thread has keys of its own, those that leave its number
+//! when they are divided by the number of threads, and a sequential set of them: so its replies do not hang on what the others do.
+ghost use Rattle.std.specs.Prelude.{◌≡◌};
+
+use crate::opened::{keys_left, last_of, make_calls, rising_keys};
+use crate::prelude::*;
+use crate::programs::worked;
+use std::collections::BTreeSet;
+
+/// What a set is opened with, and the programs on it: keys up to `last`, and so many calls of all threads together.
+#[derive(Clone, Copy, Debug)]
+pub struct Sizes {
+    threads: u32,
+    quota: u32,
+    opening: u32,
+    calls: u32,
+    last: u32,
+}
+
+/// Numbers that are drawn (Knuth's linear congruence).
+#[derive(Drop)]
+pub struct Draws {
+    number: u64,
+}
+
+impl Draws {
+    pub fn new(seed: u64) -> Draws {
+        Draws { number: seed }
+    }
+
+    fn up_to(&mut self, most: u32) -> u32 {
+        self.number = self
+            .number
+            .wrapping_mul(6_364_136_223_846_793_005)
+            .wrapping_add(1_442_695_040_888_963_407);
+        let drawn = (self.number >> 32) % u64::from(most).wrapping_add(1).max(1);
+        u32::try_from(drawn).unwrap_or(most)
+    }
+
+    /// A number up to `most`: small ones as often as large ones, and `most` itself once in eight times.
+    fn log_uniform(&mut self, most: u32) -> u32 {
+        if self.up_to(7) == 0 {
+            return most;
+        }
+        let mut drawn = self.up_to(most);
+        for _ in 0..self.up_to(most.checked_ilog2().unwrap_or(0)) {
+            drawn /= 2;
+        }
+        drawn
+    }
+
+    fn sizes(&mut self) -> Sizes {
+        let threads = self.log_uniform(MOST_THREADS - 1).saturating_add(1);
+        let quota = self.log_uniform(MOST_QUOTA);
+        let opening = self.log_uniform(MOST_OPENING);
+        let calls = self.log_uniform(200_000);
+        Sizes::new(threads, quota, opening, calls, self.log_uniform(u32::MAX))
+    }
+
+    fn call(&mut self, key: Key) -> Call {
+        match self.up_to(3) {
+            0 => Call::Add(key),
+            1 => Call::Remove(key),
+            2 => Call::Contains(key),
+            _ => Call::Ceiling(key),
+        }
+    }
+}
+
+/// About so many nodes are passed in a run at most, so that it ends in time.
+const MOST_PASSED: u64 = 5_000_000;
+
+impl Sizes {
+    pub fn new(threads: u32, quota: u32, opening: u32, calls: u32, last: u32) -> Sizes {
+        Sizes {
+            threads,
+            quota,
+            opening,
+            calls,
+            last,
+        }
+    }
+
+    /// How many calls a thread makes: fewer than it should where each may walk far.
+    fn calls_of(&self, thread: u32) -> u32 {
+        let slots = u64::from(self.threads) * u64::from(self.quota);
+        let added = slots.min(u64::from(self.last)).min(u64::from(self.calls));
+        let passed = u64::from(self.opening).saturating_add(added).max(40);
+        let calls = u64::from(self.calls).min(MOST_PASSED / passed.max(1));
+        let (threads, calls) = (self.threads.max(1), u32::try_from(calls).unwrap_or(0));
+        (calls / threads).saturating_add(u32::from(thread < calls % threads))
+    }
+
+    /// The key of this thread next to a drawn one.
+    fn own_key(&self, drawn: u32, thread: u32) -> Key {
+        let others = drawn.checked_rem(self.threads).unwrap_or(0);
+        let first = drawn.wrapping_sub(others);
+        Key(first.checked_add(thread).unwrap_or(thread))
+    }
+
+    fn is_own(&self, key: u32, thread: u32) -> bool {
+        key.checked_rem(self.threads) == Some(thread)
+    }
+
+    fn programs<R: Abort>(&self, rt: &R, alloc: Global, draws: &mut Draws) -> Vec<Vec<Call>> {
+        let mut programs = Vec::new(alloc);
+        for thread in 0..self.threads {
+            let mut program = Vec::new(alloc);
+            for _ in 0..self.calls_of(thread) {
+                let drawn = draws.log_uniform(self.last);
+                let key = self.own_key(drawn, thread);
+                program.push(draws.call(key)).expect(rt, "room");
+            }
+            programs.push(program).expect(rt, "room");
+        }
+        programs
+    }
+}
+
+fn truth(is_true: bool) -> Reply {
+    if is_true { Reply::True } else { Reply::False }
+}
+
+/// The keys of a thread, and how many slots it has left.
+#[derive(Drop)]
+struct Model {
+    sizes: Sizes,
+    thread: u32,
+    keys: BTreeSet<u32>,
+    slots: u32,
+}
+
+impl Model {
+    fn new<R: Abort>(rt: &R, alloc: Global, sizes: Sizes, thread: u32, opening: &[u32]) -> Model {
+        let mut keys = BTreeSet::new(alloc);
+        for key in opening {
+            if sizes.is_own(*key, thread) {
+                keys.insert(*key).expect(rt, "room");
+            }
+        }
+        Model {
+            sizes,
+            thread,
+            keys,
+            slots: sizes.quota,
+        }
+    }
+
+    /// Makes the call: whether the reply is right.
+    fn makes<R: Abort>(&mut self, rt: &R, call: Call, reply: Reply) -> bool {
+        match call {
+            Call::Add(key) => reply == self.add(rt, key.0),
+            Call::Remove(key) => reply == truth(self.keys.remove(&key.0)),
+            Call::Contains(key) => reply == truth(self.keys.contains(&key.0)),
+            Call::Ceiling(key) => self.may_find(key.0, reply),
+        }
+    }
+
+    fn add<R: Abort>(&mut self, rt: &R, key: u32) -> Reply {
+        if self.keys.contains(&key) {
+            return Reply::False;
+        }
+        if self.slots == 0 {
+            return Reply::Full;
+        }
+        self.slots = self.slots.saturating_sub(1);
+        self.keys.insert(key).expect(rt, "room");
+        Reply::True
+    }
+
+    /// A key of another thread may be found before the first own one.
+    fn may_find(&self, key: u32, reply: Reply) -> bool {
+        let own = self.keys.range(key..).next();
+        match (reply, own) {
+            (Reply::At(found), Some(own)) if self.sizes.is_own(found.0, self.thread) => found.0
+                == *own,
+            (Reply::At(found), Some(own)) => key <= found.0 && found.0 < *own,
+            (Reply::At(found), None) => key <= found.0 && !self.sizes.is_own(found.0, self.thread),
+            (reply, None) => reply == Reply::Nothing,
+            (_, Some(_)) => false,
+        }
+    }
+
+    /// The program's replies are right; and of these keys its own are left, so many.
+    fn is_as_wanted<R: Abort>(
+        &mut self,
+        rt: &R,
+        program: &[Call],
+        replies: &[Reply],
+        left: &[u32],
+    ) -> bool {
+        let mut is_right = program.len() == replies.len();
+        for (call, reply) in program.iter().zip(replies) {
+            is_right = self.makes(rt, *call, *reply) && is_right;
+        }
+        let mut found = 0usize;
+        for key in left {
+            if self.sizes.is_own(*key, self.thread) {
+                found = found.saturating_add(1);
+                is_right = self.keys.contains(key) && is_right;
+            }
+        }
+        is_right && found == self.keys.len()
+    }
+}
+
+/// Threads run programs on a set that opens with these keys, and all is as the models have it: the keys that are left.
+pub fn runs_beside_models<M: Running + Send + Sync, R: Host>(
+    rt: &R,
+    alloc: Global,
+    sizes: Sizes,
+    opening: &[u32],
+    draws: &mut Draws,
+) -> Vec<u32> {
+    let number = draws.number;
+    let drawn = sizes.programs(rt, alloc, &mut Draws::new(number));
+    let again = sizes.programs(rt, alloc, draws);
+    let opened = open_with::<M>(alloc, sizes.threads, sizes.quota, opening);
+    let (set, seats) = opened.expect(rt, "not opened");
+    let outcome = worked(rt, alloc, set, seats, drawn, &Always);
+    assert!(rt; outcome.replies.len() == again.len());
+    for (thread, (program, replies)) in (0..).zip(again.iter().zip(&outcome.replies)) {
+        let mut model = Model::new(rt, alloc, sizes, thread, opening);
+        let is_right = model.is_as_wanted(rt, program, replies, &outcome.keys);
+        assert!(rt; is_right, "{sizes:?} thread {thread}");
+    }
+    outcome.keys
+}
+
+/// Each limit; and more calls than 65,536, by one thread and by three.
+fn at_the_limits() -> [Sizes; 4] {
+    [
+        Sizes::new(MOST_THREADS, MOST_QUOTA, MOST_OPENING, 64, u32::MAX),
+        Sizes::new(MOST_THREADS, 0, 0, 0, u32::MAX),
+        Sizes::new(1, MOST_QUOTA, 0, 90_000, 20),
+        Sizes::new(3, MOST_QUOTA, 9, 70_000, 60),
+    ]
+}
+
+fn runs<M: Running + Send + Sync, R: Host>(rt: &R, alloc: Global, sizes: Sizes, draws: &mut Draws) {
+    let step = u32::MAX / sizes.opening.max(1);
+    let opening = rising_keys(
+        rt,
+        alloc,
+        sizes.opening,
+        step.min(1 + draws.log_uniform(4_000)),
+    );
+    let _left = runs_beside_models::<M, R>(rt, alloc, sizes, &opening, draws);
+}
+
+/// How many runs of drawn sizes each list makes.
+const RUNS: u32 = 8;
+
+fn calls_succeed<M: Running + Send + Sync, R: Host>(rt: &R, alloc: Global, seed: u64) {
+    let mut draws = Draws::new(seed);
+    for sizes in at_the_limits() {
+        runs::<M, R>(rt, alloc, sizes, &mut draws);
+    }
+    for _ in 0..RUNS {
+        let sizes = draws.sizes();
+        runs::<M, R>(rt, alloc, sizes, &mut draws);
+    }
+}
+
+#[test]
+fn coarse_calls_succeed_at_all_sizes(rt: HostRuntime) {
+    calls_succeed::<CoarseList, HostRuntime>(&rt, rt.alloc(), 1);
+}
+
+#[test]
+fn fine_calls_succeed_at_all_sizes(rt: HostRuntime) {
+    calls_succeed::<FineList, HostRuntime>(&rt, rt.alloc(), 2);
+}
+
+#[test]
+fn optimistic_calls_succeed_at_all_sizes(rt: HostRuntime) {
+    calls_succeed::<OptimisticList, HostRuntime>(&rt, rt.alloc(), 3);
+}
+
+#[test]
+fn lazy_calls_succeed_at_all_sizes(rt: HostRuntime) {
+    calls_succeed::<LazyList, HostRuntime>(&rt, rt.alloc(), 4);
+}
+
+#[test]
+fn lock_free_calls_succeed_at_all_sizes(rt: HostRuntime) {
+    calls_succeed::<LockFreeList, HostRuntime>(&rt, rt.alloc(), 5);
+}
+
+/// A seat adds keys from `first` up, one for each of its slots, in falling order: each stands right behind the head.
+fn fill<M: Running, R: Wait>(rt: &R, set: &LiveSet<M>, seat: &mut Seat<M>, first: u32, count: u32)
+    requires { seat.old.set ≡ set.now }
+    ensures { seat.new.set ≡ set.now }
+{
+    for number in (0..count).rev() {
+        let _reply = set.add(rt, seat, Key(first.saturating_add(number)));
+    }
+}
+
+/// Each slot of each seat takes a key, below those with which the set opens.
+fn filled<M: Running, R: Host>(rt: &R, alloc: Global, opening: &[u32]) -> (LiveSet<M>, Seat<M>)
+    ensures { result.1.set ≡ result.0 }
+{
+    let opened = open_with::<M>(alloc, MOST_THREADS, MOST_QUOTA, opening);
+    let (set, mut seats) = opened.expect(rt, "not opened");
+    let mut all = None;
+    for thread in (0..MOST_THREADS).rev() {
+        let mut seat = last_of(rt, &set, &mut seats);
+        fill(
+            rt,
+            &set,
+            &mut seat,
+            thread.wrapping_mul(MOST_QUOTA),
+            MOST_QUOTA,
+        );
+        all = Some(set.gather_onto(all, seat));
+    }
+    (set, all.expect(rt, "no seat"))
+}
+
+const SLOTS: u32 = MOST_THREADS * MOST_QUOTA;
+
+const LAST: Key = Key(SLOTS + MOST_OPENING - 1);
+
+const PAST_ALL: [(Call, Reply); 5] = [
+    (Call::Contains(LAST), Reply::True),
+    (Call::Add(Key(u32::MAX)), Reply::Full),
+    (Call::Ceiling(LAST), Reply::At(LAST)),
+    (Call::Remove(LAST), Reply::True),
+    (Call::Ceiling(LAST), Reply::Nothing),
+];
+
+/// The largest set that there may be: every node has a key, and calls walk past all of them.
+fn is_filled<M: Running, R: Host>(rt: &R, alloc: Global) {
+    let mut opening = Vec::new(alloc);
+    for number in 0..MOST_OPENING {
+        opening
+            .push(SLOTS.saturating_add(number))
+            .expect(rt, "room");
+    }
+    let (set, mut seat) = filled::<M, R>(rt, alloc, &opening);
+    make_calls(rt, &set, &mut seat, &PAST_ALL);
+    let keys = keys_left(rt, set, seat);
+    assert!(rt; keys.len() == (SLOTS + MOST_OPENING - 1) as usize);
+    assert!(rt; (0..).zip(&keys).all(|(number, key)| number == *key));
+}
+
+#[test]
+fn each_slot_of_the_largest_set_with_locks_takes_a_key(rt: HostRuntime) {
+    is_filled::<CoarseList, HostRuntime>(&rt, rt.alloc());
+    is_filled::<FineList, HostRuntime>(&rt, rt.alloc());
+    is_filled::<OptimisticList, HostRuntime>(&rt, rt.alloc());
+}
+
+#[test]
+fn each_slot_of_the_largest_set_with_marks_takes_a_key(rt: HostRuntime) {
+    is_filled::<LazyList, HostRuntime>(&rt, rt.alloc());
+    is_filled::<LockFreeList, HostRuntime>(&rt, rt.alloc());
+}

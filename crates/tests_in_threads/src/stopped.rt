@@ -1,0 +1,335 @@
+//! Two calls, of which one stops between two of its steps until the other has ended or waits: rows of the tables, on running sets, by the
+//! loops of each list and by the interpreter on its table.
+ghost use Rattle.std.specs.Prelude.{◌≡◌};
+
+use crate::meeting::{calls, comes};
+use crate::opened::two_seats_on;
+use crate::prelude::*;
+
+/// No step of a call has this number.
+const NEVER: u64 = u64::MAX;
+
+/// A thread: the number, from 0, of the step after which it stops, what was reported to its pauses, and how far its call is.
+#[derive(Drop)]
+struct Told {
+    stops_at: u64,
+    steps: AtomicU64,
+    failed: AtomicU64,
+    has_stopped: AtomicBool,
+    has_ended: AtomicBool,
+}
+
+impl Told {
+    fn new(stops_at: u64) -> Told {
+        Told {
+            stops_at,
+            steps: AtomicU64::new(0),
+            failed: AtomicU64::new(0),
+            has_stopped: AtomicBool::new(false),
+            has_ended: AtomicBool::new(false),
+        }
+    }
+
+    /// A step was made: whether the thread stops after it.
+    fn stops(&self, failed: bool) -> bool {
+        if failed {
+            self.failed.fetch_add(1, Ordering::SeqCst);
+        }
+        let stops = self.steps.fetch_add(1, Ordering::SeqCst) == self.stops_at;
+        if stops {
+            self.has_stopped.store(true, Ordering::SeqCst);
+        }
+        stops
+    }
+
+    fn has_failed_thrice(&self) -> bool {
+        self.failed.load(Ordering::SeqCst) >= 3
+    }
+
+    /// How many steps were made that did not answer, and how many of them have failed.
+    fn counts(&self) -> (u64, u64) {
+        let steps = self.steps.load(Ordering::SeqCst);
+        (steps, self.failed.load(Ordering::SeqCst))
+    }
+}
+
+/// Thread 1 stops until thread 0 has ended its call, or has failed three times; thread 0 stops until thread 1 has stopped.
+#[derive(Drop)]
+struct Stopping<'a, R> {
+    rt: &'a R,
+    zero: Told,
+    one: Told,
+    missed: AtomicBool,
+}
+
+impl<'a, R: Clock> Stopping<'a, R> {
+    fn new(rt: &'a R, zero_at: u64, one_at: u64) -> Stopping<'a, R> {
+        Stopping {
+            rt,
+            zero: Told::new(zero_at),
+            one: Told::new(one_at),
+            missed: AtomicBool::new(false),
+        }
+    }
+
+    fn goes_on(&self, thread: u32) -> bool {
+        match thread {
+            0 => self.one.has_stopped.load(Ordering::SeqCst),
+            _ => self.zero.has_ended.load(Ordering::SeqCst) || self.zero.has_failed_thrice(),
+        }
+    }
+
+    /// For at most 10,000 turns of a sleep of one millisecond.
+    fn wait(&self, thread: u32) {
+        for _ in 0..10_000 {
+            if self.goes_on(thread) {
+                return;
+            }
+            thread::sleep(self.rt, Duration::from_millis(1));
+        }
+        self.missed.store(true, Ordering::SeqCst);
+    }
+
+    fn asked(&self, thread: u32, failed: bool) {
+        let told = if thread == 0 { &self.zero } else { &self.one };
+        if told.stops(failed) {
+            self.wait(thread);
+        }
+    }
+
+    /// Each thread that was to stop did, and none waited in vain.
+    fn was_held(&self) -> bool {
+        let zero = self.zero.stops_at == NEVER || self.zero.has_stopped.load(Ordering::SeqCst);
+        zero && self.one.has_stopped.load(Ordering::SeqCst) && !self.missed.load(Ordering::SeqCst)
+    }
+}
+
+impl<'a, R: Clock> Pause for Stopping<'a, R> {
+    fn moved(&self, thread: u32) {
+        self.asked(thread, false);
+    }
+
+    fn failed(&self, thread: u32) {
+        self.asked(thread, true);
+    }
+}
+
+/// Seats 0 and 1 make a call each, in two threads: the thread that stops first begins, and the other once it has stopped.
+fn both_call<M: Running + Send + Sync, R: Host>(
+    rt: &R,
+    set: &LiveSet<M>,
+    seats: (Seat<M>, Seat<M>),
+    both: (Call, Call),
+    stopping: &Stopping<'_, R>,
+) -> (Reply, Reply)
+    requires { (seats.0.set ≡ set.now) × (seats.1.set ≡ set.now) }
+{
+    let now = AtomicBool::new(true);
+    let (zero_starts, one_starts) = if stopping.zero.stops_at == NEVER {
+        (&stopping.one.has_stopped, &now)
+    } else {
+        (&now, &stopping.zero.has_stopped)
+    };
+    let (zero, one) = seats;
+    let of_zero = (zero_starts, &stopping.zero.has_ended);
+    let of_one = (one_starts, &stopping.one.has_ended);
+    join(
+        rt,
+        move || calls(rt, set, zero, both.0, stopping, of_zero),
+        move || calls(rt, set, one, both.1, stopping, of_one),
+    )
+}
+
+/// A seat's call, the step after which it stops, its reply, how many of its steps do not answer, and how many of those fail.
+type Part = (Call, u64, Reply, u64, u64);
+
+fn is_as_told<M: Running + Send + Sync, R: Host>(
+    rt: &R,
+    alloc: Global,
+    before: &[u32],
+    zero: Part,
+    one: Part,
+) {
+    let (set, first, second) = two_seats_on::<M, R>(rt, alloc, before);
+    let stopping = Stopping::new(rt, zero.1, one.1);
+    let replies = both_call(rt, &set, (first, second), (zero.0, one.0), &stopping);
+    assert!(rt; stopping.was_held());
+    assert_eq!(rt; replies, (zero.2, one.2));
+    assert_eq!(rt; stopping.zero.counts(), (zero.3, zero.4), "seat 0");
+    assert_eq!(rt; stopping.one.counts(), (one.3, one.4), "seat 1");
+}
+
+/// So on a set with these keys: by the loops of the list, and by the interpreter.
+fn both_are<M: Running + Send + Sync, R: Host>(
+    rt: &R,
+    alloc: Global,
+    before: &[u32],
+    both: [Part; 2],
+) {
+    let [zero, one] = both;
+    is_as_told::<M, R>(rt, alloc, before, zero, one);
+    is_as_told::<Stepped<M>, R>(rt, alloc, before, zero, one);
+}
+
+const YES: Reply = Reply::True;
+
+const NO: Reply = Reply::False;
+
+fn add(key: u32) -> Call {
+    Call::Add(Key(key))
+}
+
+fn remove(key: u32) -> Call {
+    Call::Remove(Key(key))
+}
+
+#[test]
+fn coarse_tries_fail_while_the_lock_is_held(rt: HostRuntime) {
+    let both = [(add(5), 0, YES, 6, 0), (add(5), 2, NO, 6, 3)];
+    both_are::<CoarseList, HostRuntime>(&rt, rt.alloc(), &[], both);
+}
+
+#[test]
+fn fine_calls_go_hand_over_hand(rt: HostRuntime) {
+    let both = [(add(5), 3, YES, 8, 0), (remove(9), 1, YES, 13, 2)];
+    both_are::<FineList, HostRuntime>(&rt, rt.alloc(), &[9], both);
+}
+
+#[test]
+fn optimistic_validation_fails_where_pred_is_unlinked_before_it_is_locked(rt: HostRuntime) {
+    let both = [(remove(3), NEVER, YES, 8, 0), (add(5), 3, YES, 19, 0)];
+    both_are::<OptimisticList, HostRuntime>(&rt, rt.alloc(), &[3], both);
+}
+
+#[test]
+fn optimistic_validation_fails_where_pred_has_another_link(rt: HostRuntime) {
+    let both = [(add(4), NEVER, YES, 9, 0), (add(5), 1, YES, 20, 0)];
+    both_are::<OptimisticList, HostRuntime>(&rt, rt.alloc(), &[], both);
+}
+
+#[test]
+fn one_of_two_lazy_removes_finds_the_key_gone(rt: HostRuntime) {
+    let both = [(remove(5), 3, YES, 9, 0), (remove(5), 3, NO, 16, 2)];
+    both_are::<LazyList, HostRuntime>(&rt, rt.alloc(), &[5], both);
+}
+
+#[test]
+fn lazy_validation_fails_where_pred_has_another_link(rt: HostRuntime) {
+    let both = [(add(4), NEVER, YES, 12, 0), (add(5), 2, YES, 23, 0)];
+    both_are::<LazyList, HostRuntime>(&rt, rt.alloc(), &[3], both);
+}
+
+#[test]
+fn one_of_two_lock_free_removes_fails_to_mark(rt: HostRuntime) {
+    let both = [(remove(5), NEVER, YES, 5, 0), (remove(5), 3, NO, 7, 1)];
+    both_are::<LockFreeList, HostRuntime>(&rt, rt.alloc(), &[5], both);
+}
+
+#[test]
+fn a_lock_free_add_fails_at_a_marked_pred_and_snips_it(rt: HostRuntime) {
+    let both = [(add(5), 6, YES, 15, 1), (remove(3), 4, YES, 5, 0)];
+    both_are::<LockFreeList, HostRuntime>(&rt, rt.alloc(), &[3], both);
+}
+
+#[test]
+fn a_lock_free_add_fails_where_its_link_has_changed(rt: HostRuntime) {
+    let both = [(add(2), NEVER, YES, 5, 0), (add(1), 4, YES, 11, 1)];
+    both_are::<LockFreeList, HostRuntime>(&rt, rt.alloc(), &[9], both);
+}
+
+#[test]
+fn a_ceiling_starts_again_at_a_marked_key(rt: HostRuntime) {
+    let both = [
+        (remove(5), NEVER, YES, 5, 0),
+        (Call::Ceiling(Key(3)), 1, Reply::Nothing, 4, 0),
+    ];
+    both_are::<LockFreeList, HostRuntime>(&rt, rt.alloc(), &[5], both);
+}
+
+#[test]
+fn a_ceiling_past_its_link_does_not_see_the_key_that_comes_before(rt: HostRuntime) {
+    let both = [
+        (add(5), NEVER, YES, 5, 0),
+        (Call::Ceiling(Key(3)), 0, Reply::At(Key(9)), 2, 0),
+    ];
+    both_are::<LockFreeList, HostRuntime>(&rt, rt.alloc(), &[9], both);
+}
+
+/// Seat 1 has a lock that seat 0 tries, three times at least: its step `locks_at` takes that of the list or of the head.
+fn waits_at_a_lock<M: Running + Send + Sync, R: Host>(rt: &R, alloc: Global, locks_at: u64) {
+    let (set, zero, one) = two_seats_on::<M, R>(rt, alloc, &[]);
+    let stopping = Stopping::new(rt, NEVER, locks_at);
+    let replies = both_call(rt, &set, (zero, one), (add(2), add(1)), &stopping);
+    assert_eq!(rt; replies, (YES, YES));
+    assert!(rt; stopping.was_held() && stopping.zero.has_failed_thrice());
+    assert!(rt; stopping.one.counts().1 == 0);
+}
+
+#[test]
+fn a_call_waits_at_a_lock_that_another_seat_has(rt: HostRuntime) {
+    waits_at_a_lock::<CoarseList, HostRuntime>(&rt, rt.alloc(), 0);
+    waits_at_a_lock::<FineList, HostRuntime>(&rt, rt.alloc(), 0);
+    waits_at_a_lock::<OptimisticList, HostRuntime>(&rt, rt.alloc(), 2);
+    waits_at_a_lock::<LazyList, HostRuntime>(&rt, rt.alloc(), 2);
+}
+
+/// Once the other has stopped, a seat looks for 10 in both ways, and for the first key behind it: what it finds.
+fn reads<M: RunningReads, R: Clock + Wait>(
+    rt: &R,
+    set: &LiveSet<M>,
+    mut seat: Seat<M>,
+    flags: (&AtomicBool, &AtomicBool),
+) -> (bool, Reply, Reply)
+    requires { seat.set ≡ set.now }
+{
+    let _came = comes(rt, flags.0);
+    let looked = set.contains_now(&mut seat, Key(10));
+    let asked = set.contains(rt, &mut seat, Key(10));
+    let sought = set.ceiling(rt, &mut seat, Key(11));
+    flags.1.store(true, Ordering::SeqCst);
+    (looked, asked, sought)
+}
+
+/// Seat 1 takes 10 out, and stops after a step of that until seat 0 has looked for 10. The set has 20 too.
+fn reads_beside<M: RunningReads + Send + Sync, R: Host>(
+    rt: &R,
+    alloc: Global,
+    stops_at: u64,
+) -> (Reply, (bool, Reply, Reply)) {
+    let (set, zero, one) = two_seats_on::<M, R>(rt, alloc, &[10, 20]);
+    let stopping = Stopping::new(rt, NEVER, stops_at);
+    let (set, stopping, now) = (&set, &stopping, &AtomicBool::new(true));
+    let of_zero = (&stopping.one.has_stopped, &stopping.zero.has_ended);
+    let of_one = (now, &stopping.one.has_ended);
+    let found = join(
+        rt,
+        move || calls(rt, set, one, remove(10), stopping, of_one),
+        move || reads(rt, set, zero, of_zero),
+    );
+    assert!(rt; stopping.was_held());
+    found
+}
+
+/// Before a mark is set 10 is there, and behind it not, while the other stands in its call.
+fn answers_beside<M: RunningReads + Send + Sync, R: Host>(
+    rt: &R,
+    alloc: Global,
+    before: u64,
+    behind: u64,
+) {
+    let there = (YES, (true, YES, Reply::At(Key(20))));
+    assert_eq!(rt; reads_beside::<M, R>(rt, alloc, before), there);
+    let gone = (YES, (false, NO, Reply::At(Key(20))));
+    assert_eq!(rt; reads_beside::<M, R>(rt, alloc, behind), gone);
+}
+
+/// A LazyList's remove has both its locks after its fourth step, and marks by its seventh; a LockFreeList's marks by its fifth.
+#[test]
+fn contains_now_answers_while_another_thread_stands_with_a_lock(rt: HostRuntime) {
+    answers_beside::<LazyList, HostRuntime>(&rt, rt.alloc(), 3, 6);
+}
+
+#[test]
+fn contains_now_answers_while_another_thread_stands_in_its_call(rt: HostRuntime) {
+    answers_beside::<LockFreeList, HostRuntime>(&rt, rt.alloc(), 3, 4);
+}

@@ -1,0 +1,171 @@
+"""What all tests are given: the program that is tested, a room for files, what is made once for a run.
+
+    pytest-3                          all tests; -n 4 runs four side by side
+    pytest-3 tests/serve_clients.py   those of a file, or of a page of tests/transcripts; -k WORD those of a name
+    pytest-3 --program=PROGRAM        of this program; else of the proved or the unproved one, whichever was built of younger sources
+    pytest-3 --beside=FORM ..         same_output.py: of another form of the program; else of the page's, in node
+    pytest-3 --few                    with a tenth of what is drawn at random
+    pytest-3 --show PAGE              prints what the commands of a page of tests/transcripts print now, as it has them
+
+A test that needs what is not built or installed is skipped and says so; it fails if it is named, by -k or as FILE::NAME."""
+
+import fcntl
+import os
+import pathlib
+import pickle
+import re
+import signal
+import tempfile
+
+import crates_txt
+import processes
+import pytest
+from harness.pages import PAGES, Page
+from harness.programs import PROVED, TOP, UNPROVED, clear, not_installed
+
+OF_RUN = "LISTSET_TESTS"  # in the environment of what a run starts: the run's folder
+
+
+def pytest_addoption(parser):
+    group = parser.getgroup("listset")
+    group.addoption("--program", type=os.path.realpath, help="the program that is tested")
+    group.addoption("--beside", action="append", default=[], type=os.path.abspath, help="another form of the program")
+    group.addoption("--few", action="store_true", help="a tenth of what is drawn at random")
+    group.addoption("--show", action="store_true", help="prints what the commands of a page print now")
+
+
+@pytest.hookimpl(tryfirst=True)
+def pytest_cmdline_main(config):
+    if getattr(config.option, "numprocesses", None) and config.option.dist == "no":
+        config.option.dist = "loadgroup"  # so that tests of one xdist_group take turns
+
+
+def is_worker(config):
+    return hasattr(config, "workerinput")
+
+
+def pytest_configure(config):
+    if is_worker(config):
+        config.folder = pathlib.Path(config.workerinput["folder"])
+        return
+    if config.option.program and not os.access(config.option.program, os.X_OK):
+        raise pytest.UsageError(f"there is no program {config.option.program}: build/unproved builds it, ./listset --prove proves it")
+    for number in (signal.SIGINT, signal.SIGTERM, signal.SIGHUP):  # (a shell may start it with SIGINT ignored)
+        signal.signal(number, signal.default_int_handler)
+    processes.sweep("tests")
+    config.folder = pathlib.Path(tempfile.mkdtemp(prefix=f"tests-{os.getpid()}-")).resolve()
+    os.environ[OF_RUN] = str(config.folder)
+
+
+@pytest.hookimpl(optionalhook=True)
+def pytest_configure_node(node):
+    node.workerinput["folder"] = str(node.config.folder)
+
+
+def pytest_unconfigure(config):
+    if not is_worker(config) and hasattr(config, "folder"):
+        for _ in range(100):  # (what runs may start more, until it is ended)
+            if config.folder.exists():
+                clear(config.folder)
+
+
+@pytest.hookimpl(tryfirst=True)
+def pytest_runtest_logreport(report):
+    report.nodeid = re.sub(r"@\w+$", "", report.nodeid)  # (xdist appends the group, by which --lf would not find it)
+
+
+def built_program(config):
+    """The program of the younger sources, if none is given. (Its time is that at which its build began.)"""
+    built = [it for it in (PROVED, UNPROVED) if it.exists()]
+    return config.option.program or str(max(built, key=lambda it: it.stat().st_mtime, default=PROVED))
+
+
+def lines_about(config):
+    """Which program is tested, and a source that was edited since it was built."""
+    program = built_program(config)
+    if not os.path.exists(program):
+        return ["listset: none is built"]
+    sources = (it for name in crates_txt.below(["listset"]) for it in (TOP / "crates" / name / "src").rglob("*.rt"))
+    youngest = max(sources, key=lambda it: it.stat().st_mtime)
+    is_old = os.stat(program).st_mtime < youngest.stat().st_mtime
+    return [f"listset: {program}"] + is_old * [f"listset: {youngest.relative_to(TOP)} is younger than it: build/unproved builds it anew"]
+
+
+def pytest_report_header(config):
+    return lines_about(config)
+
+
+def pytest_terminal_summary(terminalreporter, config):
+    if config.option.verbose < 0:  # (-q prints no header)
+        terminalreporter.write_line("\n".join(lines_about(config)))
+
+
+def pytest_collect_file(file_path, parent):
+    if file_path.parent == PAGES and file_path.suffix == ".md":
+        return Page.from_parent(parent, path=file_path)
+
+
+def pytest_collection_modifyitems(config, items):
+    """Leaves out what is run only if it is named, by its own name or a word of it."""
+    words = {it.partition("::")[2].partition("[")[0] for it in config.args} | set(re.findall(r"\w+", config.option.keyword))
+    out = [it for it in items if it.get_closest_marker("when_named") and not any(word and word in it.name for word in words)]
+    config.hook.pytest_deselected(items=out)
+    items[:] = [it for it in items if it not in out]
+
+
+@pytest.fixture(scope="session")
+def lacking(pytestconfig):
+    """A function that ends a test for what is not there: the test fails if it is named, and is skipped otherwise."""
+    is_named = pytestconfig.option.keyword or any("::" in it for it in pytestconfig.args)
+    return pytest.fail if is_named else pytest.skip
+
+
+@pytest.fixture(autouse=True)
+def has_what_it_needs(request, lacking):
+    for mark in request.node.iter_markers("needs"):
+        if why := not_installed(*mark.args):
+            lacking(why)
+
+
+@pytest.fixture(scope="session")
+def program(pytestconfig, lacking):
+    """The program that is tested."""
+    found = built_program(pytestconfig)
+    if not os.access(found, os.X_OK):
+        lacking("no program is built: build/unproved builds it, ./listset --prove proves it")
+    return found
+
+
+@pytest.fixture
+def room(pytestconfig):
+    """A folder of this test. At its end it is removed, with the processes that are in it or name it."""
+    folder = pathlib.Path(tempfile.mkdtemp(prefix="test-", dir=pytestconfig.folder))
+    yield folder
+    clear(folder)
+
+
+@pytest.fixture(scope="session")
+def once(pytestconfig):
+    """A function that gives what a call makes in a folder that it is given, once for all tests of a run, also if they run side by side."""
+    def made(make, *further):
+        kept = pytestconfig.folder / f"{make.__module__}.{make.__qualname__}"
+        with open(f"{kept}.lock", "w") as lock:
+            fcntl.flock(lock, fcntl.LOCK_EX)
+            if not kept.exists():
+                folder = tempfile.mkdtemp(prefix="once-", dir=pytestconfig.folder)
+                kept.write_bytes(pickle.dumps(make(pathlib.Path(folder), *further)))
+            return pickle.loads(kept.read_bytes())
+
+    return made
+
+
+@pytest.fixture(scope="session")
+def few(pytestconfig):
+    """Whether a tenth of what is drawn at random will do."""
+    return pytestconfig.option.few
+
+
+@pytest.fixture(scope="session")
+def beside(pytestconfig):
+    """Other forms of the program."""
+    return pytestconfig.option.beside

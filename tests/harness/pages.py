@@ -1,0 +1,156 @@
+"""The commands of tests/transcripts/*.md print what these pages have, to the byte; and those of README and the other pages what they show.
+
+A heading `## NAME` begins a test. Its lines that are indented by four spaces are commands and what they print:
+
+    $ COMMAND     bash is given it, in a room of its own with the files of tests/transcripts/data; `listset` is the program there
+    > LINE        the command goes on (as of a here-document)
+    ! LINE        a line of standard error; ! alone is an empty one
+    ? N           the status; 0 if no such line is there
+    .             at the end of a command: its output has no newline at its end
+    LINE          any other: a line of the output
+
+All other lines are prose. The commands of one test run in turn, in one room. A command that runs for 60 seconds fails. None pipes
+`listset` into `head`, which ends before the program has written all now and then.
+
+In any other page a test is a block of lines that are indented by four spaces, or stand below ```sh, and of which the first is a command.
+Its room has the files of the repository, and ./listset is the program there. Output and then standard error are compared, without the
+status. A line .. stands for any lines, also none."""
+
+import os
+import re
+import shutil
+import subprocess
+
+import pytest
+from harness.programs import SECONDS, TOP
+
+PAGES = TOP / "tests" / "transcripts"
+OTHER_PAGES = [TOP / "README.md", TOP / "page" / "README.md", TOP / "examples" / "README.md", *sorted((TOP / "docs").glob("*.md"))]
+SHOWN_BLOCK = re.compile(r"(?:^    .*\n|^\n(?=    ))+|^```sh\n(?:.*\n)*?```$", re.MULTILINE)
+LEFT_OUT = ".."
+INDENT = "    "
+
+
+class PageCommand:
+    """A command, and the lines that the page has of it."""
+
+    def __init__(self, command, number):
+        self.command, self.number, self.lines = [command], number, []
+
+    def told(self):
+        """What the command prints, as the page has it."""
+        while self.lines and not self.lines[-1]:
+            self.lines.pop()
+        return self.lines
+
+
+def tests_of(page):
+    """The tests of a page: of each its name and its steps."""
+    tests, steps = {}, None
+    for number, line in enumerate(page.read_text(encoding="utf-8").split("\n"), 1):
+        text = line.removeprefix(INDENT)
+        if line.startswith("## "):
+            steps = tests.setdefault(line.removeprefix("## "), [])
+            assert not steps, f"{page.name}:{number}: a second {line}"
+        elif line.startswith(INDENT + "$ ") and steps is not None:
+            steps.append(PageCommand(text.removeprefix("$ "), number))
+        elif line.startswith(INDENT):
+            assert steps, f"{page.name}:{number}: it belongs to no command"
+            if text.startswith("> ") and not steps[-1].lines:
+                steps[-1].command.append(text.removeprefix("> "))
+            else:
+                steps[-1].lines.append(text)
+        elif not line and steps:
+            steps[-1].lines.append("")
+    for name, steps in tests.items():
+        assert steps, f"{page.name}: {name} has no command"
+    return tests
+
+
+def tests_shown(page):
+    """The tests of a page that shows commands for a reader: of each its line and its steps."""
+    text = page.read_text(encoding="utf-8")
+    for block in SHOWN_BLOCK.finditer(text):
+        shown = re.sub("^```(?:sh)?$|^    ", "", block[0], flags=re.MULTILINE).strip("\n").split("\n")
+        number, steps = text.count("\n", 0, block.start()) + 1, []
+        for at, line in enumerate(shown):
+            if line.startswith("$ "):
+                steps.append(PageCommand(line.removeprefix("$ "), number + at))
+            elif steps:
+                steps[-1].lines.append(line)
+        if shown[0].startswith("$ "):
+            yield number, steps
+
+
+def lines_of_transcript(run):
+    """What a run printed, as a page has it."""
+    output, faults = (text.decode("utf-8", "backslashreplace") for text in (run.stdout, run.stderr))
+    lines = output.split("\n")
+    lines = lines[:-1] if lines[-1] == "" else [*lines, "."]
+    lines += [f"! {line}" if line else "!" for line in faults.splitlines()]
+    return [*lines, f"? {run.returncode}"] if run.returncode else lines
+
+
+def lines_as_shown(run):
+    """What a run printed, as a reader sees it."""
+    return (run.stdout + run.stderr).decode("utf-8", "backslashreplace").splitlines()
+
+
+def repository_in(work, program):
+    """A folder with the files of the repository, in which ./listset is the program."""
+    work.mkdir()
+    for it in TOP.iterdir():
+        (work / it.name).symlink_to(program if it.name == "listset" else it)
+    return work
+
+
+def printed_by_commands(page, steps, program, room):
+    """What each of the steps prints, in one room."""
+    is_shown = page.parent != PAGES
+    (room / "bin").mkdir()
+    (room / "bin/listset").symlink_to(program)
+    work = repository_in(room / "work", program) if is_shown else shutil.copytree(PAGES / "data", room / "work")
+    environment = {**os.environ, "PATH": f"{room}/bin:{os.environ['PATH']}", "LC_ALL": "C.UTF-8"}
+    how = {"cwd": work, "env": environment, "stdin": subprocess.DEVNULL, "capture_output": True, "timeout": SECONDS}
+    for step in steps:
+        yield (lines_as_shown if is_shown else lines_of_transcript)(subprocess.run(["bash", "-c", "\n".join(step.command)], **how))
+
+
+def is_as_shown(told, printed):
+    """Whether the page has what is printed. A line .. of the page stands for any lines."""
+    pieces = [re.escape(line) + "\n" if line != LEFT_OUT else "(?:.*\n)*?" for line in told]
+    return re.fullmatch("".join(pieces), "".join(f"{line}\n" for line in printed))
+
+
+def print_what_the_page_has(page, steps, program, room):
+    """That the commands of a test print what its page has."""
+    for step, printed in zip(steps, printed_by_commands(page, steps, program, room)):
+        told, where = step.told(), f"{page.relative_to(TOP)}:{step.number}"
+        if not (page.parent != PAGES and is_as_shown(told, printed)):
+            assert printed == told, f"the program prints what is on the left, {where} has what is on the right"
+
+
+def show(name, page, steps, program, room):
+    """Prints the test as its page would have it now."""
+    print(f"\n## {name}\n")
+    for step, lines in zip(steps, printed_by_commands(page, steps, program, room)):
+        print(f"{INDENT}$ " + f"\n{INDENT}> ".join(step.command))
+        for line in lines:
+            print(INDENT + line if line else "")
+
+
+class Page(pytest.File):
+    """A page of tests/transcripts."""
+
+    def collect(self):
+        for name, steps in tests_of(self.path).items():
+            yield pytest.Function.from_parent(self, name=name, callobj=self.test_of(name, steps))
+
+    def test_of(self, name, steps):
+        def prints_what_the_page_has(program, room, pytestconfig):
+            if not pytestconfig.option.show:
+                return print_what_the_page_has(self.path, steps, program, room)
+            with pytestconfig.pluginmanager.getplugin("capturemanager").global_and_fixture_disabled():
+                show(name, self.path, steps, program, room)
+
+        return prints_what_the_page_has
