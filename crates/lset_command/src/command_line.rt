@@ -468,7 +468,7 @@ fn judge_files<'a>(alloc: Global) -> Result<clap::Command<'a>, AllocError>
             "Judge recorded calls of a set: ok if an order explains them and the keys left, else not linearizable",
         )
         .after_help(
-            "Points are needed only if a call is a ceiling or answered full. Several files are the parts of one recording: each opens with the keys that the one before left, and has a clock of its own. A file whose first line is listset-calls 3 may be of any length, and is judged as it is read. Exit status 0 for ok, 1 for not linearizable.\n\nExample: listset judge a.calls",
+            "Points are needed only if a call is a ceiling or answered full. Several files are the parts of one recording: each opens with the keys that the one before left, and has a clock of its own. A file whose first line is listset-calls 1 may be of any length, and is judged as it is read. Exit status 0 for ok, 1 for not linearizable.\n\nExample: listset judge a.calls",
         )
         .arg(files(
             alloc,

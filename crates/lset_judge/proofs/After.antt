@@ -11,8 +11,7 @@ use Rattle.lset_words.proofs.Numbers.{below_or_not}
 use Rattle.lset_history.specs.History.{HistoryValue, latest_moment}
 use Rattle.lset_history.proofs.Histories.{calls_of}
 use Rattle.lset_judge.specs.Rule.{Event, leaves, idle, State, opened, entered, ruled, open_changes, stepped, state_after}
-use Rattle.lset_judge.specs.Events.{event_at, events_on, rule_explains}
-use Rattle.lset_judge.specs.Marks.{FailsBy}
+use Rattle.lset_judge.specs.Events.{event_at, events_on, rule_explains, FailsBy}
 use Rattle.lset_judge.proofs.Leading.{at_once}
 use Rattle.lset_judge.proofs.Ruled.{ruled_none}
 use Rattle.lset_judge.proofs.Shifted.{later_option, later_event, later_found}

@@ -16,9 +16,8 @@ use Rattle.lset_judge.specs.declared.stream.Failed.{Failed}
 use Rattle.lset_judge.specs.declared.stream.Pending.{Pending}
 use Rattle.lset_judge.specs.declared.stream.Stream.{Stream}
 use Rattle.lset_judge.specs.Rule.{State, leaves, same, options, nearest, turned_by, turned_if, settled, open_changes, found, entered, ruled, state_after}
-use Rattle.lset_judge.specs.Events.{event_at, rule_explains, RulePasses}
-use Rattle.lset_judge.specs.Marks.{keys_left, FailsBy}
-use Rattle.lset_judge.specs.Leaving.{has_any, may_be_left}
+use Rattle.lset_judge.specs.Events.{event_at, rule_explains, RulePasses, FailsBy}
+use Rattle.lset_judge.specs.Leaving.{has_any, may_be_left, keys_left}
 use Rattle.lset_judge.specs.Stream.{stream_history, behind_all, state_for, pending_of, verdict_of_key, IsStreamOf}
 use Rattle.lset_judge.specs.Stream.{IsStreamVerdict}
 use Rattle.lset_judge.specs.Verdict.{IsExplained, IsUnexplained, IsRefusedBy, with_quota, may_add}
@@ -78,7 +77,7 @@ as_it_is s = of s.there (has_any (options s))
 
 -- ---- no moment is later
 
-latest_upto : (G : ℕ) (xs : List CallRecord) → All (λ (x : CallRecord). (x.begun ≤ G) × IfSome x.ended (λ (e : ℕ × Reply). e.0 ≤ G)) xs → latest_moment xs ≤ G
+pub latest_upto : (G : ℕ) (xs : List CallRecord) → All (λ (x : CallRecord). (x.begun ≤ G) × IfSome x.ended (λ (e : ℕ × Reply). e.0 ≤ G)) xs → latest_moment xs ≤ G
 latest_upto G [] a = omega arith
 latest_upto G (x ∷ xs) a =
     let P : CallRecord → Type 0 = λ x. (x.begun ≤ G) × IfSome x.ended (λ (e : ℕ × Reply). e.0 ≤ G) in
@@ -155,9 +154,9 @@ module _ (threads : ℕ) (opening : List ℕ) (calls : List CallRecord) (s : Str
     stream_closed keys rise (Some k) wrong = stream_left keys k wrong
 
     pub stream_cut_off : (keys : List ℕ) × IsExplained h keys
-    stream_cut_off = (keys_left h None, explained_by (keys_left h None) (unknown_rise h) (λ k. passes k (cases_Bool (state_for s.states k).there)))
+    stream_cut_off = (keys_left h, explained_by (keys_left h) (unknown_rise h) (λ k. passes k (cases_Bool (state_for s.states k).there)))
       where
-        passes : (k : ℕ) → ((state_for s.states k).there ≡ true) ⊎ ((state_for s.states k).there ≡ false) → rule_explains h (keys_left h None) k ≡ true
+        passes : (k : ℕ) → ((state_for s.states k).there ≡ true) ⊎ ((state_for s.states k).there ≡ false) → rule_explains h (keys_left h) k ≡ true
         passes k (inl t) = passes_with h (k ∷ []) k (left_judged (k ∷ []) k
             ∙ ap (λ b. may_be_left b (state_for s.states k)) (has_itself h k ∙ sym t) ∙ as_it_is (state_for s.states k))
         passes k (inr f) = passes_with h [] k (left_judged [] k

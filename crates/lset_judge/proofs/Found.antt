@@ -1,4 +1,4 @@
--- What a binary search finds: whether keys have a key, and whether some mark is of it.
+-- What a binary search finds: whether keys have a key.
 use Rattle.std.proofs.Common.{◌≡◌, ℕ, ◌<◌, ◌≤◌, List, true, false, inl, inr, sym, ◌∙◌, ap, arith, length, get_or}
 use Rattle.std.specs.Prelude.{Result, Ok, Err, is_ok, MatchResult, ◌==◌, nat_lt}
 use Rattle.std.specs.List.Sorted.{IsStrictlyIncreasing, IsBinarySearchResult, IsPartitionPoint, IsNonDecreasingBy}
@@ -10,8 +10,6 @@ use Rattle.std.proofs.lemmas.List.Sorted.{searched}
 use Rattle.lset_words.specs.SequentialSet.{has_key}
 use Rattle.lset_words.proofs.Numbers.{below_or_not, same_or_not, equal_test, unequal_test, lower_number, not_lower_number}
 use Rattle.lset_history.proofs.Keys.{has_true, has_false}
-use Rattle.lset_judge.specs.declared.marks.Mark.{Mark}
-use Rattle.lset_judge.specs.Marks.{has_mark, no_mark}
 
 rising : (keys : List ℕ) → IsStrictlyIncreasing keys → (i j : ℕ) → i ≤ j → j < length keys → get_or keys i 0 ≤ get_or keys j 0
 rising keys up i j low inside = elim (below_or_not i j) [
@@ -33,25 +31,3 @@ among keys k r up found = by r (searched keys k r found (rising keys up))
           | inl low ↦ (let a = h.1 c.0 low in omega (arith, a, same))
           | inr high ↦ (let a = h.2 c.0 high c.1 in omega (arith, a, same))
         ]))
-
--- ---- marks
-
-module _ (marks : List Mark) (k place : ℕ) (sorted : IsNonDecreasingBy (λ (m : Mark). m.key) marks)
-    (found : IsPartitionPoint (λ (m : Mark). nat_lt m.key k ≡ true) (λ (m : Mark). nat_lt m.key k ≡ false) marks place) where
-  pub mark_found : place < length marks → ((get_or marks place no_mark).key == k) ≡ has_mark k marks
-  mark_found inside = elim (same_or_not (get_or marks place no_mark).key k) [
-    | inl e ↦ equal_test _ _ e ∙ sym (list_any_at (λ (m : Mark). m.key == k) marks place no_mark inside (equal_test _ _ e))
-    | inr ne ↦ unequal_test _ _ ne ∙ sym (list_any_none (λ (m : Mark). m.key == k) marks (λ i d low. unequal_test _ _ (λ same.
-        elim (below_or_not i place) [
-          | inl before ↦ (let a = lower_number _ _ (found.0 i d (omega arith) before) in omega (arith, a, same))
-          | inr after ↦ (
-              let here = not_lower_number _ _ (found.1 place no_mark (omega arith) inside) in
-              let up = sorted place i d after low in
-              let there = ap (λ (m : Mark). m.key) (get_or_default marks place no_mark d inside) in
-              ne (omega (arith, here, up, there, same)))
-        ])))
-  ]
-
-  pub mark_missed : length marks ≤ place → false ≡ has_mark k marks
-  mark_missed past = sym (list_any_none (λ (m : Mark). m.key == k) marks (λ i d low. unequal_test _ _ (λ same.
-      let a = lower_number _ _ (found.0 i d (omega arith) (omega (arith, low, past))) in omega (arith, a, same))))

@@ -1,7 +1,7 @@
 -- The keys that a set may have left, if they are not known: the rule passes with them if it passes with any.
-use Rattle.std.proofs.Common.{◌≡◌, ℕ, suc, ◌+◌, ◌⊎◌, List, [], ◌∷◌, ◌++◌, Bool, true, false, inl, inr, refl, sym, ap, ◌∙◌, arith, subst}
-use Rattle.std.proofs.Common.{map, append-nil}
-use Rattle.std.specs.Prelude.{◌==◌, ◌&&◌, ◌||◌, not, Option, Some, None, is_some}
+use Rattle.std.proofs.Common.{◌≡◌, ℕ, ◌⊎◌, List, [], ◌∷◌, ◌++◌, Bool, true, false, inl, inr, refl, sym, ap, ◌∙◌, arith, subst}
+use Rattle.std.proofs.Common.{map}
+use Rattle.std.specs.Prelude.{◌==◌, ◌&&◌, ◌||◌, not, Some, None, is_some}
 use Rattle.std.specs.List.Sorted.{IsStrictlyIncreasing}
 use Rattle.std.proofs.lemmas.Bool.{cases_Bool, true≢false}
 use Rattle.lset_words.specs.declared.history.CallRecord.{CallRecord}
@@ -11,12 +11,10 @@ use Rattle.lset_words.proofs.Numbers.{equal_test}
 use Rattle.lset_words.proofs.RisingLists.{RisesFrom, increasing_from_rises}
 use Rattle.lset_history.specs.History.{HistoryValue, latest_moment}
 use Rattle.lset_history.proofs.Keys.{has_true, has_from, has_none, with_keeps, with_from, with_rises}
-use Rattle.lset_judge.specs.Rule.{State, idle, leaves, opened, same, ruled, entered, open_changes}
+use Rattle.lset_judge.specs.Rule.{idle, leaves, opened, same, ruled}
 use Rattle.lset_judge.specs.Events.{event_at, events_on, rule_explains}
-use Rattle.lset_judge.specs.Marks.{Noted, ruled_on, left_notes, taken, keys_left}
-use Rattle.lset_judge.proofs.Noting.{notes_judge, on_both}
-use Rattle.lset_judge.proofs.Leading.{at_once}
-use Rattle.lset_judge.proofs.Ruled.{some_or_none}
+use Rattle.lset_judge.specs.Leaving.{taken, keys_left}
+use Rattle.lset_judge.proofs.Shifting.{idle_on}
 
 -- ---- the keys that a test takes
 
@@ -86,18 +84,18 @@ module _ (h : HistoryValue) where
   abbrev if_left : ℕ → Bool
   if_left k = rule_explains h (k ∷ []) k
 
-  left_as_was : (last : ℕ) (was left : Bool) → is_some (ruled_on (Some (opened was)) ((last, leaves left) ∷ [])) ≡ same left was
-  left_as_was last true true = refl
-  left_as_was last true false = refl
-  left_as_was last false true = refl
-  left_as_was last false false = refl
+  left_as_was : (was left : Bool) → is_some (ruled 0 (Some (opened was)) (leaves left ∷ [])) ≡ same left was
+  left_as_was true true = refl
+  left_as_was true false = refl
+  left_as_was false true = refl
+  left_as_was false false = refl
 
   uncalled : (keys : List ℕ) (k : ℕ) → has_key k called ≡ false → rule_explains h keys k ≡ same (has_key k keys) (has_key k h.opening.keys)
-  uncalled keys k none = notes_judge h keys k [] (record {
-    rising = λ i j d low high. absurd (omega (arith, high));
-    right = λ i d low. absurd (omega (arith, low));
-    all = λ j low. inl (no_event (latest_moment h.calls) k (suc j) h.calls none);
-  }) ∙ left_as_was (latest_moment h.calls) (has_key k h.opening.keys) (has_key k keys)
+  uncalled keys k none =
+      idle_on (event_at (latest_moment h.calls) k h.calls) (has_key k keys) (latest_moment h.calls) 0 0
+      (opened (has_key k h.opening.keys)) (opened (has_key k h.opening.keys)) (record { there = refl; puts = refl; takes = refl })
+      (λ m low. no_event (latest_moment h.calls) k m h.calls none)
+      ∙ left_as_was (has_key k h.opening.keys) (has_key k keys)
 
   pub has_itself : (k : ℕ) → has_key k (k ∷ []) ≡ true
   has_itself k = rw (equal_test k k refl) refl
@@ -124,7 +122,7 @@ module _ (h : HistoryValue) where
       was false b l e = absurd (true≢false (sym l))
 
   abbrev unknown : List ℕ
-  unknown = keys_left h None
+  unknown = keys_left h
 
   -- if the rule passes with any keys left, it does with these
   pub passes_with : (keys : List ℕ) (k : ℕ) → rule_explains h keys k ≡ true → rule_explains h unknown k ≡ true
@@ -137,48 +135,5 @@ module _ (h : HistoryValue) where
     ]
   ]
 
-  -- so if it fails with these, it fails with any
-  pub fails_with : (k : ℕ) → rule_explains h unknown k ≡ false → (keys : List ℕ) → rule_explains h keys k ≡ false
-  fails_with k e keys = elim (cases_Bool (rule_explains h keys k)) [
-    | inl t ↦ absurd (true≢false (sym (passes_with keys k t) ∙ e))
-    | inr f ↦ f
-  ]
-
   pub unknown_rise : IsStrictlyIncreasing unknown
   unknown_rise = increasing_from_rises 0 unknown (rises if_left (h.opening.keys ++ called))
-
-  same_itself : (w : Bool) → same w w ≡ true
-  same_itself true = refl
-  same_itself false = refl
-
-  goes : (s : State) (w : Bool) → s.there ≡ w → is_some (ruled_on (Some s) ((latest_moment h.calls, leaves w) ∷ [])) ≡ true
-  goes s w e = ap (λ o. is_some (ruled_on (entered (leaves w) o) []))
-      (at_once (open_changes s) (latest_moment h.calls) (leaves w) s (ap (same w) e ∙ same_itself w))
-
-  module _ (k : ℕ) (xs : List Noted) (judges : (keys : List ℕ) → rule_explains h keys k
-      ≡ is_some (ruled_on (Some (opened (has_key k h.opening.keys))) (xs ++ (latest_moment h.calls, leaves (has_key k keys)) ∷ []))) where
-    abbrev after : Option State
-    after = ruled_on (Some (opened (has_key k h.opening.keys))) xs
-
-    goes_on : (keys : List ℕ) (o : Option State) → after ≡ o
-        → rule_explains h keys k ≡ is_some (ruled_on o ((latest_moment h.calls, leaves (has_key k keys)) ∷ []))
-    goes_on keys o e = judges keys
-        ∙ ap is_some (on_both (Some (opened (has_key k h.opening.keys))) xs ((latest_moment h.calls, leaves (has_key k keys)) ∷ []))
-        ∙ ap (λ (p : Option State). is_some (ruled_on p ((latest_moment h.calls, leaves (has_key k keys)) ∷ []))) e
-
-    left_there : (s : State) → after ≡ Some s → rule_explains h unknown k ≡ true
-    left_there s e = elim (cases_Bool s.there) [
-      | inl t ↦ passes_with (k ∷ []) k (goes_on (k ∷ []) (Some s) e ∙ goes s (has_key k (k ∷ [])) (t ∙ sym (has_itself k)))
-      | inr f ↦ passes_with [] k (goes_on [] (Some s) e ∙ goes s false f)
-    ]
-
-    -- the rule on all notes of a key, and how the key is left, if that is known
-    pub run_tells : (left : Option (List ℕ))
-        → is_some (ruled_on (Some (opened (has_key k h.opening.keys))) (xs ++ left_notes (latest_moment h.calls) k left)) ≡ rule_explains h (keys_left h left) k
-    run_tells (Some keys) = sym (judges keys)
-    run_tells None =
-        ap (λ (ys : List Noted). is_some (ruled_on (Some (opened (has_key k h.opening.keys))) ys)) (append-nil xs)
-        ∙ elim (some_or_none after) [
-          | inl none ↦ ap is_some none ∙ sym (goes_on unknown None none)
-          | inr s ↦ ap is_some s.1 ∙ sym (left_there s.0 s.1)
-        ]

@@ -1,10 +1,11 @@
 -- The calls of one key that begin by a moment, alone: the rule judges them as it judges the key.
 use Rattle.std.proofs.Common.{◌≡◌, ℕ, zero, suc, ◌+◌, ◌-◌, ◌<◌, ◌≤◌, Bool, true, false, List, [], ◌∷◌, refl, sym, ap, ◌∙◌, arith, inl, inr}
-use Rattle.std.specs.Prelude.{◌==◌, nat_le, if◌then◌else◌, Option, Some, None, is_some, IfSome}
+use Rattle.std.specs.Prelude.{◌==◌, ◌&&◌, nat_le, if◌then◌else◌, Option, Some, None, is_some, IfSome}
 use Rattle.std.specs.List.{AllByRecursion}
 use Rattle.std.proofs.lemmas.Bool.{cases_Bool}
 use Rattle.std.proofs.lemmas.Bool.Decides.{nat_tests}
-use Rattle.std.proofs.lemmas.List.Elements.{recursion_from_All}
+use Rattle.std.proofs.lemmas.List.Elements.{All-filter, recursion_from_All}
+use Rattle.std.proofs.lemmas.List.Kept.{AllPairs-filter}
 use Rattle.lset_words.specs.declared.Reply.{Reply}
 use Rattle.lset_words.specs.declared.history.CallRecord.{CallRecord}
 use Rattle.lset_words.specs.SequentialSet.{has_key}
@@ -12,14 +13,10 @@ use Rattle.lset_words.specs.Words.{key_of}
 use Rattle.lset_words.specs.History.{IsHistory}
 use Rattle.lset_words.proofs.Numbers.{equal_test, unequal_test}
 use Rattle.lset_history.specs.History.{HistoryValue, latest_moment}
-use Rattle.lset_history.proofs.Histories.{calls_of}
-use Rattle.lset_judge.specs.declared.verdict.Refusal.{Refusal}
+use Rattle.lset_history.proofs.Histories.{Follows, IsCall, calls_of, pairs_of, history_of}
 use Rattle.lset_judge.specs.Rule.{Event, idle, opened, ruled}
-use Rattle.lset_judge.specs.Events.{ends_at, event_at, events_on, rule_explains, HasFailed}
-use Rattle.lset_judge.specs.Marks.{FailsBy, Refuses}
-use Rattle.lset_judge.specs.Verdict.{IsUnexplained, with_quota, calls_by, of_key, IsRefusedBy, IsRefused}
-use Rattle.lset_judge.proofs.After.{failed_by}
-use Rattle.lset_judge.proofs.Chosen.{by_history}
+use Rattle.lset_judge.specs.Events.{ends_at, event_at, events_on, rule_explains, FailsBy}
+use Rattle.lset_judge.specs.Verdict.{IsUnexplained, with_quota, calls_by, of_key}
 use Rattle.lset_judge.proofs.Deciding.{unexplained}
 use Rattle.lset_judge.proofs.InMoments.{InMoments, in_moments, event_later, event_idle}
 use Rattle.lset_judge.proofs.Shifted.{later_event}
@@ -80,7 +77,11 @@ module _ (h : HistoryValue) (told : IsHistory h.opening.threads h.calls) (k M : 
   among = event_at whole_last k own
 
   own_told : IsHistory h.opening.threads own
-  own_told = by_history h.opening.threads k M h.calls told
+  own_told = history_of h.opening.threads own (All-filter is_own (IsCall h.opening.threads) h.calls (calls_of h.opening.threads h.calls told))
+      (AllPairs-filter Follows is_own h.calls (pairs_of h.opening.threads h.calls told))
+    where
+      is_own : CallRecord → Bool
+      is_own x = (key_of x.call).0 == k && nat_le x.begun M
 
   inside : AllByRecursion (InMoments (latest_moment own)) own
   inside = in_moments (latest_moment own) own (omega arith)
@@ -125,31 +126,3 @@ module _ (h : HistoryValue) (told : IsHistory h.opening.threads h.calls) (k M : 
       (events_alike among (event_at whole_last k h.calls) (has_key k keys) whole_last 0
       (λ m low. event_by whole_last k M m h.calls (omega (arith, low, all)) later))
       ∙ fails)
-
--- WHAT A REFUSAL SAYS, if the rule fails
-pub refused : (h : HistoryValue) (keys : List ℕ) → IsHistory h.opening.threads h.calls → (r : Refusal) → Refuses h keys r → IsRefused h keys r
-refused h keys told r fails = at r.key.0 r.moment fails.rule fails.by
-  where
-    at : (k : ℕ) (o : Option ℕ) → rule_explains h keys k ≡ false → IfSome o (HasFailed h k) → IsRefusedBy h keys k o
-    at k None rule by = refused_left h told k (latest_moment h.calls) keys refl rule
-    at k (Some m) rule by = refused_by h told k m (failed_by h told (latest_moment h.calls) (omega arith) k m by)
-
-pub unexplained_by : (h : HistoryValue) (keys : List ℕ) → IsHistory h.opening.threads h.calls → (r : Refusal) → Refuses h keys r
-    → (quota : ℕ) → IsUnexplained (with_quota quota h) keys
-unexplained_by h keys told r fails quota = unexplained (with_quota quota h) keys told r.key.0 fails.rule
-
--- and of what is found
-pub found_refused : (h : HistoryValue) (keys : List ℕ) → IsHistory h.opening.threads h.calls → (found : Option Refusal)
-    → IfSome found (Refuses h keys) → IfSome found (IsRefused h keys)
-found_refused h keys told None f = tt
-found_refused h keys told (Some r) f = refused h keys told r f
-
-pub found_refutes : (h : HistoryValue) (keys : List ℕ) → IsHistory h.opening.threads h.calls → (found : Option Refusal)
-    → IfSome found (Refuses h keys) → IfSome found (λ (r : Refusal). (quota : ℕ) → IsUnexplained (with_quota quota h) keys)
-found_refutes h keys told None f = tt
-found_refutes h keys told (Some r) f = unexplained_by h keys told r f
-
-pub found_refutes_so : (h : HistoryValue) (keys : List ℕ) → IsHistory h.opening.threads h.calls → (found : Option Refusal)
-    → IfSome found (Refuses h keys) → IfSome found (λ (r : Refusal). IsUnexplained h keys)
-found_refutes_so h keys told None f = tt
-found_refutes_so h keys told (Some r) f = unexplained_by h keys told r f h.opening.quota

@@ -8,7 +8,7 @@ use Rattle.lset_words.specs.declared.history.CallRecord.{CallRecord}
 use Rattle.lset_words.specs.SequentialSet.{has_key}
 use Rattle.lset_words.specs.Words.{key_of}
 use Rattle.lset_history.specs.History.{HistoryValue, latest_moment}
-use Rattle.lset_judge.specs.Rule.{Event, begins, ends, looks, leaves, idle, rule_succeeds, state_after}
+use Rattle.lset_judge.specs.Rule.{Event, begins, ends, looks, leaves, idle, rule_succeeds, ruled, opened, state_after}
 -- WHAT A CALL DOES to its key: it turns it, to there or not there; it sees it there or not there; or nothing is told
 pub use Rattle.lset_judge.specs.declared.event.Kind.{Kind}
 pub use Rattle.lset_judge.specs.declared.event.Kind.TheVariants.{Changes as changes, Sees as sees, Nothing as nothing}
@@ -98,16 +98,8 @@ RulePasses h keys = (k : ℕ) → rule_explains h keys k ≡ true
 abbrev pub HasFailed : HistoryValue → ℕ → ℕ → Type 0
 HasFailed h k moment = state_after (event_at (latest_moment h.calls) k h.calls) (has_key k h.opening.keys) moment ≡ None
 
--- it has failed on the key by none of the moments before one; without one, by none at all
-abbrev pub HoldsUntil : HistoryValue → ℕ → Option ℕ → Type 0
-HoldsUntil h k None = (m : ℕ) → HasFailed h k m → ⊥
-HoldsUntil h k (Some moment) = (m : ℕ) → HasFailed h k m → moment ≤ m
-
--- it fails on a key by a moment; without one, as the key is left
-abbrev pub FailsOn : HistoryValue → List ℕ → ℕ → Option ℕ → Type 0
-FailsOn h keys k None = rule_explains h keys k ≡ false
-FailsOn h keys k (Some moment) = HasFailed h k moment
-
--- THE RULE FAILS FIRST on this key, and by this moment: by no earlier one has it failed on any key
-abbrev pub FailsFirst : HistoryValue → List ℕ → ℕ → Option ℕ → Type 0
-FailsFirst h keys key moment = FailsOn h keys key moment × ((k : ℕ) → HoldsUntil h k moment)
+-- the rule fails on a key by a moment, whatever happens after it
+abbrev pub FailsBy : HistoryValue → ℕ → ℕ → Type 0
+FailsBy h key moment = (other : ℕ → Event) (left : Bool)
+    → ((m : ℕ) → m ≤ moment → other m ≡ event_at (latest_moment h.calls) key h.calls m)
+    → ruled 0 (Some (opened (has_key key h.opening.keys))) (events_on other left (latest_moment h.calls) 0) ≡ None

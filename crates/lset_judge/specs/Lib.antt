@@ -1,10 +1,12 @@
 pub mod Rule
 pub mod Events
 pub mod Verdict
-pub mod Marks
 pub mod Code
 pub mod Locality
 pub mod Window
-pub mod Overlap
 pub mod Leaving
 pub mod Stream
+pub mod Rest
+pub mod Kept
+pub mod Judge
+pub mod Reading

@@ -11,10 +11,6 @@ use Rattle.lset_words.specs.Words.{key_of}
 use Rattle.lset_words.specs.SequentialSet.{has_key}
 use Rattle.lset_history.specs.History.{HistoryValue, latest_moment}
 use Rattle.lset_history.specs.Faults.{Explains}
-use Rattle.lset_judge.specs.Events.{RulePasses, FailsFirst}
-use Rattle.lset_judge.specs.declared.verdict.Refusal.{Refusal}
-use Rattle.lset_judge.specs.declared.verdict.Verdict.{Verdict}
-use Rattle.lset_judge.specs.declared.verdict.Verdict.TheVariants.{Linearizable, NotLinearizable, Undecided}
 
 -- SOME ORDER EXPLAINS the calls and leaves the keys
 abbrev pub IsExplained : HistoryValue → List ℕ → Type 0
@@ -102,35 +98,6 @@ IsRefusedBy h keys key (Some moment) = (quota : ℕ) (left : List ℕ) → IsUne
 IsRefusedBy h keys key None = (quota : ℕ) (left : List ℕ) → has_key key left ≡ has_key key keys
     → IsUnexplained (of_key key (latest_moment h.calls) (with_quota quota h)) left
 
-abbrev pub IsRefused : HistoryValue → List ℕ → Refusal → Type 0
-IsRefused h keys refusal = IsRefusedBy h keys refusal.key.0 refusal.moment
-
--- ---- WHAT A VERDICT SAYS
-
--- a verdict says that some order explains the calls and leaves the keys; that none does, with a refusal that says why, and that is
--- where the judge's rule fails first; or that this is not a history that the judge decides, and that the rule fails on no key of it
-abbrev pub IsVerdict : HistoryValue → List ℕ → Verdict → Type 0
-IsVerdict h keys Linearizable = IsExplained h keys
-IsVerdict h keys (NotLinearizable refusal) =
-    IsUnexplained h keys × IsRefused h keys refusal × FailsFirst h keys refusal.key.0 refusal.moment
-IsVerdict h keys Undecided = (IsJudged h → ⊥) × RulePasses h keys
-
 -- a history of a set without a quota: each thread has room for all calls
 abbrev pub without_quota : HistoryValue → HistoryValue
 without_quota h = with_quota (length h.calls) h
-
--- a verdict without a quota says the same of a set that has none; its refusals hold under any quota, and it decides each history of which the
--- ended calls answered true or false, and none is a ceiling; of another it may say that it does not, if the judge's rule fails on no key
-abbrev pub IsVerdictWithoutQuota : HistoryValue → List ℕ → Verdict → Type 0
-IsVerdictWithoutQuota h keys Linearizable = IsExplained (without_quota h) keys
-IsVerdictWithoutQuota h keys (NotLinearizable refusal) =
-    ((quota : ℕ) → IsUnexplained (with_quota quota h) keys) × IsRefused h keys refusal × FailsFirst h keys refusal.key.0 refusal.moment
-IsVerdictWithoutQuota h keys Undecided = (IsPlain h.calls → ⊥) × RulePasses h keys
-
--- a verdict on a recording that was cut off, so that the keys left are not known, says that with some keys left some order explains the
--- calls; that none does, whatever keys are left; or that this is not a history that the judge decides, and that with some keys left the
--- judge's rule fails on no key
-abbrev pub IsVerdictCutOff : HistoryValue → Verdict → Type 0
-IsVerdictCutOff h Linearizable = (keys : List ℕ) × IsVerdictWithoutQuota h keys Linearizable
-IsVerdictCutOff h (NotLinearizable refusal) = (keys : List ℕ) → IsVerdictWithoutQuota h keys (NotLinearizable refusal)
-IsVerdictCutOff h Undecided = (IsPlain h.calls → ⊥) × ((keys : List ℕ) × RulePasses h keys)

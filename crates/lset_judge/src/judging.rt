@@ -1,241 +1,237 @@
-//! Each key judged by the rule, over its marks.
+//! A stream of calls, judged as they come, with what explains a refusal.
 
-ghost use Rattle.std.specs.Prelude.{◌≡◌, ◌≢◌, ◌<◌, ◌++◌, ℕ, All, map, length, false, true, None, Some, is_none, is_some, IfOk, IfSome, IsTrue, IsFalse, slice_index_or, if◌then◌else◌, MatchOption, option_copied};
-ghost use Rattle.std.specs.List.Sorted.{IsStrictlyIncreasing, IsNonDecreasingBy};
-ghost use Rattle.lset_words.specs.SequentialSet.{has_key};
+ghost use Rattle.std.specs.Prelude.{◌≡◌, ◌<◌, ◌++◌, ◌∷◌, ◌≢◌, ◌⊎◌, [], ℕ, All, IfErr, IfOk, IfSome, List, OnOk, true};
+ghost use Rattle.std.specs.List.Sorted.{IsStrictlyIncreasing};
+ghost use Rattle.lset_words.specs.declared.history.CallRecord.{CallRecord as RecordedCall};
+ghost use Rattle.lset_judge.specs.Stream.{record_of, stream_history, moment_of, pending_in, MayCome};
+ghost use Rattle.lset_judge.specs.Judge.{kept_for, IsJudgeOf, IsRestNow, HasKept, HasNotKept, IsVerdict, IsVerdictCutOff};
+ghost use Rattle.lset_judge.specs.Window.{left_by};
 ghost use Rattle.lset_words.specs.History.{IsHistory};
-ghost use Rattle.lset_history.specs.History.{latest_moment};
-ghost use Rattle.lset_judge.specs.Rule.{opened};
-ghost use Rattle.lset_judge.specs.Events.{rule_explains, RulePasses, HoldsUntil, FailsFirst};
-ghost use Rattle.lset_judge.specs.Marks.{ruled_on, noted_at, left_notes, keys_left, AreMarks, has_mark, no_mark, IsOneOf, FailsAt, Refuses, refused_at, IsNoLater};
-ghost use Rattle.lset_judge.specs.Code.{state_of};
-ghost use Rattle.lset_judge.specs.Verdict.{IsJudged, IsExplained, IsUnexplained, IsRefused, with_quota};
+ghost use Rattle.lset_judge.specs.Kept.{AreKept, IsKeptOn};
+ghost use Rattle.lset_judge.specs.Window.{IsWindow};
 
-use crate::Refusal;
-use crate::event::{Event, event_of};
+use crate::kept::{Kept, Rest, keep_on, made_by, window_of};
 use crate::keys::is_among;
-use crate::marks::{Mark, has_mark, latest_moment, marks_of, run_end};
-use crate::rule::KeyState;
-use lset_history::History;
-use lset_words::{CallRecord, Key};
+use crate::stream::{Refusal, Stream, StreamCall, StreamFault, StreamVerdict};
+use crate::window::Window;
+use lset_words::Key;
 use std::alloc::{AllocError, Global};
+use std::collections::BTreeMap;
 
-/// Lets what happens at the marks of a key happen in turn; the moment of the first at which the rule fails.
-pub(crate) fn walk(
-    state: &mut KeyState,
-    calls: &[CallRecord],
-    latest: u32,
-    run: &[Mark],
-) -> Result<Option<u32>, AllocError>
-    requires known { All (λ m. m.call < length calls.now) run.now }
-    ensures walked { IfOk result (λ failed. ruled_on (Some (state_of state.old)) (map (noted_at latest calls.now) run.now)
-        ≡ (if is_none failed then Some (state_of state.new) else None)) }
-    ensures failed { IfOk result (λ failed. IfSome failed (FailsAt (state_of state.old) latest calls.now run.now)) }
-{
-    for mark in run {
-        let event = event_of(&calls[mark.call as usize], mark.moment, latest);
-        let before = u64::from(mark.moment.saturating_sub(1));
-        if !state.meet(before, event)? {
-            return Ok(Some(mark.moment));
-        }
-    }
-    Ok(None)
+/// What the judge says.
+#[derive(Debug, Drop)]
+pub enum Verdict {
+    /// Some order explains the calls, from the opening keys, and leaves the keys.
+    Linearizable,
+    /// No order does: why, and the window that shows it, if there is one.
+    NotLinearizable(Refusal, Option<Window>),
 }
 
-/// Whether the rule passes at the end too: if it is known how the key is left, whether it may be left so.
-fn may_end(state: &mut KeyState, latest: u32, key: u32, left: Option<&[u32]>) -> bool
-    requires rising { IfSome (option_copied left) IsStrictlyIncreasing }
-    ensures { result ≡ is_some (ruled_on (Some (state_of state.old)) (left_notes latest key (option_copied left.entry))) }
-{
-    match left {
-        Some(keys) => state.settle(u64::from(latest), Event::Leaves(is_among(keys, key))),
-        None => true,
-    }
-}
-
-/// Where the rule fails on a key, by all marks of the key, and by how it is left, if that is known.
-fn judge_run(
+/// A stream of calls of a set, judged as they come, that explains a refusal. Beside what `Stream` keeps it keeps of each key the calls
+/// since the key was last at rest.
+#[derive(Drop)]
+pub struct Judge {
     alloc: Global,
-    history: &History,
-    left: Option<&[u32]>,
-    latest: u32,
-    run: &[Mark],
-) -> Result<Option<Refusal>, AllocError>
-    requires rising { IfSome (option_copied left) IsStrictlyIncreasing }
-    requires known { All (λ m. m.call < length history.now.calls) run.now }
-    requires some { 0 < length run.now }
-    ensures judged { let key = (slice_index_or run.now 0 no_mark).key in IfOk result (λ refused. is_none refused
-        ≡ is_some (ruled_on (Some (opened (has_key key history.now.opening.keys)))
-        (map (noted_at latest history.now.calls) run.now ++ left_notes latest key (option_copied left.entry)))) }
-    ensures key { IfOk result (λ refused. IfSome refused (λ refusal. refusal.key.0 ≡ (slice_index_or run.now 0 no_mark).key)) }
-    ensures at { let key = (slice_index_or run.now 0 no_mark).key in IfOk result (λ refused. IfSome refused (λ refusal. IfSome refusal.moment
-        (FailsAt (opened (has_key key history.now.opening.keys)) latest history.now.calls run.now))) }
-    ensures through { let key = (slice_index_or run.now 0 no_mark).key in IfOk result (λ refused. refused_at refused ≡ None
-        → is_some (ruled_on (Some (opened (has_key key history.now.opening.keys))) (map (noted_at latest history.now.calls) run.now)) ≡ true) }
-{
-    let key = run[0].key;
-    let mut state = KeyState::opened(alloc, is_among(history.opening(), key));
-    match walk(&mut state, history.calls(), latest, run)? {
-        Some(moment) => Ok(Some(Refusal {
-            key: Key(key),
-            moment: Some(moment),
-        })),
-        None => {
-            if may_end(&mut state, latest, key, left) {
-                Ok(None)
-            } else {
-                Ok(Some(Refusal {
-                    key: Key(key),
-                    moment: None,
-                }))
-            }
-        }
-    }
+    stream: Stream,
+    kept: BTreeMap<u32, Vec<Kept>>,
+    upto: u64,
+    keeps: bool,
 }
 
-/// A key of the first keys that is not among the others, and has no mark.
-fn lost_key(keys: &[u32], others: &[u32], marks: &[Mark]) -> Option<u32>
-    requires others { IsStrictlyIncreasing others.now }
-    requires sorted { IsNonDecreasingBy (λ m. m.key) marks.now }
-    ensures { MatchOption result
-        ((k : ℕ) → has_key k keys.now ≡ true → has_key k others.now ≡ false → has_mark k marks.now ≡ true)
-        (λ k. (has_key k keys.now ≡ true) × (has_key k others.now ≡ false) × (has_mark k marks.now ≡ false)) }
-{
-    for key in keys {
-        if !is_among(others, *key) && !has_mark(marks, *key) {
-            return Some(*key);
-        }
-    }
-    None
-}
-
-/// Whether a moment is not later than another; none is later than all.
-fn is_no_later(moment: Option<u32>, other: Option<u32>) -> bool
-    ensures yes { IsTrue result → IsNoLater moment other }
-    ensures no { IsFalse result → IsNoLater other moment }
-{
-    match (moment, other) {
-        (Some(moment), Some(other)) => moment <= other,
-        (None, Some(_)) => false,
-        (_, None) => true,
-    }
-}
-
-/// The refusal of which the moment is the earlier.
-#[tactic(auto, using(crate::proofs::Failing::no_later_itself))]
-fn earlier(first: Option<Refusal>, second: Option<Refusal>) -> Option<Refusal>
-    ensures one { IsOneOf first second result }
-    ensures no_later { IsNoLater (refused_at result) (refused_at first) × IsNoLater (refused_at result) (refused_at second) }
-{
-    match (first, second) {
-        (Some(one), Some(other)) => {
-            if is_no_later(one.moment, other.moment) {
-                first
-            } else {
-                second
-            }
-        }
-        (Some(_), None) => first,
-        (None, _) => second,
-    }
-}
-
-/// Where the rule fails first among the keys that have a mark.
-fn first_of_runs(
+/// Keeps one more call of a key.
+fn keep(
+    kept: &mut BTreeMap<u32, Vec<Kept>>,
     alloc: Global,
-    history: &History,
-    left: Option<&[u32]>,
-    marks: &[Mark],
-) -> Result<Option<Refusal>, AllocError>
-    requires rising { IfSome (option_copied left) IsStrictlyIncreasing }
-    requires marks { AreMarks history.now.calls marks.now }
-    ensures judged { IfOk result (λ refused. MatchOption refused
-        ((k : ℕ) → has_mark k marks.now ≡ true → rule_explains history.now (keys_left history.now (option_copied left.entry)) k ≡ true)
-        (Refuses history.now (keys_left history.now (option_copied left.entry)))) }
-    ensures first { IfOk result (λ refused. (k : ℕ) → has_mark k marks.now ≡ true → HoldsUntil history.now k (refused_at refused)) }
+    key: u32,
+    entry: Kept,
+    earliest: Option<u64>,
+) -> Result<(), AllocError>
+    ensures own { OnOk result (IsKeptOn (kept_for kept.old key) entry (kept_for kept.new key)) }
+    ensures others { OnOk result ((k : ℕ) → k ≢ key → kept_for kept.new k ≡ kept_for kept.old k) }
 {
-    let calls = history.calls();
-    let latest = latest_moment(calls);
-    let mut first = None;
-    let mut start = 0;
-    while start < marks.len() {
-        let end = run_end(marks, start);
-        let found = judge_run(alloc, history, left, latest, &marks[start..end])?;
-        first = earlier(first, found);
-        start = end;
+    if let Some(calls) = kept.get_mut(&key) {
+        keep_on(alloc, calls, entry, earliest)?;
+        return Ok(());
     }
-    Ok(first)
+    let mut calls = Vec::new(alloc);
+    keep_on(alloc, &mut calls, entry, earliest)?;
+    kept.insert(key, calls)?;
+    Ok(())
 }
 
-/// A key without a mark that is not left as it was at first.
-fn first_unmarked(opening: &[u32], keys: &[u32], marks: &[Mark]) -> Option<Refusal>
-    requires opens { IsStrictlyIncreasing opening.now }
-    requires rising { IsStrictlyIncreasing keys.now }
-    requires sorted { IsNonDecreasingBy (λ m. m.key) marks.now }
-    ensures { MatchOption result
-        ((k : ℕ) → has_mark k marks.now ≡ false → has_key k keys.now ≡ has_key k opening.now)
-        (λ refusal. (has_mark refusal.key.0 marks.now ≡ false) × (has_key refusal.key.0 keys.now ≢ has_key refusal.key.0 opening.now)
-        × (refusal.moment ≡ None)) }
+/// How the key of a refusal is left, if that is what has no order.
+fn left_as(keys: &[u32], refusal: Refusal) -> Option<bool>
+    requires { IsStrictlyIncreasing keys.now }
+    ensures { result ≡ left_by keys.now refusal.key.0 refusal.moment }
 {
-    let key = match lost_key(opening, keys, marks) {
-        Some(key) => key,
-        None => lost_key(keys, opening, marks)?,
-    };
-    Some(Refusal {
-        key: Key(key),
-        moment: None,
-    })
+    match refusal.moment {
+        Some(_) => None,
+        None => Some(is_among(keys, refusal.key.0)),
+    }
 }
 
-/// Where the rule fails first: on a key, by the moment of a mark or by how the key is left. `left` are the keys left, if they are
-/// known.
-pub(crate) fn first_failure(
+/// The window of a key, by what is kept of it.
+fn window_for(
     alloc: Global,
-    history: &History,
-    left: Option<&[u32]>,
-) -> Result<Option<Refusal>, AllocError>
-    requires rising { IfSome (option_copied left) IsStrictlyIncreasing }
-    ensures history { IsHistory history.now.opening.threads history.now.calls }
-    ensures opens { IsStrictlyIncreasing history.now.opening.keys }
-    ensures judged { IfOk result (λ refused. MatchOption refused
-        (RulePasses history.now (keys_left history.now (option_copied left.entry)))
-        (Refuses history.now (keys_left history.now (option_copied left.entry)))) }
-    ensures first { IfOk result (λ refused. (k : ℕ) → HoldsUntil history.now k (refused_at refused)) }
+    kept: &BTreeMap<u32, Vec<Kept>>,
+    key: Key,
+    left: Option<bool>,
+) -> Result<Option<Window>, AllocError>
+    ensures { IfOk result (λ found. IfSome found (λ w. (w.key ≡ key) × (w.left ≡ left)
+        × ((threads upto : ℕ) (opening : List ℕ) (calls : List RecordedCall) → IsHistory threads calls
+        → AreKept threads opening calls key.0 upto (kept_for kept.now key.0) → IsWindow threads opening calls left w))) }
 {
-    let opening = history.opening();
-    let marks = marks_of(alloc, history.calls())?;
-    if let Some(refusal) = first_of_runs(alloc, history, left, &marks)? {
-        return Ok(Some(refusal));
-    }
-    match left {
-        Some(keys) => Ok(first_unmarked(opening, keys, &marks)),
+    match kept.get(&key.0) {
+        Some(calls) => {
+            let found = window_of(alloc, key, left, calls)?;
+            Ok(found)
+        }
         None => Ok(None),
     }
 }
 
-/// Why no order explains the history and leaves the keys: a key, and the moment up to which its calls have no order; in a history with
-/// `ceiling` and `full` too, and under any quota. It is where the rule fails first: by no earlier moment has it failed on any key. If there
-/// is none, the rule fails on no key; and if the judge decides the history (`is_judged`), under its own quota or another, some order
-/// explains it.
-///
-/// `keys` are the keys left; they rise. It sorts the moments of the calls once, and goes over them once: n log n steps for n calls.
-pub fn first_refused(
-    alloc: Global,
-    history: &History,
-    keys: &[u32],
-) -> Result<Option<Refusal>, AllocError>
-    requires { IsStrictlyIncreasing keys.now }
-    ensures refused { IfOk result (λ refused. IfSome refused (λ _. IsUnexplained history.now keys.now)) }
-    ensures passed { IfOk result (λ refused. refused ≡ None → IsJudged history.now → IsExplained history.now keys.now) }
-    ensures told { IfOk result (λ refused. IfSome refused (IsRefused history.now keys.now)) }
-    ensures refused_at_all { IfOk result (λ refused. IfSome refused
-        (λ _. (quota : ℕ) → IsUnexplained (with_quota quota history.now) keys.now)) }
-    ensures passed_at_all { IfOk result (λ refused. refused ≡ None
-        → (quota : ℕ) → IsJudged (with_quota quota history.now) → IsExplained (with_quota quota history.now) keys.now) }
-    ensures ruled { IfOk result (λ refused. refused ≡ None → RulePasses history.now keys.now) }
-    ensures fails { IfOk result (λ refused. IfSome refused (λ refusal. rule_explains history.now keys.now refusal.key.0 ≡ false)) }
-    ensures first { IfOk result (λ refused. IfSome refused
-        (λ refusal. FailsFirst history.now keys.now refusal.key.0 refusal.moment)) }
-{
-    first_failure(alloc, history, Some(keys))
+impl Judge {
+    /// No calls yet, of a set that opens with these keys; they rise.
+    pub fn new(alloc: Global, opening: &[u32]) -> Result<Judge, AllocError>
+        requires { IsStrictlyIncreasing opening.now }
+        ensures opened { IfOk result (λ j. (threads : ℕ) → IsJudgeOf threads opening.now [] j) }
+        ensures moment { IfOk result (λ j. moment_of j.stream ≡ 0) }
+    {
+        let stream = Stream::new(alloc, opening)?;
+        Ok(Judge {
+            alloc,
+            stream,
+            kept: BTreeMap::new(alloc),
+            upto: 0,
+            keeps: true,
+        })
+    }
+
+    /// How a key is at rest now, if it is.
+    fn rest_now(&self, key: u32) -> Option<Rest>
+        ensures { IfSome result (λ r. IsRestNow self.now key r) }
+    {
+        let there = self.stream.rest_of(key)?;
+        let since = self.stream.moment();
+        let before = match self.kept.get(&key) {
+            Some(kept) => made_by(kept, since, there),
+            None => None,
+        };
+        Some(Rest {
+            since,
+            there,
+            before,
+        })
+    }
+
+    fn keep(&mut self, call: StreamCall) -> Result<(), AllocError>
+        ensures { OnOk result (HasKept self.old call self.new) }
+    {
+        let key = call.call.key().0;
+        let rest = self.rest_now(key);
+        let earliest = self.stream.earliest_look(key);
+        keep(
+            &mut self.kept,
+            self.alloc,
+            key,
+            Kept { call, rest },
+            earliest,
+        )?;
+        self.upto = call.begun;
+        Ok(())
+    }
+
+    /// Keeps a call, if all calls before it were kept and the rule has not failed.
+    fn keep_if(&mut self, call: StreamCall) -> Result<(), AllocError>
+        ensures { OnOk result (((self.old.keeps ≡ true) × HasKept self.old call self.new) ⊎ HasNotKept self.old self.new) }
+    {
+        if self.keeps && !self.stream.has_failed() {
+            self.keep(call)?;
+            Ok(())
+        } else {
+            self.keeps = false;
+            Ok(())
+        }
+    }
+
+    /// Judges a call that begins after all calls before it, so far as it tells something already.
+    ///
+    /// An error but `Memory` says why the call cannot come next, and changes nothing. After `Memory` the judge is of no more use.
+    pub fn add(&mut self, call: StreamCall) -> Result<(), StreamFault>
+        ensures added { OnOk result ((threads : ℕ) (opening : List ℕ) (calls : List RecordedCall) → call.thread < threads
+            → IsJudgeOf threads opening calls self.old → IsJudgeOf threads opening (calls ++ record_of call ∷ []) self.new) }
+        // It has come to the begin of the call.
+        ensures moment { OnOk result (moment_of self.new.stream ≡ call.begun) }
+        ensures refused { IfErr result (λ fault. fault ≢ StreamFault.Memory
+            → (MayCome (pending_in self.old.stream) (moment_of self.old.stream) (record_of call) → ⊥) × (self.new ≡ self.old)) }
+    {
+        if let Some(fault) = self.stream.fault_of(call) {
+            return Err(fault);
+        }
+        match self.take(call) {
+            Ok(()) => Ok(()),
+            Err(_) => Err(StreamFault::Memory),
+        }
+    }
+
+    fn take(&mut self, call: StreamCall) -> Result<(), AllocError>
+        requires { MayCome (pending_in self.old.stream) (moment_of self.old.stream) (record_of call) }
+        ensures moment { OnOk result (moment_of self.new.stream ≡ call.begun) }
+        ensures taken { OnOk result ((threads : ℕ) (opening : List ℕ) (calls : List RecordedCall) → call.thread < threads
+            → IsJudgeOf threads opening calls self.old → IsJudgeOf threads opening (calls ++ record_of call ∷ []) self.new) }
+    {
+        self.stream.come_to(call)?;
+        self.keep_if(call)?;
+        match self.stream.add(call) {
+            Ok(()) => Ok(()),
+            Err(_) => Err(AllocError),
+        }
+    }
+
+    /// Whether some order linearizes all calls, from the opening keys, and leaves these keys: the answer is `Linearizable` exactly if one
+    /// does, and `NotLinearizable` exactly if none does. The set has no quota.
+    ///
+    /// `keys` are the keys left; they rise. It fails only if memory is refused.
+    pub fn close(self, keys: &[u32]) -> Result<Verdict, AllocError>
+        requires { IsStrictlyIncreasing keys.now }
+        ensures { IfOk result (λ verdict. (threads : ℕ) (opening : List ℕ) (calls : List RecordedCall) → IsJudgeOf threads opening calls self
+            → IsVerdict threads opening calls keys.now verdict) }
+    {
+        let Judge {
+            alloc,
+            stream,
+            kept,
+            upto: _,
+            keeps: _,
+        } = self;
+        match stream.close(keys)? {
+            StreamVerdict::Linearizable => Ok(Verdict::Linearizable),
+            StreamVerdict::NotLinearizable(refusal) => {
+                let left = left_as(keys, refusal);
+                let window = window_for(alloc, &kept, refusal.key, left)?;
+                Ok(Verdict::NotLinearizable(refusal, window))
+            }
+        }
+    }
+
+    /// As `close`, of a recording that was cut off, so that the keys left are not known.
+    pub fn close_cut_off(self) -> Result<Verdict, AllocError>
+        ensures { IfOk result (λ verdict. (threads : ℕ) (opening : List ℕ) (calls : List RecordedCall) → IsJudgeOf threads opening calls self
+            → IsVerdictCutOff threads opening calls verdict) }
+    {
+        let Judge {
+            alloc,
+            stream,
+            kept,
+            upto: _,
+            keeps: _,
+        } = self;
+        match stream.close_cut_off()? {
+            StreamVerdict::Linearizable => Ok(Verdict::Linearizable),
+            StreamVerdict::NotLinearizable(refusal) => {
+                let window = window_for(alloc, &kept, refusal.key, None)?;
+                Ok(Verdict::NotLinearizable(refusal, window))
+            }
+        }
+    }
 }

@@ -9,25 +9,24 @@
 
 ghost use Rattle.lset_judge.specs.Locality.{KeysAreApart, QuotasDoNotMatter};
 
-mod alone;
+mod asked;
 mod event;
+mod history;
 mod judged;
 mod judging;
+mod kept;
 mod keys;
-mod marks;
-mod overlap;
+mod overlaps;
 mod rule;
 mod stream;
-mod verdict;
 mod window;
 
-pub use alone::window_alone;
+pub use history::{Judged, judge};
 pub use judged::{is_judged, is_plain};
-pub use judging::first_refused;
-pub use overlap::overlapped;
-pub use stream::{LAST_MOMENT, Stream, StreamCall, StreamFault, StreamRefusal, StreamVerdict};
-pub use verdict::{Refusal, Verdict, judge, judge_cut_off, judge_without_quota};
-pub use window::{Window, window_of_refusal};
+pub use judging::{Judge, Verdict};
+pub use overlaps::Overlaps;
+pub use stream::{LAST_MOMENT, Refusal, StreamCall, StreamFault};
+pub use window::Window;
 
 /// Locality: put each key of a recording into one of several parts, and into each part the calls, the opening keys and the keys left
 /// of its keys. Some order explains the recording exactly if some order explains each part. So if `judge` says of each part that it

@@ -1,7 +1,7 @@
 //! A stream of calls, judged as they come: what is kept is the state of each key and the calls that are pending.
 
 ghost use Rattle.std.specs.Prelude.{◌≡◌, ◌≢◌, ◌↔◌, ◌<◌, ◌≤◌, ◌+◌, ◌++◌, ◌∷◌, [], ℕ, IsTrue, All, List, length, false, true, None, Some, IfOk, OnOk, IfErr, IfSome, MatchOption, if◌then◌else◌};
-ghost use Rattle.std.specs.Prelude.{Contains, IsSome, slice_index_or};
+ghost use Rattle.std.specs.Prelude.{Contains, IsSome, slice_index_or, ◌==◌, ◌&&◌};
 ghost use Rattle.std.specs.List.{remove};
 ghost use Rattle.std.specs.List.Sorted.{IsStrictlyIncreasing};
 ghost use Rattle.std.specs.Ordering.{nat_cmp};
@@ -11,6 +11,7 @@ ghost use Rattle.lset_words.specs.SequentialSet.{has_key};
 ghost use Rattle.lset_judge.specs.Rule.{entered, found, opened};
 ghost use Rattle.lset_judge.specs.Events.{kind_if, until_if, begin_event, end_event};
 ghost use Rattle.lset_judge.specs.Leaving.{may_be_left};
+ghost use Rattle.lset_judge.specs.Rest.{ends_change, IsAtRest};
 ghost use Rattle.lset_judge.specs.Stream.{record_of, stream_history, behind_all, state_for, pending_of, no_pending, IsBefore, IsNearest, IsMet, IsStreamOf, MayCome, failed_verdict, verdict_of_key, moment_of, pending_in, IsStreamVerdict, IsStreamVerdictCutOff};
 ghost use Rattle.lset_judge.specs.Verdict.{is_plain};
 ghost use Rattle.lset_judge.specs.declared.stream.StreamFault.TheVariants.{Memory};
@@ -77,12 +78,12 @@ pub enum StreamVerdict {
     /// Some order explains the calls, from the opening keys, and leaves the keys.
     Linearizable,
     /// No order does.
-    NotLinearizable(StreamRefusal),
+    NotLinearizable(Refusal),
 }
 
 /// Why no order explains the calls of a stream: a key, and how far its calls go.
 #[derive(Clone, Copy, Debug, PartialEq, Eq)]
-pub struct StreamRefusal {
+pub struct Refusal {
     /// The key whose calls have no order.
     pub key: Key,
     /// The moment: the calls of the key that begin by then, with all their replies, have no order, whichever keys it leaves. `None` if
@@ -181,6 +182,12 @@ impl Pending {
     {
         self.thread != call.thread || self.end <= call.begun
     }
+
+    fn changes(self, key: u32) -> bool
+        ensures { result ≡ (self.key == key && ends_change self.event) }
+    {
+        self.key == key && matches!(self.event, Event::Ends(_))
+    }
 }
 
 /// Lets happen what happens of a key at the moment after `before`: whether the rule goes on.
@@ -264,7 +271,7 @@ impl Failed {
     fn verdict(self) -> StreamVerdict
         ensures { result ≡ failed_verdict self }
     {
-        StreamVerdict::NotLinearizable(StreamRefusal {
+        StreamVerdict::NotLinearizable(Refusal {
             key: self.key,
             moment: Some(self.moment),
         })
@@ -276,7 +283,7 @@ fn verdict_of_key(key: Option<u32>) -> StreamVerdict
     ensures { result ≡ verdict_of_key key }
 {
     match key {
-        Some(key) => StreamVerdict::NotLinearizable(StreamRefusal {
+        Some(key) => StreamVerdict::NotLinearizable(Refusal {
             key: Key(key),
             moment: None,
         }),
@@ -431,6 +438,87 @@ impl Stream {
         }
         self.take(call)?;
         Ok(())
+    }
+
+    /// Whether a key is there, if each change of it has taken effect.
+    fn quiet_state(&self, key: u32) -> Option<bool>
+        ensures { IfSome result (λ there. ((state_for self.now.states key).there ≡ there)
+            × ((state_for self.now.states key).puts ≡ []) × ((state_for self.now.states key).takes ≡ [])) }
+    {
+        match self.states.get(&key) {
+            None => Some(false),
+            Some(state) => {
+                if state.is_quiet() {
+                    Some(state.is_there())
+                } else {
+                    None
+                }
+            }
+        }
+    }
+
+    /// Whether no change of a key is pending.
+    fn none_changes(&self, key: u32) -> bool
+        ensures { IsTrue result ↔ All (λ p. (p.key == key && ends_change p.event) ≡ false) self.now.pending.items }
+    {
+        self.pending.iter().all(|pending| !pending.changes(key))
+    }
+
+    /// Whether a key is there, if no change of it is pending and the rule has not failed.
+    pub fn rest_of(&self, key: u32) -> Option<bool>
+        ensures { IfSome result (λ there. (threads : ℕ) (opening : List ℕ) (calls : List RecordedCall) → IsStreamOf threads opening calls self.now
+            → IsAtRest threads opening calls key (moment_of self.now) there) }
+    {
+        if self.failed.is_some() || !self.none_changes(key) {
+            return None;
+        }
+        self.quiet_state(key)
+    }
+
+    /// When the earliest of the pending calls of a key began that saw it there, or not there.
+    pub fn earliest_look(&self, key: u32) -> Option<u64> {
+        let mut earliest = None;
+        for pending in &self.pending {
+            if pending.key == key {
+                if let Event::Looks(_, begun) = pending.event {
+                    earliest = match earliest {
+                        None => Some(begun),
+                        Some(before) => Some(begun.min(before)),
+                    };
+                }
+            }
+        }
+        earliest
+    }
+
+    /// The moment to which the stream has come.
+    pub fn moment(&self) -> u64
+        ensures { result ≡ moment_of self.now }
+    {
+        self.moment
+    }
+
+    /// Whether the rule has failed on a key.
+    pub fn has_failed(&self) -> bool {
+        self.failed.is_some()
+    }
+
+    /// Why a call cannot come next, if it cannot.
+    pub fn fault_of(&self, call: StreamCall) -> Option<StreamFault>
+        ensures { MatchOption result (MayCome (pending_in self.now) (moment_of self.now) (record_of call))
+            (λ fault. MayCome (pending_in self.now) (moment_of self.now) (record_of call) → ⊥) }
+    {
+        self.find_fault(call)
+    }
+
+    /// Lets all happen that happens before the begin of a call that may come next.
+    pub fn come_to(&mut self, call: StreamCall) -> Result<(), AllocError>
+        requires { MayCome (pending_in self.old) (moment_of self.old) (record_of call) }
+        ensures kept { OnOk result ((threads : ℕ) (opening : List ℕ) (calls : List RecordedCall) → IsStreamOf threads opening calls self.old
+            → IsStreamOf threads opening calls self.new) }
+        ensures before { OnOk result (moment_of self.new < call.begun) }
+    {
+        self.meet_before(call.begun)
     }
 
     /// A key with a state that is not left as its calls may leave it.

@@ -54,7 +54,7 @@ fn recorded_calls_come_byte_by_byte(rt: HostRuntime) -> Result<(), Fail> {
     let alloc = rt.alloc();
     let head = "listset-calls 2\nlist lazy\nthreads 1\nquota 0\n";
     assert_judged(&rt, alloc, text_of(alloc, head, " -", " false")?);
-    let text = text_of(alloc, "listset-calls 3\n", "", " false")?;
+    let text = text_of(alloc, "listset-calls 1\n", "", " false")?;
     assert_judged(&rt, alloc, text);
     Ok(())
 }
@@ -81,7 +81,7 @@ fn a_report_comes_byte_by_byte(rt: HostRuntime) -> Result<(), Fail> {
 #[test]
 fn an_answer_is_written_byte_by_byte(rt: HostRuntime) -> Result<(), Fail> {
     let alloc = rt.alloc();
-    let text = text_of(alloc, "listset-calls 3\n", "", " false")?.into_bytes();
+    let text = text_of(alloc, "listset-calls 1\n", "", " false")?.into_bytes();
     let plan = Plan { most: 1, ..WHOLE };
     let mut output = Writer::new(alloc, plan);
     let mut faults = Vec::new(alloc);

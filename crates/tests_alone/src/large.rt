@@ -4,7 +4,7 @@
 use crate::made::{FIVE, in_turn, rising_keys};
 use crate::orders::is_found;
 use crate::prelude::*;
-use lset_long::{LongAnswer, LongReader};
+use lset_recording::{RecordingAnswer, RecordingReader};
 
 /// So many calls a report may have.
 const MOST_CALLS: u32 = 1_000_000;
@@ -172,7 +172,7 @@ const LONG_KEYS: u32 = 200_000;
 const LONG_CALLS: u32 = 100_000;
 
 /// The reader takes a line of a call, one byte after another.
-fn feed_call(alloc: Global, reader: &mut LongReader, number: u32) -> Result<(), Fail> {
+fn feed_call(alloc: Global, reader: &mut RecordingReader, number: u32) -> Result<(), Fail> {
     let (thread, key) = (number % 8, number % LONG_KEYS);
     let begun = 2 * u64::from(number) + 1;
     let end = begun + 1;
@@ -184,7 +184,7 @@ fn feed_call(alloc: Global, reader: &mut LongReader, number: u32) -> Result<(), 
 }
 
 /// The reader takes a line of each key, which begins with the word.
-fn feed_keys(alloc: Global, reader: &mut LongReader, word: &str) -> Result<(), Fail> {
+fn feed_keys(alloc: Global, reader: &mut RecordingReader, word: &str) -> Result<(), Fail> {
     for key in 0..LONG_KEYS {
         let line = format!(in alloc; "{word} {key}\n")?;
         reader.feed(line.as_bytes())?;
@@ -195,14 +195,14 @@ fn feed_keys(alloc: Global, reader: &mut LongReader, word: &str) -> Result<(), F
 #[test]
 fn a_long_recording_of_many_keys_in_pieces_of_a_byte(rt: HostRuntime) -> Result<(), Fail> {
     let alloc = rt.alloc();
-    let mut reader = LongReader::new(alloc);
+    let mut reader = RecordingReader::new(alloc);
     feed_keys(alloc, &mut reader, "opening")?;
     for number in 0..LONG_CALLS {
         feed_call(alloc, &mut reader, number)?;
     }
     feed_keys(alloc, &mut reader, "key")?;
     reader.feed(b"end\n")?;
-    let judged = LongAnswer {
+    let judged = RecordingAnswer {
         verdict: StreamVerdict::Linearizable,
         calls: u64::from(LONG_CALLS),
         cut_off: false,

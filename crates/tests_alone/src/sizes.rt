@@ -8,7 +8,7 @@ use crate::worlds::make_call;
 use lset_calls::{history_of, read_calls, recording_of, report_of};
 use lset_claims::{Claim, claim_of};
 use lset_judge::{overlapped, window_of_refusal};
-use lset_long::LongReader;
+use lset_recording::RecordingReader;
 use lset_order::{Found, find_order};
 use lset_parts::Parts;
 use lset_points::judge_by_points;
@@ -285,7 +285,7 @@ fn is_long_read<R: Abort>(rt: &R, alloc: Global, size: u32) -> Result<(), Fail>
     requires { size ≤ 200 }
 {
     let text = lines_of(alloc, "", size, "")?;
-    let mut reader = LongReader::new(alloc);
+    let mut reader = RecordingReader::new(alloc);
     for piece in text.as_bytes().chunks(size as usize + 1) {
         reader.feed(piece)?;
     }

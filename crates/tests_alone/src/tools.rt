@@ -76,7 +76,7 @@ const BOTH: &str = "listset-calls 2\nlist lazy\nthreads 2\nquota 4\n\
 
 /// A long recording.
 const LONG: &str =
-    "listset-calls 3\nopening 7\ncall 0 add 5 1 4 true\ncall 1 remove 7 2 - -\nkey 5\nend\n";
+    "listset-calls 1\nopening 7\ncall 0 add 5 1 4 true\ncall 1 remove 7 2 - -\nkey 5\nend\n";
 
 const DRAFT: &str = "listset-draft 2\nlist coarse\nthreads 1\nquota 4\nbegin 0 add 5\ngo 0 out\n";
 

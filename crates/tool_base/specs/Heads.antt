@@ -3,9 +3,9 @@ use Rattle.std.specs.Prelude.{◌≡◌, ℕ, ◌<◌, Bool, false, List, [], �
 use Rattle.std.specs.Io.KnownBytes.{Consumes, IsAtEnd}
 use Rattle.std.specs.Str.{bytes_eq}
 
--- the first line of a long recording, `listset-calls 3`, with its newline
+-- the first line of a long recording, `listset-calls 1`, with its newline
 abbrev pub long_title : List ℕ
-long_title = codes "listset-calls 3\n"
+long_title = codes "listset-calls 1\n"
 
 abbrev pub begins_long : List ℕ → Bool
 begins_long bytes = bytes_eq (take (length long_title) bytes) long_title

@@ -12,9 +12,9 @@ use Rattle.lset_report.specs.declared.report_fault.ReportFault.{ReportFault}
 use Rattle.lset_calls.specs.declared.fault.CallsCause.{CallsCause}
 use Rattle.lset_calls.specs.declared.fault.CallsCause.TheVariants as calls
 use Rattle.lset_calls.specs.declared.fault.CallsFault.{CallsFault}
-use Rattle.lset_long.specs.declared.fault.LongCause.{LongCause}
-use Rattle.lset_long.specs.declared.fault.LongCause.TheVariants as long
-use Rattle.lset_long.specs.declared.fault.LongFault.{LongFault}
+use Rattle.lset_recording.specs.declared.fault.RecordingCause.{RecordingCause}
+use Rattle.lset_recording.specs.declared.fault.RecordingCause.TheVariants as long
+use Rattle.lset_recording.specs.declared.fault.RecordingFault.{RecordingFault}
 use Rattle.lset_calls.specs.declared.fault.ClashFault.{ClashFault}
 use Rattle.lset_calls.specs.declared.fault.ClashFault.TheVariants as clash
 use Rattle.tool_base.specs.declared.streams.InputFault.{InputFault}
@@ -71,12 +71,12 @@ of_calls_line number cause = Line number (line.Calls cause)
 abbrev pub of_calls : CallsFault → Trouble
 of_calls fault = of_calls_line fault.line fault.cause
 
-abbrev pub of_long_line : ℕ → LongCause → Trouble
+abbrev pub of_long_line : ℕ → RecordingCause → Trouble
 of_long_line number long.Memory = Memory
 of_long_line number cause = Line number (line.Long cause)
 
 -- of a text that is no long recording
-abbrev pub of_long : LongFault → Trouble
+abbrev pub of_long : RecordingFault → Trouble
 of_long fault = of_long_line fault.line fault.cause
 
 -- of calls that have no report

@@ -119,7 +119,7 @@ Other messages
   listset: recording cut off: only judge of one file, of all keys, reads it
                           The recording ends with the line 'cut', so the keys left are not known; exit status 1.
   listset: recorded calls of version 3: only judge of one file, of all keys, reads them
-                          The first line is 'listset-calls 3'. Other commands read 'listset-calls 2'; exit status 1.
+                          The first line is 'listset-calls 1'. Other commands read 'listset-calls 2'; exit status 1.
   listset: cannot write   A write failed; exit status 1.
   listset: cannot listen  The system refused the port; exit status 1.
   listset: bad NAME       The argument or option NAME is missing or out of range, or FROM is past the last moment; exit status 2.

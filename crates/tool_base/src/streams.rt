@@ -14,7 +14,7 @@ pub const LONGEST: usize = 67_108_864;
 pub const READ_SIZE: usize = 4096;
 
 /// The first line of a long recording, with its newline.
-const LONG_TITLE: &[u8] = b"listset-calls 3\n";
+const LONG_TITLE: &[u8] = b"listset-calls 1\n";
 
 /// Why an input was not read.
 #[derive(Clone, Copy)]
@@ -109,7 +109,7 @@ pub fn rest_of<R: Read>(head: Vec<u8>, input: &mut R) -> Result<Vec<u8>, InputFa
     Ok(bytes)
 }
 
-/// Returns what comes after the first line of a long recording, `listset-calls 3`; `None` if the bytes do not begin with that line. Does
+/// Returns what comes after the first line of a long recording, `listset-calls 1`; `None` if the bytes do not begin with that line. Does
 /// not allocate.
 pub fn after_long_title(bytes: &[u8]) -> Option<&[u8]>
     ensures { MatchOption result (begins_long bytes.now ≡ false)

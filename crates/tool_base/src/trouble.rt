@@ -4,7 +4,7 @@ ghost use Rattle.tool_base.specs.declared.trouble.Trouble.TheVariants.{Memory};
 
 use crate::streams::InputFault;
 use lset_calls::{CallsCause, CallsFault, ClashFault};
-use lset_long::{LongCause, LongFault};
+use lset_recording::{RecordingCause, RecordingFault};
 use lset_replay::ReplayFault;
 use lset_report::{ReportCause, ReportFault};
 use lset_schedule::{Cause, ScheduleFault};
@@ -49,7 +49,7 @@ pub enum LineCause {
     /// The text is none of calls, or they have no report.
     Calls(CallsCause),
     /// The input is no long recording.
-    Long(LongCause),
+    Long(RecordingCause),
     /// The input is not a list of keys in strictly increasing order.
     Keys(KeyCause),
 }
@@ -212,12 +212,12 @@ impl From<CallsFault> for Trouble {
     }
 }
 
-impl From<LongFault> for Trouble {
+impl From<RecordingFault> for Trouble {
     ghost from_gives = { λ e t. t ≡ of_long e };
 
-    fn from(fault: LongFault) -> Trouble {
+    fn from(fault: RecordingFault) -> Trouble {
         match fault.cause {
-            LongCause::Memory => Trouble::Memory,
+            RecordingCause::Memory => Trouble::Memory,
             cause => Trouble::Line(fault.line, LineCause::Long(cause)),
         }
     }
@@ -297,12 +297,12 @@ impl LineCause {
                 CallsCause::Memory => "Memory",
             },
             LineCause::Long(cause) => match cause {
-                LongCause::Line => "Line",
-                LongCause::Number => "Number",
-                LongCause::Opening => "Opening",
-                LongCause::History => "History",
-                LongCause::NotEnded => "NotEnded",
-                LongCause::Memory => "Memory",
+                RecordingCause::Line => "Line",
+                RecordingCause::Number => "Number",
+                RecordingCause::Opening => "Opening",
+                RecordingCause::History => "History",
+                RecordingCause::NotEnded => "NotEnded",
+                RecordingCause::Memory => "Memory",
             },
             LineCause::Keys(cause) => match cause {
                 KeyCause::Line => "Line",

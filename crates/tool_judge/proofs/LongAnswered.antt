@@ -3,14 +3,14 @@ use Rattle.std.proofs.Common.{◌≡◌, ◌≢◌, ℕ, ◌<◌, ◌⊎◌, inl
 use Rattle.std.specs.Prelude.{IfSome}
 use Rattle.std.proofs.lemmas.Option.{IfSome_then}
 use Rattle.std.specs.Io.KnownBytes.{Consumes}
-use Rattle.lset_long.specs.declared.fault.LongCause.{LongCause}
-use Rattle.lset_long.specs.declared.fault.LongCause.TheVariants as wrong
-use Rattle.lset_long.specs.declared.fault.LongFault.{LongFault}
-use Rattle.lset_long.specs.declared.judging.LongAnswer.{LongAnswer}
-use Rattle.lset_long.specs.Reading.{Says, fault}
-use Rattle.lset_long.specs.Texts.{LongValue}
-use Rattle.lset_long.specs.Kept.{IsAnswered}
-use Rattle.lset_long.proofs.TextFound.{text_found}
+use Rattle.lset_recording.specs.declared.fault.RecordingCause.{RecordingCause}
+use Rattle.lset_recording.specs.declared.fault.RecordingCause.TheVariants as wrong
+use Rattle.lset_recording.specs.declared.fault.RecordingFault.{RecordingFault}
+use Rattle.lset_recording.specs.declared.judging.RecordingAnswer.{RecordingAnswer}
+use Rattle.lset_recording.specs.Reading.{Says, fault}
+use Rattle.lset_recording.specs.Texts.{Recording}
+use Rattle.lset_recording.specs.Kept.{IsAnswered}
+use Rattle.lset_recording.proofs.TextFound.{text_found}
 use Rattle.tool_base.specs.declared.answer.Answer.{Answer}
 use Rattle.tool_base.specs.declared.trouble.Trouble.{Trouble}
 use Rattle.tool_base.specs.declared.streams.InputFault.{InputFault}
@@ -23,17 +23,17 @@ use Rattle.tool_base.proofs.HeadLaws.{begins_more}
 use Rattle.tool_judge.specs.Judging.{Judges, JudgesAny, JudgesIf, JudgesLong, long_answer}
 
 -- a fault as a trouble
-pub of_fault : (bytes : List ℕ) (e : LongFault) (t : Trouble) → t ≡ of_long e → (e.cause ≢ wrong.Memory → Says bytes (Err e))
+pub of_fault : (bytes : List ℕ) (e : RecordingFault) (t : Trouble) → t ≡ of_long e → (e.cause ≢ wrong.Memory → Says bytes (Err e))
     → JudgesLong bytes (Err t)
 of_fault bytes e t is says = by e.line e.cause is says
   where
-    by : (line : ℕ) (cause : LongCause) → t ≡ of_long_line line cause → (cause ≢ wrong.Memory → Says bytes (Err (fault line cause)))
+    by : (line : ℕ) (cause : RecordingCause) → t ≡ of_long_line line cause → (cause ≢ wrong.Memory → Says bytes (Err (fault line cause)))
         → JudgesLong bytes (Err t)
     by line wrong.Memory is says = inr (inl is)
     by line cause is says = inr (inr (fault line cause, says (λ bad. absurd cc), is))
 
 -- the answer on what the bytes say
-pub answered : (bytes : List ℕ) (c : LongValue) (said : LongAnswer) (a : Answer) → Says bytes (Ok c) → IsAnswered c said
+pub answered : (bytes : List ℕ) (c : Recording) (said : RecordingAnswer) (a : Answer) → Says bytes (Ok c) → IsAnswered c said
     → view (Ok a) ≡ Ok (long_answer said.verdict said.calls said.cut_off) → JudgesLong bytes (view (Ok a))
 answered bytes c said a says is made =
     subst (JudgesLong bytes) (sym made) (

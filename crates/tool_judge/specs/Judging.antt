@@ -29,9 +29,9 @@ use Rattle.lset_judge.specs.Events.{RulePasses}
 use Rattle.lset_judge.specs.Verdict.{IsExplained, IsJudged, IsRefused, IsVerdictWithoutQuota, IsVerdictCutOff}
 use Rattle.lset_judge.specs.Window.{IsWindowOf}
 use Rattle.lset_judge.specs.Overlap.{overlapped}
-use Rattle.lset_long.specs.declared.fault.LongFault.{LongFault}
-use Rattle.lset_long.specs.Texts.{LongValue, IsLong, text_after_title}
-use Rattle.lset_long.specs.Reading.{Says, IsLongVerdict}
+use Rattle.lset_recording.specs.declared.fault.RecordingFault.{RecordingFault}
+use Rattle.lset_recording.specs.Texts.{Recording, IsRecording, text_after_title}
+use Rattle.lset_recording.specs.Reading.{Says, IsVerdictOnRecording}
 use Rattle.tool_judge.specs.declared.judging.Decision.{Decision}
 use Rattle.tool_judge.specs.declared.judging.Decision.TheVariants.{Answered, ByPoints}
 use Rattle.tool_base.specs.declared.trouble.Trouble.{Trouble}
@@ -254,17 +254,17 @@ long_answer long.Linearizable calls cut_off = record { text = long_ok_text calls
 long_answer (long.NotLinearizable refusal) calls cut_off = record { text = long_reason_text refusal; status = 1 }
 
 -- THE ANSWER ON A LONG RECORDING
-pub record IsLongAnswer (c : LongValue) (answer : AnswerValue) : Type 0 where
-  pub long : IsLong c
+pub record IsLongAnswer (c : Recording) (answer : AnswerValue) : Type 0 where
+  pub long : IsRecording c
   pub verdict : StreamVerdict
-  pub verdict_is : IsLongVerdict c verdict
+  pub verdict_is : IsVerdictOnRecording c verdict
   pub answer_is : answer ≡ long_answer verdict (length c.calls) c.cut_off
 
 -- what is made of the bytes after the title: the answer on the long recording that they say and whose text they are, or their first fault; or a read failed, or
 -- memory was refused
 abbrev pub JudgesLong : List ℕ → Made → Type 0
-JudgesLong bytes (Ok answer) = (c : LongValue) × Says bytes (Ok c) × (bytes ≡ text_after_title c) × IsLongAnswer c answer
-JudgesLong bytes (Err t) = (t ≡ CannotRead) ⊎ ((t ≡ Memory) ⊎ ((fault : LongFault) × Says bytes (Err fault) × (t ≡ of_long fault)))
+JudgesLong bytes (Ok answer) = (c : Recording) × Says bytes (Ok c) × (bytes ≡ text_after_title c) × IsLongAnswer c answer
+JudgesLong bytes (Err t) = (t ≡ CannotRead) ⊎ ((t ≡ Memory) ⊎ ((fault : RecordingFault) × Says bytes (Err fault) × (t ≡ of_long fault)))
 
 -- WHAT IS MADE OF AN INPUT: by its first line, of a long recording, or of any other text
 abbrev pub JudgesIf : Bool → List ℕ → Made → Type 0

@@ -145,7 +145,7 @@ fn answer_on(alloc: Global, bytes: &[u8]) -> Result<Answer, Trouble>
 /// stand beside those of the lines above, or with the first change that has no point, but only if the judge does not decide the calls, and
 /// its rule, which does not look at `ceiling` and `full`, refutes nothing; and `Memory` if memory was refused.
 ///
-/// A text whose first line is `listset-calls 3` is a long recording, and may have more bytes; its answer has no more lines than `ok N calls`,
+/// A text whose first line is `listset-calls 1` is a long recording, and may have more bytes; its answer has no more lines than `ok N calls`,
 /// or than the key and how far its calls have no order.
 pub fn judge_bytes(alloc: Global, bytes: &[u8]) -> Result<Answer, Trouble>
     ensures judges { JudgesAny bytes.now (tools.view result) }

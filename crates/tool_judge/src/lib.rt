@@ -2,7 +2,7 @@
 //!
 //! A recording is read, its calls become a history, and `lset_judge` decides it by the begins and ends alone. A recording with `ceiling`
 //! or `full` that it cannot decide is judged by the points that were recorded, as `report` and `check` do. A long recording
-//! (`lset_long`) is judged as it is read.
+//! (`lset_recording`) is judged as it is read.
 #![tactic(auto)]
 
 mod judging;

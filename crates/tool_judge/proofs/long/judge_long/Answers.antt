@@ -2,8 +2,8 @@ use Rattle.std.proofs.Common.{◌≡◌, ◌<◌, ℕ, List, [], ◌++◌, take,
 use Rattle.std.specs.Io.KnownBytes.{Consumes}
 use Rattle.std.proofs.KnownBytes.{Consumes-nil, Consumes-trans, Consumes-whole}
 use Rattle.std.proofs.lemmas.Result.{err_from_is_err_and}
-use Rattle.lset_long.specs.Reading.{Says}
-use Rattle.lset_long.specs.Kept.{IsRead}
+use Rattle.lset_recording.specs.Reading.{Says}
+use Rattle.lset_recording.specs.Kept.{IsRead}
 use Rattle.tool_base.specs.Tools.{view}
 use Rattle.tool_judge.specs.Judging.{JudgesLong}
 use Rattle.tool_judge.proofs.LongAnswered.{of_fault, if_known, if_read}

@@ -1,6 +1,6 @@
 use Rattle.std.proofs.Common.{ℕ, List, ◌++◌}
 use Rattle.std.specs.Io.KnownBytes.{Consumes}
-use Rattle.lset_long.specs.Kept.{IsRead}
+use Rattle.lset_recording.specs.Kept.{IsRead}
 use Rattle.tool_judge.proofs.long.judge_long.Given as goal
 
 abbrev pub invariant-loop : goal.invariant-loop

@@ -1,6 +1,6 @@
 use Rattle.std.proofs.Common.{[], Err, append-nil, subst, sym}
 use Rattle.std.proofs.lemmas.Result.{err_from_is_err_and}
-use Rattle.lset_long.specs.Reading.{Says}
+use Rattle.lset_recording.specs.Reading.{Says}
 use Rattle.tool_base.specs.Tools.{view}
 use Rattle.tool_judge.specs.Judging.{JudgesLong}
 use Rattle.tool_judge.proofs.LongAnswered.{of_fault}

@@ -1,4 +1,0 @@
-pub mod Replies
-pub mod Seen
-mod Counted
-mod OneClaim

@@ -1,3 +1,0 @@
-pub mod Claims
-pub mod Looks
-pub mod Apart

@@ -1,0 +1,97 @@
+-- If no order explains the calls as read, none explains the calls.
+use Rattle.std.proofs.Common.{inl, inr, ◌≡◌, ◌≢◌, ◌⊎◌, ℕ, zero, suc, ◌<◌, ◌≤◌, Bool, true, false, List, [], ◌∷◌, refl, sym, ap, ◌∙◌, arith, subst, length, get_or, map}
+use Rattle.std.specs.Prelude.{◌==◌, ◌||◌, nat_lt, All, AllPairs, Contains as Has, Option, Some, None, if◌then◌else◌}
+use Rattle.std.proofs.lemmas.Bool.{cases_Bool, true≢false}
+use Rattle.std.proofs.lemmas.Bool.Decides.{nat_tests}
+use Rattle.std.proofs.lemmas.List.{get_or_default, get_or-map, length-map}
+use Rattle.lset_words.specs.declared.Call.{Call}
+use Rattle.lset_words.specs.declared.Call.TheVariants.{Add, Remove, Contains, Ceiling}
+use Rattle.lset_words.specs.declared.Key.{Key}
+use Rattle.lset_words.specs.declared.Reply.{Reply}
+use Rattle.lset_words.specs.declared.Reply.TheVariants.{True, False, Full, At, Nothing}
+use Rattle.lset_words.specs.declared.history.CallRecord.{CallRecord}
+use Rattle.lset_words.specs.declared.history.Placed.{Placed}
+use Rattle.lset_words.specs.SequentialSet.{SetState, Answered, opening_set, has_key, ceiling_in, count_of, reply_to, after_call, IsLegal, set_left}
+use Rattle.lset_words.specs.Words.{Opening}
+use Rattle.lset_words.specs.History.{Linearizes, Precedes, answered, call_numbered, no_call}
+use Rattle.lset_words.proofs.Numbers.{equal_test, same_or_not, below_or_not}
+use Rattle.lset_history.specs.Faults.{Explains}
+use Rattle.lset_judge.specs.Reading.{call_as, reply_as, call_if, end_as, read_as}
+
+-- ---- one call
+
+ceiling_found : (k : ℕ) (x : Key) (keys : List ℕ) → ceiling_in k keys ≡ At x → has_key x.0 keys ≡ true
+ceiling_found k x [] e = absurd (let f : Nothing ≡ At x = e in cc)
+ceiling_found k x (y ∷ ys) e = elim (cases_Bool (nat_lt y k)) [
+  | inl t ↦ (let rest = ceiling_found k x ys (rw t at e) in elim (cases_Bool (y == x.0)) [ inl u ↦ rw u refl | inr u ↦ rw u rest ])
+  | inr t ↦ (let f : At (record { 0 = y }) ≡ At x = rw t at e in
+      let is : record { 0 = y } ≡ x = cc in rw (equal_test y x.0 (ap (λ (q : Key). q.0) is)) refl)
+]
+
+ceiling_none : (k : ℕ) (keys : List ℕ) → ceiling_in k keys ≡ Nothing → has_key k keys ≡ false
+ceiling_none k [] e = refl
+ceiling_none k (y ∷ ys) e = elim (cases_Bool (nat_lt y k)) [
+  | inl t ↦ (let u : (y == k) ≡ false = grind (arith, nat_tests) in rw u (ceiling_none k ys (rw t at e)))
+  | inr t ↦ absurd (let f : At (record { 0 = y }) ≡ Nothing = rw t at e in cc)
+]
+
+ceiling_other : (k : ℕ) (keys : List ℕ) → (ceiling_in k keys ≡ True) ⊎ (ceiling_in k keys ≡ False) ⊎ (ceiling_in k keys ≡ Full) → ⊥
+ceiling_other k [] (inl e) = let f : Nothing ≡ True = e in cc
+ceiling_other k [] (inr (inl e)) = let f : Nothing ≡ False = e in cc
+ceiling_other k [] (inr (inr e)) = let f : Nothing ≡ Full = e in cc
+ceiling_other k (y ∷ ys) e = elim (cases_Bool (nat_lt y k)) [
+  | inl t ↦ ceiling_other k ys (rw t at e)
+  | inr t ↦ none (rw t at e)
+]
+  where
+    none : (At (record { 0 = y }) ≡ True) ⊎ (At (record { 0 = y }) ≡ False) ⊎ (At (record { 0 = y }) ≡ Full) → ⊥
+    none (inl e) = cc
+    none (inr (inl e)) = cc
+    none (inr (inr e)) = cc
+
+abbrev Fits : ℕ → SetState → ℕ → Call → Reply → Type 0
+Fits quota s t c r = (reply_to quota s t (call_as c r) ≡ reply_as c r) × (after_call s t (call_as c r) (reply_as c r) ≡ after_call s t c r)
+
+found : (b : Bool) (r : Reply) → (if b then True else False) ≡ r → (r ≡ True) ⊎ (r ≡ False)
+found true r e = inl (sym e)
+found false r e = inr (sym e)
+
+full : (b c : Bool) → (if b then False else if c then Full else True) ≡ Full → b ≡ false
+full true c e = absurd cc
+full false c e = refl
+
+added : (b c : Bool) (r : Reply) → (if b then False else if c then Full else True) ≡ r → (r ≡ True) ⊎ (r ≡ False) ⊎ (r ≡ Full)
+added true c r e = inr (inl (sym e))
+added false true r e = inr (inr (sym e))
+added false false r e = inl (sym e)
+
+no_add : (r : Reply) → (r ≡ True) ⊎ (r ≡ False) ⊎ (r ≡ Full) → ((x : Key) → r ≢ At x) × (r ≢ Nothing)
+no_add r (inl e) = (λ x f. cc (e, f), λ f. cc (e, f))
+no_add r (inr (inl e)) = (λ x f. cc (e, f), λ f. cc (e, f))
+no_add r (inr (inr e)) = (λ x f. cc (e, f), λ f. cc (e, f))
+
+no_look : (r : Reply) → (r ≡ True) ⊎ (r ≡ False) → ((x : Key) → r ≢ At x) × (r ≢ Nothing) × (r ≢ Full)
+no_look r (inl e) = (λ x f. cc (e, f), λ f. cc (e, f), λ f. cc (e, f))
+no_look r (inr e) = (λ x f. cc (e, f), λ f. cc (e, f), λ f. cc (e, f))
+
+pub fits : (quota : ℕ) (s : SetState) (t : ℕ) (c : Call) (r : Reply) → reply_to quota s t c ≡ r → Fits quota s t c r
+fits quota s t (Add k) True e = (e, refl)
+fits quota s t (Add k) False e = (e, refl)
+fits quota s t (Add k) Full e = (ap (λ (b : Bool). if b then True else False) (full (has_key k.0 s.keys) (count_of s t == quota) e), refl)
+fits quota s t (Add k) (At x) e = absurd ((no_add (At x) (added (has_key k.0 s.keys) (count_of s t == quota) (At x) e)).0 x refl)
+fits quota s t (Add k) Nothing e = absurd ((no_add Nothing (added (has_key k.0 s.keys) (count_of s t == quota) Nothing e)).1 refl)
+fits quota s t (Remove k) True e = (e, refl)
+fits quota s t (Remove k) False e = (e, refl)
+fits quota s t (Remove k) Full e = absurd ((no_look Full (found (has_key k.0 s.keys) Full e)).2 refl)
+fits quota s t (Remove k) (At x) e = absurd ((no_look (At x) (found (has_key k.0 s.keys) (At x) e)).0 x refl)
+fits quota s t (Remove k) Nothing e = absurd ((no_look Nothing (found (has_key k.0 s.keys) Nothing e)).1 refl)
+fits quota s t (Contains k) True e = (e, refl)
+fits quota s t (Contains k) False e = (e, refl)
+fits quota s t (Contains k) Full e = absurd ((no_look Full (found (has_key k.0 s.keys) Full e)).2 refl)
+fits quota s t (Contains k) (At x) e = absurd ((no_look (At x) (found (has_key k.0 s.keys) (At x) e)).0 x refl)
+fits quota s t (Contains k) Nothing e = absurd ((no_look Nothing (found (has_key k.0 s.keys) Nothing e)).1 refl)
+fits quota s t (Ceiling k) True e = absurd (ceiling_other k.0 s.keys (inl e))
+fits quota s t (Ceiling k) False e = absurd (ceiling_other k.0 s.keys (inr (inl e)))
+fits quota s t (Ceiling k) Full e = absurd (ceiling_other k.0 s.keys (inr (inr e)))
+fits quota s t (Ceiling k) (At x) e = (ap (λ (b : Bool). if b then True else False) (ceiling_found k.0 x s.keys e), refl)
+fits quota s t (Ceiling k) Nothing e = (ap (λ (b : Bool). if b then True else False) (ceiling_none k.0 s.keys e), refl)

@@ -1,0 +1,60 @@
+-- CALLS READ AS PLAIN ONES: a `ceiling` that answered a key saw this key there; one that found none, and an `add` that answered full, saw their
+-- own key absent. Each of these calls tells more than that; so if no order explains the calls as read, none explains the calls.
+use Rattle.std.specs.Prelude.{ℕ, List, map, Option, Some, None}
+use Rattle.lset_words.specs.declared.Call.{Call}
+use Rattle.lset_words.specs.declared.Call.TheVariants.{Add, Remove, Contains, Ceiling}
+use Rattle.lset_words.specs.declared.Reply.{Reply}
+use Rattle.lset_words.specs.declared.Reply.TheVariants.{True, False, Full, At, Nothing}
+use Rattle.lset_words.specs.declared.history.CallRecord.{CallRecord}
+use Rattle.lset_judge.specs.declared.stream.StreamVerdict.TheVariants.{Linearizable, NotLinearizable}
+use Rattle.lset_history.specs.History.{HistoryValue}
+use Rattle.lset_judge.specs.Verdict.{IsPlain, IsExplained, IsUnexplained, with_quota, without_quota}
+use Rattle.lset_judge.specs.Stream.{stream_history}
+use Rattle.lset_judge.specs.declared.judging.Verdict.{Verdict}
+use Rattle.lset_judge.specs.declared.judging.Verdict.TheVariants as verdict
+use Rattle.lset_judge.specs.declared.history.Judged.{Judged}
+use Rattle.lset_judge.specs.declared.history.Judged.TheVariants as judged
+use Rattle.lset_judge.specs.Judge.{IsVerdict}
+
+abbrev pub call_as : Call → Reply → Call
+call_as (Add k) True = Add k
+call_as (Add k) False = Add k
+call_as (Add k) Full = Contains k
+call_as (Add k) (At x) = Add k
+call_as (Add k) Nothing = Add k
+call_as (Remove k) r = Remove k
+call_as (Contains k) r = Contains k
+call_as (Ceiling k) True = Contains k
+call_as (Ceiling k) False = Contains k
+call_as (Ceiling k) Full = Contains k
+call_as (Ceiling k) (At x) = Contains x
+call_as (Ceiling k) Nothing = Contains k
+
+abbrev pub reply_as : Call → Reply → Reply
+reply_as c True = True
+reply_as c False = False
+reply_as c Full = False
+reply_as (Add k) (At x) = False
+reply_as (Remove k) (At x) = False
+reply_as (Contains k) (At x) = False
+reply_as (Ceiling k) (At x) = True
+reply_as c Nothing = False
+
+abbrev pub call_if : Call → Option (ℕ × Reply) → Call
+call_if c None = c
+call_if c (Some e) = call_as c e.1
+
+abbrev pub end_as : Call → Option (ℕ × Reply) → Option (ℕ × Reply)
+end_as c None = None
+end_as c (Some e) = Some (e.0, reply_as c e.1)
+
+abbrev pub read_as : CallRecord → CallRecord
+read_as x = record { thread = x.thread; call = call_if x.call x.ended; begun = x.begun; ended = end_as x.call x.ended }
+
+-- THE VERDICT on a history, of a set without a quota: some order explains it and leaves the keys; none does, under any quota, with the answer
+-- on the calls as read; or it is not one of which each ended call answered true or false, and none is a `ceiling`
+abbrev pub IsJudged : HistoryValue → List ℕ → Judged → Type 0
+IsJudged h keys judged.Linearizable = IsExplained (without_quota h) keys
+IsJudged h keys (judged.NotLinearizable refusal window) = ((quota : ℕ) → IsUnexplained (with_quota quota h) keys)
+    × IsVerdict h.opening.threads h.opening.keys (map read_as h.calls) keys (verdict.NotLinearizable refusal window)
+IsJudged h keys judged.Undecided = IsPlain h.calls → ⊥

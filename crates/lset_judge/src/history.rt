@@ -1,0 +1,118 @@
+//! A history judged by the stream that judges calls as they come.
+
+ghost use Rattle.std.specs.Prelude.{◌≡◌, ◌<◌, ◌++◌, ◌∷◌, [], ℕ, IfOk, List, OnOk};
+ghost use Rattle.std.specs.List.Sorted.{IsStrictlyIncreasing};
+ghost use Rattle.lset_judge.specs.Stream.{record_of, moment_of, pending_in, IsBefore, MayCome};
+ghost use Rattle.lset_words.specs.declared.history.CallRecord.{CallRecord as RecordedCall};
+ghost use Rattle.lset_judge.specs.Judge.{IsJudgeOf};
+ghost use Rattle.lset_judge.specs.Reading.{IsJudged, read_as, call_as, reply_as};
+
+use crate::judged::is_plain;
+use crate::judging::{Judge, Verdict};
+use crate::stream::{Refusal, StreamCall, StreamFault};
+use crate::window::Window;
+use lset_history::History;
+use lset_words::{Call, CallRecord, Reply};
+use std::alloc::{AllocError, Global};
+
+/// What the judge says of a history.
+#[derive(Debug, Drop)]
+pub enum Judged {
+    /// Some order explains the calls, from the opening keys, and leaves the keys.
+    Linearizable,
+    /// No order does: why, and the window that shows it, if there is one.
+    NotLinearizable(Refusal, Option<Window>),
+    /// Not known: a call is a `ceiling` that ended, or answered other than true or false, and nothing else refutes the history.
+    Undecided,
+}
+
+fn call_as(call: Call, reply: Reply) -> Call
+    ensures { result ≡ call_as call reply }
+{
+    match (call, reply) {
+        (Call::Add(key), Reply::Full) => Call::Contains(key),
+        (Call::Add(key), Reply::True | Reply::False | Reply::At(_) | Reply::Nothing) => Call::Add(
+            key,
+        ),
+        (Call::Remove(key), _) => Call::Remove(key),
+        (Call::Contains(key), _) => Call::Contains(key),
+        (Call::Ceiling(_), Reply::At(key)) => Call::Contains(key),
+        (Call::Ceiling(key), Reply::True | Reply::False | Reply::Full | Reply::Nothing) =>
+            Call::Contains(key),
+    }
+}
+
+fn reply_as(call: Call, reply: Reply) -> Reply
+    ensures { result ≡ reply_as call reply }
+{
+    match (call, reply) {
+        (_, Reply::True) | (Call::Ceiling(_), Reply::At(_)) => Reply::True,
+        (_, Reply::False | Reply::Full | Reply::Nothing)
+        | (Call::Add(_) | Call::Remove(_) | Call::Contains(_), Reply::At(_)) => Reply::False,
+    }
+}
+
+/// A call as the stream reads it.
+fn read_as(call: &CallRecord) -> StreamCall
+    ensures is { record_of result ≡ read_as call.now }
+    ensures before { IsBefore (record_of result) }
+{
+    match call.ended {
+        None => StreamCall {
+            thread: call.thread,
+            call: call.call,
+            begun: u64::from(call.begun),
+            ended: None,
+        },
+        Some((end, reply)) => StreamCall {
+            thread: call.thread,
+            call: call_as(call.call, reply),
+            begun: u64::from(call.begun),
+            ended: Some((u64::from(end), reply_as(call.call, reply))),
+        },
+    }
+}
+
+/// Judges a call that may come next: that cannot fail but for memory.
+fn add_next(judge: &mut Judge, call: StreamCall) -> Result<(), AllocError>
+    requires { MayCome (pending_in judge.old.stream) (moment_of judge.old.stream) (record_of call) }
+    ensures added { OnOk result ((threads : ℕ) (opening : List ℕ) (calls : List RecordedCall) → call.thread < threads
+        → IsJudgeOf threads opening calls judge.old → IsJudgeOf threads opening (calls ++ record_of call ∷ []) judge.new) }
+    ensures moment { OnOk result (moment_of judge.new.stream ≡ call.begun) }
+{
+    match judge.add(call) {
+        Ok(()) => Ok(()),
+        Err(StreamFault::Memory) => Err(AllocError),
+        Err(
+            StreamFault::Early
+            | StreamFault::Ends
+            | StreamFault::NotPlain
+            | StreamFault::Taken
+            | StreamFault::Busy,
+        ) => {
+            prove!(false);
+            Err(AllocError)
+        }
+    }
+}
+
+/// Whether some order linearizes the calls of a history from its opening keys, and leaves these keys, of a set without a quota: decided for
+/// each history of which the ended calls answered true or false, and none is a `ceiling`. Of any other it says `NotLinearizable` only if
+/// none does, and else `Undecided`. It fails only if memory is refused.
+pub fn judge(alloc: Global, history: &History, keys: &[u32]) -> Result<Judged, AllocError>
+    requires { IsStrictlyIncreasing keys.now }
+    ensures { IfOk result (IsJudged history.now keys.now) }
+{
+    let opening = history.opening();
+    let mut judge = Judge::new(alloc, opening)?;
+    let calls = history.calls();
+    for call in calls {
+        add_next(&mut judge, read_as(call))?;
+    }
+    let plain = is_plain(history);
+    match judge.close(keys)? {
+        Verdict::NotLinearizable(refusal, window) => Ok(Judged::NotLinearizable(refusal, window)),
+        Verdict::Linearizable if plain => Ok(Judged::Linearizable),
+        Verdict::Linearizable => Ok(Judged::Undecided),
+    }
+}

@@ -1,4 +1,0 @@
-pub mod Parts
-pub mod Cuts
-pub mod Kept
-pub mod Judged

@@ -1,0 +1,173 @@
+-- What the kinds of lines make.
+use Rattle.std.proofs.Common.{◌≡◌, ℕ, ◌<◌, ◌≤◌, ◌^◌, Bool, true, false, Result, length, List, [], ◌∷◌, Option, Some, None, Ok, Err, refl, arith, codes, cond}
+use Rattle.std.specs.Prelude.{IfSome, nat_lt}
+use Rattle.std.specs.Fmt.{decimal}
+use Rattle.std.specs.List.{AllByRecursion}
+use Rattle.lset_words.specs.declared.Call.{Call}
+use Rattle.lset_words.specs.declared.Reply.{Reply}
+use Rattle.lset_words.specs.declared.Reply.TheVariants as reply
+use Rattle.lset_words.specs.Words.{key_of}
+use Rattle.lset_text.specs.declared.words.CallWord.{CallWord}
+use Rattle.lset_text.specs.declared.words.CallWord.TheVariants as word
+use Rattle.lset_text.specs.declared.words.Version.TheVariants.{One}
+use Rattle.lset_text.specs.Parts.{line_of}
+use Rattle.lset_text.specs.Forms.{Told}
+use Rattle.lset_text.specs.Kinds.{LineKind, line_in}
+use Rattle.lset_text.specs.Spellings.{call_word_text, word_of, with_key, HasWord}
+use Rattle.lset_text.proofs.KindLaws.{Knows, line_found}
+use Rattle.lset_judge.specs.declared.stream.StreamCall.{StreamCall}
+use Rattle.lset_judge.specs.declared.stream.TheConstants.{LAST_MOMENT}
+use Rattle.lset_judge.specs.Verdict.{is_plain, is_truth}
+use Rattle.lset_judge.specs.Stream.{record_of, behind_all}
+use Rattle.lset_recording.specs.declared.fault.RecordingCause.TheVariants as wrong
+use Rattle.lset_recording.specs.declared.lines.Line.{Line}
+use Rattle.lset_recording.specs.declared.lines.Line.TheVariants as told
+use Rattle.lset_recording.specs.declared.lines.Section.{Section}
+use Rattle.lset_recording.specs.declared.lines.Section.TheVariants as section
+use Rattle.lset_recording.specs.declared.lines.TheConstants.{LONGEST_LINE}
+use Rattle.lset_recording.specs.Texts.{end_pieces, call_pieces}
+use Rattle.lset_recording.specs.Reading.{causes, kinds, from_calls, opening_kind, open_kind, true_kind, false_kind, key_kind, end_kind, cut_kind}
+use Rattle.lset_recording.specs.Reading.{Comes, IsFormed, line_told}
+
+-- the pieces of a line
+abbrev pub line_pieces : Line → List (List ℕ)
+line_pieces (told.Opening k) = codes "opening" ∷ decimal k ∷ []
+line_pieces (told.Call x) = call_pieces (record_of x)
+line_pieces (told.Key k) = codes "key" ∷ decimal k ∷ []
+line_pieces told.End = codes "end" ∷ []
+line_pieces told.Cut = codes "cut" ∷ []
+
+abbrev pub IsMoment : ℕ → Type 0
+IsMoment m = (1 ≤ m) × (m ≤ LAST_MOMENT)
+
+-- what its numbers and words are
+pub record IsNumbered (x : StreamCall) : Type 0 where
+  pub thread : x.thread < 2 ^ 32
+  pub key : (key_of x.call).0 < 2 ^ 32
+  pub word : HasWord One (word_of x.call)
+  pub begun : IsMoment x.begun
+  pub end : IfSome x.ended (λ (e : ℕ × Reply). IsMoment e.0 × (is_plain x.call e.1 ≡ true))
+
+abbrev pub IsLine : Line → Type 0
+IsLine (told.Opening k) = k < 2 ^ 32
+IsLine (told.Call x) = IsNumbered x
+IsLine (told.Key k) = k < 2 ^ 32
+IsLine told.End = Unit {0}
+IsLine told.Cut = Unit {0}
+
+-- ---- what they make
+
+abbrev call_of : ℕ → Call → ℕ → Option (ℕ × Reply) → StreamCall
+call_of n c b e = record { thread = n; call = c; begun = b; ended = e }
+
+numbered : (w : CallWord) (n k b : ℕ) (e : Option (ℕ × Reply)) → n < 2 ^ 32 → k < 2 ^ 32 → HasWord One w → IsMoment b
+    → IfSome e (λ (d : ℕ × Reply). IsMoment d.0 × (is_truth d.1 ≡ true))
+    → (let x = call_of n (with_key w (record { 0 = k })) b e in
+    (codes "call" ∷ decimal n ∷ call_word_text w ∷ decimal k ∷ decimal b ∷ end_pieces e ≡ call_pieces (record_of x)) × IsNumbered x)
+numbered word.Add n k b e nl kl has bl el = (refl, record { thread = nl; key = kl; word = has; begun = bl; end = el })
+numbered word.Remove n k b e nl kl has bl el = (refl, record { thread = nl; key = kl; word = has; begun = bl; end = el })
+numbered word.Contains n k b e nl kl has bl el = (refl, record { thread = nl; key = kl; word = has; begun = bl; end = el })
+numbered word.Ceiling n k b e nl kl has bl el = absurd has
+
+open_known : Knows One line_pieces IsLine open_kind
+open_known = (
+  (refl, (omega arith, (tt, (omega arith, (omega arith, (refl, (refl, tt))))))),
+  λ t fit. numbered t.1.1.0 t.1.0 t.1.1.1.0 t.1.1.1.1.0 None (omega (arith, fit.1.0.1)) (omega (arith, fit.1.1.1.0.1)) fit.1.1.0
+      (fit.1.1.1.1.0.0, fit.1.1.1.1.0.1) tt,
+)
+
+true_known : Knows One line_pieces IsLine true_kind
+true_known = (
+  (refl, (omega arith, (tt, (omega arith, (omega arith, (omega arith, (refl, tt))))))),
+  λ t fit. numbered t.1.1.0 t.1.0 t.1.1.1.0 t.1.1.1.1.0 (Some (t.1.1.1.1.1.0, reply.True)) (omega (arith, fit.1.0.1))
+      (omega (arith, fit.1.1.1.0.1)) fit.1.1.0 (fit.1.1.1.1.0.0, fit.1.1.1.1.0.1) ((fit.1.1.1.1.1.0.0, fit.1.1.1.1.1.0.1), refl),
+)
+
+false_known : Knows One line_pieces IsLine false_kind
+false_known = (
+  (refl, (omega arith, (tt, (omega arith, (omega arith, (omega arith, (refl, tt))))))),
+  λ t fit. numbered t.1.1.0 t.1.0 t.1.1.1.0 t.1.1.1.1.0 (Some (t.1.1.1.1.1.0, reply.False)) (omega (arith, fit.1.0.1))
+      (omega (arith, fit.1.1.1.0.1)) fit.1.1.0 (fit.1.1.1.1.0.0, fit.1.1.1.1.0.1) ((fit.1.1.1.1.1.0.0, fit.1.1.1.1.1.0.1), refl),
+)
+
+opening_known : Knows One line_pieces IsLine opening_kind
+opening_known = ((refl, (omega arith, tt)), λ t fit. (refl, omega (arith, fit.1.0.1)))
+
+key_known : Knows One line_pieces IsLine key_kind
+key_known = ((refl, (omega arith, tt)), λ t fit. (refl, omega (arith, fit.1.0.1)))
+
+end_known : Knows One line_pieces IsLine end_kind
+end_known = ((refl, tt), λ t fit. (refl, tt))
+
+cut_known : Knows One line_pieces IsLine cut_kind
+cut_known = ((refl, tt), λ t fit. (refl, tt))
+
+abbrev pub IsLineIn : Section → Line → Type 0
+IsLineIn s l = IsLine l × Comes s l
+
+known_in : (s : Section) (k : LineKind Line) → Knows One line_pieces IsLine k → ((t : Told k.0) → Comes s (k.1 t))
+    → Knows One line_pieces (IsLineIn s) k
+known_in s k known comes = (known.0, λ t fit. let m = known.1 t fit in (m.0, (m.1, comes t)))
+
+calls_in : (s : Section) → ((l : Line) → Comes section.Calls l → Comes s l)
+    → AllByRecursion (Knows One line_pieces (IsLineIn s)) from_calls
+calls_in s each = (
+  known_in s open_kind open_known (λ t. each (open_kind.1 t) tt),
+  (
+    known_in s true_kind true_known (λ t. each (true_kind.1 t) tt),
+    (
+      known_in s false_kind false_known (λ t. each (false_kind.1 t) tt),
+      (
+        known_in s cut_kind cut_known (λ t. each (cut_kind.1 t) tt),
+        (
+          known_in s key_kind key_known (λ t. each (key_kind.1 t) tt),
+          (known_in s end_kind end_known (λ t. each (end_kind.1 t) tt), tt),
+        ),
+      ),
+    ),
+  ),
+)
+
+pub kinds_known : (s : Section) → AllByRecursion (Knows One line_pieces (IsLineIn s)) (kinds s)
+kinds_known section.Opening =
+    (known_in section.Opening opening_kind opening_known (λ t. tt), calls_in section.Opening (λ l comes. tt))
+kinds_known section.Calls = calls_in section.Calls (λ l comes. comes)
+kinds_known section.Keys = (
+  known_in section.Keys key_kind key_known (λ t. tt),
+  (known_in section.Keys end_kind end_known (λ t. tt), tt),
+)
+kinds_known section.Done = tt
+
+-- ---- what a line says
+
+short_line : {A E : Type 0} (b : Bool) (e : E) (r : Result A E) (x : A) → cond b (Err e) r ≡ Ok x → r ≡ Ok x
+short_line true e r x is = absurd cc
+short_line false e r x is = is
+
+pub line_found_in : (s : Section) (line : List ℕ) (l : Line) → line_told s line ≡ Ok l
+    → (line ≡ line_of (line_pieces l)) × IsLine l × Comes s l
+line_found_in s line l is =
+    let f = line_found One causes line_pieces (IsLineIn s) (kinds s) line l (kinds_known s)
+    (short_line (nat_lt LONGEST_LINE (length line)) wrong.Line (line_in One causes (kinds s) line) l is) in
+    (f.0, f.1.0, f.1.1)
+
+pub is_formed : (l : Line) → IsLine l → IsFormed l
+is_formed (told.Opening k) is = is
+is_formed (told.Call x) is = (
+  is.thread,
+  (omega (arith, is.begun.1), before x.ended is.end),
+  plain x.ended is.end,
+)
+  where
+    before : (o : Option (ℕ × Reply)) → IfSome o (λ (e : ℕ × Reply). IsMoment e.0 × (is_plain x.call e.1 ≡ true))
+        → IfSome o (λ (e : ℕ × Reply). e.0 < behind_all)
+    before None h = tt
+    before (Some e) h = omega (arith, h.0.1)
+
+    plain : (o : Option (ℕ × Reply)) → IfSome o (λ (e : ℕ × Reply). IsMoment e.0 × (is_plain x.call e.1 ≡ true))
+        → IfSome o (λ (e : ℕ × Reply). is_plain x.call e.1 ≡ true)
+    plain None h = tt
+    plain (Some e) h = h.1
+is_formed (told.Key k) is = is
+is_formed told.End is = tt
+is_formed told.Cut is = tt

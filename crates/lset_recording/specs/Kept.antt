@@ -1,0 +1,107 @@
+-- What a reader of a long recording keeps of the bytes so far.
+use Rattle.std.specs.Prelude.{◌≡◌, ◌≢◌, ℕ, ◌+◌, ◌<◌, ◌≤◌, ◌^◌, ◌⊎◌, Bool, true, false, List, [], ◌++◌, length, Option, Some, None, Contains, ◌==◌, count_by}
+use Rattle.std.specs.Prelude.{Result, Err}
+use Rattle.std.specs.List.Sorted.{IsStrictlyIncreasing}
+use Rattle.lset_words.specs.declared.history.CallRecord.{CallRecord}
+use Rattle.lset_text.specs.Parts.{cut_at, Lacks}
+use Rattle.lset_text.specs.Openings.{is_above}
+use Rattle.lset_judge.specs.declared.stream.Stream.{Stream}
+use Rattle.lset_judge.specs.Stream.{IsStreamOf, moment_of}
+use Rattle.lset_recording.specs.declared.fault.RecordingCause.TheVariants as wrong
+use Rattle.lset_recording.specs.declared.fault.RecordingFault.{RecordingFault}
+use Rattle.lset_recording.specs.declared.lines.Section.{Section}
+use Rattle.lset_recording.specs.declared.lines.Section.TheVariants as part
+use Rattle.lset_recording.specs.declared.lines.TheConstants.{LONGEST_LINE}
+use Rattle.lset_recording.specs.declared.kept.Judging.{Judging}
+use Rattle.lset_recording.specs.declared.judging.RecordingAnswer.{RecordingAnswer}
+use Rattle.lset_recording.specs.declared.reader.RecordingReader.{RecordingReader}
+use Rattle.lset_recording.specs.Texts.{Recording, IsRecording, all_threads}
+use Rattle.lset_recording.specs.Reading.{SoFar, Reads, Says, first_line, is_done, IsVerdictOnRecording}
+
+-- it is the begin of the last call, or 0 if there is none
+abbrev pub IsLatest : List CallRecord → ℕ → Type 0
+IsLatest calls moment = (moment ≡ 0) ⊎ ((x : CallRecord) × Contains calls x × (moment ≡ x.begun))
+
+-- the stream of the calls so far, once there is a call
+abbrev pub IsStreamKept : List ℕ → List CallRecord → Option Stream → Type 0
+IsStreamKept opening calls None = calls ≡ []
+IsStreamKept opening calls (Some s) =
+    IsStreamOf all_threads opening calls s × IsLatest calls (moment_of s) × (length calls ≤ moment_of s)
+
+-- keys that rise; there are no more than numbers below the next one, and so few enough to be counted
+pub record AreKeys (keys : List ℕ) : Type 0 where
+  pub rise : IsStrictlyIncreasing keys
+  pub below : (k : ℕ) → is_above keys k ≡ true → length keys ≤ k
+  pub few : length keys ≤ 2 ^ 32
+
+abbrev pub count_if : Bool → ℕ
+count_if true = 1
+count_if false = 0
+
+-- how many lines have said so much
+abbrev pub lines_of : SoFar → ℕ
+lines_of s = length s.told.opening + length s.told.calls + length s.told.keys + count_if (is_done s.section)
+
+-- what the lines so far say is kept
+pub record IsKept (c : Recording) (j : Judging) : Type 0 where
+  pub opening : j.opening.items ≡ c.opening
+  pub opens : AreKeys c.opening
+  pub stream : IsStreamKept c.opening c.calls j.stream
+  pub calls : j.calls ≡ length c.calls
+  pub keys : j.keys.items ≡ c.keys
+  pub left : AreKeys c.keys
+  pub cut_off : j.cut_off ≡ c.cut_off
+
+-- there is no stream before the first line behind the opening keys
+abbrev pub IsFirst : Section → Option Stream → Type 0
+IsFirst part.Opening stream = stream ≡ None
+IsFirst part.Calls stream = Unit {0}
+IsFirst part.Keys stream = Unit {0}
+IsFirst part.Done stream = Unit {0}
+
+-- WHAT IS KEPT OF THE LINES so far
+pub record IsJudging (s : SoFar) (j : Judging) : Type 0 where
+  pub kept : IsKept s.told j
+  pub section : j.section ≡ s.section
+  pub first : IsFirst s.section j.stream
+  pub number : j.number ≡ first_line + lines_of s
+
+-- the bytes of a line that has not ended are kept, unless there are too many of them
+abbrev pub IsHeld : List ℕ → List ℕ → Bool → Type 0
+IsHeld held kept false = held ≡ kept
+IsHeld held kept true = LONGEST_LINE < length held
+
+-- how many newlines bytes have
+abbrev pub newlines : List ℕ → ℕ
+newlines bytes = count_by (λ (b : ℕ). b == 10) bytes
+
+-- WHAT IS KEPT OF THE BYTES so far: whatever comes after them, the whole says what the rest says from here
+pub record IsRead (bytes : List ℕ) (r : RecordingReader) : Type 0 where
+  pub told : SoFar
+  pub judging : IsJudging told r.judging
+  pub held : List ℕ
+  pub lacks : Lacks 10 held
+  pub line : IsHeld held r.line.items r.is_long
+  pub goes : (more : List ℕ) (read : Result Recording RecordingFault) → Reads r.judging.number told (cut_at 10 (held ++ more)) read
+      → Says (bytes ++ more) read
+  pub counted : r.judging.number ≡ first_line + newlines bytes
+  pub sound : r.failed ≡ None
+
+-- the newline of a line is among the bytes of a piece, which come after others
+abbrev pub IsLineOf : List ℕ → List ℕ → ℕ → Type 0
+IsLineOf bytes piece line = (first_line + newlines bytes ≤ line) × (line < first_line + newlines (bytes ++ piece))
+
+-- the reader has returned a fault
+abbrev pub HasFailed : RecordingReader → RecordingFault → Type 0
+HasFailed r e = r.failed ≡ Some e
+
+-- a text that begins so has the fault
+abbrev pub IsRefusedAt : List ℕ → RecordingFault → Type 0
+IsRefusedAt bytes e = e.cause ≢ wrong.Memory → (more : List ℕ) → Says (bytes ++ more) (Err e)
+
+-- THE ANSWER on a long recording
+pub record IsAnswered (c : Recording) (answer : RecordingAnswer) : Type 0 where
+  pub long : IsRecording c
+  pub verdict : IsVerdictOnRecording c answer.verdict
+  pub calls : answer.calls ≡ length c.calls
+  pub cut_off : answer.cut_off ≡ c.cut_off

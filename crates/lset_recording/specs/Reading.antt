@@ -1,0 +1,236 @@
+-- READING a long recording, line by line: what its lines say, or the first fault. The first line, the title, has been read.
+use Rattle.std.specs.Prelude.{◌≡◌, ℕ, ◌+◌, ◌<◌, ◌^◌, nat_lt, Bool, true, false, List, [], ◌∷◌, ◌++◌, length, codes, Option, Some, None, ◌⊎◌, IfSome}
+use Rattle.std.specs.Prelude.{Result, Ok, Err, if◌then◌else◌}
+use Rattle.lset_words.specs.declared.Reply.{Reply}
+use Rattle.lset_words.specs.declared.Reply.TheVariants as reply
+use Rattle.lset_words.specs.History.{MayFollow}
+use Rattle.lset_text.specs.declared.words.CallWord.{CallWord}
+use Rattle.lset_text.specs.declared.words.Version.TheVariants.{One}
+use Rattle.lset_text.specs.Parts.{cut_at}
+use Rattle.lset_text.specs.Spellings.{with_key}
+use Rattle.lset_text.specs.Forms.{Form, Piece}
+use Rattle.lset_text.specs.Forms as piece
+use Rattle.lset_text.specs.Kinds.{LineKind, LineCauses, line_in}
+use Rattle.lset_text.specs.Headers.{number_form}
+use Rattle.lset_text.specs.Numbers.{max_number}
+use Rattle.lset_text.specs.Openings.{opening_form, is_above}
+use Rattle.lset_judge.specs.declared.stream.TheConstants.{LAST_MOMENT}
+use Rattle.lset_judge.specs.declared.stream.StreamVerdict.{StreamVerdict}
+use Rattle.lset_judge.specs.Verdict.{is_plain}
+use Rattle.lset_judge.specs.Stream.{record_of, IsBefore, stream_history, IsStreamVerdict, IsStreamVerdictCutOff}
+use Rattle.lset_recording.specs.declared.fault.RecordingCause.{RecordingCause}
+use Rattle.lset_recording.specs.declared.fault.RecordingCause.TheVariants as wrong
+use Rattle.lset_recording.specs.declared.fault.RecordingFault.{RecordingFault}
+use Rattle.lset_recording.specs.declared.lines.Line.{Line as RecordingLine}
+use Rattle.lset_recording.specs.declared.lines.Line.TheVariants as told
+use Rattle.lset_recording.specs.declared.lines.Section.{Section}
+use Rattle.lset_recording.specs.declared.lines.Section.TheVariants as section
+use Rattle.lset_recording.specs.declared.lines.TheConstants.{LONGEST_LINE}
+use Rattle.lset_recording.specs.Texts.{Recording, all_threads, dash, text_after_title}
+
+abbrev pub fault : ℕ → RecordingCause → RecordingFault
+fault line cause = record { line = line; cause = cause }
+
+-- ---- the lines that may come
+
+abbrev pub causes : LineCauses RecordingCause
+causes = record { form = wrong.Line; number = wrong.Number }
+
+abbrev pub opening_kind : LineKind RecordingLine
+opening_kind = (opening_form, λ t. told.Opening t.1.0)
+
+abbrev pub moment : Piece
+moment = piece.number 1 LAST_MOMENT
+
+-- what is not there
+abbrev pub none : Piece
+none = piece.word dash
+
+-- a call by its thread, its word, its key and its begin
+abbrev pub call_told : {X : Type 0} → ℕ × (CallWord × (ℕ × (ℕ × X))) → Option (ℕ × Reply) → RecordingLine
+call_told t end = told.Call (record {
+  thread = t.0;
+  call = with_key t.1.0 (record { 0 = t.1.1.0 });
+  begun = t.1.1.1.0;
+  ended = end;
+})
+
+-- its form, up to its end
+abbrev pub call_form : Form → Form
+call_form end = piece.word (codes "call") ∷ piece.any ∷ piece.call ∷ piece.any ∷ moment ∷ end
+
+-- a call that is pending, and one that ended with true or with false
+abbrev pub open_kind : LineKind RecordingLine
+open_kind = (call_form (none ∷ none ∷ []), λ t. call_told t.1 None)
+
+abbrev pub true_kind : LineKind RecordingLine
+true_kind = (call_form (moment ∷ piece.word (codes "true") ∷ []), λ t. call_told t.1 (Some (t.1.1.1.1.1.0, reply.True)))
+
+abbrev pub false_kind : LineKind RecordingLine
+false_kind = (call_form (moment ∷ piece.word (codes "false") ∷ []), λ t. call_told t.1 (Some (t.1.1.1.1.1.0, reply.False)))
+
+abbrev pub key_kind : LineKind RecordingLine
+key_kind = (number_form (codes "key") 0 max_number, λ t. told.Key t.1.0)
+
+abbrev pub end_kind : LineKind RecordingLine
+end_kind = (piece.word (codes "end") ∷ [], λ t. told.End)
+
+abbrev pub cut_kind : LineKind RecordingLine
+cut_kind = (piece.word (codes "cut") ∷ [], λ t. told.Cut)
+
+-- sections come in one order, and each may be left out; a recording that was cut off has no keys
+abbrev pub from_keys : List (LineKind RecordingLine)
+from_keys = key_kind ∷ end_kind ∷ []
+
+abbrev pub call_kinds : List (LineKind RecordingLine)
+call_kinds = open_kind ∷ true_kind ∷ false_kind ∷ []
+
+abbrev pub from_calls : List (LineKind RecordingLine)
+from_calls = call_kinds ++ cut_kind ∷ from_keys
+
+-- THE LINES THAT MAY COME in a text that has come to a section
+abbrev pub kinds : Section → List (LineKind RecordingLine)
+kinds section.Opening = opening_kind ∷ from_calls
+kinds section.Calls = from_calls
+kinds section.Keys = from_keys
+kinds section.Done = []
+
+-- what a line says, in a text that has come to a section; a line of too many bytes says nothing
+abbrev pub line_told : Section → List ℕ → Result RecordingLine RecordingCause
+line_told s line = if nat_lt LONGEST_LINE (length line) then Err wrong.Line else line_in One causes (kinds s) line
+
+-- ---- a line after those above it
+
+abbrev pub section_after : RecordingLine → Section
+section_after (told.Opening k) = section.Opening
+section_after (told.Call x) = section.Calls
+section_after (told.Key k) = section.Keys
+section_after told.End = section.Done
+section_after told.Cut = section.Done
+
+abbrev pub with_line : Recording → RecordingLine → Recording
+with_line c (told.Opening k) = record c { opening = c.opening ++ k ∷ [] }
+with_line c (told.Call x) = record c { calls = c.calls ++ record_of x ∷ [] }
+with_line c (told.Key k) = record c { keys = c.keys ++ k ∷ [] }
+with_line c told.End = c
+with_line c told.Cut = record c { cut_off = true }
+
+-- what lines say: the section to which they came, and their calls and keys
+pub record SoFar : Type 0 where
+  pub section : Section
+  pub told : Recording
+
+abbrev pub with_told : SoFar → RecordingLine → SoFar
+with_told s l = record { section = section_after l; told = with_line s.told l }
+
+abbrev pub nothing_told : SoFar
+nothing_told = record {
+  section = section.Opening;
+  told = record { opening = []; calls = []; keys = []; cut_off = false };
+}
+
+-- a line goes on with those above it: keys rise, and calls are a history in the order of their begins
+abbrev pub GoesOn : Recording → RecordingLine → Type 0
+GoesOn c (told.Opening k) = is_above c.opening k ≡ true
+GoesOn c (told.Call x) = MayFollow all_threads c.calls (record_of x)
+GoesOn c (told.Key k) = is_above c.keys k ≡ true
+GoesOn c told.End = Unit {0}
+GoesOn c told.Cut = Unit {0}
+
+-- the cause if it does not
+abbrev pub cause_of : RecordingLine → RecordingCause
+cause_of (told.Call x) = wrong.History
+cause_of l = wrong.Opening
+
+-- numbers are those of their kinds: a call has its moments before the one behind all, and ended with true or false if it ended
+abbrev pub IsFormed : RecordingLine → Type 0
+IsFormed (told.Opening k) = k < 2 ^ 32
+IsFormed (told.Call x) = (x.thread < all_threads) × IsBefore (record_of x)
+    × IfSome x.ended (λ (end : ℕ × Reply). is_plain x.call end.1 ≡ true)
+IsFormed (told.Key k) = k < 2 ^ 32
+IsFormed told.End = Unit {0}
+IsFormed told.Cut = Unit {0}
+
+-- which lines may come in a section
+abbrev pub Comes : Section → RecordingLine → Type 0
+Comes section.Opening l = Unit {0}
+Comes section.Calls (told.Opening k) = ⊥
+Comes section.Calls l = Unit {0}
+Comes section.Keys (told.Key k) = Unit {0}
+Comes section.Keys told.End = Unit {0}
+Comes section.Keys l = ⊥
+Comes section.Done l = ⊥
+
+-- A LINE IS TAKEN, and says so much more
+abbrev pub IsTaken : SoFar → List ℕ → SoFar → Type 0
+IsTaken s line t = (l : RecordingLine) × (line_told s.section line ≡ Ok l) × GoesOn s.told l × (t ≡ with_told s l)
+
+-- A LINE IS REFUSED by a cause
+abbrev pub IsRefused : SoFar → List ℕ → RecordingCause → Type 0
+IsRefused s line cause = (line_told s.section line ≡ Err cause)
+    ⊎ ((l : RecordingLine) × (line_told s.section line ≡ Ok l) × (GoesOn s.told l → ⊥) × (cause ≡ cause_of l))
+
+-- ---- texts
+
+-- a text ends after the line `end` or `cut`
+abbrev pub is_done : Section → Bool
+is_done section.Opening = false
+is_done section.Calls = false
+is_done section.Keys = false
+is_done section.Done = true
+
+-- what the end of a text makes of the bytes behind its last newline
+abbrev pub ending : ℕ → SoFar → List ℕ → Result Recording RecordingFault
+ending line s [] = if is_done s.section then Ok s.told else Err (fault line wrong.NotEnded)
+ending line s (b ∷ bs) = Err (fault line wrong.NotEnded)
+
+-- WHAT THE PARTS OF A TEXT SAY, its whole lines and then what comes after the last newline, from a line and from what the lines above
+-- say: each line is taken, or the first that is not has the fault
+abbrev pub Reads : ℕ → SoFar → List (List ℕ) → Result Recording RecordingFault → Type 0
+Reads line s [] read = ⊥
+Reads line s (rest ∷ []) read = read ≡ ending line s rest
+Reads line s (x ∷ y ∷ more) read =
+    ((next : SoFar) × IsTaken s x next × Reads (line + 1) next (y ∷ more) read)
+    ⊎ ((cause : RecordingCause) × IsRefused s x cause × (read ≡ Err (fault line cause)))
+
+-- the first line after the title
+abbrev pub first_line : ℕ
+first_line = 2
+
+-- WHAT THE BYTES AFTER THE TITLE SAY: a long recording, or the first fault
+abbrev pub Says : List ℕ → Result Recording RecordingFault → Type 0
+Says bytes read = Reads first_line nothing_told (cut_at 10 bytes) read
+
+-- if bytes say a long recording, they are its text
+abbrev pub RecordingsAreRead : Type 0
+RecordingsAreRead = (bytes : List ℕ) (c : Recording) → Says bytes (Ok c) → bytes ≡ text_after_title c
+
+-- of the calls and the keys left, or of calls whose recording was cut off
+abbrev pub IsVerdictIf : Bool → Recording → StreamVerdict → Type 0
+IsVerdictIf true c verdict = IsStreamVerdictCutOff (stream_history all_threads c.opening c.calls) verdict
+IsVerdictIf false c verdict = IsStreamVerdict (stream_history all_threads c.opening c.calls) c.keys verdict
+
+-- THE VERDICT on a long recording
+abbrev pub IsVerdictOnRecording : Recording → StreamVerdict → Type 0
+IsVerdictOnRecording c verdict = IsVerdictIf c.cut_off c verdict
+
+-- ---- which lines may come in a section
+
+abbrev pub takes_opening : Section → Bool
+takes_opening section.Opening = true
+takes_opening section.Calls = false
+takes_opening section.Keys = false
+takes_opening section.Done = false
+
+abbrev pub takes_calls : Section → Bool
+takes_calls section.Opening = true
+takes_calls section.Calls = true
+takes_calls section.Keys = false
+takes_calls section.Done = false
+
+-- keys, or the end
+abbrev pub takes_keys : Section → Bool
+takes_keys section.Opening = true
+takes_keys section.Calls = true
+takes_keys section.Keys = true
+takes_keys section.Done = false

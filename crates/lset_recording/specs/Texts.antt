@@ -1,0 +1,74 @@
+-- [Long recording], as a value, and its text: the calls of a set, in the order of their begins.
+use Rattle.std.specs.Prelude.{ℕ, ◌^◌, Bool, if◌then◌else◌, List, [], ◌∷◌, ◌++◌, map, codes, Option, Some, None, All}
+use Rattle.std.specs.Fmt.{decimal}
+use Rattle.std.specs.List.Sorted.{IsStrictlyIncreasing}
+use Rattle.lset_words.specs.declared.Reply.{Reply}
+use Rattle.lset_words.specs.declared.history.CallRecord.{CallRecord}
+use Rattle.lset_words.specs.Words.{key_of}
+use Rattle.lset_words.specs.History.{IsHistory}
+use Rattle.lset_text.specs.Parts.{line_of, text_of}
+use Rattle.lset_text.specs.Spellings.{call_text, reply_text}
+use Rattle.lset_text.specs.Headers.{number_line}
+use Rattle.lset_text.specs.Openings.{opening_lines}
+use Rattle.lset_judge.specs.Verdict.{IsPlain}
+use Rattle.lset_judge.specs.Stream.{IsBefore}
+
+pub record Recording : Type 0 where
+  -- the keys with which the set opens, the calls, and the keys that it left
+  pub opening : List ℕ
+  pub calls : List CallRecord
+  pub keys : List ℕ
+  -- the recording was cut off: the keys left are not known
+  pub cut_off : Bool
+
+-- the threads are numbers below this
+abbrev pub all_threads : ℕ
+all_threads = 2 ^ 32
+
+-- WHAT A LONG RECORDING IS: keys that rise, and a history of calls that ended with true or false, with moments below 2^63
+pub record IsRecording (c : Recording) : Type 0 where
+  pub opening : IsStrictlyIncreasing c.opening
+  pub calls : IsHistory all_threads c.calls
+  pub plain : IsPlain c.calls
+  pub before : All IsBefore c.calls
+  pub keys : IsStrictlyIncreasing c.keys
+
+-- ---- its text
+
+abbrev pub title : List ℕ
+title = codes "listset-calls 1"
+
+-- the first line, with its newline
+abbrev pub title_line : List ℕ
+title_line = title ++ 10 ∷ []
+
+-- ---- its lines after the title
+
+-- what is not there
+abbrev pub dash : List ℕ
+dash = codes "-"
+
+-- the end and the reply of a call, or that it is pending
+abbrev pub end_pieces : Option (ℕ × Reply) → List (List ℕ)
+end_pieces None = dash ∷ dash ∷ []
+end_pieces (Some end) = decimal end.0 ∷ reply_text end.1 ∷ []
+
+abbrev pub call_pieces : CallRecord → List (List ℕ)
+call_pieces x = codes "call" ∷ decimal x.thread ∷ call_text x.call ∷ decimal ((key_of x.call).0) ∷ decimal x.begun ∷ end_pieces x.ended
+
+abbrev pub call_line : CallRecord → List ℕ
+call_line x = line_of (call_pieces x)
+
+abbrev pub key_line : ℕ → List ℕ
+key_line key = number_line (codes "key") key
+
+-- the last line
+abbrev pub end_line : Bool → List ℕ
+end_line cut_off = if cut_off then codes "cut" else codes "end"
+
+abbrev pub lines : Recording → List (List ℕ)
+lines c = opening_lines c.opening ++ map call_line c.calls ++ map key_line c.keys ++ end_line c.cut_off ∷ []
+
+-- [Long recording text]: the bytes after the title
+abbrev pub text_after_title : Recording → List ℕ
+text_after_title c = text_of (lines c)

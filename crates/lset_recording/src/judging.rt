@@ -1,0 +1,221 @@
+//! What is kept of the lines so far: the stream of their calls, and their keys.
+
+ghost use Rattle.std.specs.Prelude.{◌≡◌, ◌≢◌, ◌+◌, ◌++◌, ◌∷◌, [], true, false, Ok, Err, Some, IfOk, IfErr, OnOk, OnErr, List};
+ghost use Rattle.std.specs.List.Sorted.{IsStrictlyIncreasing};
+ghost use Rattle.lset_words.specs.declared.history.CallRecord.{CallRecord as RecordedCall};
+ghost use Rattle.lset_words.specs.History.{MayFollow};
+ghost use Rattle.lset_text.specs.Openings.{is_above};
+ghost use Rattle.lset_judge.specs.Stream.{record_of};
+ghost use Rattle.lset_recording.specs.Texts.{IsRecording, Recording, all_threads};
+ghost use Rattle.lset_recording.specs.Reading.{Comes, GoesOn, IsFormed, IsTaken, IsRefused, IsVerdictOnRecording, SoFar, cause_of, ending, is_done, nothing_told, section_after, with_line, with_told};
+ghost use Rattle.lset_recording.specs.Kept.{IsAnswered, IsFirst, IsJudging, IsKept, IsStreamKept};
+
+use crate::fault::{RecordingCause, RecordingFault};
+use crate::kept::Judging;
+use crate::lines::{Line, Section, line_told};
+use lset_judge::{Stream, StreamCall, StreamFault, StreamVerdict};
+use lset_text::is_above;
+use std::alloc::{AllocError, Global};
+
+/// The first line after the title.
+const FIRST_LINE: u64 = 2;
+
+/// What `RecordingReader::finish` returns about a long recording.
+#[derive(Clone, Copy, Debug, PartialEq, Eq)]
+pub struct RecordingAnswer {
+    /// Whether some order explains its calls.
+    pub verdict: StreamVerdict,
+    /// How many calls it has.
+    pub calls: u64,
+    /// Whether it was cut off.
+    pub cut_off: bool,
+}
+
+/// The stream of the calls so far, or one without calls of a set that opens with these keys.
+fn or_opened(alloc: Global, stream: Option<Stream>, opening: &[u32]) -> Result<Stream, AllocError>
+    requires { IsStrictlyIncreasing opening.now }
+    ensures { IfOk result (λ s. (calls : List RecordedCall) → IsStreamKept opening.now calls stream → IsStreamKept opening.now calls (Some s)) }
+{
+    match stream {
+        Some(stream) => Ok(stream),
+        None => Stream::new(alloc, opening),
+    }
+}
+
+/// Why a call cannot come next, as the cause of its line.
+fn cause_of_fault(fault: StreamFault) -> RecordingCause
+    ensures memory { result ≢ RecordingCause.Memory → fault ≢ StreamFault.Memory }
+    ensures other { result ≢ RecordingCause.Memory → result ≡ RecordingCause.History }
+{
+    match fault {
+        StreamFault::Memory => RecordingCause::Memory,
+        StreamFault::Early
+        | StreamFault::Ends
+        | StreamFault::NotPlain
+        | StreamFault::Taken
+        | StreamFault::Busy => RecordingCause::History,
+    }
+}
+
+/// The stream of the calls so far and one more.
+fn with_call(
+    alloc: Global,
+    stream: Option<Stream>,
+    opening: &[u32],
+    call: StreamCall,
+) -> Result<Stream, RecordingCause>
+    requires rising { IsStrictlyIncreasing opening.now }
+    requires formed { IsFormed (Line.Call call) }
+    ensures added { IfOk result (λ s. (calls : List RecordedCall) → IsStreamKept opening.now calls stream
+        → MayFollow all_threads calls (record_of call) × IsStreamKept opening.now (calls ++ record_of call ∷ []) (Some s)) }
+    ensures refused { IfErr result (λ cause. cause ≢ RecordingCause.Memory → (cause ≡ RecordingCause.History)
+        × ((calls : List RecordedCall) → IsStreamKept opening.now calls stream → MayFollow all_threads calls (record_of call) → ⊥)) }
+{
+    let mut stream = or_opened(alloc, stream, opening)?;
+    match stream.add(call) {
+        Ok(()) => Ok(stream),
+        Err(fault) => Err(cause_of_fault(fault)),
+    }
+}
+
+/// Puts a key behind keys that rise, if it is above them.
+fn add_key(keys: &mut Vec<u32>, key: u32) -> Result<(), RecordingCause>
+    requires { IsStrictlyIncreasing keys.old.items }
+    ensures rise { IsStrictlyIncreasing keys.new.items }
+    ensures added { OnOk result ((keys.new.items ≡ keys.old.items ++ key ∷ []) × (is_above keys.old.items key ≡ true)) }
+    ensures refused { IfErr result (λ cause. cause ≢ RecordingCause.Memory
+        → (cause ≡ RecordingCause.Opening) × (is_above keys.old.items key ≡ false)) }
+{
+    if !is_above(keys, key) {
+        return Err(RecordingCause::Opening);
+    }
+    if keys.push(key).is_err() {
+        return Err(RecordingCause::Memory);
+    }
+    Ok(())
+}
+
+impl Judging {
+    pub(crate) fn new(alloc: Global) -> Judging
+        ensures { IsJudging nothing_told result }
+    {
+        Judging {
+            alloc,
+            section: Section::Opening,
+            opening: Vec::new(alloc),
+            stream: None,
+            calls: 0,
+            keys: Vec::new(alloc),
+            cut_off: false,
+            number: FIRST_LINE,
+        }
+    }
+
+    fn keep_call(&mut self, call: StreamCall) -> Result<(), RecordingCause>
+        requires { IsFormed (Line.Call call) }
+        ensures kept { OnOk result ((c : Recording) → IsKept c self.old
+            → GoesOn c (Line.Call call) × IsKept (with_line c (Line.Call call)) self.new) }
+        ensures same { (self.new.section ≡ self.old.section) × (self.new.number ≡ self.old.number) }
+        ensures refused { IfErr result (λ cause. cause ≢ RecordingCause.Memory → (cause ≡ RecordingCause.History)
+            × ((c : Recording) → IsKept c self.old → GoesOn c (Line.Call call) → ⊥)) }
+    {
+        let stream = self.stream.take();
+        let stream = with_call(self.alloc, stream, &self.opening, call)?;
+        self.stream = Some(stream);
+        self.calls = self.calls.saturating_add(1);
+        Ok(())
+    }
+
+    /// Keeps what a line says.
+    fn keep(&mut self, line: Line) -> Result<(), RecordingCause>
+        requires { IsFormed line }
+        ensures kept { OnOk result ((s : SoFar) → IsJudging s self.old → Comes s.section line
+            → GoesOn s.told line × IsKept (with_line s.told line) self.new × IsFirst (section_after line) self.new.stream) }
+        ensures same { (self.new.section ≡ self.old.section) × (self.new.number ≡ self.old.number) }
+        ensures refused { IfErr result (λ cause. cause ≢ RecordingCause.Memory → (cause ≡ cause_of line)
+            × ((s : SoFar) → IsJudging s self.old → GoesOn s.told line → ⊥)) }
+    {
+        match line {
+            Line::Opening(key) => add_key(&mut self.opening, key),
+            Line::Call(call) => self.keep_call(call),
+            Line::Key(key) => add_key(&mut self.keys, key),
+            Line::End => Ok(()),
+            Line::Cut => {
+                self.cut_off = true;
+                Ok(())
+            }
+        }
+    }
+
+    fn put(&mut self, line: Line) -> Result<(), RecordingCause>
+        requires { IsFormed line }
+        ensures taken { OnOk result ((s : SoFar) → IsJudging s self.old → Comes s.section line
+            → GoesOn s.told line × IsJudging (with_told s line) self.new × (self.new.number ≡ self.old.number + 1)) }
+        ensures same { OnErr result (self.new.number ≡ self.old.number) }
+        ensures refused { IfErr result (λ cause. cause ≢ RecordingCause.Memory → (cause ≡ cause_of line)
+            × ((s : SoFar) → IsJudging s self.old → GoesOn s.told line → ⊥)) }
+    {
+        self.keep(line)?;
+        self.section = line.section();
+        self.number = self.number.saturating_add(1);
+        Ok(())
+    }
+
+    /// The number of the next line.
+    pub(crate) fn number(&self) -> u64
+        ensures { result ≡ self.now.number }
+    {
+        self.number
+    }
+
+    /// Takes a line, or says what is wrong with it.
+    pub(crate) fn read_line(&mut self, line: &[u8]) -> Result<(), RecordingCause>
+        ensures taken { OnOk result ((s : SoFar) → IsJudging s self.old
+            → (t : SoFar) × IsTaken s line.now t × IsJudging t self.new × (self.new.number ≡ self.old.number + 1)) }
+        ensures same { OnErr result (self.new.number ≡ self.old.number) }
+        ensures refused { IfErr result (λ cause. cause ≢ RecordingCause.Memory → (s : SoFar) → IsJudging s self.old
+            → IsRefused s line.now cause) }
+    {
+        let line = line_told(self.section, line)?;
+        self.put(line)
+    }
+
+    fn is_done(&self) -> bool
+        ensures { result ≡ is_done self.now.section }
+    {
+        matches!(self.section, Section::Done)
+    }
+
+    fn verdict(self) -> Result<StreamVerdict, AllocError>
+        ensures { IfOk result (λ verdict. (s : SoFar) → IsJudging s self → IsRecording s.told × IsVerdictOnRecording s.told verdict) }
+    {
+        let stream = or_opened(self.alloc, self.stream, &self.opening)?;
+        if self.cut_off {
+            stream.close_cut_off()
+        } else {
+            stream.close(&self.keys)
+        }
+    }
+
+    /// What is said of the text, if it ends here with a newline.
+    pub(crate) fn finish(self) -> Result<RecordingAnswer, RecordingFault>
+        ensures said { IfOk result (λ answer. (s : SoFar) → IsJudging s self
+            → (ending self.number s [] ≡ Ok s.told) × IsAnswered s.told answer) }
+        ensures refused { IfErr result (λ fault. fault.cause ≢ RecordingCause.Memory → (s : SoFar) → IsJudging s self
+            → ending self.number s [] ≡ Err fault) }
+        ensures line { IfErr result (λ fault. fault.line ≡ self.number) }
+    {
+        let (number, calls, cut_off) = (self.number, self.calls, self.cut_off);
+        if !self.is_done() {
+            return Err(RecordingFault::at(number, RecordingCause::NotEnded));
+        }
+        match self.verdict() {
+            Ok(verdict) => Ok(RecordingAnswer {
+                verdict,
+                calls,
+                cut_off,
+            }),
+            Err(_) => Err(RecordingFault::at(number, RecordingCause::Memory)),
+        }
+    }
+}

@@ -1,0 +1,15 @@
+//! Long recordings of a set: the text `listset-calls 1`, read line by line and judged as it comes. Nothing is kept of a call that has
+//! ended but the state of its key, so memory does not grow with the length of the text. (This project's own format.)
+#![tactic(auto)]
+
+mod fault;
+mod judging;
+mod kept;
+mod lines;
+mod moments;
+mod reader;
+
+pub use fault::{RecordingCause, RecordingFault};
+pub use judging::RecordingAnswer;
+pub use lines::LONGEST_LINE;
+pub use reader::{RecordingReader, recordings_are_read};

@@ -1,0 +1,261 @@
+ghost use Rattle.std.specs.Prelude.{◌≡◌, ◌∷◌, [], codes};
+ghost use Rattle.std.specs.Str.{bytes_eq};
+ghost use Rattle.lset_text.specs.declared.words.Version.TheVariants.{One};
+ghost use Rattle.lset_text.specs.Parts.{cut_at};
+ghost use Rattle.lset_text.specs.Kinds.{first_of, line_in};
+ghost use Rattle.lset_recording.specs.Reading.{
+  causes,
+  open_kind,
+  true_kind,
+  false_kind,
+  call_kinds,
+  kinds,
+  line_told,
+  section_after,
+  takes_opening,
+  takes_calls,
+  takes_keys,
+};
+
+use crate::fault::RecordingCause;
+use crate::moments::moment;
+use lset_judge::StreamCall;
+use lset_text::{Version, cut, number, read_call};
+use lset_words::{Key, Reply};
+
+/// The most bytes of a line, without its newline.
+pub const LONGEST_LINE: usize = 128;
+
+/// Which part a text has come to.
+#[derive(Clone, Copy)]
+pub enum Section {
+    Opening,
+    Calls,
+    Keys,
+    Done,
+}
+
+/// A line after the title: an opening key, a call, a key, the end, or where the recording was cut off.
+#[derive(Clone, Copy)]
+pub enum Line {
+    Opening(u32),
+    Call(StreamCall),
+    Key(u32),
+    End,
+    Cut,
+}
+
+impl Line {
+    /// The section of the line.
+    pub fn section(self) -> Section
+        ensures { result ≡ section_after self }
+    {
+        match self {
+            Line::Opening(_) => Section::Opening,
+            Line::Call(_) => Section::Calls,
+            Line::Key(_) => Section::Keys,
+            Line::End | Line::Cut => Section::Done,
+        }
+    }
+}
+
+impl Section {
+    fn takes_opening(self) -> bool
+        ensures { result ≡ takes_opening self }
+    {
+        matches!(self, Section::Opening)
+    }
+
+    fn takes_calls(self) -> bool
+        ensures { result ≡ takes_calls self }
+    {
+        matches!(self, Section::Opening | Section::Calls)
+    }
+
+    fn takes_keys(self) -> bool
+        ensures { result ≡ takes_keys self }
+    {
+        !matches!(self, Section::Done)
+    }
+}
+
+/// The pieces of a call's line behind its first word, up to its begin.
+#[derive(Clone, Copy)]
+struct CallPieces<'a> {
+    thread: &'a [u8],
+    call: &'a [u8],
+    key: &'a [u8],
+    begun: &'a [u8],
+}
+
+fn is_dash(piece: &[u8]) -> bool
+    ensures { result ≡ bytes_eq piece.now (codes "-") }
+{
+    matches!(piece, b"-")
+}
+
+fn is_call(piece: &[u8]) -> bool
+    ensures { result ≡ bytes_eq piece.now (codes "call") }
+{
+    matches!(piece, b"call")
+}
+
+fn is_true(piece: &[u8]) -> bool
+    ensures { result ≡ bytes_eq piece.now (codes "true") }
+{
+    matches!(piece, b"true")
+}
+
+fn is_false(piece: &[u8]) -> bool
+    ensures { result ≡ bytes_eq piece.now (codes "false") }
+{
+    matches!(piece, b"false")
+}
+
+fn open_call(pieces: CallPieces<'_>) -> Result<Line, RecordingCause>
+    ensures { result ≡ first_of One causes (open_kind ∷ []) (codes "call" ∷ pieces.entry.thread.now
+        ∷ pieces.entry.call.now ∷ pieces.entry.key.now ∷ pieces.entry.begun.now ∷ codes "-" ∷ codes "-" ∷ []) }
+{
+    let word = read_call(Version::One, pieces.call).ok_or(RecordingCause::Line)?;
+    let thread = number(pieces.thread, 0, u32::MAX).ok_or(RecordingCause::Number)?;
+    let key = number(pieces.key, 0, u32::MAX).ok_or(RecordingCause::Number)?;
+    let begun = moment(pieces.begun).ok_or(RecordingCause::Number)?;
+    Ok(Line::Call(StreamCall {
+        thread,
+        call: word.with_key(Key(key)),
+        begun,
+        ended: None,
+    }))
+}
+
+fn true_call(pieces: CallPieces<'_>, end: &[u8]) -> Result<Line, RecordingCause>
+    ensures { result ≡ first_of One causes (true_kind ∷ []) (codes "call" ∷ pieces.entry.thread.now
+        ∷ pieces.entry.call.now ∷ pieces.entry.key.now ∷ pieces.entry.begun.now ∷ end.now ∷ codes "true" ∷ []) }
+{
+    let word = read_call(Version::One, pieces.call).ok_or(RecordingCause::Line)?;
+    let thread = number(pieces.thread, 0, u32::MAX).ok_or(RecordingCause::Number)?;
+    let key = number(pieces.key, 0, u32::MAX).ok_or(RecordingCause::Number)?;
+    let begun = moment(pieces.begun).ok_or(RecordingCause::Number)?;
+    let end = moment(end).ok_or(RecordingCause::Number)?;
+    Ok(Line::Call(StreamCall {
+        thread,
+        call: word.with_key(Key(key)),
+        begun,
+        ended: Some((end, Reply::True)),
+    }))
+}
+
+fn false_call(pieces: CallPieces<'_>, end: &[u8]) -> Result<Line, RecordingCause>
+    ensures { result ≡ first_of One causes (false_kind ∷ []) (codes "call" ∷ pieces.entry.thread.now
+        ∷ pieces.entry.call.now ∷ pieces.entry.key.now ∷ pieces.entry.begun.now ∷ end.now ∷ codes "false" ∷ []) }
+{
+    let word = read_call(Version::One, pieces.call).ok_or(RecordingCause::Line)?;
+    let thread = number(pieces.thread, 0, u32::MAX).ok_or(RecordingCause::Number)?;
+    let key = number(pieces.key, 0, u32::MAX).ok_or(RecordingCause::Number)?;
+    let begun = moment(pieces.begun).ok_or(RecordingCause::Number)?;
+    let end = moment(end).ok_or(RecordingCause::Number)?;
+    Ok(Line::Call(StreamCall {
+        thread,
+        call: word.with_key(Key(key)),
+        begun,
+        ended: Some((end, Reply::False)),
+    }))
+}
+
+fn ended_call(pieces: CallPieces<'_>, end: &[u8], reply: &[u8]) -> Result<Line, RecordingCause>
+    ensures { result ≡ first_of One causes call_kinds (codes "call" ∷ pieces.entry.thread.now
+        ∷ pieces.entry.call.now ∷ pieces.entry.key.now ∷ pieces.entry.begun.now ∷ end.now ∷ reply.now ∷ []) }
+{
+    if is_dash(reply) {
+        if is_dash(end) {
+            open_call(pieces)
+        } else {
+            Err(RecordingCause::Line)
+        }
+    } else if is_true(reply) {
+        true_call(pieces, end)
+    } else if is_false(reply) {
+        false_call(pieces, end)
+    } else {
+        Err(RecordingCause::Line)
+    }
+}
+
+/// A call, of what comes after its thread.
+fn call(thread: &[u8], rest: &[u8]) -> Result<Line, RecordingCause>
+    ensures { result ≡ first_of One causes call_kinds (codes "call" ∷ thread.now ∷ cut_at 32 rest.now) }
+{
+    let Some((call, rest)) = cut(rest, b' ') else {
+        return Err(RecordingCause::Line);
+    };
+    let Some((key, rest)) = cut(rest, b' ') else {
+        return Err(RecordingCause::Line);
+    };
+    let Some((begun, rest)) = cut(rest, b' ') else {
+        return Err(RecordingCause::Line);
+    };
+    let Some((end, reply)) = cut(rest, b' ') else {
+        return Err(RecordingCause::Line);
+    };
+    if let Some((_, _more)) = cut(reply, b' ') {
+        return Err(RecordingCause::Line);
+    }
+    let pieces = CallPieces {
+        thread,
+        call,
+        key,
+        begun,
+    };
+    ended_call(pieces, end, reply)
+}
+
+fn opening_or_key(section: Section, word: &[u8], key: &[u8]) -> Result<Line, RecordingCause>
+    ensures { result ≡ first_of One causes (kinds section) (word.now ∷ key.now ∷ []) }
+{
+    if section.takes_opening() && word == b"opening".as_slice() {
+        let key = number(key, 0, u32::MAX).ok_or(RecordingCause::Number)?;
+        return Ok(Line::Opening(key));
+    }
+    if !section.takes_keys() || word != b"key".as_slice() {
+        return Err(RecordingCause::Line);
+    }
+    let key = number(key, 0, u32::MAX).ok_or(RecordingCause::Number)?;
+    Ok(Line::Key(key))
+}
+
+fn end(section: Section, word: &[u8]) -> Result<Line, RecordingCause>
+    ensures { result ≡ first_of One causes (kinds section) (word.now ∷ []) }
+{
+    if section.takes_calls() && word == b"cut".as_slice() {
+        return Ok(Line::Cut);
+    }
+    if !section.takes_keys() || word != b"end".as_slice() {
+        return Err(RecordingCause::Line);
+    }
+    Ok(Line::End)
+}
+
+fn line_in(section: Section, line: &[u8]) -> Result<Line, RecordingCause>
+    ensures { result ≡ line_in One causes (kinds section) line.now }
+{
+    let Some((word, rest)) = cut(line, b' ') else {
+        return end(section, line);
+    };
+    let Some((second, rest)) = cut(rest, b' ') else {
+        return opening_or_key(section, word, rest);
+    };
+    if !section.takes_calls() || !is_call(word) {
+        return Err(RecordingCause::Line);
+    }
+    call(second, rest)
+}
+
+/// What a line says in a text that has come to a section.
+pub fn line_told(section: Section, line: &[u8]) -> Result<Line, RecordingCause>
+    ensures { result ≡ line_told section line.now }
+{
+    if line.len() > LONGEST_LINE {
+        return Err(RecordingCause::Line);
+    }
+    line_in(section, line)
+}

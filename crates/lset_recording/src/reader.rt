@@ -1,0 +1,158 @@
+ghost use Rattle.std.specs.Prelude.{◌≡◌, ◌≢◌, ◌+◌, ◌++◌, ◌∷◌, [], Ok, Err, IfOk, IfErr, OnOk, List, ℕ};
+ghost use Rattle.lset_recording.specs.Reading.{RecordingsAreRead, Says, fault, first_line};
+ghost use Rattle.lset_recording.specs.Texts.{Recording};
+ghost use Rattle.lset_recording.specs.Kept.{HasFailed, IsAnswered, IsLineOf, IsRead, IsRefusedAt, newlines};
+
+use crate::fault::{RecordingCause, RecordingFault};
+use crate::judging::RecordingAnswer;
+use crate::kept::Judging;
+use crate::lines::LONGEST_LINE;
+use arrayvec::ArrayVec;
+use std::alloc::Global;
+
+/// A reader of a long recording. It takes the bytes after the first line, `listset-calls 1`, in pieces of any length, and judges the calls
+/// as they come. It keeps the keys, the pending calls, and at most `LONGEST_LINE` bytes of a line, so memory does not grow with the number
+/// of calls. (This project's own.)
+#[derive(Drop)]
+pub struct RecordingReader {
+    judging: Judging,
+    line: ArrayVec<u8, LONGEST_LINE>,
+    // (the line has more bytes than that)
+    is_long: bool,
+    // (what `feed` returned, once it was an error)
+    failed: Option<RecordingFault>,
+}
+
+impl RecordingReader {
+    /// Returns a reader that was given no byte yet. Does not allocate.
+    pub fn new(alloc: Global) -> RecordingReader
+        ensures { IsRead [] result }
+    {
+        RecordingReader {
+            judging: Judging::new(alloc),
+            line: ArrayVec::new(),
+            is_long: false,
+            failed: None,
+        }
+    }
+
+    fn fault(&self, cause: RecordingCause) -> RecordingFault
+        ensures { result ≡ fault self.now.judging.number cause }
+    {
+        RecordingFault::at(self.judging.number(), cause)
+    }
+
+    /// Takes the newline of a line.
+    fn line_in(&mut self) -> Result<(), RecordingFault>
+        ensures taken { OnOk result ((bytes : List ℕ) → IsRead bytes self.old → IsRead (bytes ++ 10 ∷ []) self.new) }
+        ensures refused { IfErr result (λ fault. (bytes : List ℕ) → IsRead bytes self.old → IsRefusedAt (bytes ++ 10 ∷ []) fault) }
+        ensures line { IfErr result (λ fault. fault.line ≡ self.old.judging.number) }
+    {
+        if self.is_long {
+            return Err(self.fault(RecordingCause::Line));
+        }
+        match self.judging.read_line(self.line.as_slice()) {
+            Ok(()) => {
+                self.line.clear();
+                Ok(())
+            }
+            Err(cause) => Err(self.fault(cause)),
+        }
+    }
+
+    /// Takes one byte.
+    fn byte_in(&mut self, byte: u8) -> Result<(), RecordingFault>
+        ensures taken { OnOk result ((bytes : List ℕ) → IsRead bytes self.old → IsRead (bytes ++ byte ∷ []) self.new) }
+        ensures refused { IfErr result (λ fault. (bytes : List ℕ) → IsRead bytes self.old → IsRefusedAt (bytes ++ byte ∷ []) fault) }
+        ensures line { IfErr result (λ fault. (byte ≡ 10) × (fault.line ≡ self.old.judging.number)) }
+    {
+        if byte == b'\n' {
+            return self.line_in();
+        }
+        match self.line.try_push(byte) {
+            Ok(()) => Ok(()),
+            Err(_) => {
+                self.is_long = true;
+                Ok(())
+            }
+        }
+    }
+
+    /// Takes the next bytes, if those before had no fault.
+    fn bytes_in(&mut self, piece: &[u8]) -> Result<(), RecordingFault>
+        ensures taken { OnOk result ((bytes : List ℕ) → IsRead bytes self.old → IsRead (bytes ++ piece.now) self.new) }
+        ensures refused { IfErr result (λ fault. (bytes : List ℕ) → IsRead bytes self.old → IsRefusedAt (bytes ++ piece.now) fault) }
+        ensures line { IfErr result (λ fault. (bytes : List ℕ) → IsRead bytes self.old → IsLineOf bytes piece.now fault.line) }
+    {
+        for byte in piece {
+            if let Err(fault) = self.byte_in(*byte) {
+                return Err(fault);
+            }
+        }
+        Ok(())
+    }
+
+    /// Takes the next bytes of the text, and judges the calls whose lines have ended with them. Allocates; does not block.
+    ///
+    /// # Errors
+    ///
+    /// The first fault of the text, whatever comes after these bytes; `RecordingCause::Memory` if an allocation fails. Its line is one whose
+    /// newline is in the piece. After an error each further call of `feed`, and `finish`, return that error.
+    pub fn feed(&mut self, piece: &[u8]) -> Result<(), RecordingFault>
+        ensures taken { OnOk result ((bytes : List ℕ) → IsRead bytes self.old → IsRead (bytes ++ piece.now) self.new) }
+        ensures refused { IfErr result (λ fault. (bytes : List ℕ) → IsRead bytes self.old → IsRefusedAt (bytes ++ piece.now) fault) }
+        ensures line { IfErr result (λ fault. (bytes : List ℕ) → IsRead bytes self.old → IsLineOf bytes piece.now fault.line) }
+        ensures failed { IfErr result (HasFailed self.new) }
+        ensures still { (fault : RecordingFault) → HasFailed self.old fault → result ≡ Err fault }
+    {
+        if let Some(fault) = self.failed {
+            return Err(fault);
+        }
+        match self.bytes_in(piece) {
+            Ok(()) => Ok(()),
+            Err(fault) => {
+                self.failed = Some(fault);
+                Err(fault)
+            }
+        }
+    }
+
+    /// What is said of the text, if it ends here and had no fault before.
+    fn end(self) -> Result<RecordingAnswer, RecordingFault>
+        ensures said { IfOk result (λ answer. (bytes : List ℕ) → IsRead bytes self
+            → (c : Recording) × Says bytes (Ok c) × IsAnswered c answer) }
+        ensures refused { IfErr result (λ fault. fault.cause ≢ RecordingCause.Memory → (bytes : List ℕ) → IsRead bytes self
+            → Says bytes (Err fault)) }
+        ensures line { IfErr result (λ fault. (bytes : List ℕ) → IsRead bytes self → fault.line ≡ first_line + newlines bytes) }
+    {
+        if self.is_long || !self.line.as_slice().is_empty() {
+            return Err(self.fault(RecordingCause::NotEnded));
+        }
+        self.judging.finish()
+    }
+
+    /// Returns whether some order explains the calls of the text, which ends here, and leaves its keys; or, of a recording that was cut off,
+    /// whether one does with some keys left. Allocates; does not block.
+    ///
+    /// # Errors
+    ///
+    /// The fault of the text, if it may not end here; `RecordingCause::Memory` if an allocation fails; the error of `feed`, if it returned one.
+    pub fn finish(self) -> Result<RecordingAnswer, RecordingFault>
+        ensures said { IfOk result (λ answer. (bytes : List ℕ) → IsRead bytes self
+            → (c : Recording) × Says bytes (Ok c) × IsAnswered c answer) }
+        ensures refused { IfErr result (λ fault. fault.cause ≢ RecordingCause.Memory → (bytes : List ℕ) → IsRead bytes self
+            → Says bytes (Err fault)) }
+        ensures line { IfErr result (λ fault. (bytes : List ℕ) → IsRead bytes self → fault.line ≡ first_line + newlines bytes) }
+        ensures still { (fault : RecordingFault) → HasFailed self fault → result ≡ Err fault }
+    {
+        match self.failed {
+            Some(fault) => Err(fault),
+            None => self.end(),
+        }
+    }
+}
+
+/// The bytes that say a long recording, after its first line, are the one text of it.
+pub fn recordings_are_read()
+    ensures { RecordingsAreRead }
+{}

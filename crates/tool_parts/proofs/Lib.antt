@@ -1,4 +1,0 @@
-mod Asking
-mod Adding
-mod Telling
-mod Going

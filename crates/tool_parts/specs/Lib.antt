@@ -1,3 +1,0 @@
-pub mod KeyParts
-pub mod Findings
-pub mod Parting
