@@ -8,6 +8,8 @@ use thiserror::Error;
 /// What is wrong with a line of a long recording.
 #[derive(Clone, Copy, Debug, PartialEq, Eq)]
 pub enum RecordingCause {
+    /// The first line is not `listset-calls 1`.
+    Header,
     /// The line has not the pieces and the words of a line that may come there, or it has more than 128 bytes.
     Line,
     /// A moment is no number from 1 to 9223372036854775807, or another number is none up to 4294967295.
