@@ -5,7 +5,7 @@ ghost use Rattle.lset_recording.specs.declared.fault.RecordingCause.TheVariants.
 use std::alloc::AllocError;
 use thiserror::Error;
 
-/// What is wrong with a line of a long recording.
+/// What is wrong with a line of a recording.
 #[derive(Clone, Copy, Debug, PartialEq, Eq)]
 pub enum RecordingCause {
     /// The line has not the pieces and the words of a line that may come there, or it has more than 128 bytes.
@@ -23,7 +23,7 @@ pub enum RecordingCause {
     Memory,
 }
 
-/// The first fault of a long recording, and its line, counted from 1.
+/// The first fault of a recording, and its line, counted from 1.
 #[derive(Clone, Copy, Debug, PartialEq, Eq, Error)]
 #[error("line {line}: {cause:?}")]
 pub struct RecordingFault {
