@@ -1,7 +1,7 @@
 -- What is kept goes on from line to line.
-use Rattle.std.proofs.Common.{◌≡◌, ℕ, ◌+◌, ◌-◌, ◌<◌, ◌^◌, true, false, List, [], ◌∷◌, ◌++◌, length, min, Option, Some, None, refl, sym, ap, subst, ◌∙◌}
+use Rattle.std.proofs.Common.{◌≡◌, ℕ, ◌+◌, ◌-◌, ◌<◌, ◌^◌, Bool, true, false, List, [], ◌∷◌, ◌++◌, length, min, Option, Some, None, refl, sym, ap, subst, ◌∙◌}
 use Rattle.std.proofs.Common.{arith, length-append}
-use Rattle.std.specs.Prelude.{nat_lt, slice_get}
+use Rattle.std.specs.Prelude.{nat_lt, not, slice_get}
 use Rattle.std.proofs.lemmas.Bool.{ltb-true}
 use Rattle.std.proofs.lemmas.List.{get_or_push, length_push}
 use Rattle.std.proofs.lemmas.Option.{slice_get-get_or}
@@ -16,7 +16,7 @@ use Rattle.lset_recording.specs.declared.lines.Line.TheVariants as told
 use Rattle.lset_recording.specs.declared.lines.Section.{Section}
 use Rattle.lset_recording.specs.declared.lines.Section.TheVariants as part
 use Rattle.lset_recording.specs.Texts.{Recording}
-use Rattle.lset_recording.specs.Reading.{SoFar, Comes, is_done, with_told}
+use Rattle.lset_recording.specs.Reading.{SoFar, Comes, is_done, is_title, with_told}
 use Rattle.lset_recording.specs.Kept.{AreKeys, IsFirst, IsJudging, IsKept, IsJudgeKept, count_if, lines_of}
 
 -- ---- one key more
@@ -41,6 +41,7 @@ keys_more keys key are above low =
 -- ---- one line more
 
 first_none : (s : Section) (k : ℕ) (o : Option Judge) → Comes s (told.Opening k) → IsFirst s o → o ≡ None
+first_none part.Title k o comes first = absurd comes
 first_none part.Opening k o comes first = first
 first_none part.Calls k o comes first = absurd comes
 first_none part.Keys k o comes first = absurd comes
@@ -75,20 +76,41 @@ key_parts c k j kept low added =
 -- ---- the number of the next line
 
 still_open : (s : Section) (l : Line) → Comes s l → is_done s ≡ false
+still_open part.Title l comes = refl
 still_open part.Opening l comes = refl
 still_open part.Calls l comes = refl
 still_open part.Keys l comes = refl
 still_open part.Done l comes = absurd comes
 
+is_first : Line → Bool
+is_first told.Title = true
+is_first l = false
+
+first_at_title : (s : Section) (l : Line) → Comes s l → is_title s ≡ is_first l
+unfolding is_first
+first_at_title part.Title told.Title comes = refl
+first_at_title part.Title l comes = absurd comes
+first_at_title part.Opening told.Title comes = absurd comes
+first_at_title part.Opening l comes = refl
+first_at_title part.Calls told.Title comes = absurd comes
+first_at_title part.Calls l comes = refl
+first_at_title part.Keys told.Title comes = absurd comes
+first_at_title part.Keys l comes = refl
+first_at_title part.Done l comes = absurd comes
+
 lines_more : (s : SoFar) (l : Line) → Comes s.section l → lines_of (with_told s l) ≡ lines_of s + 1
-lines_more s l comes = by l (ap count_if (still_open s.section l comes))
+unfolding is_first
+lines_more s l comes =
+    by l (ap count_if (still_open s.section l comes)) (ap (λ (b : Bool). count_if (not b)) (first_at_title s.section l comes))
   where
-    by : (l : Line) → count_if (is_done s.section) ≡ 0 → lines_of (with_told s l) ≡ lines_of s + 1
-    by (told.Opening k) still = omega (arith, still, length-append s.told.opening (k ∷ []))
-    by (told.Call x) still = omega (arith, still, length_push s.told.calls (record_of x))
-    by (told.Key k) still = omega (arith, still, length-append s.told.keys (k ∷ []))
-    by told.End still = omega (arith, still)
-    by told.Cut still = omega (arith, still)
+    by : (l : Line) → count_if (is_done s.section) ≡ 0 → count_if (not (is_title s.section)) ≡ count_if (not (is_first l))
+        → lines_of (with_told s l) ≡ lines_of s + 1
+    by told.Title still first = omega (arith, still, first)
+    by (told.Opening k) still first = omega (arith, still, first, length-append s.told.opening (k ∷ []))
+    by (told.Call x) still first = omega (arith, still, first, length_push s.told.calls (record_of x))
+    by (told.Key k) still first = omega (arith, still, first, length-append s.told.keys (k ∷ []))
+    by told.End still first = omega (arith, still, first)
+    by told.Cut still first = omega (arith, still, first)
 
 few_calls : (opening : List ℕ) (calls : List CallRecord) (o : Option Judge) → IsJudgeKept opening calls o → length calls < behind_all
 few_calls opening calls None kept = let n = ap length kept in omega (arith, n)
