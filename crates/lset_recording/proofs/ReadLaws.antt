@@ -1,7 +1,7 @@
 -- How a text goes on from byte to byte and from line to line.
 use Rattle.std.proofs.Common.{◌≡◌, ◌≢◌, ℕ, zero, suc, ◌+◌, ◌<◌, inl, inr, Bool, true, false, eqb, List, [], ◌∷◌, ◌++◌, length, refl, sym, ap, subst, ◌∙◌}
 use Rattle.std.proofs.Common.{append_assoc, append-nil, arith, length-append, Result, Ok, Err, take, drop, get_or, take-append-drop, add-one, cond}
-use Rattle.std.specs.Prelude.{◌==◌, IfOk, IfErr, Option, Some, None, nat_lt}
+use Rattle.std.specs.Prelude.{◌==◌, IfOk, IfErr, Option, Some, None}
 use Rattle.std.specs.Str.{bytes_eq}
 use Rattle.std.proofs.Math.Seq.{take-suc}
 use Rattle.std.proofs.lemmas.Bool.{ne_eqb, lt-ltb}

@@ -1,18 +1,17 @@
 -- What is read is the text of what it says.
-use Rattle.std.proofs.Common.{◌≡◌, ℕ, ◌+◌, inl, inr, Bool, true, false, cond, List, [], ◌∷◌, ◌++◌, map, Ok, Err, refl, sym, ap, subst, ◌∙◌}
+use Rattle.std.proofs.Common.{◌≡◌, ℕ, ◌+◌, inl, inr, Bool, true, false, cond, List, [], ◌∷◌, ◌++◌, map, Ok, refl, sym, ap, subst, ◌∙◌}
 use Rattle.std.proofs.Common.{append_assoc, append-nil}
 use Rattle.std.proofs.lemmas.List.{map_push}
 use Rattle.lset_text.specs.Parts.{cut_at, line_of}
 use Rattle.lset_text.specs.Openings.{opening_line, opening_lines}
 use Rattle.lset_text.proofs.PartLaws.{text_from_lines}
 use Rattle.lset_judge.specs.Stream.{record_of}
-use Rattle.lset_recording.specs.declared.fault.RecordingCause.TheVariants as wrong
 use Rattle.lset_recording.specs.declared.lines.Line.{Line}
 use Rattle.lset_recording.specs.declared.lines.Line.TheVariants as told
 use Rattle.lset_recording.specs.declared.lines.Section.{Section}
 use Rattle.lset_recording.specs.declared.lines.Section.TheVariants as part
 use Rattle.lset_recording.specs.Texts.{Recording, call_line, key_line, end_line, lines, recording_text, title}
-use Rattle.lset_recording.specs.Reading.{SoFar, Comes, IsTaken, Reads, Says, cause_at_end, ending, fault, first_line, is_done, is_title, nothing_told, section_after, with_line, with_told}
+use Rattle.lset_recording.specs.Reading.{SoFar, Comes, IsTaken, Reads, Says, ending, first_line, is_done, is_title, nothing_told, section_after, with_line, with_told}
 use Rattle.lset_recording.proofs.LineKinds.{line_pieces, line_found_in}
 
 -- ---- the lines so far
