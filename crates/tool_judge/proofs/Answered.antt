@@ -1,0 +1,48 @@
+-- What is made of the bytes of an input.
+use Rattle.std.proofs.Common.{◌≡◌, ◌≢◌, ℕ, inl, inr, List, ◌++◌, Ok, Err, Option, Some, None, sym, subst}
+use Rattle.std.specs.Prelude.{IfSome}
+use Rattle.std.specs.Io.KnownBytes.{Consumes}
+use Rattle.lset_recording.specs.declared.fault.RecordingCause.{RecordingCause}
+use Rattle.lset_recording.specs.declared.fault.RecordingCause.TheVariants as wrong
+use Rattle.lset_recording.specs.declared.fault.RecordingFault.{RecordingFault}
+use Rattle.lset_recording.specs.declared.judging.RecordingAnswer.{RecordingAnswer}
+use Rattle.lset_recording.specs.Reading.{Says, fault}
+use Rattle.lset_recording.specs.Texts.{Recording}
+use Rattle.lset_recording.specs.Kept.{IsAnswered}
+use Rattle.lset_recording.proofs.TextFound.{text_found}
+use Rattle.tool_base.specs.declared.trouble.Trouble.{Trouble}
+use Rattle.tool_base.specs.Tools.{AnswerValue}
+use Rattle.tool_base.specs.Trouble.{of_recording, of_recording_line}
+use Rattle.tool_judge.specs.Judging.{IsAnswerTo, Judges}
+
+-- a fault as a trouble
+pub of_fault : (bytes : List ℕ) (e : RecordingFault) (t : Trouble) → t ≡ of_recording e → (e.cause ≢ wrong.Memory → Says bytes (Err e))
+    → Judges bytes (Err t)
+of_fault bytes e t is says = by e.line e.cause is says
+  where
+    by : (line : ℕ) (cause : RecordingCause) → t ≡ of_recording_line line cause
+        → (cause ≢ wrong.Memory → Says bytes (Err (fault line cause))) → Judges bytes (Err t)
+    by line wrong.Memory is says = inr (inl is)
+    by line cause is says = inr (inr (fault line cause, says (λ bad. absurd cc), is))
+
+-- the answer on what the bytes say
+pub answered : (bytes : List ℕ) (c : Recording) (said : RecordingAnswer) (a : AnswerValue) → Says bytes (Ok c) → IsAnswered c said
+    → IsAnswerTo said.verdict said.calls a → Judges bytes (Ok a)
+answered bytes c said a says is made = (
+  c,
+  says,
+  text_found bytes c says,
+  record {
+    recording = is.recording;
+    verdict = said.verdict;
+    verdict_is = is.verdict;
+    answer_is = subst (λ (n : ℕ). IsAnswerTo said.verdict n a) is.calls made;
+  },
+)
+
+-- of an input of which these bytes were read
+pub if_read : (all rest : Option (List ℕ)) (bytes : List ℕ) (P : List ℕ → Type 0) → Consumes all rest bytes
+    → ((more : List ℕ) → P (bytes ++ more)) → IfSome all P
+if_read None rest bytes P read each = tt
+if_read (Some xs) None bytes P read each = absurd read
+if_read (Some xs) (Some ys) bytes P read each = subst P (sym read) (each ys)

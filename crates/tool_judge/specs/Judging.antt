@@ -1,0 +1,49 @@
+-- What `judge` makes of an input.
+use Rattle.std.specs.Prelude.{◌≡◌, ℕ, ◌⊎◌, List, ◌++◌, codes, length, Option, Some, None, Ok, Err}
+use Rattle.std.specs.Fmt.{decimal}
+use Rattle.lset_judge.specs.declared.stream.Refusal.{Refusal}
+use Rattle.lset_judge.specs.declared.judging.Verdict.{Verdict}
+use Rattle.lset_judge.specs.declared.judging.Verdict.TheVariants.{Linearizable, NotLinearizable}
+use Rattle.lset_recording.specs.declared.fault.RecordingFault.{RecordingFault}
+use Rattle.lset_recording.specs.Texts.{Recording, IsRecording, recording_text}
+use Rattle.lset_recording.specs.Reading.{Says, IsVerdictOnRecording}
+use Rattle.tool_base.specs.declared.trouble.Trouble.TheVariants.{CannotRead, Memory}
+use Rattle.tool_base.specs.Trouble.{of_recording}
+use Rattle.tool_base.specs.Tools.{AnswerValue, Made}
+
+-- ---- what is written
+
+abbrev pub ok_line : ℕ → List ℕ
+ok_line calls = codes "ok " ++ decimal calls ++ codes " calls\n"
+
+abbrev pub calls_of_key : ℕ → List ℕ
+calls_of_key key = codes "not linearizable\nno order explains the calls of key " ++ decimal key
+
+abbrev pub extent : Option ℕ → List ℕ
+extent (Some moment) = codes " up to moment " ++ decimal moment ++ codes "\n"
+extent None = codes " and leaves it as it was left\n"
+
+abbrev pub refused_lines : Refusal → List ℕ
+refused_lines r = calls_of_key r.key.0 ++ extent r.moment
+
+-- a text begins so; of what comes then nothing is said here
+abbrev pub Begins : List ℕ → List ℕ → Type 0
+Begins head text = (more : List ℕ) × (text ≡ head ++ more)
+
+-- WHAT IS WRITTEN OF A VERDICT on so many calls
+abbrev pub IsAnswerTo : Verdict → ℕ → AnswerValue → Type 0
+IsAnswerTo Linearizable calls answer = Begins (ok_line calls) answer.text × (answer.status ≡ 0)
+IsAnswerTo (NotLinearizable refusal window) calls answer = Begins (refused_lines refusal) answer.text × (answer.status ≡ 1)
+
+-- THE ANSWER ON A RECORDING
+pub record IsAnswerOn (c : Recording) (answer : AnswerValue) : Type 0 where
+  pub recording : IsRecording c
+  pub verdict : Verdict
+  pub verdict_is : IsVerdictOnRecording c verdict
+  pub answer_is : IsAnswerTo verdict (length c.calls) answer
+
+-- WHAT IS MADE OF THE BYTES OF AN INPUT: the answer on the recording that they say and whose text they are, or their first fault; or a read
+-- failed, or memory was refused
+abbrev pub Judges : List ℕ → Made → Type 0
+Judges bytes (Ok answer) = (c : Recording) × Says bytes (Ok c) × (bytes ≡ recording_text c) × IsAnswerOn c answer
+Judges bytes (Err t) = (t ≡ CannotRead) ⊎ ((t ≡ Memory) ⊎ ((fault : RecordingFault) × Says bytes (Err fault) × (t ≡ of_recording fault)))
