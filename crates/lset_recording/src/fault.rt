@@ -5,7 +5,7 @@ ghost use Rattle.lset_recording.specs.declared.fault.RecordingCause.TheVariants.
 use std::alloc::AllocError;
 use thiserror::Error;
 
-/// What is wrong with a line of a long recording.
+/// What is wrong with a line of a recording.
 #[derive(Clone, Copy, Debug, PartialEq, Eq)]
 pub enum RecordingCause {
     /// The first line is not `listset-calls 1`.
@@ -25,7 +25,7 @@ pub enum RecordingCause {
     Memory,
 }
 
-/// The first fault of a long recording, and its line, counted from 1.
+/// The first fault of a recording, and its line, counted from 1.
 #[derive(Clone, Copy, Debug, PartialEq, Eq, Error)]
 #[error("line {line}: {cause:?}")]
 pub struct RecordingFault {
