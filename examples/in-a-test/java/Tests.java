@@ -10,8 +10,7 @@ import java.util.function.Supplier;
 import java.util.stream.Stream;
 
 /**
- * The tests as a program of their own: {@code javac Judge.java Sets.java Tests.java && java Tests}; or {@code java Tests first}, one; or
- * {@code java Tests crash}.
+ * The tests as a program of their own: {@code javac Judge.java Sets.java Tests.java && java Tests}; or {@code java Tests first}, one.
  */
 final class Tests {
     private static final Judge.Options ALL = new Judge.Options(), FEW = ALL.ofSize(2, 9, 4).ofRuns(1, 1);
@@ -226,8 +225,7 @@ final class Tests {
     public static void main(String[] words) {
         try {
             if (words.length == 0) all();
-            else if (words[0].equals("first")) isRight("ConcurrentSkipListSet", ConcurrentSkipListSet::new, ALL);
-            else stops(Sets.Exits::new, ALL, "the set ended its process with the status 3", "some order explains the calls");
+            else isRight("ConcurrentSkipListSet", ConcurrentSkipListSet::new, ALL);
         } catch (RuntimeException | AssertionError why) {
             fail(why.getMessage());
         }
