@@ -6,3 +6,4 @@ mod texts;
 mod windows;
 
 pub use judging::{judge_bytes, tool_judge};
+pub use texts::refused_text;
