@@ -12,7 +12,7 @@ ghost use Rattle.lset_judge.specs.Rule.{entered, found, opened};
 ghost use Rattle.lset_judge.specs.Events.{kind_if, until_if, begin_event, end_event};
 ghost use Rattle.lset_judge.specs.Leaving.{may_be_left};
 ghost use Rattle.lset_judge.specs.Rest.{ends_change, IsAtRest};
-ghost use Rattle.lset_judge.specs.Stream.{record_of, stream_history, behind_all, state_for, pending_of, no_pending, IsBefore, IsNearest, IsMet, IsStreamOf, MayCome, failed_verdict, verdict_of_key, moment_of, pending_in, IsStreamVerdict, IsStreamVerdictCutOff};
+ghost use Rattle.lset_judge.specs.Stream.{record_of, stream_history, behind_all, state_for, pending_of, key_in, event_of, no_pending, IsBefore, IsNearest, IsMet, IsStreamOf, MayCome, failed_verdict, verdict_of_key, moment_of, pending_in, IsStreamVerdict, IsStreamVerdictCutOff};
 ghost use Rattle.lset_judge.specs.Verdict.{is_plain};
 ghost use Rattle.lset_judge.specs.declared.stream.StreamFault.TheVariants.{Memory};
 
@@ -98,13 +98,11 @@ pub(crate) struct Failed {
     pub(crate) moment: u64,
 }
 
-/// A call that has not ended yet: before which moment it takes effect, its thread, and what its end is to its key.
+/// A call that has not ended yet, and before which moment it takes effect.
 #[derive(Clone, Copy)]
 pub(crate) struct Pending {
     pub(crate) end: u64,
-    pub(crate) thread: u32,
-    pub(crate) key: u32,
-    pub(crate) event: Event,
+    pub(crate) call: StreamCall,
 }
 
 impl StreamCall {
@@ -133,9 +131,7 @@ impl StreamCall {
     {
         Pending {
             end: self.until(),
-            thread: self.thread,
-            key: self.call.key().0,
-            event: end_event(self.kind(), self.begun),
+            call: self,
         }
     }
 
@@ -168,6 +164,19 @@ impl StreamCall {
 }
 
 impl Pending {
+    fn key(self) -> u32
+        ensures { result ≡ key_in self }
+    {
+        self.call.call.key().0
+    }
+
+    /// What the end of the call is to its key.
+    fn event(self) -> Event
+        ensures { result ≡ event_of self }
+    {
+        end_event(self.call.kind(), self.call.begun)
+    }
+
     fn is_apart(self, call: StreamCall) -> bool
         ensures { IsTrue result ↔ ((self.end ≢ call.begun) × IfSome call.ended (λ end. self.end ≢ end.0)) }
     {
@@ -178,15 +187,15 @@ impl Pending {
     }
 
     fn is_free(self, call: StreamCall) -> bool
-        ensures { IsTrue result ↔ (self.thread ≡ call.thread → self.end ≤ call.begun) }
+        ensures { IsTrue result ↔ (self.call.thread ≡ call.thread → self.end ≤ call.begun) }
     {
-        self.thread != call.thread || self.end <= call.begun
+        self.call.thread != call.thread || self.end <= call.begun
     }
 
     fn changes(self, key: u32) -> bool
-        ensures { result ≡ (self.key == key && ends_change self.event) }
+        ensures { result ≡ (key_in self == key && ends_change (event_of self)) }
     {
-        self.key == key && matches!(self.event, Event::Ends(_))
+        self.key() == key && matches!(self.event(), Event::Ends(_))
     }
 }
 
@@ -216,9 +225,9 @@ fn meet_key(
 fn clash(pending: &[Pending], call: StreamCall) -> Option<StreamFault>
     ensures { MatchOption result
         (All (λ p. (p.end ≢ call.begun) × IfSome call.ended (λ end. p.end ≢ end.0)) pending.now
-        × All (λ p. p.thread ≡ call.thread → p.end ≤ call.begun) pending.now)
+        × All (λ p. p.call.thread ≡ call.thread → p.end ≤ call.begun) pending.now)
         (λ fault. All (λ p. (p.end ≢ call.begun) × IfSome call.ended (λ end. p.end ≢ end.0)) pending.now
-        → All (λ p. p.thread ≡ call.thread → p.end ≤ call.begun) pending.now → ⊥) }
+        → All (λ p. p.call.thread ≡ call.thread → p.end ≤ call.begun) pending.now → ⊥) }
 {
     let mut is_free = true;
     for it in pending {
@@ -374,7 +383,7 @@ impl Stream {
         ensures pending { OnOk result (self.new.pending.items ≡ remove self.old.pending.items place) }
     {
         let next = self.pending.remove(place);
-        self.meet(next.key, next.end, next.event)?;
+        self.meet(next.key(), next.end, next.event())?;
         Ok(())
     }
 
@@ -404,7 +413,7 @@ impl Stream {
         let pending = call.pending();
         self.pending.push(pending)?;
         self.meet(
-            pending.key,
+            pending.key(),
             call.begun,
             begin_event(call.kind(), pending.end),
         )?;
@@ -459,7 +468,7 @@ impl Stream {
 
     /// Whether no change of a key is pending.
     fn none_changes(&self, key: u32) -> bool
-        ensures { IsTrue result ↔ All (λ p. (p.key == key && ends_change p.event) ≡ false) self.now.pending.items }
+        ensures { IsTrue result ↔ All (λ p. (key_in p == key && ends_change (event_of p)) ≡ false) self.now.pending.items }
     {
         self.pending.iter().all(|pending| !pending.changes(key))
     }
@@ -479,8 +488,8 @@ impl Stream {
     pub fn earliest_look(&self, key: u32) -> Option<u64> {
         let mut earliest = None;
         for pending in &self.pending {
-            if pending.key == key {
-                if let Event::Looks(_, begun) = pending.event {
+            if pending.key() == key {
+                if let Event::Looks(_, begun) = pending.event() {
                     earliest = match earliest {
                         None => Some(begun),
                         Some(before) => Some(begun.min(before)),

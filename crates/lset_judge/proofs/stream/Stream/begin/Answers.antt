@@ -1,7 +1,7 @@
 use Rattle.std.proofs.Common.{◌++◌, ◌∷◌, [], ◌∙◌, ap, subst}
 use Rattle.lset_words.specs.Words.{key_of}
 use Rattle.lset_judge.specs.Events.{kind_if, begin_event}
-use Rattle.lset_judge.specs.Stream.{record_of, IsMetBy}
+use Rattle.lset_judge.specs.Stream.{record_of, key_in, IsMetBy}
 use Rattle.lset_judge.proofs.Begun.{call_begun}
 use Rattle.lset_judge.proofs.stream.Stream.begin.Goals as goal
 
@@ -14,4 +14,4 @@ returns-clause-begun c = λ threads opening calls low is.
     call_begun threads opening calls s is (record_of x) low c.requires.may c.requires.met t
     (met.pending ∙ c.in_ok-push.ensures.items ∙ ap (λ q. s.pending.items ++ q ∷ []) own) met.at_moment
     (subst (λ v. IsMetBy s.states (key_of x.call).0 x.begun v t.states s.failed t.failed) event
-    (subst (λ k. IsMetBy s.states k x.begun c.begin_event.result t.states s.failed t.failed) (ap (λ q. q.key) own) met.by))
+    (subst (λ k. IsMetBy s.states k x.begun c.begin_event.result t.states s.failed t.failed) (ap (λ q. key_in q) own) met.by))
