@@ -14,4 +14,4 @@ returns-clause-begun c = λ threads opening calls low is.
     call_begun threads opening calls s is (record_of x) low c.requires.may c.requires.met t
     (met.pending ∙ c.in_ok-push.ensures.items ∙ ap (λ q. s.pending.items ++ q ∷ []) own) met.at_moment
     (subst (λ v. IsMetBy s.states (key_of x.call).0 x.begun v t.states s.failed t.failed) event
-    (subst (λ k. IsMetBy s.states k x.begun c.begin_event.result t.states s.failed t.failed) (ap (λ q. key_in q) own) met.by))
+    (subst (λ k. IsMetBy s.states k x.begun c.begin_event.result t.states s.failed t.failed) (c.key.ensures ∙ ap (λ q. key_in q) own) met.by))
