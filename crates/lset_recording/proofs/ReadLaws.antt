@@ -202,7 +202,7 @@ module _ (r : RecordingReader) where
       let s = said is.told is.judging in (
         is.told.told,
         at_end bytes is.held r.judging.number is.told (stands bytes r is) (Ok is.told.told)
-        (sym s.0 ∙ ap (ending r.judging.number is.told) (nothing_held bytes r is short none)),
+            (sym s.0 ∙ ap (ending r.judging.number is.told) (nothing_held bytes r is short none)),
         s.1,
       )
   finished (Err e) short none said = tt

@@ -1,4 +1,4 @@
-use Rattle.std.proofs.Common.{◌≡◌, ◌∷◌, [], ◌++◌, ◌∙◌, sym, ap, subst, append_assoc}
+use Rattle.std.proofs.Common.{◌∷◌, [], ◌++◌, ◌∙◌, sym, ap, subst, append_assoc}
 use Rattle.lset_recording.specs.Kept.{IsRead, IsRefusedAt, IsLineOf}
 use Rattle.lset_recording.proofs.ReadLaws.{refused_on, line_of_piece}
 use Rattle.lset_recording.proofs.reader.RecordingReader.bytes_in.Goals as goal
