@@ -148,7 +148,7 @@ fn lacks_option<'a>(alloc: Global) -> Arg<'a>
         alloc,
         "lacks",
         "NAME",
-        "Run a broken list, with one check removed: lock (coarse), second-lock, hand-over-hand (fine), second-walk, same-node (optimistic), marks-in-validation, mark-in-contains, mark-in-ceiling (lazy), mark, mark-in-add, mark-in-remove, mark-at-key, new-slot, last-slot (lock-free)",
+        "Run a broken list, with one check removed: lock (coarse), second-lock, hand-over-hand (fine), second-walk, same-node (optimistic), marks-in-validation, mark-in-contains, mark-in-ceiling (lazy), mark, mark-in-add, mark-in-remove, mark-at-key, new-slot (lock-free)",
     )
 }
 

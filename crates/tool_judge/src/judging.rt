@@ -4,6 +4,7 @@ ghost use Rattle.tool_base.specs.Tools.{Ends};
 ghost use Rattle.tool_base.specs.Tools as tools;
 ghost use Rattle.tool_base.specs.declared.trouble.Trouble.TheVariants.{CannotRead};
 ghost use Rattle.tool_judge.specs.Judging.{IsAnswerTo, Judges};
+ghost use Rattle.tool_judge.specs.Exact.{AnswersAreRight};
 
 use crate::texts::{ok_text, refused_text};
 use lset_judge::Verdict;
@@ -97,3 +98,10 @@ pub fn tool_judge<R: Read, W: Write, F: Write>(
     let made = judge_input(alloc, input);
     deliver(alloc, made, output, faults)
 }
+
+/// What `judge_bytes` and `tool_judge` answer is right: unless memory or a read failed, it is `ok` with status 0 exactly if the bytes are a
+/// recording and some order explains its calls and leaves its keys, or some keys if it was cut off; `not linearizable` with status 1 exactly
+/// if they are a recording and none does; and a line and a cause exactly if that line is the first that is wrong, for this cause.
+pub fn answers_are_right()
+    ensures { AnswersAreRight }
+{}
