@@ -64,7 +64,13 @@ pub fn judge_bytes(alloc: Global, bytes: &[u8]) -> Result<Answer, Trouble>
     answer_of(alloc, reader)
 }
 
-fn judge_input<R: Read>(alloc: Global, input: &mut R) -> Result<Answer, Trouble>
+/// Judges the recording on the input, which is read in pieces of `READ_SIZE` bytes to its end or to the first error, as `judge_bytes` judges
+/// its text. Allocates; blocks as the input does.
+///
+/// # Errors
+///
+/// Those of `judge_bytes`; `CannotRead` if a read fails, which is not repeated.
+pub fn judge_input<R: Read>(alloc: Global, input: &mut R) -> Result<Answer, Trouble>
     ensures { IfSome (R.remaining input.old) (λ bytes. Judges bytes (tools.view result)) }
 {
     let mut reader = RecordingReader::new(alloc);
