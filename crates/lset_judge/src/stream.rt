@@ -288,7 +288,7 @@ fn settle(
 {
     let waiting = waiting_of(alloc, pending, key)?;
     if let Some(state) = states.get_mut(&key) {
-        state.log.settle(alloc, key, &waiting)?;
+        state.log.settle(key, &waiting);
         return Ok(());
     }
     Ok(())
