@@ -17,7 +17,7 @@ use Rattle.lset_judge.specs.declared.stream.Failed.{Failed}
 use Rattle.lset_judge.specs.declared.stream.Pending.{Pending}
 use Rattle.lset_judge.specs.declared.stream.Stream.{Stream}
 use Rattle.lset_judge.specs.Events.{kind_if, until_if, begin_event, event_at}
-use Rattle.lset_judge.specs.Stream.{behind_all, pending_of, no_pending, IsOver, IsBefore, ArePending, IsJudgedTo, IsMetBy, IsNearest}
+use Rattle.lset_judge.specs.Stream.{behind_all, pending_of, key_in, event_of, no_pending, IsOver, IsBefore, ArePending, IsJudgedTo, IsMetBy, IsNearest}
 use Rattle.lset_judge.specs.Stream.{IsStreamOf, MayCome}
 use Rattle.lset_judge.specs.Verdict.{is_plain}
 use Rattle.lset_judge.proofs.After.{same_after}
@@ -32,7 +32,7 @@ some_and P o e s h = subst (λ q. IsSomeAnd q P) (sym s) h
 
 pub end_met : (threads : ℕ) (opening : List ℕ) (calls : List CallRecord) (s t : Stream) (i : ℕ) (p : Pending) → i < length s.pending.items
     → IsNearest behind_all s.pending.items i → p ≡ get_or s.pending.items i no_pending → t.pending.items ≡ remove s.pending.items i
-    → t.moment ≡ p.end → IsMetBy s.states p.key p.end p.event t.states s.failed t.failed
+    → t.moment ≡ p.end → IsMetBy s.states (key_in p) p.end (event_of p) t.states s.failed t.failed
     → IsStreamOf threads opening calls s → IsStreamOf threads opening calls t
 end_met threads opening calls s t i p low near next pending moment met is =
     let at_end : p.end ≡ (get_or s.pending.items i no_pending).end = ap (λ (q : Pending). q.end) next in
@@ -50,15 +50,15 @@ end_met threads opening calls s t i p low near next pending moment met is =
           (subst (λ m. ArePending calls m (remove s.pending.items i)) (sym e)
           (without_next threads calls is.history is.before s.moment is.begun s.pending.items is.pending i low early least));
       judged = subst (λ m. IsJudgedTo opening calls m t.states t.failed) (sym e)
-          (goes_to opening calls s.moment ((get_or s.pending.items i no_pending).end - 1) (get_or s.pending.items i no_pending).key
-          (get_or s.pending.items i no_pending).event (omega (arith, now))
+          (goes_to opening calls s.moment ((get_or s.pending.items i no_pending).end - 1) (key_in (get_or s.pending.items i no_pending))
+          (event_of (get_or s.pending.items i no_pending)) (omega (arith, now))
           (λ j from upto k. quiet_before threads calls is.history is.before s.moment is.begun s.pending.items is.pending j from
           (λ n d inside. let up = least n d inside in omega (arith, up, upto, now)) k)
           (λ k. ap (event_at behind_all k calls) (let z : suc ((get_or s.pending.items i no_pending).end - 1) ≡ (get_or s.pending.items i no_pending).end = omega (arith, now) in z)
           ∙ ends_next threads calls is.history is.before s.moment is.begun s.pending.items is.pending i low early k)
           (get_or s.pending.items i no_pending).end (let z : (get_or s.pending.items i no_pending).end ≡ suc ((get_or s.pending.items i no_pending).end - 1) = omega (arith, now) in z)
           s.states t.states s.failed t.failed
-          (subst (λ (q : Pending). IsMetBy s.states q.key q.end q.event t.states s.failed t.failed) next met) is.judged);
+          (subst (λ (q : Pending). IsMetBy s.states (key_in q) q.end (event_of q) t.states s.failed t.failed) next met) is.judged);
     }
 
 -- ---- THE NEXT CALL BEGINS
@@ -115,7 +115,7 @@ module _ (threads : ℕ) (opening : List ℕ) (calls : List CallRecord) (s : Str
                   let k = ap (λ (p : Pending). p.end) c.2 in omega (arith, m, ne, k, z)),
             ));
         none_open = λ same. absurd (
-            let f = may.free c.0 d c.1 (ap (λ (p : Pending). p.thread) c.2 ∙ same) in
+            let f = may.free c.0 d c.1 (ap (λ (p : Pending). p.call.thread) c.2 ∙ same) in
             let g = ap (λ (p : Pending). p.end) c.2 in omega (arith, f, g, after));
       }
 

@@ -44,7 +44,7 @@ may_come threads opening calls s x is history begins before plain = record {
             (if_some (λ (e : ℕ × Reply). (e.0 ≢ y.begun) × IfSome y.ended (λ (d : ℕ × Reply). e.0 ≢ d.0)) x.ended e at f.ends_alone).1 y.ended refl),
       );
   free = λ i d low. let k = is.pending.known i d low in let y : CallRecord = call_numbered calls k.0 in let f = follows k.0 k.1 in
-      subst (λ (p : Pending). p.thread ≡ x.thread → p.end ≤ x.begun) (sym k.2) (λ same. free_of y x y.ended refl (f.none_open same));
+      subst (λ (p : Pending). p.call.thread ≡ x.thread → p.end ≤ x.begun) (sym k.2) (λ same. free_of y x y.ended refl (f.none_open same));
 }
   where
     more : List CallRecord

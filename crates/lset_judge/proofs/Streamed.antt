@@ -20,7 +20,7 @@ use Rattle.lset_judge.specs.declared.stream.Failed.{Failed}
 use Rattle.lset_judge.specs.declared.stream.Pending.{Pending}
 use Rattle.lset_judge.specs.Rule.{Event, State, idle, found, entered, stepped, state_after}
 use Rattle.lset_judge.specs.Events.{kind_if, until_if, ends_at, begin_event, event_at}
-use Rattle.lset_judge.specs.Stream.{behind_all, state_for, pending_of, no_pending, IsBefore, ArePending, IsJudgedTo}
+use Rattle.lset_judge.specs.Stream.{behind_all, state_for, pending_of, key_in, event_of, no_pending, IsBefore, ArePending, IsJudgedTo}
 use Rattle.lset_judge.specs.Stream.{IsMetBy, MayCome}
 use Rattle.lset_judge.proofs.After.{idle_step, quiet_until}
 use Rattle.lset_judge.proofs.EventLemmas.{Told, of_nothing, of_begin, of_end, told, ends_there, if_some, for_some, none_or_some, ends_not}
@@ -180,21 +180,21 @@ module _ (threads : ℕ) (calls : List CallRecord) (history : IsHistory threads 
           ])
         ]
 
-    pub ends_next : (k : ℕ) → event_at behind_all k calls next.end ≡ (if next.key == k then next.event else idle)
+    pub ends_next : (k : ℕ) → event_at behind_all k calls next.end ≡ (if key_in next == k then event_of next else idle)
     ends_next k =
         let e : ℕ × Reply = end_of.0 in let s = end_of.1 in
         let at_end : e.0 ≡ next.end = end_of.2 ∙ sym (ap (λ (p : Pending). p.end) is_next) in
         let later : (call number).begun < e.0 =
         if_some (λ (d : ℕ × Reply). (call number).begun < d.0) (call number).ended e s (calls_of threads calls history number no_call of_number).ends_later in
-        elim (cases_Bool (next.key == k)) [
-          | inl t ↦ (let key : (key_of (call number).call).0 ≡ k = sym (ap (λ (p : Pending). p.key) is_next) ∙ same_number next.key k t in
+        elim (cases_Bool (key_in next == k)) [
+          | inl t ↦ (let key : (key_of (call number).call).0 ≡ k = sym (ap (λ (p : Pending). key_in p) is_next) ∙ same_number (key_in next) k t in
               ap (λ (j : ℕ). event_at behind_all k calls j) (sym at_end)
               ∙ ends_there behind_all k number calls e of_number (pairs_of threads calls history) key s later
-              ∙ sym (ap (λ (p : Pending). p.event) is_next) ∙ rw t refl)
-          | inr f ↦ by (event_at behind_all k calls next.end) (told behind_all k next.end calls) (other_number next.key k f) ∙ rw f refl
+              ∙ sym (ap (λ (p : Pending). event_of p) is_next) ∙ rw t refl)
+          | inr f ↦ by (event_at behind_all k calls next.end) (told behind_all k next.end calls) (other_number (key_in next) k f) ∙ rw f refl
         ]
       where
-        by : (v : Event) → Told behind_all k next.end calls v → next.key ≢ k → v ≡ idle
+        by : (v : Event) → Told behind_all k next.end calls v → key_in next ≢ k → v ≡ idle
         by v (of_nothing e) ne = e
         by v (of_begin b) ne = absurd (
             let l = b.known in let o = b.begun in let u = begun b.number no_call l in let w = are.later i no_pending low in
@@ -205,7 +205,7 @@ module _ (threads : ℕ) (calls : List CallRecord) (history : IsHistory threads 
             let d : Pending = pending_of (call e.number) in
             let u : d.end ≡ e.end.0 = until_end behind_all (call e.number).begun (call e.number).ended e.end e.ended in
             let is : get_or pending c.0 d ≡ next = same_place c.0 d c.1 (ap (λ (p : Pending). p.end) c.2 ∙ u ∙ a) in
-            ne (ap (λ (p : Pending). p.key) (sym is ∙ c.2) ∙ e.own))
+            ne (ap (λ (p : Pending). key_in p) (sym is ∙ c.2) ∙ e.own))
 
     module _ (least : All (λ (p : Pending). next.end ≤ p.end) pending) where
       rest_at : (P : Pending → Type 0) → ((j : ℕ) (d : Pending) → j < length pending → j ≢ i → P (get_or pending j d)) → All P (remove pending i)
@@ -276,5 +276,5 @@ may_still old new m n x may some begins = record {
   apart = λ i d low. let c = some i d low in
       subst (λ (p : Pending). (p.end ≢ x.begun) × IfSome x.ended (λ (e : ℕ × Reply). p.end ≢ e.0)) c.2 (may.apart c.0 (get_or new i d) c.1);
   free = λ i d low. let c = some i d low in
-      subst (λ (p : Pending). p.thread ≡ x.thread → p.end ≤ x.begun) c.2 (may.free c.0 (get_or new i d) c.1);
+      subst (λ (p : Pending). p.call.thread ≡ x.thread → p.end ≤ x.begun) c.2 (may.free c.0 (get_or new i d) c.1);
 }

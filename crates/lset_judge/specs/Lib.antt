@@ -7,6 +7,6 @@ pub mod Window
 pub mod Leaving
 pub mod Stream
 pub mod Rest
-pub mod Kept
 pub mod Judge
 pub mod Reading
+pub mod Log

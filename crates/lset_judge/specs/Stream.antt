@@ -8,7 +8,7 @@ use Rattle.lset_words.specs.declared.Reply.{Reply}
 use Rattle.lset_words.specs.declared.history.CallRecord.{CallRecord}
 use Rattle.lset_words.specs.Words.{key_of}
 use Rattle.lset_words.specs.SequentialSet.{has_key}
-use Rattle.lset_words.specs.History.{IsHistory, call_numbered}
+use Rattle.lset_words.specs.History.{IsHistory, call_numbered, no_call}
 use Rattle.lset_history.specs.History.{HistoryValue}
 use Rattle.lset_judge.specs.declared.rule.KeyState.{KeyState}
 use Rattle.lset_judge.specs.declared.stream.StreamCall.{StreamCall}
@@ -25,6 +25,10 @@ use Rattle.lset_judge.specs.Verdict.{IsPlain, IsExplained, IsUnexplained, IsRefu
 -- a call of a stream as one of a history
 abbrev pub record_of : StreamCall → CallRecord
 record_of x = record { thread = x.thread; call = x.call; begun = x.begun; ended = x.ended }
+
+-- and back
+abbrev pub call_of : CallRecord → StreamCall
+call_of x = record { thread = x.thread; call = x.call; begun = x.begun; ended = x.ended }
 
 -- the calls of a stream, of a set without a quota
 abbrev pub stream_history : ℕ → List ℕ → List CallRecord → HistoryValue
@@ -51,10 +55,15 @@ state_for states k = state_or (get nat_cmp states k)
 abbrev pub pending_of : CallRecord → Pending
 pending_of x = record {
   end = until_if behind_all x.begun x.ended;
-  thread = x.thread;
-  key = (key_of x.call).0;
-  event = end_event (kind_if x.call x.ended) x.begun;
+  call = call_of x;
 }
+
+abbrev pub key_in : Pending → ℕ
+key_in p = (key_of p.call.call).0
+
+-- what its end is to its key
+abbrev pub event_of : Pending → Event
+event_of p = end_event (kind_if p.call.call p.call.ended) p.call.begun
 
 -- the call has ended by a moment
 abbrev pub IsOver : ℕ → CallRecord → Type 0
@@ -107,7 +116,7 @@ pub record MayCome (pending : List Pending) (moment : ℕ) (x : CallRecord) : Ty
   -- no pending call ends at its begin or its end,
   pub apart : All (λ (p : Pending). (p.end ≢ x.begun) × IfSome x.ended (λ (end : ℕ × Reply). p.end ≢ end.0)) pending
   -- and none of its thread is pending then
-  pub free : All (λ (p : Pending). p.thread ≡ x.thread → p.end ≤ x.begun) pending
+  pub free : All (λ (p : Pending). p.call.thread ≡ x.thread → p.end ≤ x.begun) pending
 
 -- ---- WHAT THE VERDICT SAYS
 
@@ -125,7 +134,7 @@ IsStreamVerdictCutOff h (NotLinearizable refusal) = (keys : List ℕ) → IsStre
 -- ---- what the functions on the way say
 
 abbrev pub no_pending : Pending
-no_pending = record { end = 0; thread = 0; key = 0; event = idle }
+no_pending = record { end = 0; call = call_of no_call }
 
 -- the place has the nearest of the ends, and it is before a moment
 abbrev pub IsNearest : ℕ → List Pending → ℕ → Type 0
@@ -152,3 +161,9 @@ failed_verdict f = NotLinearizable (record { key = f.key; moment = Some f.moment
 abbrev pub verdict_of_key : Option ℕ → StreamVerdict
 verdict_of_key None = Linearizable
 verdict_of_key (Some k) = NotLinearizable (record { key = record { 0 = k }; moment = None })
+
+-- a refusal is that of the rule, if it has failed, and else has no moment
+abbrev pub IsToldBy : Option Failed → StreamVerdict → Type 0
+IsToldBy None Linearizable = Unit {0}
+IsToldBy None (NotLinearizable refusal) = refusal.moment ≡ None
+IsToldBy (Some f) verdict = verdict ≡ failed_verdict f

@@ -322,38 +322,50 @@ inline std::string made_part(caller &by, const area &run) {
 
 // ---- the judge
 
-// What a judge says of a recording.
+// Its name, what it says of its proof, and the command to which words are added.
+struct judge_found {
+    std::string name, proof;
+    std::vector<std::string> command;
+    std::vector<std::string> with(std::vector<std::string> words) const { return words.insert(words.begin(), command.begin(), command.end()), words; }
+};
+
+// The line in which a judge says whether it is proved.
+inline std::string proof_in(const std::string &version) {
+    size_t at = ("\n" + version).find("\nproof ");
+    return at == std::string::npos ? "proof unknown" : version.substr(at, version.find('\n', at) - at);
+}
+
+// What a command or the library says.
 struct answer {
     int status;  // -1: it cannot be run
     std::string said;
 };
 
-// A judge that is given one, as it grows.
+#ifdef LISTSET_H
+// The library, which is given a recording at its end.
 struct asked {
-    virtual void write(const std::string &text) = 0;
-    virtual answer end() = 0;
-    virtual ~asked() = default;
+    std::string all;
+    explicit asked(const std::vector<std::string> &) {}
+    void write(const std::string &text) { all += text; }
+    answer end() {
+        uint8_t status;
+        size_t length;
+        std::unique_ptr<char, void (*)(void *)> said(listset_said(listset_judge, all.data(), all.size(), &length, &status), free);
+        if (!said) throw no_verdict("there is no memory for the answer of liblistset");
+        return {status, std::string(said.get(), length > 0 && said.get()[length - 1] == '\n' ? length - 1 : length)};
+    }
 };
 
-struct closing { void operator()(FILE *it) const { fclose(it); } };
-using file_held = std::unique_ptr<FILE, closing>;
-
-inline std::string all_of(FILE *from) {
-    std::string text;
-    char some[4096];
-    rewind(from);
-    for (size_t got; (got = fread(some, 1, sizeof some, from)) > 0;) text.append(some, got);
-    while (!text.empty() && text.back() == '\n') text.pop_back();
-    return text;
-}
-
-// A command, which reads from a pipe; its outputs are files without a name.
-struct program : asked {
-    file_held out{tmpfile()}, errors{tmpfile()};
+inline judge_found find_judge() { return {"liblistset", proof_in(listset_version()), {}}; }
+#else
+// A command, which is given its input as it grows, by a pipe; its outputs are files without a name.
+struct asked {
+    struct closing { void operator()(FILE *it) const { fclose(it); } };
+    std::unique_ptr<FILE, closing> out{tmpfile()}, errors{tmpfile()};
     pid_t process = -1;
     int to = -1;
 
-    explicit program(std::vector<std::string> words) {
+    explicit asked(std::vector<std::string> words) {
         int ends[2];
         if (!out || !errors || pipe(ends)) throw no_verdict("there is no room for temporary files");
         for (int end : ends) fcntl(end, F_SETFD, FD_CLOEXEC);
@@ -370,11 +382,11 @@ struct program : asked {
         close(ends[0]);
         to = ends[1];
     }
-    ~program() override {
-        if (process != -1) kill(process, SIGKILL), end();
-        else close_input();
+    ~asked() {
+        if (process != -1) kill(process, SIGKILL);
+        end();
     }
-    void write(const std::string &text) override {
+    void write(const std::string &text) {
         sigset_t broken, before, pending;
         sigemptyset(&broken), sigaddset(&broken, SIGPIPE);
         pthread_sigmask(SIG_BLOCK, &broken, &before);
@@ -385,60 +397,35 @@ struct program : asked {
         if (count < 0 && !sigpending(&pending) && sigismember(&pending, SIGPIPE)) sigwait(&broken, &number);
         pthread_sigmask(SIG_SETMASK, &before, nullptr);
     }
-    answer end() override {
-        close_input();
+    answer end() {
         int status;
-        pid_t ended = waitpid(process, &status, 0);
-        if (process == -1 || ended != std::exchange(process, -1)) return {-1, ""};
+        if (to != -1) close(std::exchange(to, -1));
+        if (process == -1 || waitpid(std::exchange(process, -1), &status, 0) < 0) return {-1, ""};
         std::string said = all_of(out.get());
         return {WIFEXITED(status) ? WEXITSTATUS(status) : 128, said.empty() ? all_of(errors.get()) : said};
     }
-    void close_input() {
-        if (to != -1) close(std::exchange(to, -1));
+    static std::string all_of(FILE *from) {
+        std::string text;
+        char some[4096];
+        rewind(from);
+        for (size_t got; (got = fread(some, 1, sizeof some, from)) > 0;) text.append(some, got);
+        while (!text.empty() && text.back() == '\n') text.pop_back();
+        return text;
     }
 };
 
-// The line in which a judge says whether it is proved.
-inline std::string proof_in(const std::string &version) {
-    size_t at = ("\n" + version).find("\nproof ");
-    return at == std::string::npos ? "proof unknown" : version.substr(at, version.find('\n', at) - at);
-}
-
-// The judge underneath: its name, what it says of its proof, and how it is asked.
-struct judge_found {
-    std::string name, proof;
-    std::function<std::unique_ptr<asked>()> ask;
-};
-
-#ifdef LISTSET_H
-struct library : asked {
-    std::string all;
-    void write(const std::string &text) override { all += text; }
-    answer end() override {
-        uint8_t status;
-        size_t length;
-        std::unique_ptr<char, void (*)(void *)> said(listset_said(listset_judge, all.data(), all.size(), &length, &status), free);
-        if (!said) throw no_verdict("there is no memory for the answer of liblistset");
-        return {status, std::string(said.get(), length > 0 && said.get()[length - 1] == '\n' ? length - 1 : length)};
-    }
-};
-
-inline judge_found find_judge() {
-    return {"liblistset", proof_in(listset_version()), [] { return std::make_unique<library>(); }};
-}
-#else
 inline judge_found find_judge() {
     const char *named = std::getenv("LISTSET");
     const std::string name = named ? named : "listset";
     bool is_script = name.size() > 3 && name.substr(name.size() - 3) == ".js";
-    std::vector<std::string> words = is_script ? std::vector<std::string>{"node", name} : std::vector<std::string>{name};
-    auto with = [words](std::vector<std::string> more) { return more.insert(more.begin(), words.begin(), words.end()), more; };
-    answer version = program(with({"--version", "--long"})).end();
+    judge_found found{name, "", is_script ? std::vector<std::string>{"node", name} : std::vector<std::string>{name}};
+    answer version = asked(found.with({"--version", "--long"})).end();
     if (version.status == -1 || version.status == 127)
         throw no_verdict(is_script ? "node is not in PATH, which runs the " + name + " that LISTSET names"
                          : named ? "LISTSET names " + name + ", which cannot be run: build listset, and name it there"
                                  : "there is no listset in PATH: build it, and put it there or name it by LISTSET");
-    return {name, proof_in(version.said), [=] { return std::make_unique<program>(with({"judge", "-"})); }};
+    found.proof = proof_in(version.said);
+    return found;
 }
 #endif
 
@@ -464,14 +451,14 @@ struct recording {
     const std::string path;
     bool is_kept;
     std::ofstream file;
-    std::unique_ptr<asked> judge;
+    asked judge;
 
-    recording(const options &how, uint64_t seed, const judge_found &by) : path(path_of(how.record, seed)), is_kept(!how.record.empty()) {
+    recording(const options &how, uint64_t seed, const judge_found &by)
+        : path(path_of(how.record, seed)), is_kept(!how.record.empty()), judge(by.with({"judge", "-"})) {
         std::error_code fault;
         if (is_kept) std::filesystem::create_directories(how.record, fault);
         file.open(path);
         check();
-        judge = by.ask();
     }
     ~recording() {
         if (!is_kept) std::remove(path.c_str());
@@ -486,8 +473,8 @@ struct recording {
     void check() const {
         if (!file) throw no_verdict("no file can be written in " + path.substr(0, path.rfind('/')) + ": name another folder by record");
     }
-    void write(const std::string &text) { file << text, judge->write(text); }
-    answer end() { return file.close(), check(), judge->end(); }
+    void write(const std::string &text) { file << text, judge.write(text); }
+    answer end() { return file.close(), check(), judge.end(); }
 };
 
 struct row {

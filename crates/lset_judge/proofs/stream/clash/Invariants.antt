@@ -17,7 +17,7 @@ abbrev pub invariant-loop-it : goal.invariant-loop-it
 invariant-loop-it l = record {
   apart : (k : ℕ) (d : Pending) → k < l.it-index → ((slice_index_or l.pending k d).end ≢ l.call.begun)
       × IfSome l.call.ended (λ end. (slice_index_or l.pending k d).end ≢ end.0);
-  free : l.is_free ≡ true → (k : ℕ) (d : Pending) → k < l.it-index → (slice_index_or l.pending k d).thread ≡ l.call.thread
+  free : l.is_free ≡ true → (k : ℕ) (d : Pending) → k < l.it-index → (slice_index_or l.pending k d).call.thread ≡ l.call.thread
       → (slice_index_or l.pending k d).end ≤ l.call.begun;
-  busy : l.is_free ≡ false → All (λ (p : Pending). p.thread ≡ l.call.thread → p.end ≤ l.call.begun) l.pending → ⊥;
+  busy : l.is_free ≡ false → All (λ (p : Pending). p.call.thread ≡ l.call.thread → p.end ≤ l.call.begun) l.pending → ⊥;
 }
