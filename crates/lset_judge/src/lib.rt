@@ -17,6 +17,7 @@ mod judging;
 mod kept;
 mod keys;
 mod overlaps;
+mod pending;
 mod rule;
 mod stream;
 mod window;

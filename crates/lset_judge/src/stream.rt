@@ -2,7 +2,6 @@
 
 ghost use Rattle.std.specs.Prelude.{◌≡◌, ◌≢◌, ◌↔◌, ◌<◌, ◌≤◌, ◌+◌, ◌++◌, ◌∷◌, [], ℕ, IsTrue, All, List, length, false, true, None, Some, IfOk, OnOk, IfErr, IfSome, MatchOption, if◌then◌else◌};
 ghost use Rattle.std.specs.Prelude.{Contains, IsSome, slice_index_or, ◌==◌, ◌&&◌};
-ghost use Rattle.std.specs.List.{remove};
 ghost use Rattle.std.specs.List.Sorted.{IsStrictlyIncreasing};
 ghost use Rattle.std.specs.Ordering.{nat_cmp};
 ghost use Rattle.std.specs.BTreeMap.{get};
@@ -12,13 +11,14 @@ ghost use Rattle.lset_judge.specs.Rule.{entered, found, opened};
 ghost use Rattle.lset_judge.specs.Events.{kind_if, until_if, begin_event, end_event};
 ghost use Rattle.lset_judge.specs.Leaving.{may_be_left};
 ghost use Rattle.lset_judge.specs.Rest.{ends_change, IsAtRest};
-ghost use Rattle.lset_judge.specs.Stream.{record_of, stream_history, behind_all, state_for, pending_of, key_in, event_of, no_pending, IsBefore, IsNearest, IsMet, IsStreamOf, MayCome, failed_verdict, verdict_of_key, moment_of, pending_in, IsStreamVerdict, IsStreamVerdictCutOff};
+ghost use Rattle.lset_judge.specs.Stream.{record_of, stream_history, behind_all, state_for, pending_of, key_in, event_of, IsBefore, IsMet, IsStreamOf, MayCome, failed_verdict, verdict_of_key, moment_of, pending_in, IsStreamVerdict, IsStreamVerdictCutOff};
 ghost use Rattle.lset_judge.specs.Verdict.{is_plain};
 ghost use Rattle.lset_judge.specs.declared.stream.StreamFault.TheVariants.{Memory};
 
 use crate::event::{Event, Kind, begin_event, end_event, ended_kind, open_kind};
 use crate::judged::is_answer;
 use crate::keys::is_among;
+use crate::pending::PendingCalls;
 use crate::rule::KeyState;
 use lset_words::{Call, Key, Reply};
 use std::alloc::{AllocError, Global};
@@ -164,35 +164,20 @@ impl StreamCall {
 }
 
 impl Pending {
-    fn key(self) -> u32
+    pub(crate) fn key(self) -> u32
         ensures { result ≡ key_in self }
     {
         self.call.call.key().0
     }
 
     /// What the end of the call is to its key.
-    fn event(self) -> Event
+    pub(crate) fn event(self) -> Event
         ensures { result ≡ event_of self }
     {
         end_event(self.call.kind(), self.call.begun)
     }
 
-    fn is_apart(self, call: StreamCall) -> bool
-        ensures { IsTrue result ↔ ((self.end ≢ call.begun) × IfSome call.ended (λ end. self.end ≢ end.0)) }
-    {
-        match call.ended {
-            Some((end, _)) => self.end != call.begun && self.end != end,
-            None => self.end != call.begun,
-        }
-    }
-
-    fn is_free(self, call: StreamCall) -> bool
-        ensures { IsTrue result ↔ (self.call.thread ≡ call.thread → self.end ≤ call.begun) }
-    {
-        self.call.thread != call.thread || self.end <= call.begun
-    }
-
-    fn changes(self, key: u32) -> bool
+    pub(crate) fn changes(self, key: u32) -> bool
         ensures { result ≡ (key_in self == key && ends_change (event_of self)) }
     {
         self.key() == key && matches!(self.event(), Event::Ends(_))
@@ -219,50 +204,6 @@ fn meet_key(
     let goes_on = state.meet(before, event)?;
     states.insert(key, state)?;
     Ok(goes_on)
-}
-
-/// Whether a pending call has a moment of the call, or else is of its thread.
-fn clash(pending: &[Pending], call: StreamCall) -> Option<StreamFault>
-    ensures { MatchOption result
-        (All (λ p. (p.end ≢ call.begun) × IfSome call.ended (λ end. p.end ≢ end.0)) pending.now
-        × All (λ p. p.call.thread ≡ call.thread → p.end ≤ call.begun) pending.now)
-        (λ fault. All (λ p. (p.end ≢ call.begun) × IfSome call.ended (λ end. p.end ≢ end.0)) pending.now
-        → All (λ p. p.call.thread ≡ call.thread → p.end ≤ call.begun) pending.now → ⊥) }
-{
-    let mut is_free = true;
-    for it in pending {
-        if !it.is_apart(call) {
-            return Some(StreamFault::Taken);
-        }
-        is_free = is_free && it.is_free(call);
-    }
-    if is_free {
-        None
-    } else {
-        Some(StreamFault::Busy)
-    }
-}
-
-/// The pending call whose end is nearest, if it is before a moment.
-fn nearest_end(pending: &[Pending], before: u64) -> Option<usize>
-    ensures inside { IfSome result (λ place. place < length pending.now) }
-    ensures nearest { MatchOption result (All (λ p. before ≤ p.end) pending.now)
-        (λ place. IsNearest before pending.now place) }
-{
-    if pending.is_empty() {
-        return None;
-    }
-    let mut place = 0;
-    for i in 1..pending.len() {
-        if pending[i].end < pending[place].end {
-            place = i;
-        }
-    }
-    if pending[place].end < before {
-        Some(place)
-    } else {
-        None
-    }
 }
 
 /// The states of a set that opens with these keys.
@@ -309,7 +250,7 @@ fn verdict_of_key(key: Option<u32>) -> StreamVerdict
 pub struct Stream {
     alloc: Global,
     states: BTreeMap<u32, KeyState>,
-    pending: Vec<Pending>,
+    pending: PendingCalls,
     moment: u64,
     failed: Option<Failed>,
 }
@@ -324,7 +265,7 @@ impl Stream {
         Ok(Stream {
             alloc,
             states: opening_states(alloc, opening)?,
-            pending: Vec::new(alloc),
+            pending: PendingCalls::new(alloc),
             moment: 0,
             failed: None,
         })
@@ -332,8 +273,8 @@ impl Stream {
 
     /// Why a call cannot come next, if it cannot.
     fn find_fault(&self, call: StreamCall) -> Option<StreamFault>
-        ensures { MatchOption result (MayCome self.now.pending.items self.now.moment (record_of call))
-            (λ fault. MayCome self.now.pending.items self.now.moment (record_of call) → ⊥) }
+        ensures { MatchOption result (MayCome self.now.pending self.now.moment (record_of call))
+            (λ fault. MayCome self.now.pending self.now.moment (record_of call) → ⊥) }
     {
         if call.begun <= self.moment || !call.is_before() {
             Some(StreamFault::Early)
@@ -342,7 +283,7 @@ impl Stream {
         } else if !call.is_plain() {
             Some(StreamFault::NotPlain)
         } else {
-            clash(&self.pending, call)
+            self.pending.clash(call)
         }
     }
 
@@ -373,45 +314,31 @@ impl Stream {
         Ok(())
     }
 
-    /// Lets the pending call at a place end, the next one to end.
-    fn meet_end(&mut self, place: usize) -> Result<(), AllocError>
-        requires inside { place < length self.old.pending.items }
-        requires nearest { IsNearest behind_all self.old.pending.items place }
-        ensures kept { OnOk result ((threads : ℕ) (opening : List ℕ) (calls : List RecordedCall) → IsStreamOf threads opening calls self.old
-            → IsStreamOf threads opening calls self.new) }
-        ensures moment { OnOk result (self.new.moment ≡ (slice_index_or self.old.pending.items place no_pending).end) }
-        ensures pending { OnOk result (self.new.pending.items ≡ remove self.old.pending.items place) }
-    {
-        let next = self.pending.remove(place);
-        self.meet(next.key(), next.end, next.event())?;
-        Ok(())
-    }
-
     /// Lets all happen that happens before a moment.
     fn meet_before(&mut self, moment: u64) -> Result<(), AllocError>
         requires { moment ≤ behind_all }
         ensures kept { OnOk result ((threads : ℕ) (opening : List ℕ) (calls : List RecordedCall) → IsStreamOf threads opening calls self.old
             → IsStreamOf threads opening calls self.new) }
         ensures before { OnOk result (self.old.moment < moment → self.new.moment < moment) }
-        ensures met { OnOk result (All (λ p. moment ≤ p.end) self.new.pending.items) }
-        ensures some { OnOk result (All (Contains self.old.pending.items) self.new.pending.items) }
+        ensures met { OnOk result (All (λ p. moment ≤ p.end) self.new.pending) }
+        ensures some { OnOk result (All (Contains self.old.pending) self.new.pending) }
     {
-        while let Some(place) = nearest_end(&self.pending, moment) {
-            self.meet_end(place)?;
+        while let Some(next) = self.pending.next_before(moment) {
+            self.meet(next.key(), next.end, next.event())?;
         }
         Ok(())
     }
 
     /// Goes on to the begin of a call, when all has happened that happens before.
     fn begin(&mut self, call: StreamCall) -> Result<(), AllocError>
-        requires may { MayCome self.old.pending.items self.old.moment (record_of call) }
-        requires met { All (λ p. call.begun ≤ p.end) self.old.pending.items }
+        requires may { MayCome self.old.pending self.old.moment (record_of call) }
+        requires met { All (λ p. call.begun ≤ p.end) self.old.pending }
         ensures moment { OnOk result (self.new.moment ≡ call.begun) }
         ensures begun { OnOk result ((threads : ℕ) (opening : List ℕ) (calls : List RecordedCall) → call.thread < threads
             → IsStreamOf threads opening calls self.old → IsStreamOf threads opening (calls ++ record_of call ∷ []) self.new) }
     {
         let pending = call.pending();
-        self.pending.push(pending)?;
+        self.pending.insert(pending)?;
         self.meet(
             pending.key(),
             call.begun,
@@ -421,7 +348,7 @@ impl Stream {
     }
 
     fn take(&mut self, call: StreamCall) -> Result<(), AllocError>
-        requires { MayCome self.old.pending.items self.old.moment (record_of call) }
+        requires { MayCome self.old.pending self.old.moment (record_of call) }
         ensures moment { OnOk result (self.new.moment ≡ call.begun) }
         ensures taken { OnOk result ((threads : ℕ) (opening : List ℕ) (calls : List RecordedCall) → call.thread < threads
             → IsStreamOf threads opening calls self.old → IsStreamOf threads opening (calls ++ record_of call ∷ []) self.new) }
@@ -466,19 +393,12 @@ impl Stream {
         }
     }
 
-    /// Whether no change of a key is pending.
-    fn none_changes(&self, key: u32) -> bool
-        ensures { IsTrue result ↔ All (λ p. (key_in p == key && ends_change (event_of p)) ≡ false) self.now.pending.items }
-    {
-        self.pending.iter().all(|pending| !pending.changes(key))
-    }
-
     /// Whether a key is there, if no change of it is pending and the rule has not failed.
     pub fn rest_of(&self, key: u32) -> Option<bool>
         ensures { IfSome result (λ there. (threads : ℕ) (opening : List ℕ) (calls : List RecordedCall) → IsStreamOf threads opening calls self.now
             → IsAtRest threads opening calls key (moment_of self.now) there) }
     {
-        if self.failed.is_some() || !self.none_changes(key) {
+        if self.failed.is_some() || !self.pending.none_changes(key) {
             return None;
         }
         self.quiet_state(key)
@@ -486,18 +406,7 @@ impl Stream {
 
     /// When the earliest of the pending calls of a key began that saw it there, or not there.
     pub fn earliest_look(&self, key: u32) -> Option<u64> {
-        let mut earliest = None;
-        for pending in &self.pending {
-            if pending.key() == key {
-                if let Event::Looks(_, begun) = pending.event() {
-                    earliest = match earliest {
-                        None => Some(begun),
-                        Some(before) => Some(begun.min(before)),
-                    };
-                }
-            }
-        }
-        earliest
+        self.pending.earliest_look(key)
     }
 
     /// The moment to which the stream has come.
