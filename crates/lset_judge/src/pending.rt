@@ -67,7 +67,7 @@ fn clash(few: &[Pending], call: StreamCall) -> Option<StreamFault>
         if it.end == call.begun || it.end == end {
             return Some(StreamFault::Taken);
         }
-        is_busy = is_busy || (it.call.thread == call.thread && call.begun < it.end);
+        is_busy |= it.call.thread == call.thread && call.begun < it.end;
     }
     if is_busy {
         Some(StreamFault::Busy)
@@ -84,9 +84,11 @@ fn nearest_place(few: &[Pending]) -> usize
         return 0;
     }
     let mut place = 0;
+    let mut end = few[0].end;
     for i in 1..few.len() {
-        if few[i].end < few[place].end {
+        if few[i].end < end {
             place = i;
+            end = few[i].end;
         }
     }
     place
