@@ -71,7 +71,7 @@ end_met threads opening calls s t moment p rest upto next pending at met is =
 -- ---- THE NEXT CALL BEGINS
 
 module _ (threads : ℕ) (opening : List ℕ) (calls : List CallRecord) (s : Stream) (is : IsStreamOf threads opening calls s) (x : CallRecord)
-    (of_thread : x.thread < threads) (may : MayCome s.pending s.moment x) (met : All (λ (p : Pending). x.begun ≤ p.end) s.pending) where
+    (may : MayCome s.pending s.moment x) (met : All (λ (p : Pending). x.begun ≤ p.end) s.pending) where
   abbrev call : ℕ → CallRecord
   call n = get_or calls n no_call
 
@@ -205,10 +205,10 @@ module _ (threads : ℕ) (opening : List ℕ) (calls : List CallRecord) (s : Str
         (λ j l. event_before behind_all f.key.0 j calls x (let b = may.begins in let u = so.0 in omega (arith, l, u, b)) may.ends) ∙ so.1,
   )
 
-  pub call_begun : (t : Stream) → IsPermutation (pending_of x ∷ s.pending) t.pending → t.moment ≡ x.begun
+  pub call_begun : x.thread < threads → (t : Stream) → IsPermutation (pending_of x ∷ s.pending) t.pending → t.moment ≡ x.begun
       → IsMetBy s.states (key_of x.call).0 x.begun (begin_event (kind_if x.call x.ended) (until_if behind_all x.begun x.ended)) t.states s.failed t.failed
       → IsStreamOf threads opening more t
-  call_begun t moved moment by =
+  call_begun of_thread t moved moment by =
       let b = may.begins in record {
         opens = is.opens;
         history = history_begun threads calls x is.history (record { of_a_thread = of_thread; counted = omega (arith, b); ends_later = may.ends }) follows;

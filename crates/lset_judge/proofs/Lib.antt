@@ -30,8 +30,9 @@ pub mod Resting
 pub mod Coming
 pub mod Fewer
 pub mod Keeping
+pub mod Logging
 pub mod ReadHistory
 pub mod Readings
 pub mod Reread
-pub mod Shown
-pub mod Taking
+pub mod Logs
+pub mod Windows

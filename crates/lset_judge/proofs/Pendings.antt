@@ -1,6 +1,6 @@
 -- The pending calls as the code keeps them: what is found of a moment and of a thread.
-use Rattle.std.proofs.Common.{◌≡◌, ◌≢◌, ℕ, ◌<◌, ◌≤◌, Bool, true, false, List, [], ◌∷◌, ◌++◌, refl, sym, ap, ◌∙◌, arith, subst, inl, inr, length, get_or, map, ◌+◌, ◌-◌, ◌^◌, length-append, append_assoc, cond, Ordering}
-use Rattle.std.specs.Prelude.{◌==◌, All, Contains, Option, Some, None, IfSome, MatchOption, is_some, swap_remove, not}
+use Rattle.std.proofs.Common.{◌≡◌, ◌≢◌, ℕ, ◌<◌, ◌≤◌, Bool, true, false, List, [], ◌∷◌, ◌++◌, refl, sym, ap, ◌∙◌, arith, subst, inl, inr, length, get_or, map, ◌+◌, ◌-◌, ◌^◌, length-append, append_assoc, append-nil, cond, Ordering, Bor}
+use Rattle.std.specs.Prelude.{◌==◌, All, Contains, Option, Some, None, IfSome, MatchOption, is_some, swap_remove, not, filter}
 use Rattle.std.specs.Bool.{nat_eq}
 use Rattle.std.specs.BTreeMap.{BTreeMap, is_at, IsOrdered, insert_entry}
 use Rattle.std.specs.BTreeMap as tree
@@ -11,11 +11,12 @@ use Rattle.std.specs.HashMap as hash
 use Rattle.std.specs.List.{AllByRecursion, slice_get}
 use Rattle.std.specs.List.Sorted.{IsPermutation}
 use Rattle.std.specs.Map.{lookup}
+use Rattle.std.specs.Map.Iter.{deref_pair}
 use Rattle.std.specs.Ordering.{nat_cmp, is_eq}
 use Rattle.std.specs.declared.cmp.Ordering.TheVariants.{Less, Equal, Greater}
 use Rattle.std.proofs.lemmas.Bool.{cases_Bool, true≢false}
-use Rattle.std.proofs.lemmas.List.{length-map, get_or-map, get_or_append_left, get_or-append_right}
-use Rattle.std.proofs.lemmas.List.Elements.{All-from_recursion, recursion_from_All, All-map, All-contains, All-append, All-nil, All-rest}
+use Rattle.std.proofs.lemmas.List.{map-append, length-map, get_or-map, get_or_append_left, get_or-append_right}
+use Rattle.std.proofs.lemmas.List.Elements.{All-from_recursion, recursion_from_All, All-map, All-contains, All-append, All-nil, All-rest, filter-append}
 use Rattle.std.proofs.lemmas.List.Sorted.{IsPermutation-refl, IsPermutation-sym, IsPermutation-cons, IsPermutation-trans, IsPermutation-map, IsPermutation-middle}
 use Rattle.std.proofs.lemmas.List.Sorted.{IsPermutation-append_left, IsPermutation-append_right, IsPermutation-swap_remove}
 use Rattle.std.proofs.lemmas.Option.{slice_get-get_or}
@@ -24,10 +25,12 @@ use Rattle.std.proofs.lemmas.Map.Keys.{le_from_not_gt}
 use Rattle.std.proofs.lemmas.Map.Lookups.{exact_unsigned}
 use Rattle.std.proofs.lemmas.Map.Views.{IfSome-get}
 use Rattle.lset_words.specs.declared.Reply.{Reply}
+use Rattle.lset_words.specs.Words.{key_of}
 use Rattle.lset_words.proofs.Numbers.{equal_test, unequal_test, same_number, other_number}
 use Rattle.lset_history.proofs.KeySets.{same_test}
 use Rattle.lset_judge.specs.declared.stream.StreamCall.{StreamCall}
 use Rattle.lset_judge.specs.declared.stream.Pending.{Pending}
+use Rattle.lset_judge.specs.Log.{waiting_of}
 use Rattle.lset_judge.specs.Pending.{pending_at, all_pending, end_or, IsNext}
 
 map_back : {X Y : Type 0} (P : X → Type 0) (f : Y → X) (ys : List Y) → All P (map f ys) → All (λ y. P (f y)) ys
@@ -297,3 +300,28 @@ pub told_of_few : {F : Type 0} (P Q : Pending → Type 0) (few others all : List
 told_of_few P Q few others all None is e told = absurd (true≢false (sym e))
 told_of_few P Q few others all (Some f) is e told = λ a b.
     told (all_left P few others (subst (All P) (sym is) a)) (all_left Q few others (subst (All Q) (sym is) b))
+
+-- ---- those of a key
+
+abbrev of_key : ℕ → StreamCall → Bool
+of_key key c = (key_of c.call).0 == key
+
+abbrev seen : ℕ → List (Bor ℕ × Bor StreamCall) → List StreamCall
+seen key ys = waiting_of key (map pending_at (map deref_pair ys))
+
+module _ (key : ℕ) (ys : List (Bor ℕ × Bor StreamCall)) (k : Bor ℕ) (v : Bor StreamCall) (first own : List StreamCall) (so : own ≡ first ++ seen key ys) where
+  seen_more : seen key (ys ++ (k, v) ∷ []) ≡ seen key ys ++ filter (of_key key) (v.now ∷ [])
+  seen_more =
+      ap (λ (es : List (ℕ × StreamCall)). waiting_of key (map pending_at es)) (map-append deref_pair ys ((k, v) ∷ []))
+      ∙ ap (waiting_of key) (map-append pending_at (map deref_pair ys) (deref_pair (k, v) ∷ []))
+      ∙ ap (filter (of_key key)) (map-append (λ (p : Pending). p.call) (map pending_at (map deref_pair ys)) (pending_at (deref_pair (k, v)) ∷ []))
+      ∙ filter-append (of_key key) (map (λ (p : Pending). p.call) (map pending_at (map deref_pair ys))) (v.now ∷ [])
+
+  pub seen_out : of_key key v.now ≡ false → own ≡ first ++ seen key (ys ++ (k, v) ∷ [])
+  seen_out f = so ∙ ap (λ (xs : List StreamCall). first ++ xs) (sym (seen_more ∙ ap (λ (xs : List StreamCall). seen key ys ++ xs) (rw f refl)
+      ∙ append-nil (seen key ys)))
+
+pub of_key_split : (key : ℕ) (few : List Pending) (many : List (ℕ × StreamCall))
+    → waiting_of key few ++ waiting_of key (map pending_at many) ≡ waiting_of key (all_pending few many)
+of_key_split key few many = sym (ap (filter (of_key key)) (map-append (λ (p : Pending). p.call) few (map pending_at many))
+    ∙ filter-append (of_key key) (map (λ (p : Pending). p.call) few) (map (λ (p : Pending). p.call) (map pending_at many)))

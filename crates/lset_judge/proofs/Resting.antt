@@ -1,6 +1,6 @@
 -- A key of a stream at rest: what the rule says of the calls of the key that have ended.
-use Rattle.std.proofs.Common.{◌≡◌, ◌≢◌, ℕ, ◌<◌, ◌≤◌, Bool, true, false, List, [], ◌∷◌, refl, sym, ap, ◌∙◌, arith, subst, inl, inr, length, get_or}
-use Rattle.std.specs.Prelude.{◌==◌, ◌&&◌, ◌||◌, nat_le, Option, Some, None, is_some, IfSome, All, AllPairs, filter}
+use Rattle.std.proofs.Common.{◌≡◌, ◌≢◌, ℕ, ◌+◌, ◌<◌, ◌≤◌, ◌⊎◌, Bool, true, false, List, [], ◌∷◌, refl, sym, ap, ◌∙◌, arith, subst, inl, inr, length, get_or}
+use Rattle.std.specs.Prelude.{◌==◌, ◌&&◌, ◌||◌, nat_le, Option, Some, None, is_some, IfSome, All, AllPairs, filter, if◌then◌else◌}
 use Rattle.std.specs.List.{AllByRecursion}
 use Rattle.std.specs.List.Sorted.{IsStrictlyIncreasing}
 use Rattle.std.proofs.lemmas.Bool.{cases_Bool, true≢false}
@@ -11,26 +11,28 @@ use Rattle.std.proofs.lemmas.List.Kept.{AllPairs-filter}
 use Rattle.std.proofs.lemmas.List.Sums.{count_by-le-length}
 use Rattle.lset_words.specs.declared.Reply.{Reply}
 use Rattle.lset_words.specs.declared.history.CallRecord.{CallRecord}
+use Rattle.lset_words.specs.declared.history.Placed.{Placed}
 use Rattle.lset_words.specs.SequentialSet.{has_key}
 use Rattle.lset_words.specs.Words.{key_of}
 use Rattle.lset_words.specs.History.{IsHistory, call_numbered, no_call}
-use Rattle.lset_words.proofs.Numbers.{equal_test, unequal_test, same_number, same_or_not}
+use Rattle.lset_words.proofs.Numbers.{equal_test, unequal_test, same_number, other_number, same_or_not}
 use Rattle.lset_history.specs.History.{HistoryValue, latest_moment}
+use Rattle.lset_history.specs.Faults.{Explains}
 use Rattle.lset_history.proofs.Histories.{Follows, IsCall, calls_of, pairs_of, history_of}
 use Rattle.lset_history.proofs.Pairs.{pairs_head, pairs_tail}
 use Rattle.lset_judge.specs.declared.stream.Pending.{Pending}
 use Rattle.lset_judge.specs.declared.stream.Failed.{Failed}
 use Rattle.lset_judge.specs.declared.stream.Stream.{Stream}
-use Rattle.lset_judge.specs.Rule.{State, idle, leaves, same, opened, ruled, state_after}
+use Rattle.lset_judge.specs.Rule.{State, idle, leaves, same, opened, options, ruled, state_after}
 use Rattle.lset_judge.specs.Events.{Kind, changes, sees, nothing, kind_if, until_if, ends_at, begin_event, end_event, event_at, rule_explains, RulePasses}
-use Rattle.lset_judge.specs.Leaving.{may_be_left}
-use Rattle.lset_judge.specs.Rest.{turns, may_turn, has_ended, ended_by, key_if, alone, ends_change, IsAtRest}
-use Rattle.lset_judge.specs.Stream.{behind_all, state_for, pending_of, key_in, event_of, IsJudgedTo, IsStreamOf}
-use Rattle.lset_judge.specs.Verdict.{may_add, is_plain}
+use Rattle.lset_judge.specs.Leaving.{has_any, may_be_left}
+use Rattle.lset_judge.specs.Rest.{turns, may_turn, has_ended, ended_by, key_if, alone, IsAtRest}
+use Rattle.lset_judge.specs.Stream.{behind_all, state_for, pending_of, key_in, event_of, IsOver, IsJudgedTo, IsStreamOf}
+use Rattle.lset_judge.specs.Verdict.{IsExplained, may_add, is_plain}
 use Rattle.lset_judge.proofs.After.{same_after, judged_after}
 use Rattle.lset_judge.proofs.Closed.{leaves_so, latest_upto}
 use Rattle.lset_judge.proofs.Deciding.{explained}
-use Rattle.lset_judge.proofs.EventLemmas.{ends_not, if_some, for_some}
+use Rattle.lset_judge.proofs.EventLemmas.{ends_not, if_some, for_some, none_or_some}
 use Rattle.lset_judge.proofs.Orders.{rule_refutes}
 use Rattle.lset_judge.proofs.Shifting.{idle_on}
 
@@ -235,43 +237,3 @@ module _ (threads : ℕ) (opening : List ℕ) (calls : List CallRecord) (s : Str
     forced = λ quota order keys e.
         alike (has_key k keys) state.there (sym (left_as quota keys) ∙ rule_refutes (h quota) keys order told e k);
   }
-
--- ---- no change of it is pending
-
-ends_so : (kind : Kind) (begun : ℕ) → turns kind ≡ true → ends_change (end_event kind begun) ≡ true
-ends_so (changes w) begun e = refl
-ends_so (sees w) begun e = absurd (true≢false (sym e))
-ends_so nothing begun e = absurd (true≢false (sym e))
-
-pub changes_over : (threads : ℕ) (opening : List ℕ) (calls : List CallRecord) (s : Stream) (k : ℕ) → IsStreamOf threads opening calls s
-    → All (λ (p : Pending). (key_in p == k && ends_change (event_of p)) ≡ false) s.pending → All (Over k s.moment) calls
-changes_over threads opening calls s k is none n d low =
-    subst (Over k s.moment) (sym (get_or_default calls n d no_call low)) (λ own turn begun. elim (is.pending.kept n low) [
-      | inl o ↦ is_ended s.moment (call_numbered calls n).ended o.0 o.1 o.2
-      | inr c ↦ (let p : Pending = pending_of (call_numbered calls n) in
-          let f : (key_in p == k && ends_change (event_of p)) ≡ false = subst (λ (q : Pending). (key_in q == k && ends_change (event_of q)) ≡ false) c.2 (none c.0 p c.1) in
-          let t : (key_in p == k && ends_change (event_of p)) ≡ true =
-          rw (equal_test (key_in p) k own) (ends_so (kind_if (call_numbered calls n).call (call_numbered calls n).ended) (call_numbered calls n).begun turn) in
-          absurd (true≢false (sym t ∙ f)))
-    ])
-
-pub rests : (threads : ℕ) (opening : List ℕ) (calls : List CallRecord) (s : Stream) (k : ℕ) → s.failed ≡ None
-    → All (λ (p : Pending). (key_in p == k && ends_change (event_of p)) ≡ false) s.pending
-    → (state_for s.states k).puts ≡ [] → (state_for s.states k).takes ≡ [] → IsStreamOf threads opening calls s
-    → IsAtRest threads opening calls k s.moment (state_for s.states k).there
-rests threads opening calls s k goes none puts takes is =
-    at_rest threads opening calls s is (subst (IsJudgedTo opening calls s.moment s.states) goes is.judged) k
-    (changes_over threads opening calls s k is none) puts takes
-
-none_of : (o : Option Failed) → is_some o ≡ false → o ≡ None
-none_of None e = refl
-none_of (Some f) e = absurd (true≢false e)
-
-pub rest_told : (s : Stream) (k : ℕ) (o : Option Bool) → is_some s.failed ≡ false
-    → All (λ (p : Pending). (key_in p == k && ends_change (event_of p)) ≡ false) s.pending
-    → IfSome o (λ there. ((state_for s.states k).there ≡ there) × ((state_for s.states k).puts ≡ []) × ((state_for s.states k).takes ≡ []))
-    → IfSome o (λ there. (threads : ℕ) (opening : List ℕ) (calls : List CallRecord) → IsStreamOf threads opening calls s
-    → IsAtRest threads opening calls k s.moment there)
-rest_told s k None goes none q = tt
-rest_told s k (Some there) goes none q = λ threads opening calls is.
-    subst (IsAtRest threads opening calls k s.moment) q.0 (rests threads opening calls s k (none_of s.failed goes) none q.1 q.2 is)

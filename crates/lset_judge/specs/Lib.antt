@@ -8,6 +8,6 @@ pub mod Leaving
 pub mod Pending
 pub mod Stream
 pub mod Rest
-pub mod Kept
 pub mod Judge
 pub mod Reading
+pub mod Log

@@ -156,3 +156,9 @@ failed_verdict f = NotLinearizable (record { key = f.key; moment = Some f.moment
 abbrev pub verdict_of_key : Option ℕ → StreamVerdict
 verdict_of_key None = Linearizable
 verdict_of_key (Some k) = NotLinearizable (record { key = record { 0 = k }; moment = None })
+
+-- a refusal is that of the rule, if it has failed, and else has no moment
+abbrev pub IsToldBy : Option Failed → StreamVerdict → Type 0
+IsToldBy None Linearizable = Unit {0}
+IsToldBy None (NotLinearizable refusal) = refusal.moment ≡ None
+IsToldBy (Some f) verdict = verdict ≡ failed_verdict f

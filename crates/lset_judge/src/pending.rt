@@ -1,16 +1,14 @@
 //! The calls of a stream that are pending.
 
-ghost use Rattle.std.specs.Prelude.{◌≡◌, ◌≢◌, ◌↔◌, ◌<◌, ◌≤◌, ◌∷◌, ◌++◌, [], ◌^◌, ◌-◌, IsTrue, IsSome, All, IfSome, MatchOption, OnOk, length, map, slice_index_or, Some, slice_get, false, ◌==◌, ◌&&◌};
+ghost use Rattle.std.specs.Prelude.{◌≡◌, ◌≢◌, ◌↔◌, ◌<◌, ◌≤◌, ◌∷◌, ◌++◌, [], ◌^◌, ◌-◌, IsTrue, IsSome, All, IfSome, MatchOption, OnOk, length, map, slice_index_or, Some, slice_get, IfOk};
 ghost use Rattle.std.specs.Bool.{nat_eq};
 ghost use Rattle.std.specs.BTreeMap.{IsOrdered};
 ghost use Rattle.std.specs.HashMap.{get};
 ghost use Rattle.std.specs.List.Sorted.{IsPermutation};
 ghost use Rattle.std.specs.Ordering.{nat_cmp};
-ghost use Rattle.lset_judge.specs.Rest.{ends_change};
-ghost use Rattle.lset_judge.specs.Stream.{key_in, event_of};
+ghost use Rattle.lset_judge.specs.Log.{waiting_of};
 ghost use Rattle.lset_judge.specs.Pending.{pending_at, end_or, IsFirst, IsNext};
 
-use crate::event::Event;
 use crate::stream::{Pending, StreamCall, StreamFault};
 use std::alloc::{AllocError, Global};
 use std::collections::{BTreeMap, HashMap};
@@ -167,6 +165,35 @@ fn are_free(many: &BTreeMap<u64, StreamCall>, busy: &HashMap<u32, u64>, call: St
     }
 }
 
+/// Those of a key.
+fn few_of_key(alloc: Global, few: &[Pending], key: u32) -> Result<Vec<StreamCall>, AllocError>
+    ensures { IfOk result (λ calls. calls.items ≡ waiting_of key few.now) }
+{
+    let mut own = Vec::new(alloc);
+    for it in few {
+        if it.call.is_of(key) {
+            own.push(it.call)?;
+        }
+    }
+    Ok(own)
+}
+
+/// Puts those of a key behind other calls.
+fn add_of_key(
+    many: &BTreeMap<u64, StreamCall>,
+    key: u32,
+    own: &mut Vec<StreamCall>,
+) -> Result<(), AllocError>
+    ensures { OnOk result (own.new.items ≡ own.old.items ++ waiting_of key (map pending_at many.now.entries)) }
+{
+    for (_, call) in many {
+        if call.is_of(key) {
+            own.push(*call)?;
+        }
+    }
+    Ok(())
+}
+
 impl PendingCalls {
     /// No calls.
     pub(crate) fn new(alloc: Global) -> PendingCalls
@@ -237,26 +264,12 @@ impl PendingCalls {
         Ok(())
     }
 
-    /// Whether they are few, and none of them changes a key.
-    pub(crate) fn none_changes(&self, key: u32) -> bool
-        ensures { IsTrue result → All (λ p. (key_in p == key && ends_change (event_of p)) ≡ false) self.now }
+    /// Those of a key.
+    pub(crate) fn of_key(&self, alloc: Global, key: u32) -> Result<Vec<StreamCall>, AllocError>
+        ensures { IfOk result (λ calls. calls.items ≡ waiting_of key self.now) }
     {
-        self.many.is_empty() && self.few.iter().all(|pending| !pending.changes(key))
-    }
-
-    /// When the earliest of the few began of a key that saw it there, or not there.
-    pub(crate) fn earliest_look(&self, key: u32) -> Option<u64> {
-        let mut earliest = None;
-        for pending in &self.few {
-            if pending.key() == key {
-                if let Event::Looks(_, begun) = pending.event() {
-                    earliest = match earliest {
-                        None => Some(begun),
-                        Some(before) => Some(begun.min(before)),
-                    };
-                }
-            }
-        }
-        earliest
+        let mut own = few_of_key(alloc, &self.few, key)?;
+        add_of_key(&self.many, key, &mut own)?;
+        Ok(own)
     }
 }

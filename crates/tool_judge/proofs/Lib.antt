@@ -1,2 +1,3 @@
 pub mod Answered
-mod LongAnswered
+pub mod OneReading
+pub mod Right
