@@ -3,12 +3,12 @@ use Rattle.std.specs.Prelude.{Vec}
 use Rattle.std.proofs.lemmas.List.{take_all}
 use Rattle.lset_judge.specs.Log.{waiting_of}
 use Rattle.lset_judge.proofs.Logging.{waiting_in, waiting_out}
-use Rattle.lset_judge.proofs.stream.waiting_of.Goals.{then-is_of+in_ok-push, else-is_of}
-use Rattle.lset_judge.proofs.stream.waiting_of.Goals as goal
+use Rattle.lset_judge.proofs.pending.few_of_key.Goals.{then-is_of+in_ok-push, else-is_of}
+use Rattle.lset_judge.proofs.pending.few_of_key.Goals as goal
 
 pub loop-it-preserved : goal.loop-it-preserved
 loop-it-preserved c =
-    let key = c.args.key in let ps = c.args.pending.now in let i = c.loop-it.it-index in let own = c.loop-it.own.items in
+    let key = c.args.key in let ps = c.args.few.now in let i = c.loop-it.it-index in let own = c.loop-it.own.items in
     elim c.if-is_of.branch [
       | then-is_of+in_ok-push w ↦ ap (λ v. v.items) w.own-is ∙ waiting_in key ps i _ own c.loop-it-test.true c.loop-it.invariant w.push.new.self.items
           (sym c.is_of.ensures ∙ w.if-is_of.true) w.in_ok-push.ensures.items
@@ -16,4 +16,4 @@ loop-it-preserved c =
     ]
 
 pub returns : goal.returns
-returns c = c.loop-it.invariant ∙ ap (waiting_of c.args.key) (take_all c.loop-it.it-index c.args.pending.now c.loop-it-test.false)
+returns c = c.loop-it.invariant ∙ ap (waiting_of c.args.key) (take_all c.loop-it.it-index c.args.few.now c.loop-it-test.false)
