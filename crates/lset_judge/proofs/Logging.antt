@@ -4,7 +4,7 @@ use Rattle.std.specs.Prelude.{◌==◌, ◌||◌, not, nat_lt, nat_le, All, Opti
 use Rattle.std.proofs.lemmas.Bool.{cases_Bool, true≢false}
 use Rattle.std.proofs.lemmas.Bool.Decides.{nat_tests}
 use Rattle.std.proofs.lemmas.List.{get_or_default, get_or_append_left, get_or_push, map-append, take_more}
-use Rattle.std.proofs.lemmas.List.Elements.{All-filter, All-map, All-contains, All-weaker, All-append, All-push, Contains-append_left, Contains-append_right, Contains-push, Contains-get_or, filter_passes}
+use Rattle.std.proofs.lemmas.List.Elements.{All-filter, All-map, All-contains, All-weaker, All-append, All-push, Contains-append_left, Contains-append_right, Contains-push, Contains-get_or, filter_passes, filter-append}
 use Rattle.lset_words.specs.declared.Reply.{Reply}
 use Rattle.lset_words.specs.declared.history.CallRecord.{CallRecord}
 use Rattle.lset_words.specs.Words.{key_of}
@@ -78,6 +78,26 @@ all_of P xs each i d low = each (get_or xs i d) (Contains-get_or xs i d low)
 pub is_waiting : (key : ℕ) (ps : List Pending) (p : Pending) → key_in p ≡ key → Contains ps p → Contains (waiting_of key ps) p.call
 is_waiting key ps p own has = contains_filter (λ (c : StreamCall). (key_of c.call).0 == key) (map (λ (q : Pending). q.call) ps) p.call
     (equal_test (key_in p) key own) (contains_map (λ (q : Pending). q.call) ps p has)
+
+pub waiting_more : (key : ℕ) (ps : List Pending) (i : ℕ) (d : Pending) → i < length ps
+    → waiting_of key (take (i + 1) ps) ≡ waiting_of key (take i ps) ++ filter (λ (c : StreamCall). (key_of c.call).0 == key) ((get_or ps i d).call ∷ [])
+waiting_more key ps i d low =
+    ap (waiting_of key) (take_more ps i d low)
+    ∙ ap (filter (λ (c : StreamCall). (key_of c.call).0 == key)) (map-append (λ (p : Pending). p.call) (take i ps) (get_or ps i d ∷ []))
+    ∙ filter-append (λ (c : StreamCall). (key_of c.call).0 == key) (map (λ (p : Pending). p.call) (take i ps)) ((get_or ps i d).call ∷ [])
+
+-- one that is of the key, and one that is not
+module _ (key : ℕ) (ps : List Pending) (i : ℕ) (d : Pending) (own : List StreamCall) (low : i < length ps) (so : own ≡ waiting_of key (take i ps)) where
+  abbrev of_it : Bool
+  of_it = (key_of (get_or ps i d).call.call).0 == key
+
+  pub waiting_in : (new : List StreamCall) → of_it ≡ true → new ≡ own ++ (get_or ps i d).call ∷ [] → new ≡ waiting_of key (take (i + 1) ps)
+  waiting_in new t e = e ∙ ap (λ (xs : List StreamCall). xs ++ (get_or ps i d).call ∷ []) so
+      ∙ sym (waiting_more key ps i d low ∙ ap (λ (xs : List StreamCall). waiting_of key (take i ps) ++ xs) (rw t refl))
+
+  pub waiting_out : of_it ≡ false → own ≡ waiting_of key (take (i + 1) ps)
+  waiting_out f = so ∙ sym (waiting_more key ps i d low ∙ ap (λ (xs : List StreamCall). waiting_of key (take i ps) ++ xs) (rw f refl)
+      ∙ append-nil (waiting_of key (take i ps)))
 
 -- ---- a key at rest
 
@@ -177,11 +197,11 @@ stays_on key pending old mid new a b threads upto opening calls waiting e is = b
 
 pub pending_more : (l : Logged) (xs : List StreamCall) (i : ℕ) (d : StreamCall) → i < length xs
     → pushed (unquiet (get_or xs i d)) (with_pending (take i xs) l) ≡ with_pending (take (i + 1) xs) l
-pending_more l xs i d low = ap (λ (ys : List Ended). with_ended ys) (append_assoc l.ended (map unquiet (take i xs)) (unquiet (get_or xs i d) ∷ [])
+pending_more l xs i d low = ap (λ (ys : List Ended). ended_as ys) (append_assoc l.ended (map unquiet (take i xs)) (unquiet (get_or xs i d) ∷ [])
     ∙ ap (λ (ys : List Ended). l.ended ++ ys) (sym (ap (map unquiet) (take_more xs i d low) ∙ map-append unquiet (take i xs) (get_or xs i d ∷ []))))
   where
-    with_ended : List Ended → Logged
-    with_ended ys = record { since = l.since; there = l.there; before = l.before; ended = ys }
+    ended_as : List Ended → Logged
+    ended_as ys = record { since = l.since; there = l.there; before = l.before; ended = ys }
 
 pub with_more : (l : Logged) (ys : List Ended) (x : Ended) → ys ≡ l.ended ++ x ∷ []
     → record { since = l.since; there = l.there; before = l.before; ended = ys } ≡ pushed x l
@@ -363,3 +383,10 @@ module _ (threads : ℕ) (opening : List ℕ) (calls : List CallRecord) (x : Cal
           | inl e ↦ inl e
           | inr h ↦ elim h [ inl c ↦ inr (inl c) | inr c ↦ inr (inr (still (call_numbered calls i) c)) ]
         ]
+
+abbrev pub with_calls : ℕ → Option Bool → Option StreamCall → List Ended → Logged
+with_calls since there before xs = record { since = since; there = there; before = before; ended = xs }
+
+pub with_ended : (since : ℕ) (there : Option Bool) (before : Option StreamCall) (xs ys : List Ended) → ys ≡ xs
+    → with_calls since there before ys ≡ with_calls since there before xs
+with_ended since there before xs ys e = ap (with_calls since there before) e

@@ -1,6 +1,6 @@
 //! A stream of calls, judged as they come: what is kept is the state of each key and the calls that are pending.
 
-ghost use Rattle.std.specs.Prelude.{◌≡◌, ◌≢◌, ◌↔◌, ◌<◌, ◌≤◌, ◌+◌, ◌++◌, ◌∷◌, [], ℕ, IsTrue, All, List, length, filter, map, false, true, None, Some, IfOk, OnOk, IfErr, IfSome, MatchOption, if◌then◌else◌};
+ghost use Rattle.std.specs.Prelude.{◌≡◌, ◌≢◌, ◌↔◌, ◌<◌, ◌≤◌, ◌+◌, ◌++◌, ◌∷◌, [], ℕ, IsTrue, All, List, length, false, true, None, Some, IfOk, OnOk, IfErr, IfSome, MatchOption, if◌then◌else◌};
 ghost use Rattle.std.specs.Prelude.{Contains, IsSome, slice_index_or, ◌==◌, ◌&&◌};
 ghost use Rattle.std.specs.List.{remove};
 ghost use Rattle.std.specs.List.Sorted.{IsStrictlyIncreasing};
@@ -262,29 +262,16 @@ fn meet_key_end(
     })
 }
 
-fn pending_calls(alloc: Global, pending: &[Pending]) -> Result<Vec<StreamCall>, AllocError>
-    ensures { IfOk result (λ calls. calls.items ≡ map (λ p. p.call) pending.now) }
-{
-    pending.iter().map(|pending| pending.call).collect(alloc)
-}
-
-/// Those of these calls that are of a key.
-fn calls_of(alloc: Global, calls: &[StreamCall], key: u32) -> Result<Vec<StreamCall>, AllocError>
-    ensures { IfOk result (λ own. own.items ≡ filter (λ c. (key_of c.call).0 == key) calls.now) }
-{
-    calls
-        .iter()
-        .copied()
-        .filter(|call| call.is_of(key))
-        .collect(alloc)
-}
-
 /// The pending calls of a key.
 fn waiting_of(alloc: Global, pending: &[Pending], key: u32) -> Result<Vec<StreamCall>, AllocError>
     ensures { IfOk result (λ calls. calls.items ≡ waiting_of key pending.now) }
 {
-    let calls = pending_calls(alloc, pending)?;
-    let own = calls_of(alloc, &calls, key)?;
+    let mut own = Vec::new(alloc);
+    for it in pending {
+        if it.call.is_of(key) {
+            own.push(it.call)?;
+        }
+    }
     Ok(own)
 }
 
@@ -301,7 +288,7 @@ fn settle(
 {
     let waiting = waiting_of(alloc, pending, key)?;
     if let Some(state) = states.get_mut(&key) {
-        state.log.settle(alloc, key, &waiting)?;
+        state.log.settle(key, &waiting);
         return Ok(());
     }
     Ok(())
