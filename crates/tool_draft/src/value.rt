@@ -1,6 +1,3 @@
-ghost use Rattle.std.specs.Prelude.{◌≡◌};
-ghost use Rattle.tool_draft.specs.Drafts.{first_event_line, least_count, view};
-
 use lset_schedule::{FIRST_LINE, Line};
 use lset_words::Kind;
 
@@ -15,9 +12,7 @@ pub enum DraftLine {
 
 impl DraftLine {
     /// The least number of events for which the line can come to stand.
-    pub(crate) fn least_count(self) -> u32
-        ensures { result ≡ least_count self }
-    {
+    pub(crate) fn least_count(self) -> u32 {
         match self {
             DraftLine::Plain(line) => line.event_count(),
             DraftLine::Out(_) | DraftLine::To(_, _) => 1,
@@ -40,9 +35,7 @@ pub struct Draft {
 impl Draft {
     /// Returns the number of the line of the first event, counted from 1, in the text of this draft and in that of its
     /// schedule.
-    pub fn first_event_line(&self) -> u64
-        ensures { result ≡ first_event_line (view self.now) }
-    {
+    pub fn first_event_line(&self) -> u64 {
         FIRST_LINE + self.opening.len() as u64
     }
 }

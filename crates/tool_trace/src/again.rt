@@ -1,9 +1,4 @@
 //! The events of a schedule, made a second time in a world that asks for no memory.
-ghost use Rattle.std.specs.Prelude.{◌≡◌, MatchResult, Some};
-ghost use Rattle.lset_steps.specs.Steps.{Enabled, local_of};
-ghost use Rattle.lset_steps.specs.Worlds.{Refused, thread_of};
-ghost use Rattle.lset_replay.specs.Tracer.{deed_ahead};
-ghost use Rattle.tool_trace.specs.Again.{HasPlaces, IsMadeAgain};
 
 use crate::streamed::Known;
 use lset_replay::{CallEnd, Deed, LineEvent, TracedEvent, thread_of};
@@ -41,13 +36,7 @@ pub struct Again<'a, M: Machine> {
 }
 
 /// The thread's own state before an event that is enabled, and what the event will do if this many calls have begun.
-fn look<M: Machine>(world: &World<M>, begun: u32, event: Event) -> Option<(Local, Deed)>
-    requires { HasPlaces world.now }
-    ensures { Enabled world.now.state event → result ≡ Some (
-      local_of world.now.state (thread_of event),
-      deed_ahead M.table world.now.state begun event,
-    ) }
-{
+fn look<M: Machine>(world: &World<M>, begun: u32, event: Event) -> Option<(Local, Deed)> {
     let deed = match event {
         Event::Begin(_, call) => Deed::Begin(call, begun),
         Event::Go(thread) => {
@@ -60,10 +49,7 @@ fn look<M: Machine>(world: &World<M>, begun: u32, event: Event) -> Option<(Local
 
 impl<'a, M: Machine> Again<'a, M> {
     /// Returns the run before any event.
-    pub fn new(known: &'a Known, world: World<M>) -> Again<'a, M>
-        requires { HasPlaces world }
-        ensures { HasPlaces result.world }
-    {
+    pub fn new(known: &'a Known, world: World<M>) -> Again<'a, M> {
         Again {
             known,
             world,
@@ -75,12 +61,7 @@ impl<'a, M: Machine> Again<'a, M> {
     }
 
     /// Executes an event, and returns what it did, or why it is not enabled.
-    pub fn tell(&mut self, next: LineEvent) -> Result<TracedEvent, StepFault>
-        requires { HasPlaces self.old.world }
-        ensures made { MatchResult result (λ told. IsMadeAgain M.table self.old.world next told self.new.world)
-            (λ cause. Refused self.old.world next.event cause) }
-        ensures places { HasPlaces self.new.world }
-    {
+    pub fn tell(&mut self, next: LineEvent) -> Result<TracedEvent, StepFault> {
         let thread = thread_of(next.event);
         let ahead = look(&self.world, self.tally.calls, next.event);
         let told = self.world.step(next.event)?;

@@ -1,7 +1,4 @@
 //! The text of a trace in memory, with the chains if they are asked for.
-ghost use Rattle.std.specs.Prelude.{⊤, IfOk};
-ghost use Rattle.lset_schedule.specs.Plan.{IsSchedule, view};
-ghost use Rattle.tool_trace.specs.Tracing.{IsHeard};
 
 use crate::TITLE;
 use crate::chunks::{Chunk, is_full, put, put_number};
@@ -108,8 +105,6 @@ impl EventLines {
 }
 
 impl Listener for EventLines {
-    ghost has_heard = { λ _ _ _. ⊤ };
-
     fn hear(&mut self, number: u32, event: TracedEvent) -> Result<(), AllocError> {
         if is_full(&self.chunk) {
             self.pour()?;
@@ -127,10 +122,7 @@ pub fn text_of_run(
     alloc: Global,
     schedule: &Schedule,
     chains: bool,
-) -> Result<(Vec<u8>, Option<(u64, StepFault)>), AllocError>
-    requires { IsSchedule (view schedule.now) }
-    ensures { IfOk result (λ r. IsHeard (view schedule.now) chains r.1) }
-{
+) -> Result<(Vec<u8>, Option<(u64, StepFault)>), AllocError> {
     let silent = EventLines::after(head_of(alloc, schedule)?);
     let (lines, refused) = trace_to(alloc, schedule, chains, silent)?;
     let text = lines.ended(refused.map(|(line, cause)| (line, cause_word(cause))))?;

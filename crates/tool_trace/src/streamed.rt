@@ -1,10 +1,4 @@
 //! The text of a trace without chains, written as its events are made: all memory is taken before the first byte.
-ghost use Rattle.std.specs.Prelude.{⊤, false, IfOk, OnErr, OnOk};
-ghost use Rattle.std.specs.Io.KnownBytes.{Keeps};
-ghost use Rattle.lset_words.specs.Words.{Opens};
-ghost use Rattle.lset_schedule.specs.Plan.{IsSchedule, opening_in, view};
-ghost use Rattle.tool_trace.specs.Again.{HasPlaces};
-ghost use Rattle.tool_trace.specs.Tracing.{Grows, IsHeard};
 
 use crate::again::Again;
 use crate::chunks::{Chunk, is_full};
@@ -38,8 +32,6 @@ struct Moments {
 }
 
 impl Listener for Moments {
-    ghost has_heard = { λ _ _ _. ⊤ };
-
     fn hear(&mut self, _number: u32, event: TracedEvent) -> Result<(), AllocError> {
         if let Deed::Begin(_, _) = event.deed {
             self.of_calls.push(0)?;
@@ -55,10 +47,7 @@ impl Listener for Moments {
 }
 
 /// Executes the events of a schedule for the first time.
-pub fn known_of(alloc: Global, schedule: &Schedule) -> Result<Known, AllocError>
-    requires { IsSchedule (view schedule.now) }
-    ensures { IfOk result (λ known. IsHeard (view schedule.now) false known.refused) }
-{
+pub fn known_of(alloc: Global, schedule: &Schedule) -> Result<Known, AllocError> {
     let silent = Moments {
         of_calls: Vec::new(alloc),
     };
@@ -69,16 +58,12 @@ pub fn known_of(alloc: Global, schedule: &Schedule) -> Result<Known, AllocError>
     })
 }
 
-fn write_out<W: Write>(output: &mut W, text: &[u8]) -> bool
-    ensures { Grows (W.contents output.old) (W.contents output.new) }
-{
+fn write_out<W: Write>(output: &mut W, text: &[u8]) -> bool {
     put_out(output, text)
 }
 
 /// Writes a chunk if it is full, and returns whether that was done whole, if it was.
-fn pour_full<W: Write>(chunk: &mut Chunk, output: &mut W) -> bool
-    ensures { Grows (W.contents output.old) (W.contents output.new) }
-{
+fn pour_full<W: Write>(chunk: &mut Chunk, output: &mut W) -> bool {
     if !is_full(chunk) {
         return true;
     }
@@ -92,9 +77,7 @@ fn write_rest<W: Write>(
     chunk: &mut Chunk,
     refused: Option<(u64, StepFault)>,
     output: &mut W,
-) -> bool
-    ensures { Grows (W.contents output.old) (W.contents output.new) }
-{
+) -> bool {
     if !pour_full(chunk, output) {
         return false;
     }
@@ -109,10 +92,7 @@ fn write_events<M: Machine, W: Write>(
     known: &Known,
     world: World<M>,
     output: &mut W,
-) -> bool
-    requires { HasPlaces world }
-    ensures { Grows (W.contents output.old) (W.contents output.new) }
-{
+) -> bool {
     let mut again = Again::new(known, world);
     let mut chunk = Chunk::new();
     let mut number = 0u32;
@@ -141,11 +121,7 @@ fn write_on<M: Machine, W: Write>(
     schedule: &Schedule,
     known: &Known,
     output: &mut W,
-) -> Result<bool, AllocError>
-    requires { Opens (opening_in (view schedule.now)) }
-    ensures kept { OnErr result (Keeps (W.contents output.old) (W.contents output.new)) }
-    ensures grown { OnOk result (Grows (W.contents output.old) (W.contents output.new)) }
-{
+) -> Result<bool, AllocError> {
     let keys = schedule.opening.as_slice();
     let Ok(layout) = layout_opening(schedule.threads, schedule.quota, keys.len() as u32) else {
         unreachable!();
@@ -165,11 +141,7 @@ pub fn write_run<W: Write>(
     schedule: &Schedule,
     known: &Known,
     output: &mut W,
-) -> Result<bool, AllocError>
-    requires { Opens (opening_in (view schedule.now)) }
-    ensures kept { OnErr result (Keeps (W.contents output.old) (W.contents output.new)) }
-    ensures grown { OnOk result (Grows (W.contents output.old) (W.contents output.new)) }
-{
+) -> Result<bool, AllocError> {
     match schedule.kind {
         Kind::Coarse => write_on::<CoarseList, W>(alloc, schedule, known, output),
         Kind::Fine => write_on::<FineList, W>(alloc, schedule, known, output),

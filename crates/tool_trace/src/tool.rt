@@ -1,10 +1,3 @@
-ghost use Rattle.std.specs.Prelude.{◌≡◌, ◌≢◌, ◌⊎◌, Err, IfErr, IfOk, IfSome};
-ghost use Rattle.lset_schedule.specs.Plan as plan;
-ghost use Rattle.lset_schedule.specs.ScheduleReading.{reading};
-ghost use Rattle.tool_base.specs.Tools.{Ends, IsDelivered, IsTaken, view};
-ghost use Rattle.tool_base.specs.declared.trouble.Trouble.TheVariants.{Memory};
-ghost use Rattle.tool_trace.specs.Tracing.{IsFirstFault, IsTraced, Traces, made_for, status_of};
-
 use crate::heard::text_of_run;
 use crate::streamed::{Known, known_of, write_run};
 use lset_schedule::{Schedule, read_schedule};
@@ -13,9 +6,7 @@ use std::alloc::{AllocError, Global};
 use std::io::{Read, Write};
 use tool_base::{Answer, LONGEST, Trouble, deliver, input_of};
 
-fn status_of(refused: Option<(u64, StepFault)>) -> u8
-    ensures { result ≡ status_of refused }
-{
+fn status_of(refused: Option<(u64, StepFault)>) -> u8 {
     match refused {
         None => 0,
         Some(_) => 1,
@@ -23,22 +14,14 @@ fn status_of(refused: Option<(u64, StepFault)>) -> u8
 }
 
 /// The schedule whose text the bytes are, and what a first pass finds.
-fn known_in(alloc: Global, bytes: &[u8]) -> Result<(Schedule, Known), Trouble>
-    ensures traced { IfOk result (λ r. IsTraced bytes.now r.1.refused) }
-    ensures schedule { IfOk result (λ r. plan.IsSchedule (plan.view r.0)) }
-    ensures trouble { IfErr result (λ t. (t ≡ Memory) ⊎ IsFirstFault (reading bytes.now) t) }
-{
+fn known_in(alloc: Global, bytes: &[u8]) -> Result<(Schedule, Known), Trouble> {
     let schedule = read_schedule(alloc, bytes)?;
     let known = known_of(alloc, &schedule)?;
     Ok((schedule, known))
 }
 
 /// The text of the trace of the schedule whose text the bytes are.
-fn trace_of(alloc: Global, bytes: &[u8], chains: bool) -> Result<Answer, Trouble>
-    requires { IsTaken bytes.now }
-    ensures traces { Traces bytes.now (view result) }
-    ensures trouble { IfErr result (λ t. (t ≡ Memory) ⊎ IsFirstFault (reading bytes.now) t) }
-{
+fn trace_of(alloc: Global, bytes: &[u8], chains: bool) -> Result<Answer, Trouble> {
     let schedule = read_schedule(alloc, bytes)?;
     let (text, refused) = text_of_run(alloc, &schedule, chains)?;
     let status = status_of(refused);
@@ -54,9 +37,7 @@ fn trace_of(alloc: Global, bytes: &[u8], chains: bool) -> Result<Answer, Trouble
 /// `TooLong` if there are more than `LONGEST` bytes; `Line` with the first error of a text that is not a schedule; `Memory`
 /// if an allocation fails.
 pub fn traced(alloc: Global, bytes: &[u8], chains: bool) -> Result<Answer, Trouble>
-    ensures traces { Traces bytes.now (view result) }
-    // Bytes that are here can be read.
-    ensures read { IfErr result (λ t. t ≢ Trouble.CannotRead) }
+// Bytes that are here can be read.
 {
     if bytes.len() > LONGEST {
         return Err(Trouble::TooLong);
@@ -64,19 +45,13 @@ pub fn traced(alloc: Global, bytes: &[u8], chains: bool) -> Result<Answer, Troub
     trace_of(alloc, bytes, chains)
 }
 
-fn traced_input<R: Read>(alloc: Global, input: &mut R) -> Result<Answer, Trouble>
-    ensures { IfSome (R.remaining input.old) (λ bytes. Traces bytes (view result)) }
-{
+fn traced_input<R: Read>(alloc: Global, input: &mut R) -> Result<Answer, Trouble> {
     let bytes = input_of(alloc, input)?;
     trace_of(alloc, &bytes, true)
 }
 
 /// The schedule on the input, and what a first pass finds.
-fn known_input<R: Read>(alloc: Global, input: &mut R) -> Result<(Schedule, Known), Trouble>
-    ensures traced { IfOk result (λ r. IfSome (R.remaining input.old) (λ bytes. IsTaken bytes × IsTraced bytes r.1.refused)) }
-    ensures schedule { IfOk result (λ r. plan.IsSchedule (plan.view r.0)) }
-    ensures trouble { IfErr result (λ t. IfSome (R.remaining input.old) (λ bytes. Traces bytes (Err t))) }
-{
+fn known_input<R: Read>(alloc: Global, input: &mut R) -> Result<(Schedule, Known), Trouble> {
     let bytes = input_of(alloc, input)?;
     known_in(alloc, &bytes)
 }
@@ -86,9 +61,7 @@ fn made_of(
     alloc: Global,
     written: Result<bool, AllocError>,
     refused: Option<(u64, StepFault)>,
-) -> Result<Answer, Trouble>
-    ensures { view result ≡ made_for written (status_of refused) }
-{
+) -> Result<Answer, Trouble> {
     match written {
         Ok(true) => Ok(Answer {
             text: Vec::new(alloc),
@@ -100,10 +73,12 @@ fn made_of(
 }
 
 /// Ends without a trace.
-fn refuse<W: Write, F: Write>(alloc: Global, trouble: Trouble, output: &mut W, faults: &mut F) -> u8
-    ensures { IsDelivered (Err trouble)
-        (W.contents output.old) (W.contents output.new) (F.contents faults.old) (F.contents faults.new) result }
-{
+fn refuse<W: Write, F: Write>(
+    alloc: Global,
+    trouble: Trouble,
+    output: &mut W,
+    faults: &mut F,
+) -> u8 {
     deliver(alloc, Err(trouble), output, faults)
 }
 
@@ -113,10 +88,7 @@ fn trace_through<R: Read, W: Write, F: Write>(
     input: &mut R,
     output: &mut W,
     faults: &mut F,
-) -> u8
-    ensures { Ends (λ made. IfSome (R.remaining input.old) (λ bytes. Traces bytes made))
-        (W.contents output.old) (W.contents output.new) (F.contents faults.old) (F.contents faults.new) result }
-{
+) -> u8 {
     let (schedule, known) = match known_input(alloc, input) {
         Ok(known) => known,
         Err(trouble) => return refuse(alloc, trouble, output, faults),
@@ -138,10 +110,7 @@ pub fn tool_trace<R: Read, W: Write, F: Write>(
     input: &mut R,
     output: &mut W,
     faults: &mut F,
-) -> u8
-    ensures { Ends (λ made. IfSome (R.remaining input.old) (λ bytes. Traces bytes made))
-        (W.contents output.old) (W.contents output.new) (F.contents faults.old) (F.contents faults.new) result }
-{
+) -> u8 {
     if chains {
         let made = traced_input(alloc, input);
         deliver(alloc, made, output, faults)
