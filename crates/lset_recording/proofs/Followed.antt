@@ -1,4 +1,4 @@
--- A call that may follow those so far may come next in their stream, and one that came may follow them.
+-- A call that may follow those so far may come next, and one that came may follow them.
 use Rattle.std.proofs.Common.{◌≡◌, ◌≢◌, ℕ, ◌+◌, ◌<◌, ◌≤◌, inl, inr, true, Result, Ok, Err, List, [], ◌∷◌, ◌++◌, length, get_or, Option, Some, None, refl, sym, ap, subst}
 use Rattle.std.proofs.Common.{arith, length-append}
 use Rattle.std.specs.Prelude.{All, IfSome, IfOk, IsSomeAnd}
@@ -9,12 +9,13 @@ use Rattle.lset_words.specs.declared.history.CallRecord.{CallRecord}
 use Rattle.lset_words.specs.History.{MayFollow, IsHistory, call_numbered, no_call}
 use Rattle.lset_history.proofs.Histories.{IsCall, Follows, calls_of, pairs_of, may_follow}
 use Rattle.lset_judge.specs.declared.stream.Pending.{Pending}
-use Rattle.lset_judge.specs.declared.stream.Stream.{Stream}
+use Rattle.lset_judge.specs.declared.judging.Judge.{Judge}
 use Rattle.lset_judge.specs.Events.{until_if}
 use Rattle.lset_judge.specs.Verdict.{is_plain}
-use Rattle.lset_judge.specs.Stream.{behind_all, pending_of, IsBefore, ArePending, MayCome, IsStreamOf, moment_of}
+use Rattle.lset_judge.specs.Stream.{behind_all, pending_of, IsBefore, ArePending, MayCome, moment_of}
+use Rattle.lset_judge.specs.Judge.{IsJudgeOf}
 use Rattle.lset_recording.specs.Texts.{all_threads}
-use Rattle.lset_recording.specs.Kept.{IsLatest, IsStreamKept}
+use Rattle.lset_recording.specs.Kept.{IsLatest, IsJudgeKept}
 
 -- ---- a call that came may follow
 
@@ -86,28 +87,28 @@ module _ (calls : List CallRecord) (moment : ℕ) (pending : List Pending) (are 
         let y = call_numbered calls n in has_ended y.begun x.begun y.ended (follows.none_open n no_call low same));
   }
 
--- ---- the stream of the calls so far
+-- ---- the judge of the calls so far
 
 -- one more call, to whose begin it has come
-pub one_more : (opening : List ℕ) (calls : List CallRecord) (x : CallRecord) (s t : Stream) → IsStreamKept opening calls (Some s)
-    → (x.thread < all_threads → IsStreamOf all_threads opening calls s → IsStreamOf all_threads opening (calls ++ x ∷ []) t)
-    → x.thread < all_threads → moment_of t ≡ x.begun
-    → MayFollow all_threads calls x × IsStreamKept opening (calls ++ x ∷ []) (Some t)
+pub one_more : (opening : List ℕ) (calls : List CallRecord) (x : CallRecord) (s t : Judge) → IsJudgeKept opening calls (Some s)
+    → (x.thread < all_threads → IsJudgeOf all_threads opening calls s → IsJudgeOf all_threads opening (calls ++ x ∷ []) t)
+    → x.thread < all_threads → moment_of t.stream ≡ x.begun
+    → MayFollow all_threads calls x × IsJudgeKept opening (calls ++ x ∷ []) (Some t)
 one_more opening calls x s t kept added of_thread at =
     let is = added of_thread kept.0 in
-    let follows = last_follows all_threads calls x is.history in
+    let follows = last_follows all_threads calls x is.stream.history in
     let long : length (calls ++ x ∷ []) ≡ length calls + 1 = length-append calls (x ∷ []) in
     (follows, (is, inr (x, Contains-push calls x, at), few is follows long))
   where
-    few : IsStreamOf all_threads opening (calls ++ x ∷ []) t → MayFollow all_threads calls x
-        → length (calls ++ x ∷ []) ≡ length calls + 1 → length (calls ++ x ∷ []) ≤ moment_of t
+    few : IsJudgeOf all_threads opening (calls ++ x ∷ []) t → MayFollow all_threads calls x
+        → length (calls ++ x ∷ []) ≡ length calls + 1 → length (calls ++ x ∷ []) ≤ moment_of t.stream
     few is follows long =
         let so_far = kept.2 in
         let latest = kept.1 in
         let low = last_below latest in
         omega (arith, long, so_far, low, at)
       where
-        last_below : IsLatest calls (moment_of s) → moment_of s < x.begun
+        last_below : IsLatest calls (moment_of s.stream) → moment_of s.stream < x.begun
         last_below (inl none) = let some = follows.counted in omega (arith, none, some)
         last_below (inr last) =
             let c = last.1 in
@@ -116,11 +117,11 @@ one_more opening calls x s t kept added of_thread at =
             let l = last.2 in
             omega (arith, b, is, l)
 
--- a stream without calls
-pub opened : {E : Type 0} (opening : List ℕ) (o : Option Stream) (r : Result Stream E) → o ≡ None
-    → IfOk r (λ s. (threads : ℕ) → IsStreamOf threads opening [] s) → IfOk r (λ s. moment_of s ≡ 0)
-    → IfOk r (λ s. (calls : List CallRecord) → IsStreamKept opening calls o → IsStreamKept opening calls (Some s))
+-- a judge of no calls
+pub opened : {E : Type 0} (opening : List ℕ) (o : Option Judge) (r : Result Judge E) → o ≡ None
+    → IfOk r (λ s. (threads : ℕ) → IsJudgeOf threads opening [] s) → IfOk r (λ s. moment_of s.stream ≡ 0)
+    → IfOk r (λ s. (calls : List CallRecord) → IsJudgeKept opening calls o → IsJudgeKept opening calls (Some s))
 opened opening o (Ok s) none is at = λ calls kept.
-    let nothing : calls ≡ [] = subst (IsStreamKept opening calls) none kept in
-    subst (λ (cs : List CallRecord). IsStreamKept opening cs (Some s)) (sym nothing) (is all_threads, inl at, omega arith)
+    let nothing : calls ≡ [] = subst (IsJudgeKept opening calls) none kept in
+    subst (λ (cs : List CallRecord). IsJudgeKept opening cs (Some s)) (sym nothing) (is all_threads, inl at, omega arith)
 opened opening o (Err e) none is at = tt

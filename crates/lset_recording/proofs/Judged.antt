@@ -8,7 +8,7 @@ use Rattle.std.proofs.lemmas.Option.{slice_get-get_or}
 use Rattle.lset_words.specs.declared.history.CallRecord.{CallRecord}
 use Rattle.lset_text.specs.Openings.{above_last, is_above}
 use Rattle.lset_text.proofs.OpeningLaws.{rises_more}
-use Rattle.lset_judge.specs.declared.stream.Stream.{Stream}
+use Rattle.lset_judge.specs.declared.judging.Judge.{Judge}
 use Rattle.lset_judge.specs.Stream.{behind_all, record_of}
 use Rattle.lset_recording.specs.declared.kept.Judging.{Judging}
 use Rattle.lset_recording.specs.declared.lines.Line.{Line}
@@ -17,7 +17,7 @@ use Rattle.lset_recording.specs.declared.lines.Section.{Section}
 use Rattle.lset_recording.specs.declared.lines.Section.TheVariants as part
 use Rattle.lset_recording.specs.Texts.{Recording}
 use Rattle.lset_recording.specs.Reading.{SoFar, Comes, is_done, with_told}
-use Rattle.lset_recording.specs.Kept.{AreKeys, IsFirst, IsJudging, IsKept, IsStreamKept, count_if, lines_of}
+use Rattle.lset_recording.specs.Kept.{AreKeys, IsFirst, IsJudging, IsKept, IsJudgeKept, count_if, lines_of}
 
 -- ---- one key more
 
@@ -40,14 +40,14 @@ keys_more keys key are above low =
 
 -- ---- one line more
 
-first_none : (s : Section) (k : ℕ) (o : Option Stream) → Comes s (told.Opening k) → IsFirst s o → o ≡ None
+first_none : (s : Section) (k : ℕ) (o : Option Judge) → Comes s (told.Opening k) → IsFirst s o → o ≡ None
 first_none part.Opening k o comes first = first
 first_none part.Calls k o comes first = absurd comes
 first_none part.Keys k o comes first = absurd comes
 first_none part.Done k o comes first = absurd comes
 
-no_calls : (opening more : List ℕ) (calls : List CallRecord) (o : Option Stream) → o ≡ None → IsStreamKept opening calls o
-    → IsStreamKept more calls o
+no_calls : (opening more : List ℕ) (calls : List CallRecord) (o : Option Judge) → o ≡ None → IsJudgeKept opening calls o
+    → IsJudgeKept more calls o
 no_calls opening more calls None none kept = kept
 no_calls opening more calls (Some s) none kept = absurd cc
 
@@ -55,14 +55,14 @@ no_calls opening more calls (Some s) none kept = absurd cc
 pub opening_parts : (s : SoFar) (k : ℕ) (j : Judging) → IsJudging s j → Comes s.section (told.Opening k) → k < 2 ^ 32
     → is_above j.opening.items k ≡ true
     → (is_above s.told.opening k ≡ true) × AreKeys (s.told.opening ++ k ∷ [])
-    × IsStreamKept (s.told.opening ++ k ∷ []) s.told.calls j.stream × (j.stream ≡ None)
+    × IsJudgeKept (s.told.opening ++ k ∷ []) s.told.calls j.judge × (j.judge ≡ None)
 opening_parts s k j judging comes low added =
     let kept = judging.kept in
     let above : is_above s.told.opening k ≡ true = subst (λ (o : List ℕ). is_above o k ≡ true) kept.opening added in
-    let none : j.stream ≡ None = first_none s.section k j.stream comes judging.first in (
+    let none : j.judge ≡ None = first_none s.section k j.judge comes judging.first in (
       above,
       keys_more s.told.opening k kept.opens above low,
-      no_calls s.told.opening (s.told.opening ++ k ∷ []) s.told.calls j.stream none kept.stream,
+      no_calls s.told.opening (s.told.opening ++ k ∷ []) s.told.calls j.judge none kept.judge,
       none,
     )
 
@@ -90,12 +90,12 @@ lines_more s l comes = by l (ap count_if (still_open s.section l comes))
     by told.End still = omega (arith, still)
     by told.Cut still = omega (arith, still)
 
-few_calls : (opening : List ℕ) (calls : List CallRecord) (o : Option Stream) → IsStreamKept opening calls o → length calls < behind_all
+few_calls : (opening : List ℕ) (calls : List CallRecord) (o : Option Judge) → IsJudgeKept opening calls o → length calls < behind_all
 few_calls opening calls None kept = let n = ap length kept in omega (arith, n)
-few_calls opening calls (Some s) kept = let low = kept.0.moment in let few = kept.2 in omega (arith, low, few)
+few_calls opening calls (Some s) kept = let low = kept.0.stream.moment in let few = kept.2 in omega (arith, low, few)
 
-pub one_call_more : (opening : List ℕ) (calls : List CallRecord) (x : CallRecord) (s : Stream) (n m : ℕ)
-    → IsStreamKept opening (calls ++ x ∷ []) (Some s) → n ≡ length calls → m ≡ min (n + 1) (2 ^ 64 - 1) → m ≡ length (calls ++ x ∷ [])
+pub one_call_more : (opening : List ℕ) (calls : List CallRecord) (x : CallRecord) (s : Judge) (n m : ℕ)
+    → IsJudgeKept opening (calls ++ x ∷ []) (Some s) → n ≡ length calls → m ≡ min (n + 1) (2 ^ 64 - 1) → m ≡ length (calls ++ x ∷ [])
 one_call_more opening calls x s n m kept counted next =
     let few = few_calls opening (calls ++ x ∷ []) (Some s) kept in
     let long = length_push calls x in

@@ -1,12 +1,13 @@
--- What a reader of a long recording keeps of the bytes so far.
+-- What a reader of a recording keeps of the bytes so far.
 use Rattle.std.specs.Prelude.{◌≡◌, ◌≢◌, ℕ, ◌+◌, ◌<◌, ◌≤◌, ◌^◌, ◌⊎◌, Bool, true, false, List, [], ◌++◌, length, Option, Some, None, Contains, ◌==◌, count_by}
 use Rattle.std.specs.Prelude.{Result, Err}
 use Rattle.std.specs.List.Sorted.{IsStrictlyIncreasing}
 use Rattle.lset_words.specs.declared.history.CallRecord.{CallRecord}
 use Rattle.lset_text.specs.Parts.{cut_at, Lacks}
 use Rattle.lset_text.specs.Openings.{is_above}
-use Rattle.lset_judge.specs.declared.stream.Stream.{Stream}
-use Rattle.lset_judge.specs.Stream.{IsStreamOf, moment_of}
+use Rattle.lset_judge.specs.declared.judging.Judge.{Judge}
+use Rattle.lset_judge.specs.Judge.{IsJudgeOf}
+use Rattle.lset_judge.specs.Stream.{moment_of}
 use Rattle.lset_recording.specs.declared.fault.RecordingCause.TheVariants as wrong
 use Rattle.lset_recording.specs.declared.fault.RecordingFault.{RecordingFault}
 use Rattle.lset_recording.specs.declared.lines.Section.{Section}
@@ -22,11 +23,11 @@ use Rattle.lset_recording.specs.Reading.{SoFar, Reads, Says, first_line, is_done
 abbrev pub IsLatest : List CallRecord → ℕ → Type 0
 IsLatest calls moment = (moment ≡ 0) ⊎ ((x : CallRecord) × Contains calls x × (moment ≡ x.begun))
 
--- the stream of the calls so far, once there is a call
-abbrev pub IsStreamKept : List ℕ → List CallRecord → Option Stream → Type 0
-IsStreamKept opening calls None = calls ≡ []
-IsStreamKept opening calls (Some s) =
-    IsStreamOf all_threads opening calls s × IsLatest calls (moment_of s) × (length calls ≤ moment_of s)
+-- the judge of the calls so far, once there is a call
+abbrev pub IsJudgeKept : List ℕ → List CallRecord → Option Judge → Type 0
+IsJudgeKept opening calls None = calls ≡ []
+IsJudgeKept opening calls (Some j) =
+    IsJudgeOf all_threads opening calls j × IsLatest calls (moment_of j.stream) × (length calls ≤ moment_of j.stream)
 
 -- keys that rise; there are no more than numbers below the next one, and so few enough to be counted
 pub record AreKeys (keys : List ℕ) : Type 0 where
@@ -46,24 +47,24 @@ lines_of s = length s.told.opening + length s.told.calls + length s.told.keys + 
 pub record IsKept (c : Recording) (j : Judging) : Type 0 where
   pub opening : j.opening.items ≡ c.opening
   pub opens : AreKeys c.opening
-  pub stream : IsStreamKept c.opening c.calls j.stream
+  pub judge : IsJudgeKept c.opening c.calls j.judge
   pub calls : j.calls ≡ length c.calls
   pub keys : j.keys.items ≡ c.keys
   pub left : AreKeys c.keys
   pub cut_off : j.cut_off ≡ c.cut_off
 
--- there is no stream before the first line behind the opening keys
-abbrev pub IsFirst : Section → Option Stream → Type 0
-IsFirst part.Opening stream = stream ≡ None
-IsFirst part.Calls stream = Unit {0}
-IsFirst part.Keys stream = Unit {0}
-IsFirst part.Done stream = Unit {0}
+-- there is no judge before the first line behind the opening keys
+abbrev pub IsFirst : Section → Option Judge → Type 0
+IsFirst part.Opening judge = judge ≡ None
+IsFirst part.Calls judge = Unit {0}
+IsFirst part.Keys judge = Unit {0}
+IsFirst part.Done judge = Unit {0}
 
 -- WHAT IS KEPT OF THE LINES so far
 pub record IsJudging (s : SoFar) (j : Judging) : Type 0 where
   pub kept : IsKept s.told j
   pub section : j.section ≡ s.section
-  pub first : IsFirst s.section j.stream
+  pub first : IsFirst s.section j.judge
   pub number : j.number ≡ first_line + lines_of s
 
 -- the bytes of a line that has not ended are kept, unless there are too many of them
@@ -99,9 +100,9 @@ HasFailed r e = r.failed ≡ Some e
 abbrev pub IsRefusedAt : List ℕ → RecordingFault → Type 0
 IsRefusedAt bytes e = e.cause ≢ wrong.Memory → (more : List ℕ) → Says (bytes ++ more) (Err e)
 
--- THE ANSWER on a long recording
+-- THE ANSWER on a recording
 pub record IsAnswered (c : Recording) (answer : RecordingAnswer) : Type 0 where
-  pub long : IsRecording c
+  pub recording : IsRecording c
   pub verdict : IsVerdictOnRecording c answer.verdict
   pub calls : answer.calls ≡ length c.calls
   pub cut_off : answer.cut_off ≡ c.cut_off

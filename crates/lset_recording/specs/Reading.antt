@@ -1,4 +1,4 @@
--- READING a long recording, line by line: what its lines say, or the first fault. The first line, the title, has been read.
+-- READING a recording, line by line: what its lines say, or the first fault. The first line, the title, has been read.
 use Rattle.std.specs.Prelude.{◌≡◌, ℕ, ◌+◌, ◌<◌, ◌^◌, nat_lt, Bool, true, false, List, [], ◌∷◌, ◌++◌, length, codes, Option, Some, None, ◌⊎◌, IfSome}
 use Rattle.std.specs.Prelude.{Result, Ok, Err, if◌then◌else◌}
 use Rattle.lset_words.specs.declared.Reply.{Reply}
@@ -15,9 +15,10 @@ use Rattle.lset_text.specs.Headers.{number_form}
 use Rattle.lset_text.specs.Numbers.{max_number}
 use Rattle.lset_text.specs.Openings.{opening_form, is_above}
 use Rattle.lset_judge.specs.declared.stream.TheConstants.{LAST_MOMENT}
-use Rattle.lset_judge.specs.declared.stream.StreamVerdict.{StreamVerdict}
+use Rattle.lset_judge.specs.declared.judging.Verdict.{Verdict}
 use Rattle.lset_judge.specs.Verdict.{is_plain}
-use Rattle.lset_judge.specs.Stream.{record_of, IsBefore, stream_history, IsStreamVerdict, IsStreamVerdictCutOff}
+use Rattle.lset_judge.specs.Stream.{record_of, IsBefore}
+use Rattle.lset_judge.specs.Judge.{IsVerdict, IsVerdictCutOff}
 use Rattle.lset_recording.specs.declared.fault.RecordingCause.{RecordingCause}
 use Rattle.lset_recording.specs.declared.fault.RecordingCause.TheVariants as wrong
 use Rattle.lset_recording.specs.declared.fault.RecordingFault.{RecordingFault}
@@ -197,21 +198,21 @@ Reads line s (x ∷ y ∷ more) read =
 abbrev pub first_line : ℕ
 first_line = 2
 
--- WHAT THE BYTES AFTER THE TITLE SAY: a long recording, or the first fault
+-- WHAT THE BYTES AFTER THE TITLE SAY: a recording, or the first fault
 abbrev pub Says : List ℕ → Result Recording RecordingFault → Type 0
 Says bytes read = Reads first_line nothing_told (cut_at 10 bytes) read
 
--- if bytes say a long recording, they are its text
+-- if bytes say a recording, they are its text
 abbrev pub RecordingsAreRead : Type 0
 RecordingsAreRead = (bytes : List ℕ) (c : Recording) → Says bytes (Ok c) → bytes ≡ text_after_title c
 
 -- of the calls and the keys left, or of calls whose recording was cut off
-abbrev pub IsVerdictIf : Bool → Recording → StreamVerdict → Type 0
-IsVerdictIf true c verdict = IsStreamVerdictCutOff (stream_history all_threads c.opening c.calls) verdict
-IsVerdictIf false c verdict = IsStreamVerdict (stream_history all_threads c.opening c.calls) c.keys verdict
+abbrev pub IsVerdictIf : Bool → Recording → Verdict → Type 0
+IsVerdictIf true c verdict = IsVerdictCutOff all_threads c.opening c.calls verdict
+IsVerdictIf false c verdict = IsVerdict all_threads c.opening c.calls c.keys verdict
 
--- THE VERDICT on a long recording
-abbrev pub IsVerdictOnRecording : Recording → StreamVerdict → Type 0
+-- THE VERDICT on a recording
+abbrev pub IsVerdictOnRecording : Recording → Verdict → Type 0
 IsVerdictOnRecording c verdict = IsVerdictIf c.cut_off c verdict
 
 -- ---- which lines may come in a section

@@ -1,4 +1,4 @@
--- [Long recording], as a value, and its text: the calls of a set, in the order of their begins.
+-- [Recording], as a value, and its text: the calls of a set, in the order of their begins.
 use Rattle.std.specs.Prelude.{ℕ, ◌^◌, Bool, if◌then◌else◌, List, [], ◌∷◌, ◌++◌, map, codes, Option, Some, None, All}
 use Rattle.std.specs.Fmt.{decimal}
 use Rattle.std.specs.List.Sorted.{IsStrictlyIncreasing}
@@ -25,7 +25,7 @@ pub record Recording : Type 0 where
 abbrev pub all_threads : ℕ
 all_threads = 2 ^ 32
 
--- WHAT A LONG RECORDING IS: keys that rise, and a history of calls that ended with true or false, with moments below 2^63
+-- WHAT A RECORDING IS: keys that rise, and a history of calls that ended with true or false, with moments below 2^63
 pub record IsRecording (c : Recording) : Type 0 where
   pub opening : IsStrictlyIncreasing c.opening
   pub calls : IsHistory all_threads c.calls
@@ -69,6 +69,6 @@ end_line cut_off = if cut_off then codes "cut" else codes "end"
 abbrev pub lines : Recording → List (List ℕ)
 lines c = opening_lines c.opening ++ map call_line c.calls ++ map key_line c.keys ++ end_line c.cut_off ∷ []
 
--- [Long recording text]: the bytes after the title
+-- [Recording text]: the bytes after the title
 abbrev pub text_after_title : Recording → List ℕ
 text_after_title c = text_of (lines c)

@@ -5,9 +5,11 @@ ghost use Rattle.lset_recording.specs.declared.fault.RecordingCause.TheVariants.
 use std::alloc::AllocError;
 use thiserror::Error;
 
-/// What is wrong with a line of a long recording.
+/// What is wrong with a line of a recording.
 #[derive(Clone, Copy, Debug, PartialEq, Eq)]
 pub enum RecordingCause {
+    /// The first line is not `listset-calls 1`.
+    Header,
     /// The line has not the pieces and the words of a line that may come there, or it has more than 128 bytes.
     Line,
     /// A moment is no number from 1 to 9223372036854775807, or another number is none up to 4294967295.
@@ -23,7 +25,7 @@ pub enum RecordingCause {
     Memory,
 }
 
-/// The first fault of a long recording, and its line, counted from 1.
+/// The first fault of a recording, and its line, counted from 1.
 #[derive(Clone, Copy, Debug, PartialEq, Eq, Error)]
 #[error("line {line}: {cause:?}")]
 pub struct RecordingFault {

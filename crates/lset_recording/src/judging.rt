@@ -1,4 +1,4 @@
-//! What is kept of the lines so far: the stream of their calls, and their keys.
+//! What is kept of the lines so far: the judge of their calls, and their keys.
 
 ghost use Rattle.std.specs.Prelude.{◌≡◌, ◌≢◌, ◌+◌, ◌++◌, ◌∷◌, [], true, false, Ok, Err, Some, IfOk, IfErr, OnOk, OnErr, List};
 ghost use Rattle.std.specs.List.Sorted.{IsStrictlyIncreasing};
@@ -8,37 +8,39 @@ ghost use Rattle.lset_text.specs.Openings.{is_above};
 ghost use Rattle.lset_judge.specs.Stream.{record_of};
 ghost use Rattle.lset_recording.specs.Texts.{IsRecording, Recording, all_threads};
 ghost use Rattle.lset_recording.specs.Reading.{Comes, GoesOn, IsFormed, IsTaken, IsRefused, IsVerdictOnRecording, SoFar, cause_of, ending, is_done, nothing_told, section_after, with_line, with_told};
-ghost use Rattle.lset_recording.specs.Kept.{IsAnswered, IsFirst, IsJudging, IsKept, IsStreamKept};
+ghost use Rattle.lset_recording.specs.Kept.{IsAnswered, IsFirst, IsJudging, IsKept, IsJudgeKept};
 
 use crate::fault::{RecordingCause, RecordingFault};
 use crate::kept::Judging;
 use crate::lines::{Line, Section, line_told};
-use lset_judge::{Stream, StreamCall, StreamFault, StreamVerdict};
+use lset_judge::{Judge, Overlaps, StreamCall, StreamFault, Verdict};
 use lset_text::is_above;
 use std::alloc::{AllocError, Global};
 
 /// The first line after the title.
 const FIRST_LINE: u64 = 2;
 
-/// What `RecordingReader::finish` returns about a long recording.
-#[derive(Clone, Copy, Debug, PartialEq, Eq)]
+/// What `RecordingReader::finish` returns about a recording.
+#[derive(Debug, Drop)]
 pub struct RecordingAnswer {
-    /// Whether some order explains its calls.
-    pub verdict: StreamVerdict,
+    /// Whether some order explains its calls, and else why none does.
+    pub verdict: Verdict,
     /// How many calls it has.
     pub calls: u64,
+    /// How many of them overlap another call that changes their key.
+    pub overlapped: u64,
     /// Whether it was cut off.
     pub cut_off: bool,
 }
 
-/// The stream of the calls so far, or one without calls of a set that opens with these keys.
-fn or_opened(alloc: Global, stream: Option<Stream>, opening: &[u32]) -> Result<Stream, AllocError>
+/// The judge of the calls so far, or one of no calls of a set that opens with these keys.
+fn or_opened(alloc: Global, judge: Option<Judge>, opening: &[u32]) -> Result<Judge, AllocError>
     requires { IsStrictlyIncreasing opening.now }
-    ensures { IfOk result (λ s. (calls : List RecordedCall) → IsStreamKept opening.now calls stream → IsStreamKept opening.now calls (Some s)) }
+    ensures { IfOk result (λ j. (calls : List RecordedCall) → IsJudgeKept opening.now calls judge → IsJudgeKept opening.now calls (Some j)) }
 {
-    match stream {
-        Some(stream) => Ok(stream),
-        None => Stream::new(alloc, opening),
+    match judge {
+        Some(judge) => Ok(judge),
+        None => Judge::new(alloc, opening),
     }
 }
 
@@ -57,23 +59,23 @@ fn cause_of_fault(fault: StreamFault) -> RecordingCause
     }
 }
 
-/// The stream of the calls so far and one more.
+/// The judge of the calls so far and one more.
 fn with_call(
     alloc: Global,
-    stream: Option<Stream>,
+    judge: Option<Judge>,
     opening: &[u32],
     call: StreamCall,
-) -> Result<Stream, RecordingCause>
+) -> Result<Judge, RecordingCause>
     requires rising { IsStrictlyIncreasing opening.now }
     requires formed { IsFormed (Line.Call call) }
-    ensures added { IfOk result (λ s. (calls : List RecordedCall) → IsStreamKept opening.now calls stream
-        → MayFollow all_threads calls (record_of call) × IsStreamKept opening.now (calls ++ record_of call ∷ []) (Some s)) }
+    ensures added { IfOk result (λ j. (calls : List RecordedCall) → IsJudgeKept opening.now calls judge
+        → MayFollow all_threads calls (record_of call) × IsJudgeKept opening.now (calls ++ record_of call ∷ []) (Some j)) }
     ensures refused { IfErr result (λ cause. cause ≢ RecordingCause.Memory → (cause ≡ RecordingCause.History)
-        × ((calls : List RecordedCall) → IsStreamKept opening.now calls stream → MayFollow all_threads calls (record_of call) → ⊥)) }
+        × ((calls : List RecordedCall) → IsJudgeKept opening.now calls judge → MayFollow all_threads calls (record_of call) → ⊥)) }
 {
-    let mut stream = or_opened(alloc, stream, opening)?;
-    match stream.add(call) {
-        Ok(()) => Ok(stream),
+    let mut judge = or_opened(alloc, judge, opening)?;
+    match judge.add(call) {
+        Ok(()) => Ok(judge),
         Err(fault) => Err(cause_of_fault(fault)),
     }
 }
@@ -103,7 +105,8 @@ impl Judging {
             alloc,
             section: Section::Opening,
             opening: Vec::new(alloc),
-            stream: None,
+            judge: None,
+            overlaps: Overlaps::new(alloc),
             calls: 0,
             keys: Vec::new(alloc),
             cut_off: false,
@@ -119,9 +122,10 @@ impl Judging {
         ensures refused { IfErr result (λ cause. cause ≢ RecordingCause.Memory → (cause ≡ RecordingCause.History)
             × ((c : Recording) → IsKept c self.old → GoesOn c (Line.Call call) → ⊥)) }
     {
-        let stream = self.stream.take();
-        let stream = with_call(self.alloc, stream, &self.opening, call)?;
-        self.stream = Some(stream);
+        let judge = self.judge.take();
+        let judge = with_call(self.alloc, judge, &self.opening, call)?;
+        self.overlaps.add(call)?;
+        self.judge = Some(judge);
         self.calls = self.calls.saturating_add(1);
         Ok(())
     }
@@ -130,7 +134,7 @@ impl Judging {
     fn keep(&mut self, line: Line) -> Result<(), RecordingCause>
         requires { IsFormed line }
         ensures kept { OnOk result ((s : SoFar) → IsJudging s self.old → Comes s.section line
-            → GoesOn s.told line × IsKept (with_line s.told line) self.new × IsFirst (section_after line) self.new.stream) }
+            → GoesOn s.told line × IsKept (with_line s.told line) self.new × IsFirst (section_after line) self.new.judge) }
         ensures same { (self.new.section ≡ self.old.section) × (self.new.number ≡ self.old.number) }
         ensures refused { IfErr result (λ cause. cause ≢ RecordingCause.Memory → (cause ≡ cause_of line)
             × ((s : SoFar) → IsJudging s self.old → GoesOn s.told line → ⊥)) }
@@ -186,14 +190,14 @@ impl Judging {
         matches!(self.section, Section::Done)
     }
 
-    fn verdict(self) -> Result<StreamVerdict, AllocError>
+    fn verdict(self) -> Result<Verdict, AllocError>
         ensures { IfOk result (λ verdict. (s : SoFar) → IsJudging s self → IsRecording s.told × IsVerdictOnRecording s.told verdict) }
     {
-        let stream = or_opened(self.alloc, self.stream, &self.opening)?;
+        let judge = or_opened(self.alloc, self.judge, &self.opening)?;
         if self.cut_off {
-            stream.close_cut_off()
+            judge.close_cut_off()
         } else {
-            stream.close(&self.keys)
+            judge.close(&self.keys)
         }
     }
 
@@ -206,6 +210,7 @@ impl Judging {
         ensures line { IfErr result (λ fault. fault.line ≡ self.number) }
     {
         let (number, calls, cut_off) = (self.number, self.calls, self.cut_off);
+        let overlapped = self.overlaps.count();
         if !self.is_done() {
             return Err(RecordingFault::at(number, RecordingCause::NotEnded));
         }
@@ -213,6 +218,7 @@ impl Judging {
             Ok(verdict) => Ok(RecordingAnswer {
                 verdict,
                 calls,
+                overlapped,
                 cut_off,
             }),
             Err(_) => Err(RecordingFault::at(number, RecordingCause::Memory)),

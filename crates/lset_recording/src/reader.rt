@@ -10,7 +10,7 @@ use crate::lines::LONGEST_LINE;
 use arrayvec::ArrayVec;
 use std::alloc::Global;
 
-/// A reader of a long recording. It takes the bytes after the first line, `listset-calls 1`, in pieces of any length, and judges the calls
+/// A reader of a recording. It takes the bytes after the first line, `listset-calls 1`, in pieces of any length, and judges the calls
 /// as they come. It keeps the keys, the pending calls, and at most `LONGEST_LINE` bytes of a line, so memory does not grow with the number
 /// of calls. (This project's own.)
 #[derive(Drop)]
@@ -152,7 +152,7 @@ impl RecordingReader {
     }
 }
 
-/// The bytes that say a long recording, after its first line, are the one text of it.
+/// The bytes that say a recording, after its first line, are the one text of it.
 pub fn recordings_are_read()
     ensures { RecordingsAreRead }
 {}

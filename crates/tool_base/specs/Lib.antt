@@ -5,4 +5,3 @@ pub mod Checking
 pub mod Generating
 pub mod Moments
 pub mod Faults
-pub mod Heads

@@ -1,11 +1,10 @@
 -- How a tool ends, whatever it makes of its input.
-use Rattle.std.specs.Prelude.{◌≡◌, ℕ, ◌<◌, ◌≤◌, true, List, [], ◌++◌, length, Option, Result, Ok, Err}
+use Rattle.std.specs.Prelude.{◌≡◌, ℕ, ◌<◌, ◌≤◌, List, [], ◌++◌, length, Option, Result, Ok, Err}
 use Rattle.std.specs.Io.KnownBytes.{Appends, Keeps}
 use Rattle.tool_base.specs.declared.answer.Answer.{Answer}
 use Rattle.tool_base.specs.declared.streams.TheConstants.{LONGEST}
 use Rattle.tool_base.specs.declared.trouble.Trouble.{Trouble}
-use Rattle.tool_base.specs.declared.trouble.Trouble.TheVariants.{CannotRead, TooLong, LongRecording, CannotWrite, Memory}
-use Rattle.tool_base.specs.Heads.{begins_long}
+use Rattle.tool_base.specs.declared.trouble.Trouble.TheVariants.{CannotRead, TooLong, CannotWrite, Memory}
 use Rattle.tool_base.specs.Trouble.{trouble_text}
 use Rattle.tool_base.specs.Trouble as trouble
 
@@ -68,6 +67,5 @@ IsTaken bytes = length bytes ≤ LONGEST
 abbrev pub IsInputTrouble : List ℕ → Trouble → Type 0
 IsInputTrouble bytes CannotRead = Unit {0}
 IsInputTrouble bytes TooLong = LONGEST < length bytes
-IsInputTrouble bytes LongRecording = begins_long bytes ≡ true
 IsInputTrouble bytes Memory = Unit {0}
 IsInputTrouble bytes t = ⊥

@@ -9,14 +9,9 @@ use Rattle.lset_replay.specs.declared.fault.ReplayFault.TheVariants as replay
 use Rattle.lset_report.specs.declared.report_fault.ReportCause.{ReportCause}
 use Rattle.lset_report.specs.declared.report_fault.ReportCause.TheVariants as report
 use Rattle.lset_report.specs.declared.report_fault.ReportFault.{ReportFault}
-use Rattle.lset_calls.specs.declared.fault.CallsCause.{CallsCause}
-use Rattle.lset_calls.specs.declared.fault.CallsCause.TheVariants as calls
-use Rattle.lset_calls.specs.declared.fault.CallsFault.{CallsFault}
 use Rattle.lset_recording.specs.declared.fault.RecordingCause.{RecordingCause}
-use Rattle.lset_recording.specs.declared.fault.RecordingCause.TheVariants as long
+use Rattle.lset_recording.specs.declared.fault.RecordingCause.TheVariants as recording
 use Rattle.lset_recording.specs.declared.fault.RecordingFault.{RecordingFault}
-use Rattle.lset_calls.specs.declared.fault.ClashFault.{ClashFault}
-use Rattle.lset_calls.specs.declared.fault.ClashFault.TheVariants as clash
 use Rattle.tool_base.specs.declared.streams.InputFault.{InputFault}
 use Rattle.tool_base.specs.declared.streams.InputFault.TheVariants as input
 use Rattle.tool_base.specs.declared.trouble.KeyCause.TheVariants as keys
@@ -30,14 +25,13 @@ use Rattle.tool_base.specs.declared.trouble.WorkName.TheVariants as work
 use Rattle.tool_base.specs.declared.trouble.ServeName.{ServeName}
 use Rattle.tool_base.specs.declared.trouble.ServeName.TheVariants as serve
 use Rattle.tool_base.specs.declared.trouble.Trouble.{Trouble}
-use Rattle.tool_base.specs.declared.trouble.Trouble.TheVariants.{CannotRead, TooLong, LongReport, CutOff, LongRecording, CannotWrite, Memory, Line, Bad}
+use Rattle.tool_base.specs.declared.trouble.Trouble.TheVariants.{CannotRead, TooLong, CannotWrite, Memory, Line, Bad}
 use Rattle.tool_base.specs.declared.trouble.Trouble.TheVariants.{CannotListen, Work, Serve}
 
 -- of an input that was not read
 abbrev pub of_input : InputFault → Trouble
 of_input input.CannotRead = CannotRead
 of_input input.TooLong = TooLong
-of_input input.LongRecording = LongRecording
 of_input (input.Memory refused) = Memory
 
 abbrev pub of_schedule_line : ℕ → Cause → Trouble
@@ -63,28 +57,13 @@ of_report_line number cause = Line number (line.Report cause)
 abbrev pub of_report : ReportFault → Trouble
 of_report fault = of_report_line fault.line fault.cause
 
-abbrev pub of_calls_line : ℕ → CallsCause → Trouble
-of_calls_line number calls.Memory = Memory
-of_calls_line number cause = Line number (line.Calls cause)
+abbrev pub of_recording_line : ℕ → RecordingCause → Trouble
+of_recording_line number recording.Memory = Memory
+of_recording_line number cause = Line number (line.Recording cause)
 
--- of a text that is none of calls
-abbrev pub of_calls : CallsFault → Trouble
-of_calls fault = of_calls_line fault.line fault.cause
-
-abbrev pub of_long_line : ℕ → RecordingCause → Trouble
-of_long_line number long.Memory = Memory
-of_long_line number cause = Line number (line.Long cause)
-
--- of a text that is no long recording
-abbrev pub of_long : RecordingFault → Trouble
-of_long fault = of_long_line fault.line fault.cause
-
--- of calls that have no report
-abbrev pub of_clash : ClashFault → Trouble
-of_clash (clash.History number) = Line number (line.Calls calls.History)
-of_clash (clash.Quota number) = Line number (line.Calls calls.Quota)
-of_clash clash.CutOff = CutOff
-of_clash clash.Memory = Memory
+-- of a text that is no recording
+abbrev pub of_recording : RecordingFault → Trouble
+of_recording fault = of_recording_line fault.line fault.cause
 
 abbrev pub status_of : Trouble → ℕ
 status_of Memory = 3
@@ -118,24 +97,13 @@ name_of (line.Report report.Opening) = codes "Opening"
 name_of (line.Report report.History) = codes "History"
 name_of (line.Report report.NotEnded) = codes "NotEnded"
 name_of (line.Report report.Memory) = codes "Memory"
-name_of (line.Calls calls.Header) = codes "Header"
-name_of (line.Calls calls.Kind) = codes "Kind"
-name_of (line.Calls calls.Threads) = codes "Threads"
-name_of (line.Calls calls.Quota) = codes "Quota"
-name_of (line.Calls calls.Line) = codes "Line"
-name_of (line.Calls calls.Number) = codes "Number"
-name_of (line.Calls calls.TooMany) = codes "TooMany"
-name_of (line.Calls calls.Opening) = codes "Opening"
-name_of (line.Calls calls.History) = codes "History"
-name_of (line.Calls calls.Point) = codes "Point"
-name_of (line.Calls calls.NotEnded) = codes "NotEnded"
-name_of (line.Calls calls.Memory) = codes "Memory"
-name_of (line.Long long.Line) = codes "Line"
-name_of (line.Long long.Number) = codes "Number"
-name_of (line.Long long.Opening) = codes "Opening"
-name_of (line.Long long.History) = codes "History"
-name_of (line.Long long.NotEnded) = codes "NotEnded"
-name_of (line.Long long.Memory) = codes "Memory"
+name_of (line.Recording recording.Header) = codes "Header"
+name_of (line.Recording recording.Line) = codes "Line"
+name_of (line.Recording recording.Number) = codes "Number"
+name_of (line.Recording recording.Opening) = codes "Opening"
+name_of (line.Recording recording.History) = codes "History"
+name_of (line.Recording recording.NotEnded) = codes "NotEnded"
+name_of (line.Recording recording.Memory) = codes "Memory"
 name_of (line.Keys keys.Line) = codes "Line"
 name_of (line.Keys keys.Number) = codes "Number"
 name_of (line.Keys keys.TooMany) = codes "TooMany"
@@ -175,9 +143,6 @@ serve_name serve.Left = codes "Left"
 abbrev pub trouble_text : Trouble → List ℕ
 trouble_text CannotRead = codes "listset: cannot read\n"
 trouble_text TooLong = codes "listset: too long\n"
-trouble_text LongReport = codes "listset: report too long: record fewer calls\n"
-trouble_text CutOff = codes "listset: recording cut off: only judge of one file, of all keys, reads it\n"
-trouble_text LongRecording = codes "listset: recorded calls of version 3: only judge of one file, of all keys, reads them\n"
 trouble_text CannotWrite = codes "listset: cannot write\n"
 trouble_text Memory = codes "listset: out of memory\n"
 trouble_text (Line number cause) = codes "listset: line " ++ decimal number ++ codes ": " ++ name_of cause ++ codes "\n"

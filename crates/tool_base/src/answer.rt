@@ -11,14 +11,6 @@ const CANNOT_READ: &[u8] = b"listset: cannot read\n";
 
 const TOO_LONG: &[u8] = b"listset: too long\n";
 
-const LONG_REPORT: &[u8] = b"listset: report too long: record fewer calls\n";
-
-const CUT_OFF: &[u8] =
-    b"listset: recording cut off: only judge of one file, of all keys, reads it\n";
-
-const LONG_RECORDING: &[u8] =
-    b"listset: recorded calls of version 3: only judge of one file, of all keys, reads them\n";
-
 const CANNOT_WRITE: &[u8] = b"listset: cannot write\n";
 
 const CANNOT_LISTEN: &[u8] = b"listset: cannot listen\n";
@@ -53,9 +45,6 @@ pub fn line_of_trouble(alloc: Global, trouble: Trouble) -> Result<Vec<u8>, Alloc
     match trouble {
         Trouble::CannotRead => Vec::from_slice(alloc, CANNOT_READ),
         Trouble::TooLong => Vec::from_slice(alloc, TOO_LONG),
-        Trouble::LongReport => Vec::from_slice(alloc, LONG_REPORT),
-        Trouble::CutOff => Vec::from_slice(alloc, CUT_OFF),
-        Trouble::LongRecording => Vec::from_slice(alloc, LONG_RECORDING),
         Trouble::CannotWrite => Vec::from_slice(alloc, CANNOT_WRITE),
         Trouble::CannotListen => Vec::from_slice(alloc, CANNOT_LISTEN),
         Trouble::Memory => Vec::from_slice(alloc, OUT_OF_MEMORY),
@@ -122,9 +111,6 @@ fn tell<F: Write>(alloc: Global, faults: &mut F, trouble: Trouble)
     match trouble {
         Trouble::CannotRead => tell_line(faults, CANNOT_READ),
         Trouble::TooLong => tell_line(faults, TOO_LONG),
-        Trouble::LongReport => tell_line(faults, LONG_REPORT),
-        Trouble::CutOff => tell_line(faults, CUT_OFF),
-        Trouble::LongRecording => tell_line(faults, LONG_RECORDING),
         Trouble::CannotWrite => tell_line(faults, CANNOT_WRITE),
         Trouble::CannotListen => tell_line(faults, CANNOT_LISTEN),
         Trouble::Memory => tell_line(faults, OUT_OF_MEMORY),

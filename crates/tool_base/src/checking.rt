@@ -16,7 +16,7 @@ use std::io::{Read, Write};
 
 /// Returns the line that `check` prints about an order with this fault: `refused`, its name and, except for `WrongSet`, the
 /// number of the call. Of `Memory`, which is no fault of the order, it is empty.
-pub fn refusal_text(alloc: Global, fault: OrderFault) -> Result<Vec<u8>, Trouble>
+fn refusal_text(alloc: Global, fault: OrderFault) -> Result<Vec<u8>, Trouble>
     ensures of_the_order { OnOk result (fault ≢ order.Memory) }
     ensures line { IfOk result (λ text. text.items ≡ refusal_text fault) }
     ensures memory { IfErr result (λ trouble. trouble ≡ Memory) }

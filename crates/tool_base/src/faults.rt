@@ -31,7 +31,7 @@ listset: line L: CAUSE, in a draft; exit status 1
   (others)  As in a schedule.
 
 listset: line L: CAUSE, in a report; exit status 1
-  Header    Line 1 must be 'listset-report 1' or 'listset-report 2'. To make a report, use replay for a schedule, report for recorded calls.
+  Header    Line 1 must be 'listset-report 1' or 'listset-report 2'. To make a report of a schedule, use the command replay.
   Kind      As in a schedule.
   Threads   As in a schedule.
   Quota     As in a schedule.
@@ -44,29 +44,17 @@ listset: line L: CAUSE, in a report; exit status 1
   NotEnded  The input ends before the line 'end', or the line does not end with a newline.
 
 listset: line L: CAUSE, in recorded calls; exit status 1
-  Header    Line 1 must be 'listset-calls 2'. The commands judge and report read recorded calls; check reads a report.
-  Kind      As in a schedule.
-  Threads   As in a schedule.
-  Quota     As in a schedule; or with this add its thread has more adds that changed the set than the quota.
-  Line      Expected 'opening K', 'call T CALL K BEGIN POINT END REPLY' and 'key K', in this order, then 'end'; or 'cut' for 'key' lines and
-            'end'. For example 'call 1 add 5 3 - 9 true', or while the call is pending 'call 1 add 5 3 - - -'.
-  Number    Moments are numbers from 1 to 4294967295; all else as in a schedule.
-  TooMany   There are more than 1048576 'opening', 1000000 'call' or 2097152 'key' lines.
-  Opening   Opening keys must increase; this one is not above the one before.
-  History   There is no such thread; or the call does not end after it begins; or a line above has one of its moments, or an
-            overlapping call of the same thread.
-  Point     The point is not between begin and end. Or an add or remove that returned true has no point, and needs one: judge needs
-            points if a call is a ceiling or answered full; report and show also if a thread has more such adds than the quota.
-  NotEnded  The input ends before the line 'end' or 'cut', or the line does not end with a newline.
-
-listset: line L: CAUSE, in recorded calls of version 3; exit status 1
+  Header    Line 1 must be 'listset-calls 1'. Only the command judge reads recorded calls.
   Line      Expected 'opening K', 'call T CALL K BEGIN END REPLY' and 'key K', in this order, then 'end'; or 'cut' for 'key' lines and 'end'.
-            For example 'call 1 add 5 3 9 true', or while the call is pending 'call 1 add 5 3 - -'. A reply is 'true' or 'false', and a line
-            has at most 128 bytes.
+            For example 'call 1 add 5 3 9 true', or while the call is pending 'call 1 add 5 3 - -'. CALL is add, remove or contains, a
+            reply is true or false, and a line has at most 128 bytes. A call of ceiling is not judged: take these lines out, and the other
+            calls are:
+              grep -v ceiling FILE | listset judge -
   Number    Moments are numbers from 1 to 9223372036854775807; all else as in a schedule.
   Opening   Opening keys must increase, and so must keys; this one is not above the one before.
-  History   The call does not end after it begins, or does not begin after each call above; or a line above has one of its moments, or a
-            call of the same thread that is pending when it begins.
+  History   The call does not end after it begins; or a line above has one of its moments, or a call of the same thread that is pending
+            when it begins; or it begins before a call above. The calls must be in the order of their begins. To sort them:
+              (grep -E '^(listset|opening)' FILE; grep '^call' FILE | sort -n -k 5,5; grep -E '^(key|end|cut)' FILE) | listset judge -
   NotEnded  The input ends before the line 'end' or 'cut', or the line does not end with a newline.
 
 listset: line L: CAUSE, in the keys with which serve opens; exit status 1
@@ -80,7 +68,7 @@ listset: line 1: Header, from a command that does not read this kind of file; ex
   listset-schedule 1 or 2  A schedule: replay, show and trace read it.
   listset-draft 2          A draft: draft turns it into a schedule.
   listset-report 1 or 2    A report: check and show read it.
-  listset-calls 2          Recorded calls: judge, report and show read them.
+  listset-calls 1          Recorded calls: judge reads them.
   listset-trace 1          A trace: no command reads it.
   listset-course 1         A course: paste it into page/index.html, under Learn.
   key K                    Keys: serve opens with them.
@@ -92,8 +80,14 @@ not linearizable, from judge; exit status 1
             The replies of the calls that had ended by moment M fit no order.
   no order explains the calls of key K and leaves it as it was left
             Every order leaves the key in the set and there is no line 'key K', or the reverse.
+  after the calls that ended by moment S the key is there, by this change:
+            Every order of the key's calls up to moment S leaves it so. The next line is the last call of them that changed the key.
+  from there these calls have no order:
+            The error is in these calls. With the key as the lines above say, no order gives all of their replies.
+  N more calls of the key that began at moments A to B are not shown: whatever they did, these have no order
+            They overlap those that are shown, and are not needed to see the error.
 
-refused FAULT ID, of the order in a report, or from judge by the points of the calls; exit status 1
+refused FAULT ID, of the order in a report, from check; exit status 1
   Unknown     No call has this number.
   Twice       The call is in the order twice.
   Missing     The call is completed, and is not in the order.
@@ -114,12 +108,6 @@ listset: serve: CAUSE; exit status 1
 Other messages
   listset: cannot read    A file could not be opened, or a read failed; exit status 1.
   listset: too long       The input has more than 67108864 bytes; exit status 1.
-  listset: report too long: record fewer calls
-                          The report of these calls would have more than 67108864 bytes, which check does not read; exit status 1.
-  listset: recording cut off: only judge of one file, of all keys, reads it
-                          The recording ends with the line 'cut', so the keys left are not known; exit status 1.
-  listset: recorded calls of version 3: only judge of one file, of all keys, reads them
-                          The first line is 'listset-calls 1'. Other commands read 'listset-calls 2'; exit status 1.
   listset: cannot write   A write failed; exit status 1.
   listset: cannot listen  The system refused the port; exit status 1.
   listset: bad NAME       The argument or option NAME is missing or out of range, or FROM is past the last moment; exit status 2.

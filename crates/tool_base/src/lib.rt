@@ -14,15 +14,13 @@ mod trouble;
 mod values;
 
 pub use answer::{Answer, deliver, line_of_trouble};
-pub use checking::{checked, refusal_text, tool_check};
+pub use checking::{checked, tool_check};
 pub use faults::{FAULTS, faults_told, tool_faults};
 pub use generating::{generated, tool_gen};
 pub use moments::{DEFAULT_WIDTH, MOST_MOMENT, MOST_WIDTH, Moments, read_moments, read_width};
 pub use number_lines::{put_keys, put_number};
 pub use replaying::{replayed, tool_replay};
-pub use streams::{
-    InputFault, LONGEST, READ_SIZE, after_long_title, head_of, input_of, put, rest_of,
-};
+pub use streams::{InputFault, LONGEST, READ_SIZE, input_of, put};
 pub use trouble::{KeyCause, LineCause, ServeName, Trouble, ValueName, WorkName};
 pub use values::{
     MOST_CALLS_ASKED, MOST_KEYS_ASKED, MOST_SEED, RandomRequest, kind_at, number_at,

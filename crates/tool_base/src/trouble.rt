@@ -1,9 +1,8 @@
 ghost use Rattle.std.specs.Prelude.{◌≡◌};
-ghost use Rattle.tool_base.specs.Trouble.{of_input, of_schedule, of_replay, of_report, of_calls, of_clash, of_long, status_of, name_of, serve_name, value_word, work_name};
+ghost use Rattle.tool_base.specs.Trouble.{of_input, of_schedule, of_replay, of_report, of_recording, status_of, name_of, serve_name, value_word, work_name};
 ghost use Rattle.tool_base.specs.declared.trouble.Trouble.TheVariants.{Memory};
 
 use crate::streams::InputFault;
-use lset_calls::{CallsCause, CallsFault, ClashFault};
 use lset_recording::{RecordingCause, RecordingFault};
 use lset_replay::ReplayFault;
 use lset_report::{ReportCause, ReportFault};
@@ -46,10 +45,8 @@ pub enum LineCause {
     Waits,
     /// The text is no report.
     Report(ReportCause),
-    /// The text is none of calls, or they have no report.
-    Calls(CallsCause),
-    /// The input is no long recording.
-    Long(RecordingCause),
+    /// The input is no recording of calls.
+    Recording(RecordingCause),
     /// The input is not a list of keys in strictly increasing order.
     Keys(KeyCause),
 }
@@ -109,12 +106,6 @@ pub enum Trouble {
     CannotRead,
     /// The input has more bytes than an input may have.
     TooLong,
-    /// The report that was asked for has more bytes than an input may have.
-    LongReport,
-    /// The recording was cut off, and the keys left are asked for.
-    CutOff,
-    /// The recorded calls are of version 3, a long recording.
-    LongRecording,
     /// A write failed, or took no byte.
     CannotWrite,
     /// Memory was refused.
@@ -141,9 +132,6 @@ impl Trouble {
             Trouble::Bad(_) => 2,
             Trouble::CannotRead
             | Trouble::TooLong
-            | Trouble::LongReport
-            | Trouble::CutOff
-            | Trouble::LongRecording
             | Trouble::CannotWrite
             | Trouble::CannotListen
             | Trouble::Line(_, _)
@@ -160,7 +148,6 @@ impl From<InputFault> for Trouble {
         match fault {
             InputFault::CannotRead => Trouble::CannotRead,
             InputFault::TooLong => Trouble::TooLong,
-            InputFault::LongRecording => Trouble::LongRecording,
             InputFault::Memory(_) => Trouble::Memory,
         }
     }
@@ -201,39 +188,13 @@ impl From<ReportFault> for Trouble {
     }
 }
 
-impl From<CallsFault> for Trouble {
-    ghost from_gives = { λ e t. t ≡ of_calls e };
-
-    fn from(fault: CallsFault) -> Trouble {
-        match fault.cause {
-            CallsCause::Memory => Trouble::Memory,
-            cause => Trouble::Line(fault.line, LineCause::Calls(cause)),
-        }
-    }
-}
-
 impl From<RecordingFault> for Trouble {
-    ghost from_gives = { λ e t. t ≡ of_long e };
+    ghost from_gives = { λ e t. t ≡ of_recording e };
 
     fn from(fault: RecordingFault) -> Trouble {
         match fault.cause {
             RecordingCause::Memory => Trouble::Memory,
-            cause => Trouble::Line(fault.line, LineCause::Long(cause)),
-        }
-    }
-}
-
-impl From<ClashFault> for Trouble {
-    ghost from_gives = { λ e t. t ≡ of_clash e };
-
-    fn from(fault: ClashFault) -> Trouble {
-        match fault {
-            ClashFault::History(line) => {
-                Trouble::Line(line, LineCause::Calls(CallsCause::History))
-            }
-            ClashFault::Quota(line) => Trouble::Line(line, LineCause::Calls(CallsCause::Quota)),
-            ClashFault::CutOff => Trouble::CutOff,
-            ClashFault::Memory => Trouble::Memory,
+            cause => Trouble::Line(fault.line, LineCause::Recording(cause)),
         }
     }
 }
@@ -282,21 +243,8 @@ impl LineCause {
                 ReportCause::NotEnded => "NotEnded",
                 ReportCause::Memory => "Memory",
             },
-            LineCause::Calls(cause) => match cause {
-                CallsCause::Header => "Header",
-                CallsCause::Kind => "Kind",
-                CallsCause::Threads => "Threads",
-                CallsCause::Quota => "Quota",
-                CallsCause::Line => "Line",
-                CallsCause::Number => "Number",
-                CallsCause::TooMany => "TooMany",
-                CallsCause::Opening => "Opening",
-                CallsCause::History => "History",
-                CallsCause::Point => "Point",
-                CallsCause::NotEnded => "NotEnded",
-                CallsCause::Memory => "Memory",
-            },
-            LineCause::Long(cause) => match cause {
+            LineCause::Recording(cause) => match cause {
+                RecordingCause::Header => "Header",
                 RecordingCause::Line => "Line",
                 RecordingCause::Number => "Number",
                 RecordingCause::Opening => "Opening",

@@ -18,7 +18,7 @@ returns-in-Opening-clause-kept c = on_ok_weaker c.add_key.result
       record {
         opening = added.0 ∙ ap (λ o. o ++ k ∷ []) kept.opening;
         opens = parts.1;
-        stream = parts.2;
+        judge = parts.2;
         calls = kept.calls;
         keys = kept.keys;
         left = kept.left;
@@ -39,7 +39,7 @@ returns-in-Key-clause-kept c = on_ok_weaker c.add_key-in-Key.result
       record {
         opening = kept.opening;
         opens = kept.opens;
-        stream = kept.stream;
+        judge = kept.judge;
         calls = kept.calls;
         keys = added.0 ∙ ap (λ o. o ++ k ∷ []) kept.keys;
         left = parts.1;
