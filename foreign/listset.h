@@ -59,12 +59,9 @@ const char *listset_version(void);
 /* The report of a schedule. */
 size_t listset_replay(const char *schedule, size_t length, char *room, size_t size, uint8_t *status);
 
-/* The report of recorded calls. */
-size_t listset_report(const char *calls, size_t length, char *room, size_t size, uint8_t *status);
-
-/* `ok N calls` if some order explains recorded calls, with the status LISTSET_OK; `not linearizable`, with the few calls that show it,
-   and the status LISTSET_WRONG_TEXT, if none does. */
-size_t listset_judge(const char *calls, size_t length, char *room, size_t size, uint8_t *status);
+/* `ok N calls` if some order explains the calls of a recording, with the status LISTSET_OK; if none does, `not linearizable`, with a
+   few calls that show it, and the status LISTSET_WRONG_TEXT. */
+size_t listset_judge(const char *recording, size_t length, char *room, size_t size, uint8_t *status);
 
 /* `ok` where the order of a report explains its calls, else the first fault. */
 size_t listset_check(const char *report, size_t length, char *room, size_t size, uint8_t *status);
@@ -76,7 +73,7 @@ size_t listset_trace_with_chains(const char *schedule, size_t length, char *room
 /* The schedule of a draft. */
 size_t listset_draft(const char *draft, size_t length, char *room, size_t size, uint8_t *status);
 
-/* The picture of a schedule, a report or recorded calls, as text and as an SVG. The options are the words for --from, --to and
+/* The picture of a schedule or a report, as text and as an SVG. The options are the words for --from, --to and
    --width, in this order, with a zero byte between two: `=` and a number, or nothing, as "=2\0\0=60" with the length 7. Words may be
    missing at the end. */
 size_t listset_show(const char *text, size_t length, const char *options, size_t options_length, char *room, size_t size,

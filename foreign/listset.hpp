@@ -1,6 +1,6 @@
 // Sorted-list sets and their judge for C++17, over listset.h, which tells what each function says and what the caller owes.
 //
-//     listset::said verdict = listset::judge_text(calls);
+//     listset::said verdict = listset::judge_text(recording);
 //     if (!verdict.is_ok()) std::cerr << verdict.text;
 //
 //     listset::seat mine = listset::open(listset::list::lazy, 2, 1000), other = mine.split();
@@ -58,8 +58,7 @@ inline said of_text(listset_function *function, std::string_view given) {
 }
 
 inline said replay(std::string_view schedule) { return of_text(listset_replay, schedule); }
-inline said report(std::string_view calls) { return of_text(listset_report, calls); }
-inline said judge_text(std::string_view calls) { return of_text(listset_judge, calls); }
+inline said judge_text(std::string_view recording) { return of_text(listset_judge, recording); }
 inline said check(std::string_view report) { return of_text(listset_check, report); }
 inline said draft(std::string_view draft) { return of_text(listset_draft, draft); }
 inline said example(std::string_view name) { return of_text(listset_example, name); }

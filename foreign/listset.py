@@ -2,7 +2,7 @@
 
     import listset
 
-    listset.judge_text(calls)             # of recorded calls; raises Wrong if no order explains them
+    listset.judge_text(recording)         # raises Wrong if no order explains its calls
     report = listset.replay(schedule)
     print(listset.show(report, width=60))
 
@@ -96,14 +96,9 @@ def replay(schedule):
     return _asked("replay", schedule)
 
 
-def report(calls):
-    """The report of recorded calls."""
-    return _asked("report", calls)
-
-
-def judge_text(calls):
-    """`ok N calls` if some order explains recorded calls. If none does, `Wrong` has the few calls that show it."""
-    return _asked("judge", calls)
+def judge_text(recording):
+    """`ok N calls` if some order explains the calls of a recording. If none does, `Wrong` has a few calls that show it."""
+    return _asked("judge", recording)
 
 
 def check(report):
@@ -122,7 +117,7 @@ def draft(text):
 
 
 def show(text, as_svg=False, *, first=None, last=None, width=None):
-    """The picture of a schedule, a report or recorded calls, from the moment `first` to the moment `last`."""
+    """The picture of a schedule or a report, from the moment `first` to the moment `last`."""
     options = _words("" if it is None else f"={it}" for it in (first, last, width))
     return _asked("show_svg" if as_svg else "show", text, options)
 

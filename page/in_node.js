@@ -19,11 +19,11 @@ function inPage(words) {
   return new Function(...Object.keys(names), `return (${words});`)(...Object.values(names));
 }
 
-// The engine, or null if node does not run it.
-async function startedEngine() {
+// The engine, which reads inputs by `read`, or null if node does not run it.
+async function startedEngine(read) {
   const bytes = fs.readFileSync(path.join(__dirname, "listset.wasm"));
   if (!WebAssembly.validate(bytes)) return null;
-  return new (inPage("Engine"))(await WebAssembly.compile(bytes));
+  return new (inPage("Engine"))(await WebAssembly.compile(bytes), read);
 }
 
 module.exports = { NO_ENGINE, NOT_RUN, inPage, startedEngine };

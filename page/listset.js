@@ -1,36 +1,32 @@
 // The words of ./listset that need no proof and no toolchain, in node: the proved replayer as the module of this folder.
 //
 //     node page/listset.js replay [FILE]            node page/listset.js trace [--chain] [FILE]
-//     node page/listset.js report [FILE]            node page/listset.js show [--svg] [--from M] [--to M] [--width N] [FILE]
+//     node page/listset.js judge [FILE]             node page/listset.js show [--svg] [--from M] [--to M] [--width N] [FILE]
 //     node page/listset.js check [FILE]             node page/listset.js example [--broken] [NAME]
-//     node page/listset.js judge [FILE]             node page/listset.js gen KIND THREADS QUOTA CALLS KEYS SEED
-//     node page/listset.js draft [FILE]             and of replay, trace and show [--lacks NAME]
-//     node page/listset.js faults
+//     node page/listset.js draft [FILE]             node page/listset.js gen KIND THREADS QUOTA CALLS KEYS SEED
+//     node page/listset.js faults                   and of replay, trace and show [--lacks NAME]
 //     node page/listset.js --words                  the first words of these lines, one a line
 //
 // FILE may be -, the word for the standard input. Output, line about a trouble and exit status are the program's
-// (docs/TEXTS.md), but that wrong words are one line. If node does not run the module, or the words are of `judge` in parts, which
-// the program has alone, it says so and ends with status 70, before it reads anything.
+// (docs/TEXTS.md), but that wrong words are one line. If node does not run the module it says so and ends with status 70, before
+// it reads anything.
 "use strict";
 
 const fs = require("fs");
 const { NO_ENGINE, NOT_RUN, inPage, startedEngine } = require("./in_node.js");
 
-const LONGEST = 67108864; // bytes of an input; what is longer is not read to its end
-const LONG_RECORDING = "listset-calls 3\n";
-const TOO_LONG = "in node a recording of version 3 has at most 64 MiB; the program reads any length: ./listset --unproved judge FILE";
+const LONGEST = 67108864; // bytes of an input that is no recording; what is longer is not read to its end
 const WRONG = 2; // the status of wrong words, and of a wrong value
 const USAGE =
-  "replay [--lacks NAME] [FILE], report [FILE], judge [FILE], check [FILE], trace [--chain] [--lacks NAME] [FILE], " +
+  "replay [--lacks NAME] [FILE], judge [FILE], check [FILE], trace [--chain] [--lacks NAME] [FILE], " +
   "show [--svg] [--from M] [--to M] [--width N] [--lacks NAME] [FILE], draft [FILE], " +
   "example [--broken] [NAME], gen KIND THREADS QUOTA CALLS KEYS SEED or faults";
 
-// Of each command its flag and its options, the engine's function without the flag and with it, whether its value is a file, and
-// how many values it takes at most.
+// Of each command its flag and its options, the engine's function without the flag and with it, or that the judge reads the input in
+// pieces; whether its value is a file, and how many values it takes at most.
 const COMMANDS = {
   replay: { options: ["--lacks"], functions: ["listset_replay"], isOfFile: true },
-  report: { functions: ["listset_report"], isOfFile: true },
-  judge: { options: ["--keys"], functions: ["listset_judge"], isOfFile: true, most: Infinity },
+  judge: { isJudge: true },
   check: { functions: ["listset_check"], isOfFile: true },
   show: {
     flag: "--svg",
@@ -47,11 +43,6 @@ const COMMANDS = {
 
 class WrongWords extends Error {}
 
-// What the program has, and the engine has not.
-class OfTheProgram extends Error {}
-
-class TooLong extends Error {}
-
 // What the words ask for: the command, whether its flag is on, the texts of its options by their names without hyphens, and its
 // values, which a word -- may stand before.
 function asked([name = "replay", ...words]) {
@@ -61,8 +52,6 @@ function asked([name = "replay", ...words]) {
   found.values.push(...words.slice(1));
   const { values, most = 1 } = found;
   if (values.length > most) throw new WrongWords(`${name} does not take ${JSON.stringify(values[most])}`);
-  const isInParts = name === "judge" && (values.length > 1 || found.texts.keys !== undefined);
-  if (isInParts) throw new OfTheProgram("in node judge takes one file and no --keys; the program, which ./listset builds, takes both");
   return found;
 }
 
@@ -91,15 +80,8 @@ function textBehind(name, words) {
 // The file, or standard input where that is meant.
 const opened = (file = "-") => (file === "-" ? 0 : fs.openSync(file, "r"));
 
-// The bytes of an input, up to one more than it may have. (A long recording may have any length; what is cut off is another text.)
+// The bytes of an input, up to one more than it may have.
 function bytesOf(input) {
-  const bytes = firstBytesOf(input);
-  const isCutOff = bytes.length > LONGEST && bytes.subarray(0, LONG_RECORDING.length).toString("latin1") === LONG_RECORDING;
-  if (isCutOff) throw new TooLong(TOO_LONG);
-  return bytes;
-}
-
-function firstBytesOf(input) {
   const pieces = [];
   let length = 0;
   while (length <= LONGEST) {
@@ -124,8 +106,18 @@ function readSome(input, piece) {
   }
 }
 
+// Reads for the engine, which tells the trouble itself.
+function readForEngine(input, piece) {
+  try {
+    return readSome(input, piece);
+  } catch {
+    return -1;
+  }
+}
+
 // What the engine answers to the words. Options are looked at once the file is opened, and before it is read.
-function answerTo(engine, { name, functions, isOn, texts: { lacks, ...texts }, isOfFile, values }) {
+function answerTo(engine, { name, functions, isJudge, isOn, texts: { lacks, ...texts }, isOfFile, values }) {
+  if (isJudge) return engine.judgeFrom(opened(values[0]));
   const wanted = `${functions[Number(isOn)]}${lacks === undefined ? "" : "_lacking"}`;
   if (name === "example") return values.length > 0 ? engine.ask(wanted, values[0]) : engine.ask("listset_examples");
   if (!isOfFile) return engine.ask(wanted, inPage("wordsOf")(values));
@@ -140,7 +132,6 @@ function answerOrTrouble(engine, words) {
   try {
     return answerTo(engine, words);
   } catch (fault) {
-    if (fault instanceof TooLong) return { status: 1, bytes: Buffer.from(`listset: ${fault.message}\n`) };
     if (fault.syscall === undefined) throw fault;
     return { status: 1, bytes: Buffer.from("listset: cannot read\n") };
   }
@@ -179,7 +170,7 @@ function tellCannotWrite() {
 async function main(given) {
   if (given[0] === "--words") return process.stdout.write(`${Object.keys(COMMANDS).join("\n")}\n`);
   const words = asked(given);
-  const engine = await startedEngine();
+  const engine = await startedEngine(readForEngine);
   if (engine !== null) return write(answerOrTrouble(engine, words));
   process.stderr.write(`listset: ${NOT_RUN}\n`);
   process.exitCode = NO_ENGINE;
@@ -188,5 +179,5 @@ async function main(given) {
 main(process.argv.slice(2)).catch((fault) => {
   const isWrong = fault instanceof WrongWords;
   process.stderr.write(`listset: ${fault.message}${isWrong ? `; the words are ${USAGE}` : ""}\n`);
-  process.exitCode = isWrong ? WRONG : fault instanceof OfTheProgram ? NO_ENGINE : 1;
+  process.exitCode = isWrong ? WRONG : 1;
 });

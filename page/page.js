@@ -557,38 +557,19 @@ const CAUSES = {
   Lost: "the broken list's step would access a word outside its table",
 };
 
-const NOT_ENDED = 'the text must end with the line "end", or with "cut" if the recording was cut off';
-
 const CAUSES_OF_CALLS = {
-  NotEnded: NOT_ENDED,
-  Header: 'line 1 must be "listset-calls 2", or "listset-calls 3", a long recording',
-  Kind: 'line 2 must be "list" and one of coarse, fine, optimistic, lazy, lock-free',
-  Threads: 'line 3 must be "threads" and a number from 1 to 64',
-  Quota:
-    'line 4 must be "quota" and a number from 0 to 16384; if calls have points or there is a ceiling or a full, ' +
-    "no less than the adds of a thread that answered true",
+  Header: 'line 1 must be "listset-calls 1"',
   Line:
-    'expected "call T CALL K BEGIN POINT END REPLY", with - for what is missing; "opening K" only above all calls, ' +
-    'and only below them "key K" and "end", or "cut"',
-  Number: "a moment is not a number from 1 to 4294967295, or another number not one from 0 to 4294967295",
-  TooMany: "there are more opening keys, calls or keys than the judge reads",
-  Opening: "an opening key must be above the one before",
-  History: "there is no such thread, or it has two calls at a time, or two calls have one moment, or a call does not end after its begin",
-  Point: "a point must lie between the begin and the end; if there is a ceiling or a full, each add and remove that answered true needs one",
-};
-
-const CAUSES_OF_LONG = {
-  NotEnded: NOT_ENDED,
-  Line:
-    'expected "call T CALL K BEGIN END REPLY" in at most 128 bytes, with - for what is missing, and without ceiling or full; ' +
-    '"opening K" only above all calls, and only below them "key K" and "end", or "cut"',
+    'expected "call T CALL K BEGIN END REPLY" in at most 128 bytes, with - - in place of END REPLY of a pending call; the calls are add, ' +
+    'remove and contains; "opening K" only above all calls, and only below them "key K" and "end", or "cut"',
   Number: "a moment is not a number from 1 to 9223372036854775807, or another number not one from 0 to 4294967295",
   Opening: "an opening key must be above the one before, and a key that is left above the one before",
   History:
     "the calls do not come in the order of their begins, or one does not end after its begin, or two have one moment, " +
     "or a thread has two at a time",
+  NotEnded: 'the text must end with the line "end", or with "cut" if the recording was cut off',
 };
-return { CAUSES, CAUSES_OF_CALLS, CAUSES_OF_LONG };
+return { CAUSES, CAUSES_OF_CALLS };
 })();
 
 // run/markup.js
@@ -1571,16 +1552,6 @@ const BREAK_LEVELS = {
     ],
     shortest: [15, 2],
   },
-  "last-slot": {
-    grade: 0,
-    story: "Each thread may add two keys. This list allows fewer.",
-    hints: [
-      "One thread is enough. It adds.",
-      "Two adds of different keys.",
-      "Let t0 add 4, and then 5. What does the second add answer?",
-    ],
-    shortest: [17, 2],
-  },
   "new-slot": {
     grade: 0,
     story: "Each key that is added needs a node of its own. Does it get one?",
@@ -1696,7 +1667,6 @@ const LACKS_IN_WORDS = {
   "mark-in-remove": "A remove marks a node that is marked already.",
   "mark-at-key": "A contains does not look at the mark of the node with its key.",
   "new-slot": "An add writes into the node of its last key.",
-  "last-slot": "An add answers full while a slot is free.",
 };
 return { GRADES, BREAK_LEVELS, LACKS_IN_WORDS };
 })();
@@ -2431,9 +2401,14 @@ const FIRST_ROOM = 1 << 22; // bytes handed to the engine for its answer, at fir
 const LARGE_MEMORY = 1 << 28; // past so many bytes an instance is not used again
 
 class Engine {
-  constructor(module) {
+  constructor(module, read = () => -1) {
     this.module = module;
     this.instance = null;
+    this.host = { env: { read: (input, at, count) => BigInt(read(input, this.piece(Number(at), Number(count)))) } };
+  }
+
+  piece(at, count) {
+    return new Uint8Array(this.instance.exports.memory.buffer, at, count);
   }
 
   static async start() {
@@ -2447,11 +2422,19 @@ class Engine {
   }
 
   askBytes(name, ...given) {
+    return this.answered((exports) => answerOf(exports, name, given));
+  }
+
+  judgeFrom(input) {
+    return this.answered((exports) => answerInRoom(exports, "listset_judge_from", [[input]], FIRST_ROOM));
+  }
+
+  answered(answer) {
     if (this.instance === null || this.instance.exports.memory.buffer.byteLength > LARGE_MEMORY) {
-      this.instance = new WebAssembly.Instance(this.module, {});
+      this.instance = new WebAssembly.Instance(this.module, this.host);
     }
     try {
-      return answerOf(this.instance.exports, name, given);
+      return answer(this.instance.exports);
     } catch (fault) {
       this.instance = null; // after a trap the memory is not looked at again
       throw new Error(`the engine stopped: ${fault.message}`);
@@ -2671,12 +2654,49 @@ function goToTurn(step) {
 return { wantsLessMotion, stopPlay, startPlay, togglePlay, changeSpeed, goByHand, goToTurn };
 })();
 
+// run/refusal.js
+const $run_refusal = (() => {
+function callOfLine(line) {
+  const [, thread, operation, key, begun, ended, reply] = line.split(" ");
+  const isOpen = ended === "-";
+  const moments = { begun: BigInt(begun), ended: isOpen ? null : BigInt(ended) };
+  return { thread: Number(thread), operation, key: Number(key), ...moments, reply: isOpen ? null : reply };
+}
+
+function firstCalls(text, most) {
+  const calls = [];
+  for (const [line] of text.matchAll(/^call .*$/gm)) {
+    if (calls.length === most) break;
+    calls.push(callOfLine(line));
+  }
+  return calls;
+}
+
+const WHY = /^no order explains the calls of key (\d+) (up to|and leaves)/;
+const FROM = /^(?:at first|after the calls that ended by moment (\d+)) the key is (there|not there)/;
+
+function refusalIn(lines) {
+  const [, key, what] = WHY.exec(lines[0]) ?? [];
+  if (key === undefined) return null;
+  const told = [];
+  for (const line of lines) {
+    if (line.startsWith("call ")) told.at(-1).calls.push(callOfLine(line));
+    else told.push({ line, calls: [] });
+  }
+  const [, since = null, is = null] = FROM.exec(told[1]?.line) ?? [];
+  const calls = told.find(({ line }) => line.startsWith("from there"))?.calls ?? [];
+  return { key: Number(key), isLeft: what === "and leaves", since, is, calls, told };
+}
+return { firstCalls, refusalIn };
+})();
+
 // run/broken.js
 const $run_broken = (() => {
 const { LACKING } = $made_classics;
 const { LISTS } = $made_rows;
 const { exerciseOf, nameOfCall, otherOrders } = $run_judged;
 const { escaped } = $run_markup;
+const { refusalIn } = $run_refusal;
 const { scheduleOfTrace, titleOf } = $run_schedule_text;
 const { isFailed, isLock, momentAt, sentenceOf } = $run_sentences;
 const { State } = $run_state;
@@ -2721,41 +2741,26 @@ function verdictOnLacking(ask, lacks, schedule) {
   return { kind: "broken", says: `Broken: ${whyNone(text, lines)}. ${UNEXPLAINED}`, report: text };
 }
 
-function whyNone(report, [reason, ...lines]) {
+function whyNone(report, lines) {
+  const refusal = refusalIn(lines);
+  if (refusal === null) return lines[0];
   const exercise = exerciseOf(report, "claim");
-  const full = /^call (\d+) answers full/.exec(reason);
-  if (full !== null) return fullInWords(exercise, exercise.calls[full[1]]);
-  const [, key, end] = /^no order explains the calls of key (\d+) (up|and)/.exec(reason) ?? [];
-  if (key === undefined) return reason;
-  if (end === "and" && isLost(exercise, Number(key))) return `${key} was added once and never removed, and at the end the set does not have it`;
-  const start = /^key \d+ is (there|not there) at moment (\d+)$/.exec(lines[0] ?? "");
-  const calls = lines.map((line) => callInWords(exercise, line)).filter((words) => words !== null);
-  const last = end === "and" ? [`at the end the set ${isLeft(exercise, key) ? "has it" : "does not have it"}`] : [];
-  const then = [...calls, ...last].join(", ");
-  if (start === null) return then === "" ? reason : then;
-  const when = start[2] === "0" ? "at first" : `after event ${start[2]}`;
-  return `${key} is ${start[1]} ${when}, and then ${then}`;
+  const { key, isLeft, since, is, calls } = refusal;
+  if (isLeft && isLost(exercise, key)) return `${key} was added once and never removed, and at the end the set does not have it`;
+  const left = exercise.keyLines.includes(`key ${key}`) ? "has it" : "does not have it";
+  const then = [...calls.map((call) => callInWords(exercise, call)), ...(isLeft ? [`at the end the set ${left}`] : [])].join(", ");
+  if (is === null) return then === "" ? lines[0] : then;
+  return `${key} is ${is} ${since === null ? "at first" : `after event ${since}`}, and then ${then}`;
 }
 
-const isChange = (operation, call) => call.operation === operation && call.reply === "true";
-const isLeft = ({ keyLines }, key) => keyLines.includes(`key ${key}`);
-
-function fullInWords({ head, calls }, call) {
-  const own = calls.filter((other) => other.thread === call.thread && isChange("add", other));
-  const quota = head[3].replace("quota ", "");
-  return `${nameOfCall(call)} answers full, and its thread had put in ${own.length} of the ${quota} keys of its quota`;
+function isLost({ calls, head, keyLines }, key) {
+  const count = (operation) => calls.filter((call) => call.operation === operation && call.reply === "true" && call.key === key).length;
+  const isThere = head.includes(`opening ${key}`) || keyLines.includes(`key ${key}`);
+  return count("add") === 1 && count("remove") === 0 && !isThere;
 }
 
-function isLost(exercise, key) {
-  const count = (operation) => exercise.calls.filter((call) => isChange(operation, call) && call.key === key).length;
-  const isOpening = exercise.head.includes(`opening ${key}`);
-  return count("add") === 1 && count("remove") === 0 && !isOpening && !isLeft(exercise, key);
-}
-
-function callInWords({ calls }, line) {
-  const [, operation, key, begun] = /^call \d+ (\w+) (\d+) (\d+) - /.exec(line) ?? [];
-  const call = calls.find((one) => one.operation === operation && one.key === Number(key) && one.begun === Number(begun));
-  if (call === undefined) return null;
+function callInWords({ calls }, { thread, begun }) {
+  const call = calls.find((one) => one.thread === thread && one.begun === Number(begun));
   return `${nameOfCall(call)} ${call.ended === null ? "is open" : `answers ${call.reply}`}`;
 }
 
@@ -5415,11 +5420,82 @@ function showTaskOfBreak() {
 return { ORDER, numberOf, addressOfLevel, wordOf, whyWrong, titleOfLevel, drawBreakMap, fillBreaks, openLevel, showTaskOfBreak };
 })();
 
+// run/recorded.js
+const $run_recorded = (() => {
+const { CAUSES_OF_CALLS } = $run_faults;
+const { nameOfCall } = $run_judged;
+const { firstCalls, refusalIn } = $run_refusal;
+const RECORDED_EXAMPLE = `listset-calls 1
+opening 8
+call 0 add 5 1 4 true
+call 1 add 5 2 3 true
+call 2 remove 8 5 6 true
+key 5
+end
+`;
+
+const MOST_DRAWN = 40; // calls of a right recording
+
+const withNewline = (text) => (text === "" || text.endsWith("\n") ? text : `${text}\n`);
+
+const recordedInWords = (call) =>
+  call.ended === null
+    ? `${nameOfCall(call)}, begun at ${call.begun}, is pending`
+    : `${nameOfCall(call)} answers ${call.reply}, from ${call.begun} to ${call.ended}`;
+
+const sentence = (line) => `${line[0].toUpperCase()}${line.slice(1)}.`;
+
+function okInWords(count, lines) {
+  const calls = count === 1 ? "this one call" : `these ${count.toLocaleString("en")} calls`;
+  const isCutOff = lines.some((line) => line.startsWith("the recording was cut off"));
+  const keys = isCutOff ? ", whatever keys it leaves" : " and leaves the keys";
+  return `Linearizable: an order explains ${calls}${keys}. It says nothing of other runs.`;
+}
+
+function verdictOfOk(count, lines, text) {
+  const drawn = count > MOST_DRAWN ? [`the first ${MOST_DRAWN} calls are drawn`] : [];
+  return {
+    kind: "ok",
+    says: okInWords(count, lines),
+    reasons: [...lines, ...drawn].map(sentence),
+    calls: firstCalls(text, MOST_DRAWN),
+    from: null,
+  };
+}
+
+function verdictOfRefusal({ isLeft, since, is, told }) {
+  const leaves = isLeft ? " and leaves the keys" : "";
+  return {
+    kind: "none",
+    says: `Not linearizable: no order at all explains these calls${leaves}.`,
+    reasons: told.map(({ line, calls }) => sentence([line, calls.map(recordedInWords).join("; ")].join(" ").trim())),
+    calls: told.flatMap(({ calls }) => calls),
+    from: since === null ? null : { moment: BigInt(since), says: `the key is ${is}` },
+  };
+}
+
+function troubleInWords(line) {
+  const cause = /^listset: line \d+: (\w+)$/.exec(line)?.[1];
+  return Object.hasOwn(CAUSES_OF_CALLS, cause) ? `${line}: ${CAUSES_OF_CALLS[cause]}.` : line;
+}
+
+function verdictOnCalls(answer, text) {
+  const [first, ...lines] = answer.trimEnd().split("\n");
+  const count = /^ok (\d+) calls$/.exec(first)?.[1];
+  if (count !== undefined) return verdictOfOk(Number(count), lines, text);
+  const refusal = first === "not linearizable" ? refusalIn(lines) : null;
+  if (refusal !== null) return verdictOfRefusal(refusal);
+  return { kind: "fault", says: troubleInWords(first), reasons: [], calls: [], from: null };
+}
+return { RECORDED_EXAMPLE, withNewline, recordedInWords, verdictOnCalls };
+})();
+
 // draw/judged.js
 const $draw_judged = (() => {
 const { placeLabels, ROW_HEIGHT, signOf, widthOf } = $draw_labels;
 const { lastMoment, nameOfCall } = $run_judged;
-const { callText, chipOf, colourOf, escaped, label, tag } = $run_markup;
+const { callText, chipOf, colourOf, escaped, label, tag, title } = $run_markup;
+const { recordedInWords } = $run_recorded;
 const JUDGE_LEFT = 50;
 const JUDGE_RIGHT = 20;
 const JUDGE_BAR = 30;
@@ -5501,21 +5577,31 @@ function drawJudgedBar(call, reply, scale, y) {
 
 const frameOf = ({ width, height }) => ({ width, height, viewBox: `0 0 ${width} ${height}` });
 
-function drawRecorded(calls, width) {
-  const inOrder = (numbers) => [...new Set(numbers)].sort((one, other) => one - other);
+function drawRecorded(calls, from, width) {
+  const inOrder = (numbers) => [...new Set(numbers)].sort((one, other) => (one < other ? -1 : 1));
   const threads = inOrder(calls.map(({ thread }) => thread));
-  const moments = inOrder(calls.flatMap(({ begun, ended }) => (ended === null ? [begun] : [begun, ended])));
+  const ends = calls.flatMap(({ begun, ended }) => (ended === null ? [begun] : [begun, ended]));
+  const moments = inOrder(from === null ? ends : [...ends, from.moment]);
   const momentOf = (at) => (at === null ? null : moments.indexOf(at) + 1);
   const laneOf = ({ thread }) => threads.indexOf(thread);
-  const placed = calls.map((call) => ({ ...call, thread: laneOf(call), begun: momentOf(call.begun), ended: momentOf(call.ended) }));
+  const placed = calls.map((call, id) => ({ ...call, id, thread: laneOf(call), begun: momentOf(call.begun), ended: momentOf(call.ended) }));
   const scale = judgeScale({ calls: placed, last: moments.length + 1, threads: threads.length }, width);
   const bars = placed.map((call) => {
     const bar = drawJudgedBar(call, call.reply ?? OPEN, scale, scale.y(call.thread));
-    return tag("g", { class: `bar own still ${colourOf(threads[call.thread])}${call.ended === null ? " open" : ""}` }, bar);
+    const still = { class: `bar own still ${colourOf(threads[call.thread])}${call.ended === null ? " open" : ""}` };
+    return tag("g", still, title(recordedInWords(calls[call.id])), bar);
   });
   const lanes = threads.map((thread, at) => drawJudgedLane(scale, at, thread));
-  const frame = { ...frameOf(scale), role: "img", "aria-label": calls.map(nameOfCall).join(", ") };
-  return tag("svg", frame, ...lanes, ...bars);
+  const below = from === null ? 0 : ROW_HEIGHT;
+  const frame = { ...frameOf({ ...scale, height: scale.height + below }), role: "img", "aria-label": calls.map(nameOfCall).join(", ") };
+  return tag("svg", frame, ...lanes, from === null ? "" : drawFrom(from.says, scale, momentOf(from.moment)), ...bars);
+}
+
+function drawFrom(says, { x, step, width, height }, moment) {
+  const at = x(moment) + step / 2;
+  const anchor = at > width / 2 ? { x: at - 6, "text-anchor": "end" } : { x: at + 6 };
+  const words = label({ class: "note", y: height + ROW_HEIGHT - 4, ...anchor }, says);
+  return tag("line", { class: "cursor", x1: at, x2: at, y1: 0, y2: height + ROW_HEIGHT }) + words;
 }
 
 function drawOwnPoint(call, at, y, scale) {
@@ -8074,103 +8160,14 @@ function verdictText({ isSolved, isShown, reason, conditions }, isStart) {
 return { startLessons };
 })();
 
-// run/recorded.js
-const $run_recorded = (() => {
-const { CAUSES_OF_CALLS, CAUSES_OF_LONG } = $run_faults;
-const { nameOfCall } = $run_judged;
-const RECORDED_EXAMPLE = `listset-calls 2
-list lock-free
-threads 3
-quota 16384
-opening 8
-call 0 add 5 1 - 4 true
-call 1 add 5 2 - 3 true
-call 2 remove 8 5 - 6 true
-key 5
-end
-`;
-
-const LONG_TITLE = "listset-calls 3\n";
-const AS_LEFT = /^no order explains the calls of key \d+ and leaves it as it was left$/;
-const LEFT_OTHERWISE = "Each order that explains them leaves it otherwise than the keys of the text say.";
-
-function callOfLine(line, id) {
-  const [, thread, operation, key, begun, , ended, reply] = line.split(" ");
-  const isOpen = ended === "-";
-  return {
-    id,
-    thread: Number(thread),
-    operation,
-    key: Number(key),
-    begun: Number(begun),
-    ended: isOpen ? null : Number(ended),
-    reply: isOpen ? null : reply,
-  };
-}
-
-function callsOf(lines) {
-  const named = lines.filter((line) => line.startsWith("call ")).map(callOfLine);
-  return named.sort((one, other) => one.begun - other.begun).map((call, id) => ({ ...call, id }));
-}
-
-const sentence = (line) => `${line[0].toUpperCase()}${line.slice(1)}${line.endsWith(":") ? "" : "."}`;
-
-function reasonsIn(lines) {
-  const [why, ...more] = lines.filter((line) => !line.startsWith("call "));
-  const left = AS_LEFT.test(why) ? ` ${LEFT_OTHERWISE}` : "";
-  return [sentence(why) + left, ...more.map(sentence)];
-}
-
-function okInWords(count, lines) {
-  const calls = count === "1" ? "this one call" : `these ${Number(count).toLocaleString("en")} calls`;
-  const isCutOff = lines.some((line) => line.startsWith("the recording was cut off"));
-  const keys = isCutOff ? ", whatever keys it leaves" : " and leaves the keys";
-  return `Linearizable: an order explains ${calls}${keys}. It says nothing of other runs.`;
-}
-
-function noneInWords([why]) {
-  return `Not linearizable: no order at all explains these calls${AS_LEFT.test(why) ? " and leaves the keys" : ""}.`;
-}
-
-function troubleInWords(line, text) {
-  const cause = /^listset: line \d+: (\w+)$/.exec(line)?.[1];
-  const causes = text.startsWith(LONG_TITLE) ? CAUSES_OF_LONG : CAUSES_OF_CALLS;
-  return Object.hasOwn(causes, cause) ? `${line}: ${causes[cause]}.` : line;
-}
-
-function verdictOnCalls(answer, text) {
-  const said = (kind, says, reasons = [], calls = []) => ({ kind, says, reasons, calls });
-  const [first, ...lines] = answer.trimEnd().split("\n");
-  const count = /^ok (\d+) calls$/.exec(first)?.[1];
-  if (count !== undefined) return said("ok", okInWords(count, lines), lines.map(sentence));
-  if (first === "not linearizable") return said("none", noneInWords(lines), reasonsIn(lines), callsOf(lines));
-  if (first.startsWith("refused ")) {
-    const why = "The set has a bug, or the recorder made a mistake: a point may be at the wrong place.";
-    return said("none", "No order with the changes at the points of the text explains these calls and leaves the keys.", [`${first}.`, why]);
-  }
-  if (first.startsWith("undecided: ")) {
-    return said("undecided", sentence(first), ["Begins and ends do not decide whether an order explains such calls."]);
-  }
-  return said("fault", troubleInWords(first, text));
-}
-
-const withNewline = (text) => (text === "" || text.endsWith("\n") ? text : `${text}\n`);
-
-const recordedInWords = (call) =>
-  call.ended === null
-    ? `${nameOfCall(call)}, begun at ${call.begun}, is pending`
-    : `${nameOfCall(call)} answers ${call.reply}, from ${call.begun} to ${call.ended}`;
-return { RECORDED_EXAMPLE, verdictOnCalls, withNewline, recordedInWords };
-})();
-
 // activities/recorded.js
 const $activities_recorded = (() => {
 const { drawRecorded } = $draw_judged;
 const { byId } = $page_dom;
 const { askLong, LONG_TEXT } = $page_long_run;
 const { tag } = $run_markup;
-const { RECORDED_EXAMPLE, recordedInWords, verdictOnCalls, withNewline } = $run_recorded;
-const MOST_DRAWN = 40; // calls that are drawn as bars
+const { RECORDED_EXAMPLE, verdictOnCalls, withNewline } = $run_recorded;
+const WIDEST = 900; // pixels of a drawing
 const recorded = { text: "", isOpen: false }; // what stands in the box when another activity is shown
 const recordedPart = (name) => byId(`recorded-${name}`);
 
@@ -8178,27 +8175,25 @@ const PARTS = `<p class="lead">The forms in <code>examples/in-a-test</code> reco
     begin and end, and keep a recording that fails. Paste its text, or open the file: the proved <code>judge</code> says whether any order
     explains the calls.</p>
   <textarea id="recorded-text" rows="7" spellcheck="false" autocapitalize="off" wrap="off" aria-label="recorded calls"
-    placeholder="listset-calls 2"></textarea>
+    placeholder="listset-calls 1"></textarea>
   <p class="line"><button id="recorded-judge">Judge these calls</button>
     <label class="button">Open a file<input type="file" id="recorded-file"></label>
     <button id="recorded-example">Load an example</button></p>
-  <p id="recorded-verdict" role="status"></p><ul id="recorded-reasons"></ul><div id="recorded-picture"></div><ol id="recorded-calls"></ol>`;
+  <p id="recorded-verdict" role="status"></p><ul id="recorded-reasons"></ul><div id="recorded-picture"></div>`;
 
 const drawRecordedBox = () =>
   tag("details", { id: "recorded-box", class: "card", ...(recorded.isOpen ? { open: "" } : {}) },
     tag("summary", {}, "<h2>Judge calls recorded from your own set</h2>"), PARTS);
 
-function showVerdict({ kind, says, reasons, calls }) {
+function showVerdict({ kind, says, reasons, calls, from }) {
   recordedPart("verdict").className = kind;
   recordedPart("verdict").textContent = says;
   recordedPart("reasons").innerHTML = reasons.map((reason) => tag("li", {}, reason)).join("");
-  const isDrawn = calls.length > 0 && calls.length <= MOST_DRAWN;
-  const width = Math.max(300, recordedPart("reasons").clientWidth);
-  recordedPart("picture").innerHTML = isDrawn ? drawRecorded(calls, Math.min(width, 900)) : "";
-  recordedPart("calls").innerHTML = calls.map((call) => tag("li", {}, recordedInWords(call))).join("");
+  const width = Math.min(Math.max(300, recordedPart("picture").clientWidth), WIDEST);
+  recordedPart("picture").innerHTML = calls.length > 0 ? drawRecorded(calls, from, width) : "";
 }
 
-const nothing = { kind: "", says: "", reasons: [], calls: [] };
+const nothing = { kind: "", says: "", reasons: [], calls: [], from: null };
 
 async function judgeCalls() {
   const text = withNewline(recordedPart("text").value);
@@ -9114,5 +9109,5 @@ if (typeof document !== "undefined") startPage(); // in node there is none
 return {  };
 })();
 
-return Object.assign({}, $made_classics, $made_rows, $page_dom, $run_faults, $run_markup, $run_trace, $run_judged, $run_schedule_text, $run_state, $run_sentences, $page_now, $page_kept, $activities_broken_kept, $data_levels, $made_traces, $page_example, $engine_engine, $engine_worker, $page_long_run, $page_play, $run_broken, $page_run_text, $draw_glide, $draw_labels, $draw_history, $draw_list, $made_code, $draw_listing, $draw_room, $draw_table, $draw_threads, $page_places, $page_view, $run_moments, $course_goal_words, $course_course_text, $run_draft, $course_lesson, $page_work, $page_menu, $run_address, $activities_break_map, $draw_judged, $activities_judging, $activities_break_level, $page_steps, $page_moves, $page_visit, $page_keys, $run_sides, $activities_compare, $made_book, $activities_kept_lessons, $activities_learn_map, $course_course_link, $run_check_trace, $page_files, $activities_courses, $course_hand_in, $activities_lessons, $run_recorded, $activities_recorded, $data_book_code, $run_seed, $activities_watch, $activities_judge_map, $activities_read, $draw_code_column, $page_save_picture, $page_controls, $activities_open);
+return Object.assign({}, $made_classics, $made_rows, $page_dom, $run_faults, $run_markup, $run_trace, $run_judged, $run_schedule_text, $run_state, $run_sentences, $page_now, $page_kept, $activities_broken_kept, $data_levels, $made_traces, $page_example, $engine_engine, $engine_worker, $page_long_run, $page_play, $run_refusal, $run_broken, $page_run_text, $draw_glide, $draw_labels, $draw_history, $draw_list, $made_code, $draw_listing, $draw_room, $draw_table, $draw_threads, $page_places, $page_view, $run_moments, $course_goal_words, $course_course_text, $run_draft, $course_lesson, $page_work, $page_menu, $run_address, $activities_break_map, $run_recorded, $draw_judged, $activities_judging, $activities_break_level, $page_steps, $page_moves, $page_visit, $page_keys, $run_sides, $activities_compare, $made_book, $activities_kept_lessons, $activities_learn_map, $course_course_link, $run_check_trace, $page_files, $activities_courses, $course_hand_in, $activities_lessons, $activities_recorded, $data_book_code, $run_seed, $activities_watch, $activities_judge_map, $activities_read, $draw_code_column, $page_save_picture, $page_controls, $activities_open);
 })();

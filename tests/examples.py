@@ -38,3 +38,10 @@ def test_examples_of_the_program_are_the_files(program):
         assert ending(program, "example", name) == (0, (EXAMPLES / f"{name}.schedule").read_text(), "")
         due = (0, broken[name].read_text(), "") if name in broken else (2, "", "listset: bad NAME\n")
         assert ending(program, "example", "--broken", name) == due
+
+
+@pytest.mark.parametrize("file", sorted(EXAMPLES.glob("*.broken.report")), ids=lambda it: it.name)
+def test_no_order_explains_a_broken_report(program, file):
+    """Neither the one in it, as `check` says, nor another, as the judge says below its picture."""
+    status, output, _ = ending(program, "show", file)
+    assert status == 1 and "\n\nnot linearizable\nno order explains the calls of key " in output

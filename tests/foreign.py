@@ -74,7 +74,7 @@ class InstalledLibraries:
     def first_program(self, *words, **how):
         """What comes of a first program on calls that an order explains, and on some that none does."""
         refused = (TOP / "examples" / "recorders" / "both-true.calls").read_text()
-        right = refused.replace("call 1 add 5 2 - 3 true", "call 1 add 5 2 - 3 false")
+        right = refused.replace("call 1 add 5 2 3 true", "call 1 add 5 2 3 false")
         for text, status, says in ((right, 0, "ok 3 calls\n"), (refused, 1, "not linearizable\n")):
             done = ran(*words, text=text, seconds=LONG, **how)
             assert (done.returncode, done.stdout[:len(says)]) == (status, says), done.stderr
@@ -111,8 +111,8 @@ def test_memory(installed):
     schedule, report = EXAMPLES / "one-add.schedule", EXAMPLES / "one-add.report"
     draft = min((TOP / "tests" / "transcripts" / "data" / "drafts").glob("*.draft"), key=lambda it: it.stat().st_size)
     flags = [MEMORY] if installed.works(MEMORY) else []
-    calls = TOP / "tests" / "transcripts" / "data" / "recorded" / "seen.calls"
-    well(installed.built("memory.c", *flags, *WRAPPED), schedule, report, draft, calls)
+    recording = TOP / "examples" / "recorders" / "both-true.calls"
+    well(installed.built("memory.c", *flags, *WRAPPED), schedule, report, draft, recording)
 
 
 @needs("gcc")

@@ -1,9 +1,9 @@
 """The judge in a test of one's own: the forms of examples/in-a-test, by their own tests, in each language that is installed.
 
-A right set has to be `ok` there, and three wrong ones refused; what hangs or crashes is judged up to there; a long run is kept in parts,
-which the program judges as one recording, whole and by keys. The verdict counts the calls of all runs, and a run that fails is named. If
-there is no judge, or one that answers something else, the first test has to fail with a sentence that says so. The page's engine in node
-is another judge (tests/foreign.py tries the library). Every wait is bounded."""
+A right set has to be `ok` there, and three wrong ones refused; what hangs or crashes is judged up to there; a long run is one recording,
+which the program judges again. The verdict counts the calls of all runs, and a run that fails is named. If there is no judge, or one that
+answers something else, the first test has to fail with a sentence that says so. The page's engine in node is another judge
+(tests/foreign.py tries the library). Every wait is bounded."""
 
 import importlib.util
 import os
@@ -128,19 +128,9 @@ def each(languages):
 # Of each language how its first test alone is run, which prints its verdict
 FIRST_TESTS = {"Rust": ["my_set_is_linearizable", "--nocapture"], "C++": ["first"], "Java": ["first"]}
 FIRST_TESTS |= {"Python": ["test_sets.Sets.test_my_set_is_linearizable"], "Go": ["-test.run", "TestIsLinearizable", "-test.v"]}
-# and how a test of a set that crashes is
-CRASHING_TESTS = {"Rust": ["what_hangs", "--nocapture"], "C++": ["crash"], "Java": ["crash"]}
-CRASHING_TESTS |= {"Python": ["test_sets.Sets.test_a_crash_is_judged_whatever_the_keys"]}
-CRASHING_TESTS |= {"Go": ["-test.run", "TestACrashIsJudgedWhateverTheKeys", "-test.v"]}
 # What standard error has of the test in which no calls overlap (a Python test asks for its warning itself)
 FEW_OVERLAPS = {"Rust": "ok: 120000 calls, of which 0 ", "C++": "listset: 0 of 120000 calls ", "Java": "\nok: 120000 calls, of which 0 "}
 FEW_OVERLAPS |= {"Go": "ok: 120000 calls, of which 0 "}
-# A judge that knows no recording which was cut off
-KNOWS_NO_CUT = """#!/bin/sh
-case $1 in judge) ;; *) exit 0 ;; esac
-echo 'listset: line 9: Line' >&2
-exit 1
-"""
 # The program, but for how many calls of a recording overlap
 OVERLAPS_THREE = """#!/bin/sh
 '%s' "$@" | sed 's/^[0-9]* of them /3 of them /'
@@ -175,9 +165,9 @@ class Form:
         done = ran(*words or self.words, cwd=self.where, env=environment | {"TMPDIR": str(self.room)} | also, seconds=SECONDS)
         return done.returncode, done.stdout + done.stderr
 
-    def first(self, judge, of=FIRST_TESTS, **also):
+    def first(self, judge, **also):
         """The same of the first test alone; of all tests, if no word names it."""
-        own = [it for it in self.words if not str(it).startswith("test_")] + of[self.language] if self.language in of else None
+        own = [it for it in self.words if not str(it).startswith("test_")] + FIRST_TESTS[self.language] if self.language in FIRST_TESTS else None
         return self.said(judge, own, **also)
 
     def left(self):
@@ -192,31 +182,14 @@ def form(language, room, once, lacking):
     return Form(language, room, *LANGUAGES[language](room, once))
 
 
-def are_judged_as_one(program, parts):
-    """That the program judges the parts of a long run as one recording, and by keys."""
-    said = [well(program, "judge", *it, *parts).split() for it in ([], *(["--keys", f"{it}/4"] for it in range(4)))]
-    assert [it[:3] for it in said] == [["ok", str(len(parts)), "parts,"]] * 5
-    whole, *of_keys = (int(it[3]) for it in said)
-    assert (len(parts) >= 3, whole) == (True, sum(of_keys))
-
-
-def says_its_threads(recording):
-    """That a recording says as many threads as its calls have numbers, so that `show` draws a row for no other."""
-    text = recording.read_text()
-    numbers = {int(it) for it in re.findall(r"^call (\d+) ", text, re.M)}
-    assert re.findall(r"^threads (\d+)$", text, re.M) == [str(max(numbers, default=0) + 1)]
-
-
 @each(LANGUAGES)
 def test_a_form_judges(form, language, program):
     status, said = form.said(form.script("judge", f"#!/bin/sh\necho progress >&2\nexec '{program}' \"$@\"\n"))
     assert status == 0, said
     assert FEW_OVERLAPS.get(language, "") in said
     if language in FIRST_TESTS:
-        parts = sorted((form.room / "recorded").iterdir())
-        are_judged_as_one(program, parts)
-        for it in [*parts, *form.room.glob("listset-seed-*")]:
-            says_its_threads(it)
+        (recorded,) = (form.room / "recorded").iterdir()
+        assert re.match(r"ok 4[48]000 calls\n", well(program, "judge", recorded))
         assert [it for it in form.left() if not it.startswith("listset-seed-")] == []
 
 
@@ -227,13 +200,6 @@ def test_the_verdict_names_its_judge_and_counts_the_calls_that_overlap(form, lan
     proof = well(program, "--version", "--long").splitlines()[3]
     assert (status, form.left()) == (0, []), said
     assert f"; judge: {judge}, {proof}" in said and ", of which 60 overlapped a change of their key" in said
-
-
-@each(FIRST_TESTS)
-def test_an_old_judge_that_knows_no_cut_is_named(form, language):
-    judge = form.script("judge", KNOWS_NO_CUT)
-    _, said = form.first(judge, CRASHING_TESTS)
-    assert f"up to there: {judge} gave no verdict, but said: listset: line 9: Line. Take a newer listset" in said
 
 
 @each(FIRST_TESTS)

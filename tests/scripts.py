@@ -214,7 +214,6 @@ WRONG_WORDS = {
     "page/build no-such": "unrecognized arguments: no-such",
     "page/test no-such": "no-such is no browser; they are chromium, firefox, webkit",
     "tests/unproved no-such": "there is no crate no-such; the crates of tests are ",
-    "examples/recorders/tell_refused ROOM/no-such": "/no-such",
 }
 
 

@@ -1,6 +1,6 @@
 """The answers of `listset serve` to clients, at once and one after another.
 
-For each list: 64 clients on keys that they share, whose answers have to add up, and 64 clients at once, each on keys of its
+For each list: 63 clients on keys that they share, whose answers have to add up, and 63 clients at once, each on keys of its
 own, so that each of its answers is known, and of a ceiling the few that are right; after them, alone, one more client asks
 for the ceiling of each key, which is then known. For one list: 200 clients on 8 seats; one seat and one client after another,
 10,000 of them too, and 200 where few files may be open at once; a client that sends thousands of lines, each after the answer to
@@ -25,7 +25,8 @@ from harness.set_model import SetModel, reply_of
 
 pytestmark = pytest.mark.xdist_group("serve")  # (they take turns: each has more clients than there are processors)
 ONE_LIST = "lazy"
-CLIENTS = 64
+SEATS = 64
+CLIENTS = SEATS - 1  # (and a sweeper)
 REQUESTS = 1000
 KEYS = 64
 QUOTA = 400
@@ -34,6 +35,39 @@ MANNERS = ["pieces", "bytes", "all at once", "middle of a line", "random bytes",
 BEYOND = 100_000
 LATE = 3
 CEILINGS = [{"NONE", *(f"AT {least}" for least in range(key, KEYS))} for key in range(KEYS)]
+ABOVE = 1_000_000
+
+
+class Sweeper(Client):
+    """A client that walks past all keys until the others have ended, so that no marked node stays in the chain. (A `remove` of
+    LockFreeList may leave one, at which a `ceiling` starts again until an `add` or a `remove` walks there.)"""
+
+    manner = "sweeper"
+
+    def __init__(self, server):
+        super().__init__(server)
+        self.calls, self.have_ended = 0, threading.Event()
+
+    def speak(self, connection):
+        is_last = False
+        while not is_last:
+            is_last = self.have_ended.wait(0.01)
+            asks(connection, b"REMOVE %d\n" % ABOVE, b"FALSE\n")
+            self.calls += 1
+        asks(connection, b"QUIT\n", b"BYE\n")
+
+
+@contextlib.contextmanager
+def sweeping(server):
+    """A sweeper at work; at the end its calls are known."""
+    sweeper = Sweeper(server)
+    sweeper.start()
+    try:
+        yield sweeper
+    finally:
+        sweeper.have_ended.set()
+        sweeper.join(SECONDS)
+    assert not sweeper.wrong and not sweeper.is_alive()
 
 
 def asks_each_ceiling(server, keys, span):
@@ -129,18 +163,19 @@ class Sharing(Client):
 def test_shared_keys(program, kind):
     """All answers are there. They add up with those to one more client, and with what the server
     says as it ends."""
-    with serving(program, kind, CLIENTS, QUOTA, CLIENTS + 1) as server:
+    with serving(program, kind, SEATS, QUOTA, CLIENTS + 2) as server:
         clients = [Sharing(server, number, kind) for number in range(CLIENTS)]
-        have_ended(clients)
+        with sweeping(server) as sweeper:
+            have_ended(clients)
         left = collections.Counter()
         for (word, key), answer in itertools.chain.from_iterable(client.told for client in clients):
             if answer == "TRUE" and word in ("ADD", "REMOVE"):
                 left[key] += 1 if word == "ADD" else -1
         assert {*left.values()} <= {0, 1}
         keys = {key for key in left if left[key]}
-        calls = sum(len(client.told) for client in clients) + asks_each_ceiling(server, keys, KEYS)
+        calls = sum(len(client.told) for client in clients) + sweeper.calls + asks_each_ceiling(server, keys, KEYS)
         unread = sum(client.unread for client in clients)
-        server.ends(CLIENTS + 1, calls, calls + unread, keys)
+        server.ends(CLIENTS + 2, calls, calls + unread, keys)
 
 
 # ---- keys of a client's own
@@ -185,13 +220,14 @@ class Alone(Client):
 def test_keys_of_their_own(program, kind):
     """Each answer is the right one, and all clients have their first answer before any goes on. No seat runs out of slots,
     so `FULL` is wrong."""
-    with serving(program, kind, CLIENTS, ROOM, CLIENTS + 1) as server:
+    with serving(program, kind, SEATS, ROOM, CLIENTS + 2) as server:
         first_answers = threading.Barrier(CLIENTS)
         clients = [Alone(server, number, kind, first_answers) for number in range(CLIENTS)]
-        have_ended(clients)
+        with sweeping(server) as sweeper:
+            have_ended(clients)
         keys = set().union(*(client.own.keys for client in clients))
-        calls = CLIENTS * Alone.CALLS + asks_each_ceiling(server, keys, Alone.SPAN)
-        server.ends(CLIENTS + 1, calls, calls, keys)
+        calls = CLIENTS * Alone.CALLS + sweeper.calls + asks_each_ceiling(server, keys, Alone.SPAN)
+        server.ends(CLIENTS + 2, calls, calls, keys)
 
 
 # ---- more clients than seats

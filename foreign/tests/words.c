@@ -19,7 +19,6 @@ static const struct {
   listset_function *plain, *with_flag;
 } OF_A_FILE[] = {
     {"replay", listset_replay, listset_replay},
-    {"report", listset_report, listset_report},
     {"check", listset_check, listset_check},
     {"judge", listset_judge, listset_judge},
     {"draft", listset_draft, listset_draft},

@@ -101,17 +101,11 @@ function checkTroubles(ask) {
   check(`a trace of no schedule: ${compared}`, inPage("faultOfTrace")(long) === null && compared === refused);
 }
 
-// What is told are the calls that have no order, and of a full add those of its own thread.
+// What is told are the calls that have no order.
 function checkReasons(ask) {
-  const saidOf = (name, schedule, lines) => {
-    const { text } = inPage("scheduleOfDraft")(ask, `${schedule}${lines.join("\n")}\n`, name);
-    return verdictOnLacking(ask, name, text).says;
-  };
-  const later = saidOf("mark-at-key", scheduleOf("mark-at-key"), ["begin 1 add 7", "go 1 out"]);
+  const { text } = inPage("scheduleOfDraft")(ask, `${scheduleOf("mark-at-key")}begin 1 add 7\ngo 1 out\n`, "mark-at-key");
+  const later = verdictOnLacking(ask, "mark-at-key", text).says;
   check(`what comes later is not told: ${later}`, later.includes("7 is not there after event 18, and then contains(7) of t0 answers true."));
-  const adds = ["begin 1 add 9", "go 1 out", "begin 0 add 4", "go 0 out", "begin 0 add 5", "go 0 out"];
-  const other = saidOf("last-slot", startOf("last-slot"), adds);
-  check(`nor that of another thread: ${other}`, other.includes("add(5) of t0 answers full, and its thread had put in 1 of the 2 keys"));
 }
 
 // A draft's line stands for the steps of the broken list, and is refused as the engine refuses that of a whole list.

@@ -25,7 +25,7 @@ const FORMS = {
   "#compare": () => isSeen("sides-box") && part("sides-pictures").querySelectorAll("section").length === 2,
   "#read": () => isSeen("map-read") && part("map-read").querySelectorAll("dt").length === 12,
   "#learn=one-lock": () => isSeen("lessons") && textOf("lesson-title").startsWith("The one lock"),
-  "#break=3": () => isSeen("break-box") && textOf("break-title").startsWith("Level 3 of 13"),
+  "#break=3": () => isSeen("break-box") && textOf("break-title").startsWith("Level 3 of 12"),
   "#seed=lazy.2.5.2.17": () => isSeen("seed-box") && textOf("seed-number") === "17",
   "#example=snip&judge": () => isSeen("judge") && inPage("page.example") === "snip",
   "#seed=lazy.2.5.2.17&judge": () => isSeen("judge") && placeIs("judge", "stage"),

@@ -13,7 +13,7 @@ const PAGE = path.join(__dirname, "..");
 const BOOK = path.join(PAGE, "book.course");
 const NAME = inPage("BOOK_NAME");
 const ORDER = "judge read-in-anothers-step replies 0-true,2-true,1-false,3-true";
-const BROKEN = "break last-slot #list=lock-free&threads=1&quota=1&s=b0.add.5,g0.3&event=4";
+const BROKEN = "break new-slot #list=lock-free&threads=1&quota=2&s=b0.add.4,g0.6,b0.add.5,g0.8&event=16";
 const BROKEN_OWN =
   "break mark-in-remove #list=lock-free&threads=2&quota=2&opening=3.7&s=b0.remove.3,g0.4,b1.remove.3,g1.4,g0.2,g1.2&event=14";
 const result = { passed: 0, failed: [] };
@@ -97,9 +97,9 @@ function checkTeacher(course, folder) {
   const very = "12 by the very schedule of the lesson's answer, which may be its shortest";
   const line = `Ada: 12 of 12 solved; 1 order judged right; 1 list broken; ${very}`;
   check(`all: ${all.lines}`, same(all, { status: 0, lines: [line], fault: "" }));
-  const whole = said(folder, text("Ada", answers, [BROKEN.replace("quota=1", "quota=2")]));
+  const whole = said(folder, text("Ada", answers, [BROKEN.replace(",b0.add.5,g0.8", "")]));
   const [first] = whole.lines;
-  check(`explained: ${first}`, whole.status === 1 && first.endsWith(": break last-slot: Not broken yet: some order explains this run."));
+  check(`explained: ${first}`, whole.status === 1 && first.endsWith(": break new-slot: Not broken yet: some order explains this run."));
   const two = `${text("Ada", answers)}\n${quoted(text("Bo", answers.slice(1)))}`;
   const group = said(folder, two, text("Cy", [], ["judge snip points none"]));
   check(`a class: ${group.lines.join("; ")}`, group.status === 1 && group.lines.includes("Bo: one-lock: not handed in"));

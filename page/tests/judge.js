@@ -166,111 +166,99 @@ function checkChips() {
   for (const [threads, text] of due) check(`the chips of ${threads}: ${drawn(threads)}`, drawn(threads) === text);
 }
 
-const HEAD = "listset-calls 2\nlist lazy\nthreads 3\nquota 4\n";
-const LONG = "listset-calls 3\n";
-const WITH_CEILING = "call 0 add 5 1 2 3 true\ncall 1 ceiling 4 4 - 5 at-5\n";
+const TITLE = "listset-calls 1\n";
 
-function saidOf(ask, given) {
-  const text = inPage("withNewline")(given);
+function saidOf(ask, lines) {
+  const text = inPage("withNewline")(lines);
   return inPage("verdictOnCalls")(ask("listset_judge", text).text, text);
 }
 
-// Recorded calls are decided by the judge, without points: each text with what is said of it.
+const barsIn = (drawn) => drawn.split('<g class="bar ').length - 1;
+
+// Recorded calls are decided by the judge: each text with what is said of it.
 function checkRecorded(ask) {
-  const said = (text) => saidOf(ask, text);
-  const both = said(inPage("RECORDED_EXAMPLE"));
-  check(`two adds of one key: ${both.says}`, both.kind === "none" && both.says.startsWith("Not linearizable: no order at all"));
-  const reasons = "No order explains the calls of key 5 up to moment 4. Key 5 is not there at moment 0. These calls alone have no order:";
-  check(`why: ${both.reasons}`, both.reasons.join(" ") === reasons && both.calls.map(({ thread }) => thread).join() === "0,1");
-  const drawn = inPage("drawRecorded")(both.calls, 600);
-  check("its calls as bars", drawn.split("<rect ").length - 1 === 4 && />add\(5\)<tspan [^>]*> true</.test(drawn));
-  const open = said(`${HEAD}call 0 add 5 1 - - -\ncall 1 contains 5 2 - 3 true\nend`);
-  check(`an open call: ${open.reasons}`, open.kind === "none" && open.calls[0].ended === null && open.reasons[0].includes("otherwise than"));
   const wanted = {
-    "call 0 add 5 1 - 4 true\ncall 1 contains 5 2 - 3 false\nkey 5\nend": "ok Linearizable: an order explains these 2 calls",
-    "call 0 contains 5 1 - 2 false\nend": "ok Linearizable: an order explains this one call",
+    "call 0 add 5 1 4 true\ncall 1 contains 5 2 3 false\nkey 5\nend": "ok Linearizable: an order explains these 2 calls and leaves the keys.",
+    "call 0 contains 5 9223372036854775806 9223372036854775807 false\nend": "ok Linearizable: an order explains this one call",
+    "call 0 add 5 1 4 true\ncut": "ok Linearizable: an order explains this one call, whatever keys it leaves.",
+    "call 0 add 5 1 4 true\ncall 1 contains 5 5 6 false\ncut": "none Not linearizable: no order at all explains these calls.",
     "key 5\nend": "none Not linearizable: no order at all explains these calls and leaves the keys.",
-    "call 0 add 5 1 - 4 true\ncut": "ok Linearizable: an order explains this one call, whatever keys it leaves.",
-    "call 0 add 5 1 - 4 true\ncall 1 contains 5 5 - 6 false\ncut": "none Not linearizable: no order at all explains these calls.",
-    [`${WITH_CEILING}cut`]: "undecided Undecided: the recording was cut off, and a call is a ceiling or answered full.",
-    [`${WITH_CEILING.replace("at-5", "at-7")}key 5\nend`]: "none No order with the changes at the points of the text explains",
-    [`${WITH_CEILING}key 5\nend`]: "ok Linearizable: an order explains these 2 calls and leaves the keys.",
   };
   for (const lines in wanted) {
-    const { kind, says } = said(HEAD + lines);
+    const { kind, says } = saidOf(ask, TITLE + lines);
     check(`${lines}: ${kind} ${says}`, `${kind} ${says}`.startsWith(wanted[lines]));
   }
-  const [left, ...more] = said(`${HEAD}key 5\nend`).reasons;
-  const unchanged = "Key 5 is not there at moment 0.,No later call changes it.";
-  check(`left otherwise: ${left} ${more}`, left.includes("otherwise than") && more.join() === unchanged);
-  for (const line of ["listset: too long", "listset: out of memory", "the engine stopped: unreachable", inPage("NO_ENGINE")]) {
-    const { kind, says, reasons } = inPage("verdictOnCalls")(`${line}\n`, HEAD);
-    check(`no answer: ${says}`, kind === "fault" && says === line && reasons.length === 0);
-  }
+  const cut = saidOf(ask, `${TITLE}call 0 add 5 1 4 true\ncut`).reasons;
+  check(`one that was cut off: ${cut}`, cut.join().includes("The recording was cut off: "));
+  const calls = Array.from({ length: 50 }, (_, at) => `call 0 contains 5 ${2 * at + 1} ${2 * at + 2} false\n`).join("");
+  const many = saidOf(ask, `${TITLE}${calls}end`);
+  const drawn = barsIn(inPage("drawRecorded")(many.calls, many.from, 600));
+  check(`many calls: ${many.reasons}`, drawn === 40 && many.reasons.at(-1) === "The first 40 calls are drawn.");
 }
 
-// Of a long recording the judge says one reason and names no calls.
-function checkLongRecorded(ask) {
-  const said = (lines) => saidOf(ask, LONG + lines);
-  const long = said("call 0 add 5 1 4 true\ncall 1 add 5 2 3 true\nkey 5\nend");
-  const isRefused = long.kind === "none" && long.says === "Not linearizable: no order at all explains these calls.";
-  const reason = "No order explains the calls of key 5 up to moment 4.";
-  check(`a long recording: ${long.says} ${long.reasons}`, isRefused && long.reasons.join() === reason);
-  check("no call of it is named", long.calls.length === 0);
-  const left = said("key 5\nend");
-  const isLeft = left.reasons.length === 1 && left.reasons[0].startsWith("No order explains the calls of key 5 and leaves it as it was left. Each");
-  check(`a long one left otherwise: ${left.says} ${left.reasons}`, isLeft && left.says.endsWith("explains these calls and leaves the keys."));
-  const whole = said("call 0 add 5 1 4 true\ncall 1 contains 5 2 3 false\nkey 5\nend");
-  const isRight = whole.kind === "ok" && whole.says.includes(" explains these 2 calls and leaves the keys. ");
-  check(`a right one: ${whole.says} ${whole.reasons}`, isRight && whole.reasons.length === 0);
-  const cut = said("call 0 add 5 1 4 true\ncut");
-  check(`one that was cut off: ${cut.says}`, cut.kind === "ok" && cut.says.includes(" explains this one call, whatever keys it leaves. "));
-  check(`its reason: ${cut.reasons}`, cut.reasons.length === 1 && cut.reasons[0].startsWith("The recording was cut off: "));
-  const last = said("call 0 contains 5 9223372036854775806 9223372036854775807 false\nend");
-  check(`the last moments: ${last.says}`, last.kind === "ok");
+// A refusal says the change that made the key so, and the calls that have no order from there; these are drawn, of all that the text has.
+function checkRefusals(ask) {
+  const both = saidOf(ask, inPage("RECORDED_EXAMPLE"));
+  const reasons = [
+    "No order explains the calls of key 5 up to moment 4.",
+    "At first the key is not there.",
+    "From there these calls have no order: add(5) of t0 answers true, from 1 to 4; add(5) of t1 answers true, from 2 to 3.",
+  ];
+  check(`two adds of one key: ${both.reasons.join(" ")}`, both.kind === "none" && both.reasons.join() === reasons.join());
+  const drawn = inPage("drawRecorded")(both.calls, both.from, 600);
+  check("its calls as bars", barsIn(drawn) === 2 && />add\(5\)<tspan [^>]*> true</.test(drawn) && !drawn.includes("cursor"));
+  const late = 1760000000000000000n; // a clock of nanoseconds
+  const at = (moment) => String(late + BigInt(moment));
+  const lines = [`0 contains 5 ${at(1)} ${at(2)} false`, `1 add 7 ${at(3)} ${at(4)} true`, `2 contains 7 ${at(5)} ${at(6)} false`];
+  const stale = saidOf(ask, `${TITLE}${lines.map((line) => `call ${line}\n`).join("")}key 7\nend`);
+  const made = `the key is there, by this change: add(7) of t1 answers true, from ${at(3)} to ${at(4)}.`;
+  check(`why: ${stale.reasons.join(" ")}`, stale.reasons[1] === `After the calls that ended by moment ${at(4)} ${made}`);
+  check(`the calls: ${stale.calls.map(({ thread }) => thread)}`, stale.calls.map(({ thread }) => thread).join() === "1,2");
+  const picture = inPage("drawRecorded")(stale.calls, stale.from, 600);
+  check(`where the key is there: ${picture}`, barsIn(picture) === 2 && picture.includes("cursor") && picture.includes(">the key is there</text>"));
+  const open = saidOf(ask, `${TITLE}call 0 add 5 1 - -\ncall 1 contains 5 2 3 false\ncall 1 remove 5 4 5 true\nkey 5\nend`);
+  const isPending = open.calls.some(({ ended }) => ended === null) && open.reasons.join().includes("add(5) of t0, begun at 1, is pending");
+  check(`a pending call: ${open.reasons}`, open.kind === "none" && isPending);
+  const left = saidOf(ask, `${TITLE}key 5\nend`).reasons;
+  const unchanged = ["No order explains the calls of key 5 and leaves it as it was left.", "At first the key is not there.", "No later call changes it."];
+  check(`left otherwise: ${left}`, left.join() === unchanged.join());
+}
+
+// What is said of the answers that a short text does not get.
+function checkAnswers() {
+  const said = (lines) => inPage("verdictOnCalls")(`${lines.join("\n")}\n`, TITLE);
+  const why = ["not linearizable", "no order explains the calls of key 7 and leaves it as it was left"];
+  const from = ["after the calls that ended by moment 40 the key is not there", "from there these calls have no order that leaves the key as it was left:"];
+  const more = "12 more calls of the key that began at moments 45 to 79 are not shown: whatever they did, these have no order";
+  const { kind, reasons, calls } = said([...why, ...from, "call 2 add 7 50 60 true", "call 3 remove 7 55 - -", more]);
+  check(`more calls: ${reasons}`, kind === "none" && reasons.length === 4 && calls.length === 2 && reasons[3].startsWith("12 more calls"));
+  check(`one reason: ${said(why).reasons}`, said(why).reasons.length === 1 && said(why).calls.length === 0);
+  for (const line of ["listset: out of memory", "the engine stopped: unreachable", inPage("NO_ENGINE"), "not linearizable"]) {
+    const trouble = said([line]);
+    check(`no answer: ${trouble.says}`, trouble.kind === "fault" && trouble.says === line && trouble.reasons.length === 0);
+  }
 }
 
 // Of each cause of a fault: a text that has it, at which line, and words that its sentence alone has.
 const FAULTS_OF_CALLS = {
-  NotEnded: [`${HEAD}call 0 add 5 1 - 6 true\n`, 6, "the text must end with"],
-  Header: ["listset-report 2\n", 1, 'line 1 must be "listset-calls 2"'],
-  Kind: ["listset-calls 2\nlist skip\n", 2, "line 2 must be"],
-  Threads: ["listset-calls 2\nlist lazy\nthreads 65\n", 3, "from 1 to 64"],
-  Quota: [HEAD.replace("quota 4", "quota 16385"), 4, "from 0 to 16384"],
-  Line: [`${HEAD}call 0 add 5 1 - 6\nend\n`, 5, "K BEGIN POINT END REPLY"],
-  Number: [`${HEAD}call 0 add 5 1 - 4294967296 true\nend\n`, 5, "a moment is not a number from 1 to 4294967295,"],
-  TooMany: [HEAD + Array.from({ length: 1048577 }, (_, key) => `opening ${key}\n`).join(""), 1048581, "than the judge reads"],
-  Opening: [`${HEAD}opening 5\nopening 5\nend\n`, 6, "an opening key must be above"],
-  History: [`${HEAD}call 3 add 5 1 - 6 true\nend\n`, 5, "there is no such thread"],
-  Point: [`${HEAD}${WITH_CEILING.replace("1 2 3", "1 - 3")}key 5\nend\n`, 5, "a point must lie between"],
-};
-const FAULTS_OF_LONG = {
-  NotEnded: [LONG, 2, "the text must end with"],
-  Line: [`${LONG}call 0 add 5 1 - 6 true\nend\n`, 2, "K BEGIN END REPLY"],
-  Number: [`${LONG}call 0 add 5 1 9223372036854775808 true\nend\n`, 2, "a moment is not a number from 1 to 9223372036854775807,"],
-  Opening: [`${LONG}key 5\nkey 5\nend\n`, 3, "a key that is left above"],
-  History: [`${LONG}call 0 add 5 7 8 true\ncall 1 add 6 5 9 true\nend\n`, 3, "in the order of their begins"],
+  Header: ["listset-calls 3\n", 1, 'line 1 must be "listset-calls 1"'],
+  Line: [`${TITLE}call 0 ceiling 5 1 6 at-5\nend\n`, 2, "K BEGIN END REPLY"],
+  Number: [`${TITLE}call 0 add 5 1 9223372036854775808 true\nend\n`, 2, "a moment is not a number"],
+  Opening: [`${TITLE}key 5\nkey 5\nend\n`, 3, "a key that is left above"],
+  History: [`${TITLE}call 0 add 5 7 8 true\ncall 1 add 6 5 9 true\nend\n`, 3, "in the order of their begins"],
+  NotEnded: [`${TITLE}call 0 add 5 1 6 true\n`, 3, "the text must end with"],
 };
 
-// Each cause has its own sentence, that of the version of the text; and no other has one.
+// Each cause has its own sentence, and no other has one.
 function checkFaultsOfCalls(ask) {
-  const faults = ask("listset_faults").text;
-  const tables = [
-    ["recorded calls", inPage("CAUSES_OF_CALLS"), FAULTS_OF_CALLS],
-    ["recorded calls of version 3", inPage("CAUSES_OF_LONG"), FAULTS_OF_LONG],
-  ];
-  for (const [what, table, wanted] of tables) {
-    const words = Object.fromEntries(Object.entries(wanted).map(([cause, [, , own]]) => [cause, own]));
-    const wrong = wrongCauses(table, words, causesTold(faults, what));
-    check(`sentences for the causes in ${what}: ${wrong}`, wrong.length === 0);
-    for (const [cause, [text, line]] of Object.entries(wanted)) {
-      const { kind, says } = saidOf(ask, text);
-      check(`${cause} in ${what}: ${says}`, kind === "fault" && says === `listset: line ${line}: ${cause}: ${table[cause]}.`);
-    }
+  const table = inPage("CAUSES_OF_CALLS");
+  const words = Object.fromEntries(Object.entries(FAULTS_OF_CALLS).map(([cause, [, , own]]) => [cause, own]));
+  const wrong = wrongCauses(table, words, causesTold(ask("listset_faults").text, "recorded calls"));
+  check(`sentences for the causes in recorded calls: ${wrong}`, wrong.length === 0);
+  for (const [cause, [text, line]] of Object.entries(FAULTS_OF_CALLS)) {
+    const { kind, says } = saidOf(ask, text);
+    check(`${cause}: ${says}`, kind === "fault" && says === `listset: line ${line}: ${cause}: ${table[cause]}.`);
   }
-  const quota = saidOf(ask, `${HEAD.replace("quota 4", "quota 0")}${WITH_CEILING}key 5\nend`).says;
-  const isOfAdds = quota.startsWith("listset: line 5: Quota: line 4 ") && quota.includes("no less than the adds of a thread");
-  check(`an add above the quota: ${quota}`, isOfAdds);
 }
 
 // An answer of check or show that is no verdict is shown, and counts as none.
@@ -340,7 +328,8 @@ async function main() {
   checkHistoryLabels(schedules.slice(0, Object.keys(inPage("CLASSICS")).length).map(traceOf));
   checkChips();
   checkRecorded(ask);
-  checkLongRecorded(ask);
+  checkRefusals(ask);
+  checkAnswers();
   checkFaultsOfCalls(ask);
   checkTroubles(ask);
   checkByHand(ask);

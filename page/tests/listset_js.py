@@ -1,6 +1,6 @@
 """Compares page/listset.js, in node, with the program on the same words and input (schedules, also generated ones, and other texts):
 both outputs and the status. Of wrong words the status is the same, nothing is on the output, and the script says what is wrong in one
-line; and of those that the program has alone, by which ./listset builds it.
+line.
 
 The first run of each command with the same options and as many values is a process of its own, and so is each of wrong words. The further
 ones are many in one process of node (one_node.py), since a start of node takes some seven times what a run takes."""
@@ -26,12 +26,10 @@ WRONG = """
     show a b | show --chain | show --svg --svg | show --svg a b | show --svg=yes | show --from | show --from -5 | show --from --
     show --from --to 9 | show --to 1 --to 2 | show --to=1 --to 2 | show --from=1 a b | show --width
     draft a b | draft --svg | draft --from 1 | gen -1 | gen lazy -2 | gen --chain | gen --from 1
-    report a b | report --svg | judge --keys | judge --svg | judge --lacks lock | faults a | faults - | faults --svg | faults -- a | check --lacks lock | example --lacks lock
+    report | judge a b | judge --keys | judge --svg | judge --lacks lock | faults a | faults - | faults --svg | faults -- a | check --lacks lock | example --lacks lock
     replay --lacks | trace --lacks | show --lacks --svg | replay --lacks lock --lacks lock | replay --lacks lock a b"""
 # (the words after -- are values, so those of one value are not wrong)
-OF_THE_PROGRAM = "judge a b | judge - a | judge -- a b | judge --keys 0/4 | judge --keys=0/4 a | judge a --keys 0/4 b"
-NO_ENGINE = 70
-LONG_CALLS = 1_800_000  # of a long recording: more than 64 MiB
+LONG_CALLS = 1_800_000  # of a recording of more than 64 MiB, which other texts may not have
 TAKEN = """
     replay -- | replay no-such-file | check no-such-file | trace no-such-file | trace --chain no-such-file | replay . | check .
     replay - | check -- - | trace --chain - | replay ./- | replay -- -x | trace -- --chain | trace no-such-file --chain
@@ -40,7 +38,7 @@ TAKEN = """
     show --from 3 | show --from=3 --to 9 --width 40 | show - --to 9 --svg | show --from= --to x | show --to=x --from=1
     show --from - . | show --from 0 no-such-file | show --from=9 --to=8 . | show --width 0 | show --width=00 | show --from=-5
     show --from 4294967295 | show --from==3 | draft | draft no-such-file | draft . | draft -- - | faults | faults --
-    report | report no-such-file | report . | report -- - | judge | judge no-such-file | judge . | judge -- - | replay --lacks luck | trace --lacks= --chain | replay --lacks lock
+    judge | judge no-such-file | judge . | judge -- - | replay --lacks luck | trace --lacks= --chain | replay --lacks lock
     show --lacks Lock | show --lacks luck --from x | show --from x --lacks lock no-such-file | replay --lacks lock no-such-file
     gen | gen lazy | gen lazy 2 4 | gen lazy 2 4 9 8 1 | gen -- fine -1 | gen coarse 2 4 9 8 1 more - -- | gen skip 2 4 9 8 1
     gen lazy 2 4 9 8 18446744073709551616 | gen lazy 65 4 9 8 1 | gen - 2"""
@@ -84,19 +82,9 @@ def compared_wrong(program, script, words):
     return None
 
 
-def passed_by(script, words):
-    """A line that tells whether words of the program alone do not end so that ./listset goes on to it."""
-    output, fault, status = said([*script, *words], b"")
-    is_line = fault.count(b"\n") == 1 and fault.startswith(b"listset: ")
-    return None if (output, status) == (b"", NO_ENGINE) and is_line else f"listset.js {' '.join(words)}: {output, fault, status}"
-
-
-def cut_off(script):
-    """A line that tells whether a long recording of more bytes than node reads is judged, in place of a word about that."""
-    text = b"listset-calls 3\n" + b"".join(b"call 0 contains 5 %d %d false\n" % (2 * n + 1, 2 * n + 2) for n in range(LONG_CALLS)) + b"end\n"
-    output, fault, status = said([*script, "judge"], text)
-    is_told = (output, status, fault.count(b"\n")) == (b"", 1, 1) and b"at most 64 MiB" in fault
-    return None if is_told else f"listset.js judge of a long recording: {output, fault, status}"
+def long_recording():
+    calls = (b"call 0 contains 5 %d %d false\n" % (2 * it + 1, 2 * it + 2) for it in range(LONG_CALLS))
+    return b"".join([b"listset-calls 1\n", *calls, b"end\n"])
 
 
 def compared_full(program, script, words):
@@ -156,7 +144,7 @@ def asked(program, names, folder):
     for file in sorted((TOP / "examples" / "schedules" / "lacks").glob("*.schedule")):
         lacks = [str(file), "--lacks", file.stem]
         yield from (([*words, *lacks], b"") for words in (["replay"], ["trace", "--chain"], ["show"], ["show", "--svg"]))
-    for word, files in (("draft", "drafts/*.draft"), ("report", "recorded/*.calls"), ("judge", "recorded/*.calls")):
+    for word, files in (("draft", "drafts/*.draft"), ("judge", "recorded/*.calls")):
         texts = [file.read_bytes() for file in sorted(DATA.glob(files))]
         yield from (([word], text) for text in [*texts, *refused(dice, texts)])
     yield (["example"], b"")
@@ -164,6 +152,7 @@ def asked(program, names, folder):
     yield from ((words, schedules[0]) for words in (["replay", ""], ["gen", ""], ["show", "--to", ""], ["gen", "lazy\n2", "4"]))
     yield (["replay"], b"x" * 67_108_864)
     yield (["replay"], b"x" * 67_108_865)
+    yield (["judge"], long_recording())
 
 
 def in_node(program, script, names, folder):
@@ -174,9 +163,7 @@ def in_node(program, script, names, folder):
 
         found = [*pool.map(lambda it: compared_by(*it), [*with_process(asked(program, names, folder))])]
         found += pool.map(lambda words: compared_wrong(program, script, words), rows(WRONG))
-        found += pool.map(lambda words: passed_by(script, words), rows(OF_THE_PROGRAM))
     written = (["example"], ["example", "snip"], ["faults"])
     found += [test(program, script, words) for words in written for test in (compared_full, compared_closed)]
-    found.append(cut_off(script))
     failed = [line for line in found if line]
     return {"passed": len(found) - len(failed), "failed": failed}

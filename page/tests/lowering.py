@@ -133,7 +133,7 @@ def unknown():
     data = {"passive": b"\1\1x", "by a global": b"\0\x23\1\x0b\1x", "before 0": b"\0\x42\x7f\x0b\1x"}
     data["far"] = b"\0\x42" + leb(1 << 31, True) + b"\x0b\1x"
     found |= {f"data: {name}": module([one], data=it) for name, it in data.items()}
-    sections = {0: [b"name"], 2: [b"\1e\1f\0\0"], 4: [b"\x70\0\1"], 8: [b""], 9: [b"\0\x41\0\x0b\1\0"], 12: [b""], 13: [b"\0\0"]}
+    sections = {0: [b"name"], 2: [b"\1e\1f\2\0\1"], 4: [b"\x70\0\1"], 8: [b""], 9: [b"\0\x41\0\x0b\1\0"], 12: [b""], 13: [b"\0\0"]}
     found |= {f"section {kind}": module([one], more=[(kind, items)]) for kind, items in sections.items()}
     found |= {f"no section {kind}": module([one], more=[(kind, [])]) for kind in lower_wasm.SECTIONS}
     found["section twice"] = module([one]) + section(7)
@@ -176,6 +176,8 @@ def tried(folder, in_node):
     def case(name, made, is_same):
         lowered_modules.append({"name": name, "wide": encoded(whole), "narrow": encoded(made), "runs": [*runs()], "isSame": is_same})
 
+    imported = lower_wasm.lowered(module([FUNCTIONS[0]], more=[(2, [b"\1e\1f\0\0"])]))
+    count("a function of the host", b"\2\7\1\1e\1f\0\0" in imported)
     for name, given in unknown().items():
         count(f"{name} is refused", outcome(lower_wasm, given) is None)
     for end in range(len(whole)):

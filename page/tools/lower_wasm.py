@@ -227,6 +227,17 @@ def lowered_code(content, parameters):
     return b"".join([leb(len(made)), *(leb(len(it)) + it for it in made)])
 
 
+def check_imports(content):
+    """Imports are of functions alone: their numbers stand before those of the module's own, and stay."""
+    imports = Reader(content)
+    for _ in range(imports.number()):
+        imports.take(imports.number())
+        imports.take(imports.number())
+        if imports.byte():
+            raise NotLowered("an import that is no function")
+        imports.number()
+
+
 def with_stack_pointer(content):
     if len(content) < 3 or [*content[1:3]] != [I64, 1]:
         raise NotLowered("a first global that is no stack pointer")
@@ -234,6 +245,7 @@ def with_stack_pointer(content):
 
 
 SECTIONS = TYPES, FUNCTIONS, MEMORY, GLOBALS, EXPORTS, CODE, DATA = 1, 3, 5, 6, 7, 10, 11
+IMPORTS = 2  # a module may have none
 
 
 def lowered(module):
@@ -242,11 +254,13 @@ def lowered(module):
     head = code.take(8)
     while code.is_left():
         kind = code.byte()
-        if kind in sections or kind not in SECTIONS:
+        if kind in sections or kind not in (*SECTIONS, IMPORTS):
             raise NotLowered(f"the section {kind}")
         sections[kind] = code.take(code.number())
     if missing := set(SECTIONS) - sections.keys():
         raise NotLowered(f"no section {min(missing)}")
+    if IMPORTS in sections:
+        check_imports(sections[IMPORTS])
     sections[MEMORY] = lowered_memory(sections[MEMORY])
     sections[GLOBALS] = with_stack_pointer(sections[GLOBALS])
     sections[CODE] = lowered_code(sections[CODE], parameters_of(sections[TYPES], sections[FUNCTIONS]))

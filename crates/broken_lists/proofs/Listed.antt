@@ -4,7 +4,7 @@ use Rattle.std.specs.Prelude.{Contains}
 use Rattle.broken_lists.specs.declared.lists.BrokenList.{BrokenList}
 use Rattle.broken_lists.specs.declared.lists.BrokenList.TheVariants.{Lock, SecondLock, HandOverHand, SecondWalk, SameNode}
 use Rattle.broken_lists.specs.declared.lists.BrokenList.TheVariants.{MarksInValidation, MarkInContains, MarkInCeiling, Mark}
-use Rattle.broken_lists.specs.declared.lists.BrokenList.TheVariants.{MarkInAdd, MarkInRemove, MarkAtKey, NewSlot, LastSlot}
+use Rattle.broken_lists.specs.declared.lists.BrokenList.TheVariants.{MarkInAdd, MarkInRemove, MarkAtKey, NewSlot}
 use Rattle.broken_lists.specs.declared.lists.TheConstants.{ALL}
 
 pub is_listed : (l : BrokenList) → Contains ALL l
@@ -21,4 +21,3 @@ is_listed MarkInAdd = (9, lit< tt, refl)
 is_listed MarkInRemove = (10, lit< tt, refl)
 is_listed MarkAtKey = (11, lit< tt, refl)
 is_listed NewSlot = (12, lit< tt, refl)
-is_listed LastSlot = (13, lit< tt, refl)

@@ -12,7 +12,7 @@ use Rattle.broken_lists.specs.declared.lists.TheConstants.{ALL}
 use Rattle.broken_lists.specs.declared.lists.BrokenList.{BrokenList}
 use Rattle.broken_lists.specs.declared.lists.BrokenList.TheVariants.{Lock, SecondLock, HandOverHand, SecondWalk, SameNode}
 use Rattle.broken_lists.specs.declared.lists.BrokenList.TheVariants.{MarksInValidation, MarkInContains, MarkInCeiling, Mark}
-use Rattle.broken_lists.specs.declared.lists.BrokenList.TheVariants.{MarkInAdd, MarkInRemove, MarkAtKey, NewSlot, LastSlot}
+use Rattle.broken_lists.specs.declared.lists.BrokenList.TheVariants.{MarkInAdd, MarkInRemove, MarkAtKey, NewSlot}
 
 -- the name by which a list is asked for
 abbrev pub name_of : BrokenList → List ℕ
@@ -29,7 +29,6 @@ name_of MarkInAdd = codes "mark-in-add"
 name_of MarkInRemove = codes "mark-in-remove"
 name_of MarkAtKey = codes "mark-at-key"
 name_of NewSlot = codes "new-slot"
-name_of LastSlot = codes "last-slot"
 
 -- the list from which the check was removed
 abbrev pub kind_of : BrokenList → Kind
@@ -46,7 +45,6 @@ kind_of MarkInAdd = LockFree
 kind_of MarkInRemove = LockFree
 kind_of MarkAtKey = LockFree
 kind_of NewSlot = LockFree
-kind_of LastSlot = LockFree
 
 -- its table of steps
 abbrev pub table_of : BrokenList → Table
@@ -63,8 +61,7 @@ table_of MarkInAdd = free.adds_whatever_mark
 table_of MarkInRemove = free.marks_twice
 table_of MarkAtKey = free.contains_by_key
 table_of NewSlot = free.uses_one_slot
-table_of LastSlot = free.full_too_soon
 
 -- the list at a place of ALL
 abbrev pub broken_at : ℕ → BrokenList
-broken_at place = slice_index_or ALL place LastSlot
+broken_at place = slice_index_or ALL place NewSlot

@@ -7,8 +7,8 @@ ghost use Rattle.broken_lists.specs.BrokenSteps.{IsRunnable};
 
 use crate::lists::BrokenList;
 use crate::lists::BrokenList::{
-    HandOverHand, LastSlot, Lock, Mark, MarkAtKey, MarkInAdd, MarkInCeiling, MarkInContains,
-    MarkInRemove, MarksInValidation, NewSlot, SameNode, SecondLock, SecondWalk,
+    HandOverHand, Lock, Mark, MarkAtKey, MarkInAdd, MarkInCeiling, MarkInContains, MarkInRemove,
+    MarksInValidation, NewSlot, SameNode, SecondLock, SecondWalk,
 };
 use crate::{fine, lock_free, optimistic};
 use lset_steps::reads::{begun_reading, continued};
@@ -42,8 +42,7 @@ pub fn begun(broken: BrokenList, call: Call, local: &Local) -> Local
         | MarkInAdd
         | MarkInRemove
         | MarkAtKey
-        | NewSlot
-        | LastSlot => begun_reading(call, local),
+        | NewSlot => begun_reading(call, local),
     }
 }
 
@@ -60,7 +59,7 @@ pub fn next_action<const PLACE: u8>(broken: BrokenList, local: &Local) -> Action
         MarksInValidation | MarkInContains | MarkInCeiling => lset_lazy::next_action(local),
         MarkInAdd => lock_free::next_whatever_mark(local),
         NewSlot => lset_lock_free::next_action(&Local { used: 0, ..*local }),
-        Mark | MarkInRemove | MarkAtKey | LastSlot => lset_lock_free::next_action(local),
+        Mark | MarkInRemove | MarkAtKey => lset_lock_free::next_action(local),
     }
 }
 
@@ -87,7 +86,6 @@ pub fn fed_by<const PLACE: u8>(broken: BrokenList, local: &Local, seen: u64) -> 
         MarkInRemove => lset_lock_free::fed_by(local, without_mark(9, local, seen)),
         MarkAtKey => lset_lock_free::fed_by(local, without_mark(22, local, seen)),
         NewSlot => lset_lock_free::fed_by(local, seen),
-        LastSlot => lock_free::fed_too_soon(local, seen),
     }
 }
 
@@ -109,6 +107,6 @@ pub fn effect_of<const PLACE: u8>(
         MarkInAdd => lock_free::effect_whatever_mark(local, seen),
         MarkInRemove => lset_lock_free::effect_of(local, without_mark(9, local, seen)),
         MarkAtKey => lset_lock_free::effect_of(local, without_mark(22, local, seen)),
-        NewSlot | LastSlot => lset_lock_free::effect_of(local, seen),
+        NewSlot => lset_lock_free::effect_of(local, seen),
     }
 }

@@ -35,12 +35,10 @@ pub enum BrokenList {
     MarkAtKey,
     /// LockFreeList: each `add` takes the first slot of its thread.
     NewSlot,
-    /// LockFreeList: an `add` replies `Full` one slot too soon.
-    LastSlot,
 }
 
 /// All broken lists.
-pub const ALL: [BrokenList; 14] = [
+pub const ALL: [BrokenList; 13] = [
     BrokenList::Lock,
     BrokenList::SecondLock,
     BrokenList::HandOverHand,
@@ -54,7 +52,6 @@ pub const ALL: [BrokenList; 14] = [
     BrokenList::MarkInRemove,
     BrokenList::MarkAtKey,
     BrokenList::NewSlot,
-    BrokenList::LastSlot,
 ];
 
 impl BrokenList {
@@ -76,7 +73,6 @@ impl BrokenList {
             BrokenList::MarkInRemove => "mark-in-remove",
             BrokenList::MarkAtKey => "mark-at-key",
             BrokenList::NewSlot => "new-slot",
-            BrokenList::LastSlot => "last-slot",
         }
     }
 
@@ -95,8 +91,7 @@ impl BrokenList {
             | BrokenList::MarkInAdd
             | BrokenList::MarkInRemove
             | BrokenList::MarkAtKey
-            | BrokenList::NewSlot
-            | BrokenList::LastSlot => Kind::LockFree,
+            | BrokenList::NewSlot => Kind::LockFree,
         }
     }
 }
@@ -149,6 +144,5 @@ pub fn on_broken<T: Task + Drop>(broken: BrokenList, task: T) -> T::Out
         BrokenList::MarkInRemove => task.run::<Broken<10>>(),
         BrokenList::MarkAtKey => task.run::<Broken<11>>(),
         BrokenList::NewSlot => task.run::<Broken<12>>(),
-        BrokenList::LastSlot => task.run::<Broken<13>>(),
     }
 }

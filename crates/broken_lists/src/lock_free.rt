@@ -1,7 +1,7 @@
-//! LockFreeList with an exchange that ignores a mark, without marks, and with a quota that is kept too soon.
+//! LockFreeList with an exchange that ignores a mark, and without marks.
 
 ghost use Rattle.std.specs.Prelude.{◌≡◌, ◌+◌, ◌*◌, ◌<◌, ◌^◌};
-ghost use Rattle.broken_tables.specs.BrokenLockFree.{effect_whatever_mark, effect_without_mark, fed_too_soon, fed_whatever_mark};
+ghost use Rattle.broken_tables.specs.BrokenLockFree.{effect_whatever_mark, effect_without_mark, fed_whatever_mark};
 ghost use Rattle.broken_tables.specs.BrokenLockFree.{fed_without_mark, next_whatever_mark};
 ghost use Rattle.broken_lists.specs.BrokenSteps.{IsRunnable};
 
@@ -96,24 +96,5 @@ pub fn effect_without_mark(local: &Local, seen: u64) -> Option<(Key, bool)>
         10 if seen == 2 * local.curr => Some((local.call.key(), false)),
         10 => None,
         _ => effect_of(local, seen),
-    }
-}
-
-/// Without the last slot: an `add` decides as if its thread had used one more slot.
-pub fn fed_too_soon(local: &Local, seen: u64) -> Fed
-    requires { IsRunnable local.now }
-    ensures { result ≡ fed_too_soon local.now seen }
-{
-    if local.pc != 4 || local.used == local.quota {
-        return fed_by(local, seen);
-    }
-    let used = local.used + 1;
-    let fed = fed_by(&Local { used, ..*local }, seen);
-    Fed {
-        local: Local {
-            used: local.used,
-            ..fed.local
-        },
-        ..fed
     }
 }

@@ -43,7 +43,7 @@ fn broken_at(place: u8) -> BrokenList
 {
     ALL.get(place as usize)
         .copied()
-        .unwrap_or(BrokenList::LastSlot)
+        .unwrap_or(BrokenList::NewSlot)
 }
 
 impl<const PLACE: u8> BrokenMachine for Broken<PLACE> {

@@ -1,6 +1,4 @@
--- LockFreeList with exchanges that compare too little, without marks, with slots that are used twice, and with a quota that is
--- kept
--- too soon.
+-- LockFreeList with exchanges that compare too little, without marks, and with slots that are used twice.
 use Rattle.std.specs.Prelude.{ℕ, ◌+◌, ◌*◌, ◌/◌, ◌%◌, ◌++◌, Bool, true, false, Option, Some, None, if◌then◌else◌, ◌==◌}
 use Rattle.lset_words.specs.declared.Key.{Key}
 use Rattle.lset_words.specs.declared.Reply.TheVariants.{True}
@@ -113,17 +111,3 @@ added_after_a_remove = record {
   quota = 2;
   events = begin 0 (add 3) ++ go 0 6 ++ begin 0 (remove 3) ++ go 0 6 ++ begin 0 (add 5) ++ go 0 4;
 }
-
--- FULL TOO SOON: an add decides (4) as if its thread had used one more slot.
-abbrev pub with_used : ℕ → Fed → Fed
-with_used used fed = record fed { local = record fed.local { used = used } }
-
-abbrev pub fed_too_soon : Local → ℕ → Fed
-fed_too_soon l seen = if l.pc == 4 then with_used l.used (fed_by (record l { used = l.used + 1 }) seen) else fed_by l seen
-
-abbrev pub full_too_soon : Table
-full_too_soon = record lock_free { feed = fed_too_soon }
-
--- A thread with one free slot puts 5 in.
-abbrev pub one_add : Schedule
-one_add = record { threads = 1; quota = 1; events = begin 0 (add 5) ++ go 0 3 }

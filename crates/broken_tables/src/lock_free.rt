@@ -1,5 +1,5 @@
 //! LockFreeList: why a remove marks, why its exchange compares the mark and that of an add does too, why a `contains`
-//! looks at the mark, why a slot is used once, and why an add is not full too soon.
+//! looks at the mark, and why a slot is used once.
 
 ghost use Rattle.lset_steps.specs.Promises.{NamedChange, UnlinkedNodesStay};
 ghost use Rattle.broken_tables.specs.Schedules.{add, contains};
@@ -9,16 +9,14 @@ ghost use Rattle.broken_tables.specs.BrokenLockFree.{
   adds_whatever_mark,
   asked_after_the_mark,
   contains_by_key,
-  full_too_soon,
   marked_before_the_exchange,
   marks_twice,
-  one_add,
   removes_without_mark,
   two_removes,
   unlinked_before_the_exchange,
   uses_one_slot,
 };
-ghost use Rattle.lset_words.specs.declared.Reply.TheVariants.{True, Full};
+ghost use Rattle.lset_words.specs.declared.Reply.TheVariants.{True};
 
 /// A `remove` that unlinks its node and does not mark it first: an `add` that has found the node before links its own node
 /// behind it, since the link is as it was. The key is lost. (Harris, whose marks are there for this.)
@@ -61,11 +59,4 @@ pub fn contains_by_the_key_alone()
 pub fn slot_used_twice()
     ensures changes { PublishedKeyChanges uses_one_slot added_after_a_remove 18 2 }
     ensures unlinked_stays { Breaks uses_one_slot UnlinkedNodesStay }
-{}
-
-/// An `add` that replies `Full` one slot too soon: its thread has a free slot at each moment of the call.
-///
-/// `threads 1 | quota 1 | begin 0 add 5 | go 0 3`
-pub fn full_before_the_quota()
-    ensures { AnswersUnfit full_too_soon one_add 3 0 (add 5) Full }
 {}

@@ -1,7 +1,7 @@
 -- The words that the program takes: its commands and their values, as a simple command of clap, whose
 -- definitions say which values the words give.
 use Rattle.std.specs.Prelude.{◌≡◌, Result, IfOk, List, [], map, codes, Bool, true, false, ◌||◌, Option, Some, None, option_map, unwrap_or, slice_get}
-use Rattle.std.specs.Prelude.{string_bytes, if◌then◌else◌, option_and_then, length, nat_lt}
+use Rattle.std.specs.Prelude.{string_bytes, if◌then◌else◌, option_and_then}
 use Rattle.std.specs.List.{flat_map}
 use Rattle.std.specs.Option.{option_map_or}
 use Rattle.std.specs.Str.{bytes_eq}
@@ -14,7 +14,7 @@ use Rattle.clap.specs.declared.Arg.{Arg}
 use Rattle.clap.specs.declared.Command as clap
 use Rattle.clap.specs.declared.Command.TheViews.{out-Command}
 use Rattle.lset_command.specs.declared.command_line.Command.{Command}
-use Rattle.lset_command.specs.declared.command_line.Command.TheVariants.{Replay, Judge, Report, Check, Show, Trace, Draft, Example}
+use Rattle.lset_command.specs.declared.command_line.Command.TheVariants.{Replay, Judge, Check, Show, Trace, Draft, Example}
 use Rattle.lset_command.specs.declared.command_line.Command.TheVariants.{Gen, Run, Serve, Faults}
 use Rattle.lset_command.specs.declared.command_line.Options.{Options}
 use Rattle.lset_command.specs.declared.command_line.Words.{Words}
@@ -27,23 +27,9 @@ flag_rule name = record (new_rule name) { long = Some name; action = Some SetTru
 abbrev pub option_rule : Text → Rule
 option_rule name = record (new_rule name) { long = Some name; value_names = 1 }
 
--- `report [FILE]`, `check [FILE]` and `draft [FILE]`
+-- `judge [FILE]`, `check [FILE]` and `draft [FILE]`
 abbrev pub file_app : Text → App
 file_app name = with_rule (new_app name) (new_rule (codes "FILE"))
-
--- any number of values, also none
-abbrev pub any_number : Rule → Rule
-any_number rule = record rule { range = Some (record { start_inclusive = 0; end_inclusive = usize_max }) }
-
--- `judge [--keys I/N] [FILE]..`
-abbrev pub files_rule : Rule
-files_rule = any_number (new_rule (codes "FILE"))
-
-abbrev pub files_app : Text → App
-files_app name = with_rule (new_app name) files_rule
-
-abbrev pub judge_app : App
-judge_app = with_rule (files_app (codes "judge")) (option_rule (codes "keys"))
 
 -- `replay [--lacks NAME] [FILE]`
 abbrev pub replay_app : App
@@ -69,7 +55,7 @@ example_app = with_rule (with_rule (new_app (codes "example")) (new_rule (codes 
 
 -- any number of further arguments, past the last that is looked at
 abbrev pub rule_past_the_last : Rule
-rule_past_the_last = any_number (new_rule (codes "MORE"))
+rule_past_the_last = record (new_rule (codes "MORE")) { range = Some (record { start_inclusive = 0; end_inclusive = usize_max }) }
 
 -- the values that `gen` and `run` share: KIND THREADS QUOTA CALLS KEYS SEED
 abbrev pub six_values : Text → App
@@ -108,10 +94,9 @@ listset =
     with_subcommand (with_subcommand (with_subcommand (with_subcommand (with_subcommand
     (with_subcommand (with_subcommand
     (with_subcommand (with_subcommand (with_subcommand
-    (with_subcommand (with_subcommand (on_top (λ s. record s { no_binary_name = true; has_version = true }) (new_app (codes "listset")))
+    (with_subcommand (on_top (λ s. record s { no_binary_name = true; has_version = true }) (new_app (codes "listset")))
     replay_app.top)
-    judge_app.top)
-    (file_app (codes "report")).top)
+    (file_app (codes "judge")).top)
     (file_app (codes "check")).top)
     show_app.top)
     trace_app.top)
@@ -151,7 +136,7 @@ MakesWithSubcommand old sub new = (a b : App) → Makes old a → Makes sub b �
 abbrev pub is_option : Text → Bool
 is_option name = bytes_eq name (codes "svg") || (bytes_eq name (codes "from") || (bytes_eq name (codes "to")
     || (bytes_eq name (codes "width") || (bytes_eq name (codes "chain") || (bytes_eq name (codes "broken")
-    || (bytes_eq name (codes "lacks") || bytes_eq name (codes "keys")))))))
+    || bytes_eq name (codes "lacks"))))))
 
 -- the values of a name among the rows that a parse found
 abbrev pub values_by : Text → List Row → List Text
@@ -174,7 +159,6 @@ pub record OptionValues : Type 0 where
   pub chain : Bool
   pub broken : Bool
   pub lacks : Option Text
-  pub keys : Option Text
 
 abbrev pub options_in : List Row → OptionValues
 options_in rows = record {
@@ -185,14 +169,12 @@ options_in rows = record {
   chain = is_on (codes "chain") rows;
   broken = is_on (codes "broken") rows;
   lacks = first_of (codes "lacks") rows;
-  keys = first_of (codes "keys") rows;
 }
 
 -- the command of a name; a parse of the program's words finds the names of `listset` alone
 unfoldable pub command_named : Text → Command
 command_named name =
     if bytes_eq name (codes "judge") then Judge
-    else (if bytes_eq name (codes "report") then Report
     else (if bytes_eq name (codes "check") then Check
     else (if bytes_eq name (codes "show") then Show
     else (if bytes_eq name (codes "trace") then Trace
@@ -202,7 +184,7 @@ command_named name =
     else (if bytes_eq name (codes "run") then Run
     else (if bytes_eq name (codes "serve") then Serve
     else (if bytes_eq name (codes "faults") then Faults
-    else Replay))))))))))
+    else Replay)))))))))
 
 -- a command with its values, its flags and its options
 pub record Choice : Type 0 where
@@ -226,7 +208,6 @@ options_of o = record {
   chain = o.chain;
   broken = o.broken;
   lacks = option_map string_bytes o.lacks;
-  keys = option_map string_bytes o.keys;
 }
 
 abbrev pub choice_in : Words → Choice
@@ -253,15 +234,3 @@ path_in word = if bytes_eq word (codes "-") then None else Some word
 
 abbrev pub path_of : Choice → Option Text
 path_of choice = option_and_then path_in (file_of choice)
-
--- the values, if they are several
-abbrev pub several : List Text → Option (List Text)
-several values = if nat_lt 1 (length values) then Some values else None
-
--- the files of `judge`, if they are several: parts of one recording, in order
-abbrev pub parts_by : Command → List Text → Option (List Text)
-parts_by Judge values = several values
-parts_by command values = None
-
-abbrev pub parts_of : Choice → Option (List Text)
-parts_of choice = parts_by choice.command choice.values

@@ -3,7 +3,7 @@ ghost use Rattle.clap.specs.Words.{FailsBy, app_of, fault_of, found_of, kind_of,
 ghost use Rattle.clap.specs.Walk.{first_of, texts};
 ghost use Rattle.clap.specs.declared.error.kind.ErrorKind.TheVariants.{OutOfMemory};
 ghost use Rattle.lset_command.specs.CommandLine.{choice_in, choice_of, command_named, file_app, file_of, first_value, path_of, six_values, serve_app};
-ghost use Rattle.lset_command.specs.CommandLine.{example_app, files_app, files_rule, flag_rule, gen_app, judge_app, option_rule, parts_of, run_app, several, show_app, trace_app};
+ghost use Rattle.lset_command.specs.CommandLine.{example_app, flag_rule, gen_app, option_rule, run_app, show_app, trace_app};
 ghost use Rattle.lset_command.specs.CommandLine.{IsApp, Makes, MakesWithArg, MakesWithSubcommand, MakesWithValue, is_on, is_option, listset, replay_app, options_in, options_of, rule_past_the_last, values_by, values_in};
 
 use clap::error::ErrorKind;
@@ -26,11 +26,9 @@ pub enum Command {
     Replay,
     /// Judges recorded calls.
     Judge,
-    /// Makes a report of calls.
-    Report,
     /// Checks the order of a report.
     Check,
-    /// Draws a schedule, a report or recorded calls.
+    /// Draws a schedule or a report.
     Show,
     /// Prints what each step of a schedule did.
     Trace,
@@ -66,8 +64,6 @@ pub struct Options {
     pub broken: bool,
     /// The name of the broken list by which `replay`, `show` and `trace` run the schedule.
     pub lacks: Option<String>,
-    /// The keys whose calls `judge` judges.
-    pub keys: Option<String>,
 }
 
 /// A command, with its arguments in order as they were given, its flags and its options.
@@ -86,16 +82,15 @@ impl Words {
         Some(self.values.first()?.as_str())
     }
 
-    /// Returns the argument FILE of the command, if it was given: the first argument of `replay`, `judge`, `report`,
-    /// `check`, `show`, `trace` and `draft`, which read standard input without it, and the sixth of `serve`, which reads
-    /// nothing without it. The other commands read nothing, and have none.
+    /// Returns the argument FILE of the command, if it was given: the first argument of `replay`, `judge`, `check`,
+    /// `show`, `trace` and `draft`, which read standard input without it, and the sixth of `serve`, which reads nothing
+    /// without it. The other commands read nothing, and have none.
     pub fn file(&self) -> Option<&str>
         ensures { option_map (λ path. path.now) result ≡ file_of (choice_in self.now) }
     {
         match self.command {
             Command::Replay
             | Command::Judge
-            | Command::Report
             | Command::Check
             | Command::Show
             | Command::Trace
@@ -112,27 +107,6 @@ impl Words {
     {
         let word = self.file()?;
         if word == "-" { None } else { Some(word) }
-    }
-
-    /// Returns the paths of the files of `judge`, if they are several: the parts of one recording, in order. There `-` is a
-    /// path too.
-    pub fn parts(&self) -> Option<&[String]>
-        ensures { option_map (λ paths. map string_bytes paths.now) result ≡ parts_of (choice_in self.now) }
-    {
-        match self.command {
-            Command::Judge => self.several_values(),
-            _ => None,
-        }
-    }
-
-    fn several_values(&self) -> Option<&[String]>
-        ensures { option_map (λ paths. map string_bytes paths.now) result ≡ several (map string_bytes self.now.values.items) }
-    {
-        if self.values.len() > 1 {
-            Some(&self.values)
-        } else {
-            None
-        }
     }
 }
 
@@ -174,16 +148,8 @@ fn lacks_option<'a>(alloc: Global) -> Arg<'a>
         alloc,
         "lacks",
         "NAME",
-        "Run a broken list, with one check removed: lock (coarse), second-lock, hand-over-hand (fine), second-walk, same-node (optimistic), marks-in-validation, mark-in-contains, mark-in-ceiling (lazy), mark, mark-in-add, mark-in-remove, mark-at-key, new-slot, last-slot (lock-free)",
+        "Run a broken list, with one check removed: lock (coarse), second-lock, hand-over-hand (fine), second-walk, same-node (optimistic), marks-in-validation, mark-in-contains, mark-in-ceiling (lazy), mark, mark-in-add, mark-in-remove, mark-at-key, new-slot (lock-free)",
     )
-}
-
-// Any number of files, also none.
-fn files<'a>(alloc: Global, help: &'a str) -> Arg<'a>
-    ensures rule { rule_of result ≡ files_rule }
-    ensures local { result.global ≡ false }
-{
-    Arg::new(alloc, "FILE").num_args(..).help(help)
 }
 
 // Any number of values past the last, of which help says nothing.
@@ -248,8 +214,8 @@ fn show_command<'a>(alloc: Global) -> Result<clap::Command<'a>, AllocError>
     let command = file_command(
         alloc,
         "show",
-        "Draw a schedule, a report or recorded calls: a bar for each call, with the point at which it takes effect",
-        "Schedule, report or calls file; standard input if - or missing",
+        "Draw a schedule or a report: a bar for each call, with the point at which it takes effect",
+        "Schedule or report file; standard input if - or missing",
         "If an event of the schedule is not enabled, the picture ends before it, the last line names it, and the exit status is 1. With --lacks only that line is printed.\n\nExample: listset example read-in-anothers-step | listset show --from 9 --to 38",
     );
     let command = and_arg(command, flag(alloc, "svg", "Draw an SVG instead of text"));
@@ -460,46 +426,15 @@ fn replay_command<'a>(alloc: Global) -> Result<clap::Command<'a>, AllocError>
     and_arg(command, lacks_option(alloc))
 }
 
-fn judge_files<'a>(alloc: Global) -> Result<clap::Command<'a>, AllocError>
-    ensures { Makes result (files_app (codes "judge")) }
-{
-    clap::Command::new(alloc, "judge")
-        .about(
-            "Judge recorded calls of a set: ok if an order explains them and the keys left, else not linearizable",
-        )
-        .after_help(
-            "Points are needed only if a call is a ceiling or answered full. Several files are the parts of one recording: each opens with the keys that the one before left, and has a clock of its own. A file whose first line is listset-calls 1 may be of any length, and is judged as it is read. Exit status 0 for ok, 1 for not linearizable.\n\nExample: listset judge a.calls",
-        )
-        .arg(files(
-            alloc,
-            "File of recorded calls; standard input if - or missing",
-        ))
-}
-
 fn judge_command<'a>(alloc: Global) -> Result<clap::Command<'a>, AllocError>
-    ensures { Makes result judge_app }
-{
-    let command = judge_files(alloc);
-    and_arg(
-        command,
-        value_option(
-            alloc,
-            "keys",
-            "KEYS",
-            "I/N, as 0/4: judge only the calls of keys whose remainder by N is I. The whole is ok if each I below N is",
-        ),
-    )
-}
-
-fn report_command<'a>(alloc: Global) -> Result<clap::Command<'a>, AllocError>
-    ensures { Makes result (file_app (codes "report")) }
+    ensures { Makes result (file_app (codes "judge")) }
 {
     file_command(
         alloc,
-        "report",
-        "Turn recorded calls into a report: ordered by their points, or by an order that explains them",
+        "judge",
+        "Judge recorded calls of a set: ok if an order explains them and the keys left, else not linearizable",
         "File of recorded calls; standard input if - or missing",
-        "Example: listset report a.calls | listset check",
+        "A recording is judged as it is read, and may be of any length. Of one that is not linearizable the calls that show it are printed. Exit status 0 for ok, 1 for not linearizable.\n\nExample: listset judge a.calls",
     )
 }
 
@@ -534,7 +469,6 @@ fn program_command<'a>(alloc: Global, faults_help: &'a str) -> Result<clap::Comm
         .bin_name("listset");
     let program = and_subcommand(program, replay_command(alloc));
     let program = and_subcommand(program, judge_command(alloc));
-    let program = and_subcommand(program, report_command(alloc));
     let program = and_subcommand(program, check_command(alloc));
     let program = and_subcommand(program, show_command(alloc));
     let program = and_subcommand(program, trace_command(alloc));
@@ -557,7 +491,6 @@ fn is_option(name: &str) -> bool
         || name == "chain"
         || name == "broken"
         || name == "lacks"
-        || name == "keys"
 }
 
 // Adds the texts that `found` has by the name, if it is that of values. There may be none.
@@ -627,7 +560,6 @@ fn options_of(alloc: Global, found: &ArgMatches<'_>) -> Result<Options, AllocErr
         chain: is_on(found, "chain"),
         broken: is_on(found, "broken"),
         lacks: option_text(alloc, found, "lacks")?,
-        keys: option_text(alloc, found, "keys")?,
     })
 }
 
@@ -643,7 +575,6 @@ fn no_options() -> Options
         chain: false,
         broken: false,
         lacks: None,
-        keys: None,
     }
 }
 
@@ -654,7 +585,6 @@ fn command_named(name: &str) -> Command
 {
     match name {
         "judge" => Command::Judge,
-        "report" => Command::Report,
         "check" => Command::Check,
         "show" => Command::Show,
         "trace" => Command::Trace,

@@ -1,6 +1,6 @@
 -- What is kept goes on from line to line.
-use Rattle.std.proofs.Common.{◌≡◌, ℕ, ◌+◌, ◌-◌, ◌<◌, ◌^◌, true, false, List, [], ◌∷◌, ◌++◌, length, min, Option, Some, None, refl, sym, ap, subst, ◌∙◌}
-use Rattle.std.proofs.Common.{arith, length-append}
+use Rattle.std.proofs.Common.{◌≡◌, ℕ, ◌+◌, ◌-◌, ◌<◌, ◌^◌, true, List, [], ◌∷◌, ◌++◌, length, min, Option, Some, None, refl, sym, ap, subst, ◌∙◌}
+use Rattle.std.proofs.Common.{arith}
 use Rattle.std.specs.Prelude.{nat_lt, slice_get}
 use Rattle.std.proofs.lemmas.Bool.{ltb-true}
 use Rattle.std.proofs.lemmas.List.{get_or_push, length_push}
@@ -9,15 +9,14 @@ use Rattle.lset_words.specs.declared.history.CallRecord.{CallRecord}
 use Rattle.lset_text.specs.Openings.{above_last, is_above}
 use Rattle.lset_text.proofs.OpeningLaws.{rises_more}
 use Rattle.lset_judge.specs.declared.judging.Judge.{Judge}
-use Rattle.lset_judge.specs.Stream.{behind_all, record_of}
+use Rattle.lset_judge.specs.Stream.{behind_all}
 use Rattle.lset_recording.specs.declared.kept.Judging.{Judging}
-use Rattle.lset_recording.specs.declared.lines.Line.{Line}
 use Rattle.lset_recording.specs.declared.lines.Line.TheVariants as told
 use Rattle.lset_recording.specs.declared.lines.Section.{Section}
 use Rattle.lset_recording.specs.declared.lines.Section.TheVariants as part
 use Rattle.lset_recording.specs.Texts.{Recording}
-use Rattle.lset_recording.specs.Reading.{SoFar, Comes, is_done, with_told}
-use Rattle.lset_recording.specs.Kept.{AreKeys, IsFirst, IsJudging, IsKept, IsJudgeKept, count_if, lines_of}
+use Rattle.lset_recording.specs.Reading.{SoFar, Comes}
+use Rattle.lset_recording.specs.Kept.{AreKeys, IsFirst, IsJudging, IsKept, IsJudgeKept}
 
 -- ---- one key more
 
@@ -41,6 +40,7 @@ keys_more keys key are above low =
 -- ---- one line more
 
 first_none : (s : Section) (k : ℕ) (o : Option Judge) → Comes s (told.Opening k) → IsFirst s o → o ≡ None
+first_none part.Title k o comes first = absurd comes
 first_none part.Opening k o comes first = first
 first_none part.Calls k o comes first = absurd comes
 first_none part.Keys k o comes first = absurd comes
@@ -72,23 +72,7 @@ key_parts c k j kept low added =
     let above : is_above c.keys k ≡ true = subst (λ (o : List ℕ). is_above o k ≡ true) kept.keys added in
     (above, keys_more c.keys k kept.left above low)
 
--- ---- the number of the next line
-
-still_open : (s : Section) (l : Line) → Comes s l → is_done s ≡ false
-still_open part.Opening l comes = refl
-still_open part.Calls l comes = refl
-still_open part.Keys l comes = refl
-still_open part.Done l comes = absurd comes
-
-lines_more : (s : SoFar) (l : Line) → Comes s.section l → lines_of (with_told s l) ≡ lines_of s + 1
-lines_more s l comes = by l (ap count_if (still_open s.section l comes))
-  where
-    by : (l : Line) → count_if (is_done s.section) ≡ 0 → lines_of (with_told s l) ≡ lines_of s + 1
-    by (told.Opening k) still = omega (arith, still, length-append s.told.opening (k ∷ []))
-    by (told.Call x) still = omega (arith, still, length_push s.told.calls (record_of x))
-    by (told.Key k) still = omega (arith, still, length-append s.told.keys (k ∷ []))
-    by told.End still = omega (arith, still)
-    by told.Cut still = omega (arith, still)
+-- ---- how many calls there are
 
 few_calls : (opening : List ℕ) (calls : List CallRecord) (o : Option Judge) → IsJudgeKept opening calls o → length calls < behind_all
 few_calls opening calls None kept = let n = ap length kept in omega (arith, n)

@@ -1,8 +1,9 @@
 -- What the kinds of lines make.
-use Rattle.std.proofs.Common.{◌≡◌, ℕ, ◌<◌, ◌≤◌, ◌^◌, Bool, true, false, Result, length, List, [], ◌∷◌, Option, Some, None, Ok, Err, refl, arith, codes, cond}
+use Rattle.std.proofs.Common.{◌≡◌, subst, ℕ, ◌<◌, ◌≤◌, ◌^◌, Bool, true, false, Result, length, List, [], ◌∷◌, Option, Some, None, Ok, Err, refl, arith, codes, cond}
 use Rattle.std.specs.Prelude.{IfSome, nat_lt}
 use Rattle.std.specs.Fmt.{decimal}
 use Rattle.std.specs.List.{AllByRecursion}
+use Rattle.std.specs.Str.{bytes_eq}
 use Rattle.lset_words.specs.declared.Call.{Call}
 use Rattle.lset_words.specs.declared.Reply.{Reply}
 use Rattle.lset_words.specs.declared.Reply.TheVariants as reply
@@ -15,6 +16,7 @@ use Rattle.lset_text.specs.Forms.{Told}
 use Rattle.lset_text.specs.Kinds.{LineKind, line_in}
 use Rattle.lset_text.specs.Spellings.{call_word_text, word_of, with_key, HasWord}
 use Rattle.lset_text.proofs.KindLaws.{Knows, line_found}
+use Rattle.lset_text.proofs.WordLaws.{same_bytes}
 use Rattle.lset_judge.specs.declared.stream.StreamCall.{StreamCall}
 use Rattle.lset_judge.specs.declared.stream.TheConstants.{LAST_MOMENT}
 use Rattle.lset_judge.specs.Verdict.{is_plain, is_truth}
@@ -25,12 +27,13 @@ use Rattle.lset_recording.specs.declared.lines.Line.TheVariants as told
 use Rattle.lset_recording.specs.declared.lines.Section.{Section}
 use Rattle.lset_recording.specs.declared.lines.Section.TheVariants as section
 use Rattle.lset_recording.specs.declared.lines.TheConstants.{LONGEST_LINE}
-use Rattle.lset_recording.specs.Texts.{end_pieces, call_pieces}
+use Rattle.lset_recording.specs.Texts.{end_pieces, call_pieces, title}
 use Rattle.lset_recording.specs.Reading.{causes, kinds, from_calls, opening_kind, open_kind, true_kind, false_kind, key_kind, end_kind, cut_kind}
-use Rattle.lset_recording.specs.Reading.{Comes, IsFormed, line_told}
+use Rattle.lset_recording.specs.Reading.{Comes, IsFormed, line_told, line_behind_title}
 
 -- the pieces of a line
 abbrev pub line_pieces : Line → List (List ℕ)
+line_pieces told.Title = title ∷ []
 line_pieces (told.Opening k) = codes "opening" ∷ decimal k ∷ []
 line_pieces (told.Call x) = call_pieces (record_of x)
 line_pieces (told.Key k) = codes "key" ∷ decimal k ∷ []
@@ -49,6 +52,7 @@ pub record IsNumbered (x : StreamCall) : Type 0 where
   pub end : IfSome x.ended (λ (e : ℕ × Reply). IsMoment e.0 × (is_plain x.call e.1 ≡ true))
 
 abbrev pub IsLine : Line → Type 0
+IsLine told.Title = Unit {0}
 IsLine (told.Opening k) = k < 2 ^ 32
 IsLine (told.Call x) = IsNumbered x
 IsLine (told.Key k) = k < 2 ^ 32
@@ -128,9 +132,14 @@ calls_in s each = (
   ),
 )
 
+called_in : (l : Line) → Comes section.Calls l → Comes section.Opening l
+called_in told.Title comes = comes
+called_in l comes = tt
+
 pub kinds_known : (s : Section) → AllByRecursion (Knows One line_pieces (IsLineIn s)) (kinds s)
+kinds_known section.Title = tt
 kinds_known section.Opening =
-    (known_in section.Opening opening_kind opening_known (λ t. tt), calls_in section.Opening (λ l comes. tt))
+    (known_in section.Opening opening_kind opening_known (λ t. tt), calls_in section.Opening called_in)
 kinds_known section.Calls = calls_in section.Calls (λ l comes. comes)
 kinds_known section.Keys = (
   known_in section.Keys key_kind key_known (λ t. tt),
@@ -144,14 +153,30 @@ short_line : {A E : Type 0} (b : Bool) (e : E) (r : Result A E) (x : A) → cond
 short_line true e r x is = absurd cc
 short_line false e r x is = is
 
-pub line_found_in : (s : Section) (line : List ℕ) (l : Line) → line_told s line ≡ Ok l
+behind_title : (s : Section) (line : List ℕ) (l : Line) → line_behind_title s line ≡ Ok l
     → (line ≡ line_of (line_pieces l)) × IsLine l × Comes s l
-line_found_in s line l is =
+behind_title s line l is =
     let f = line_found One causes line_pieces (IsLineIn s) (kinds s) line l (kinds_known s)
     (short_line (nat_lt LONGEST_LINE (length line)) wrong.Line (line_in One causes (kinds s) line) l is) in
     (f.0, f.1.0, f.1.1)
 
+titled : (b : Bool) (line : List ℕ) (l : Line) → bytes_eq line title ≡ b → cond b (Ok told.Title) (Err wrong.Header) ≡ Ok l
+    → (line ≡ line_of (line_pieces l)) × IsLine l × Comes section.Title l
+titled true line l same is =
+    let first : told.Title ≡ l = cc in
+    subst (λ (m : Line). (line ≡ line_of (line_pieces m)) × IsLine m × Comes section.Title m) first (same_bytes line title same, tt, tt)
+titled false line l same is = absurd cc
+
+pub line_found_in : (s : Section) (line : List ℕ) (l : Line) → line_told s line ≡ Ok l
+    → (line ≡ line_of (line_pieces l)) × IsLine l × Comes s l
+line_found_in section.Title line l is = titled (bytes_eq line title) line l refl is
+line_found_in section.Opening line l is = behind_title section.Opening line l is
+line_found_in section.Calls line l is = behind_title section.Calls line l is
+line_found_in section.Keys line l is = behind_title section.Keys line l is
+line_found_in section.Done line l is = behind_title section.Done line l is
+
 pub is_formed : (l : Line) → IsLine l → IsFormed l
+is_formed told.Title is = tt
 is_formed (told.Opening k) is = is
 is_formed (told.Call x) is = (
   is.thread,

@@ -14,6 +14,7 @@ use Rattle.lset_recording.specs.Reading.{causes, call_kinds, kinds, takes_calls,
 
 many_pieces : (s : Section) (a b c : List ℕ) (more : List (List ℕ)) → first_of One causes (kinds s) (a ∷ b ∷ c ∷ more)
     ≡ cond (takes_calls s) (first_of One causes call_kinds (a ∷ b ∷ c ∷ more)) (Err wrong.Line)
+many_pieces section.Title a b c more = refl
 many_pieces section.Opening a b c more = refl
 many_pieces section.Calls a b c more = refl
 many_pieces section.Keys a b c more = refl

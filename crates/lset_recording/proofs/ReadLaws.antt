@@ -2,6 +2,7 @@
 use Rattle.std.proofs.Common.{◌≡◌, ◌≢◌, ℕ, zero, suc, ◌+◌, ◌<◌, inl, inr, Bool, true, false, eqb, List, [], ◌∷◌, ◌++◌, length, refl, sym, ap, subst, ◌∙◌}
 use Rattle.std.proofs.Common.{append_assoc, append-nil, arith, length-append, Result, Ok, Err, take, drop, get_or, take-append-drop, add-one, cond}
 use Rattle.std.specs.Prelude.{◌==◌, IfOk, IfErr, Option, Some, None}
+use Rattle.std.specs.Str.{bytes_eq}
 use Rattle.std.proofs.Math.Seq.{take-suc}
 use Rattle.std.proofs.lemmas.Bool.{ne_eqb, lt-ltb}
 use Rattle.std.proofs.lemmas.List.Elements.{All-cons, All-nil}
@@ -12,14 +13,19 @@ use Rattle.lset_text.specs.Parts.{cut_at, Lacks}
 use Rattle.lset_text.specs.Kinds.{line_in}
 use Rattle.lset_text.specs.declared.words.Version.TheVariants.{One}
 use Rattle.lset_text.proofs.PartLaws.{some_part, Lacks-append}
+use Rattle.lset_text.proofs.WordLaws.{same_bytes}
 use Rattle.lset_recording.specs.declared.fault.RecordingCause.{RecordingCause}
 use Rattle.lset_recording.specs.declared.fault.RecordingCause.TheVariants as wrong
 use Rattle.lset_recording.specs.declared.fault.RecordingFault.{RecordingFault}
+use Rattle.lset_recording.specs.declared.lines.Line.{Line}
+use Rattle.lset_recording.specs.declared.lines.Line.TheVariants as told
+use Rattle.lset_recording.specs.declared.lines.Section.{Section}
+use Rattle.lset_recording.specs.declared.lines.Section.TheVariants as part
 use Rattle.lset_recording.specs.declared.lines.TheConstants.{LONGEST_LINE}
 use Rattle.lset_recording.specs.declared.reader.RecordingReader.{RecordingReader}
 use Rattle.lset_recording.specs.declared.judging.RecordingAnswer.{RecordingAnswer}
-use Rattle.lset_recording.specs.Texts.{Recording}
-use Rattle.lset_recording.specs.Reading.{SoFar, IsTaken, IsRefused, Reads, Says, ending, fault, first_line, kinds, causes}
+use Rattle.lset_recording.specs.Texts.{Recording, title}
+use Rattle.lset_recording.specs.Reading.{SoFar, IsTaken, IsRefused, Reads, Says, cause_if_long, ending, fault, first_line, kinds, causes, line_behind_title, line_told}
 use Rattle.lset_recording.specs.Kept.{IsAnswered, IsJudging, IsHeld, IsLineOf, IsRead, IsRefusedAt, newlines}
 
 -- ---- one whole line
@@ -38,10 +44,23 @@ reads_last n s line [] cause some refused = absurd (omega arith)
 reads_last n s line (y ∷ ys) cause some refused = inr (cause, refused, refl)
 
 -- a line of too many bytes
-pub too_long : (s : SoFar) (line : List ℕ) → LONGEST_LINE < length line → IsRefused s line wrong.Line
-too_long s line many =
-    let test = lt-ltb LONGEST_LINE (length line) many in
-    inl (ap (λ (b : Bool). cond b (Err wrong.Line) (line_in One causes (kinds s.section) line)) test)
+pub too_long : (s : SoFar) (line : List ℕ) → LONGEST_LINE < length line → IsRefused s line (cause_if_long s.section)
+too_long s line many = inl (by s.section)
+  where
+    behind : (p : Section) → line_behind_title p line ≡ Err wrong.Line
+    behind p = ap (λ (b : Bool). cond b (Err wrong.Line) (line_in One causes (kinds p) line)) (lt-ltb LONGEST_LINE (length line) many)
+
+    untitled : (b : Bool) → bytes_eq line title ≡ b
+        → ◌≡◌ {A = Result Line RecordingCause} (cond b (Ok told.Title) (Err wrong.Header)) (Err wrong.Header)
+    untitled true same = let long = ap length (same_bytes line title same) in absurd (omega (arith, long, many))
+    untitled false same = refl
+
+    by : (p : Section) → line_told p line ≡ Err (cause_if_long p)
+    by part.Title = untitled (bytes_eq line title) refl
+    by part.Opening = behind part.Opening
+    by part.Calls = behind part.Calls
+    by part.Keys = behind part.Keys
+    by part.Done = behind part.Done
 
 -- ---- newlines
 

@@ -1,5 +1,5 @@
 -- What a reader of a recording keeps of the bytes so far.
-use Rattle.std.specs.Prelude.{◌≡◌, ◌≢◌, ℕ, ◌+◌, ◌<◌, ◌≤◌, ◌^◌, ◌⊎◌, Bool, true, false, List, [], ◌++◌, length, Option, Some, None, Contains, ◌==◌, count_by}
+use Rattle.std.specs.Prelude.{◌≡◌, ◌≢◌, ℕ, ◌+◌, ◌<◌, ◌≤◌, ◌^◌, ◌⊎◌, Bool, true, false, List, [], ◌++◌, length, Option, Some, None, Contains, ◌==◌, not, count_by}
 use Rattle.std.specs.Prelude.{Result, Err}
 use Rattle.std.specs.List.Sorted.{IsStrictlyIncreasing}
 use Rattle.lset_words.specs.declared.history.CallRecord.{CallRecord}
@@ -17,7 +17,7 @@ use Rattle.lset_recording.specs.declared.kept.Judging.{Judging}
 use Rattle.lset_recording.specs.declared.judging.RecordingAnswer.{RecordingAnswer}
 use Rattle.lset_recording.specs.declared.reader.RecordingReader.{RecordingReader}
 use Rattle.lset_recording.specs.Texts.{Recording, IsRecording, all_threads}
-use Rattle.lset_recording.specs.Reading.{SoFar, Reads, Says, first_line, is_done, IsVerdictOnRecording}
+use Rattle.lset_recording.specs.Reading.{SoFar, Reads, Says, first_line, is_done, is_title, IsVerdictOnRecording}
 
 -- it is the begin of the last call, or 0 if there is none
 abbrev pub IsLatest : List CallRecord → ℕ → Type 0
@@ -41,7 +41,7 @@ count_if false = 0
 
 -- how many lines have said so much
 abbrev pub lines_of : SoFar → ℕ
-lines_of s = length s.told.opening + length s.told.calls + length s.told.keys + count_if (is_done s.section)
+lines_of s = count_if (not (is_title s.section)) + length s.told.opening + length s.told.calls + length s.told.keys + count_if (is_done s.section)
 
 -- what the lines so far say is kept
 pub record IsKept (c : Recording) (j : Judging) : Type 0 where
@@ -55,6 +55,7 @@ pub record IsKept (c : Recording) (j : Judging) : Type 0 where
 
 -- there is no judge before the first line behind the opening keys
 abbrev pub IsFirst : Section → Option Judge → Type 0
+IsFirst part.Title judge = judge ≡ None
 IsFirst part.Opening judge = judge ≡ None
 IsFirst part.Calls judge = Unit {0}
 IsFirst part.Keys judge = Unit {0}

@@ -1,6 +1,7 @@
--- READING a recording, line by line: what its lines say, or the first fault. The first line, the title, has been read.
+-- READING a recording, line by line: what its lines say, or the first fault.
 use Rattle.std.specs.Prelude.{◌≡◌, ℕ, ◌+◌, ◌<◌, ◌^◌, nat_lt, Bool, true, false, List, [], ◌∷◌, ◌++◌, length, codes, Option, Some, None, ◌⊎◌, IfSome}
 use Rattle.std.specs.Prelude.{Result, Ok, Err, if◌then◌else◌}
+use Rattle.std.specs.Str.{bytes_eq}
 use Rattle.lset_words.specs.declared.Reply.{Reply}
 use Rattle.lset_words.specs.declared.Reply.TheVariants as reply
 use Rattle.lset_words.specs.History.{MayFollow}
@@ -27,7 +28,7 @@ use Rattle.lset_recording.specs.declared.lines.Line.TheVariants as told
 use Rattle.lset_recording.specs.declared.lines.Section.{Section}
 use Rattle.lset_recording.specs.declared.lines.Section.TheVariants as section
 use Rattle.lset_recording.specs.declared.lines.TheConstants.{LONGEST_LINE}
-use Rattle.lset_recording.specs.Texts.{Recording, all_threads, dash, text_after_title}
+use Rattle.lset_recording.specs.Texts.{Recording, all_threads, dash, recording_text, title}
 
 abbrev pub fault : ℕ → RecordingCause → RecordingFault
 fault line cause = record { line = line; cause = cause }
@@ -89,20 +90,41 @@ call_kinds = open_kind ∷ true_kind ∷ false_kind ∷ []
 abbrev pub from_calls : List (LineKind RecordingLine)
 from_calls = call_kinds ++ cut_kind ∷ from_keys
 
--- THE LINES THAT MAY COME in a text that has come to a section
+-- THE LINES THAT MAY COME behind the title, in a text that has come to a section
 abbrev pub kinds : Section → List (LineKind RecordingLine)
+kinds section.Title = []
 kinds section.Opening = opening_kind ∷ from_calls
 kinds section.Calls = from_calls
 kinds section.Keys = from_keys
 kinds section.Done = []
 
--- what a line says, in a text that has come to a section; a line of too many bytes says nothing
+abbrev pub is_title : Section → Bool
+is_title section.Title = true
+is_title section.Opening = false
+is_title section.Calls = false
+is_title section.Keys = false
+is_title section.Done = false
+
+-- what the first line says
+abbrev pub title_told : List ℕ → Result RecordingLine RecordingCause
+title_told line = if bytes_eq line title then Ok told.Title else Err wrong.Header
+
+-- what any other line says; one of too many bytes says nothing
+abbrev pub line_behind_title : Section → List ℕ → Result RecordingLine RecordingCause
+line_behind_title s line = if nat_lt LONGEST_LINE (length line) then Err wrong.Line else line_in One causes (kinds s) line
+
+-- WHAT A LINE SAYS, in a text that has come to a section
 abbrev pub line_told : Section → List ℕ → Result RecordingLine RecordingCause
-line_told s line = if nat_lt LONGEST_LINE (length line) then Err wrong.Line else line_in One causes (kinds s) line
+line_told s line = if is_title s then title_told line else line_behind_title s line
+
+-- the cause if it has too many bytes
+abbrev pub cause_if_long : Section → RecordingCause
+cause_if_long s = if is_title s then wrong.Header else wrong.Line
 
 -- ---- a line after those above it
 
 abbrev pub section_after : RecordingLine → Section
+section_after told.Title = section.Opening
 section_after (told.Opening k) = section.Opening
 section_after (told.Call x) = section.Calls
 section_after (told.Key k) = section.Keys
@@ -110,6 +132,7 @@ section_after told.End = section.Done
 section_after told.Cut = section.Done
 
 abbrev pub with_line : Recording → RecordingLine → Recording
+with_line c told.Title = c
 with_line c (told.Opening k) = record c { opening = c.opening ++ k ∷ [] }
 with_line c (told.Call x) = record c { calls = c.calls ++ record_of x ∷ [] }
 with_line c (told.Key k) = record c { keys = c.keys ++ k ∷ [] }
@@ -126,12 +149,13 @@ with_told s l = record { section = section_after l; told = with_line s.told l }
 
 abbrev pub nothing_told : SoFar
 nothing_told = record {
-  section = section.Opening;
+  section = section.Title;
   told = record { opening = []; calls = []; keys = []; cut_off = false };
 }
 
 -- a line goes on with those above it: keys rise, and calls are a history in the order of their begins
 abbrev pub GoesOn : Recording → RecordingLine → Type 0
+GoesOn c told.Title = Unit {0}
 GoesOn c (told.Opening k) = is_above c.opening k ≡ true
 GoesOn c (told.Call x) = MayFollow all_threads c.calls (record_of x)
 GoesOn c (told.Key k) = is_above c.keys k ≡ true
@@ -145,6 +169,7 @@ cause_of l = wrong.Opening
 
 -- numbers are those of their kinds: a call has its moments before the one behind all, and ended with true or false if it ended
 abbrev pub IsFormed : RecordingLine → Type 0
+IsFormed told.Title = Unit {0}
 IsFormed (told.Opening k) = k < 2 ^ 32
 IsFormed (told.Call x) = (x.thread < all_threads) × IsBefore (record_of x)
     × IfSome x.ended (λ (end : ℕ × Reply). is_plain x.call end.1 ≡ true)
@@ -154,7 +179,11 @@ IsFormed told.Cut = Unit {0}
 
 -- which lines may come in a section
 abbrev pub Comes : Section → RecordingLine → Type 0
+Comes section.Title told.Title = Unit {0}
+Comes section.Title l = ⊥
+Comes section.Opening told.Title = ⊥
 Comes section.Opening l = Unit {0}
+Comes section.Calls told.Title = ⊥
 Comes section.Calls (told.Opening k) = ⊥
 Comes section.Calls l = Unit {0}
 Comes section.Keys (told.Key k) = Unit {0}
@@ -175,14 +204,19 @@ IsRefused s line cause = (line_told s.section line ≡ Err cause)
 
 -- a text ends after the line `end` or `cut`
 abbrev pub is_done : Section → Bool
+is_done section.Title = false
 is_done section.Opening = false
 is_done section.Calls = false
 is_done section.Keys = false
 is_done section.Done = true
 
+-- the cause if the text has no further byte
+abbrev pub cause_at_end : Section → RecordingCause
+cause_at_end s = if is_title s then wrong.Header else wrong.NotEnded
+
 -- what the end of a text makes of the bytes behind its last newline
 abbrev pub ending : ℕ → SoFar → List ℕ → Result Recording RecordingFault
-ending line s [] = if is_done s.section then Ok s.told else Err (fault line wrong.NotEnded)
+ending line s [] = if is_done s.section then Ok s.told else Err (fault line (cause_at_end s.section))
 ending line s (b ∷ bs) = Err (fault line wrong.NotEnded)
 
 -- WHAT THE PARTS OF A TEXT SAY, its whole lines and then what comes after the last newline, from a line and from what the lines above
@@ -194,17 +228,17 @@ Reads line s (x ∷ y ∷ more) read =
     ((next : SoFar) × IsTaken s x next × Reads (line + 1) next (y ∷ more) read)
     ⊎ ((cause : RecordingCause) × IsRefused s x cause × (read ≡ Err (fault line cause)))
 
--- the first line after the title
+-- the number of the first line
 abbrev pub first_line : ℕ
-first_line = 2
+first_line = 1
 
--- WHAT THE BYTES AFTER THE TITLE SAY: a recording, or the first fault
+-- WHAT BYTES SAY: a recording, or the first fault
 abbrev pub Says : List ℕ → Result Recording RecordingFault → Type 0
 Says bytes read = Reads first_line nothing_told (cut_at 10 bytes) read
 
 -- if bytes say a recording, they are its text
 abbrev pub RecordingsAreRead : Type 0
-RecordingsAreRead = (bytes : List ℕ) (c : Recording) → Says bytes (Ok c) → bytes ≡ text_after_title c
+RecordingsAreRead = (bytes : List ℕ) (c : Recording) → Says bytes (Ok c) → bytes ≡ recording_text c
 
 -- of the calls and the keys left, or of calls whose recording was cut off
 abbrev pub IsVerdictIf : Bool → Recording → Verdict → Type 0
@@ -218,12 +252,14 @@ IsVerdictOnRecording c verdict = IsVerdictIf c.cut_off c verdict
 -- ---- which lines may come in a section
 
 abbrev pub takes_opening : Section → Bool
+takes_opening section.Title = false
 takes_opening section.Opening = true
 takes_opening section.Calls = false
 takes_opening section.Keys = false
 takes_opening section.Done = false
 
 abbrev pub takes_calls : Section → Bool
+takes_calls section.Title = false
 takes_calls section.Opening = true
 takes_calls section.Calls = true
 takes_calls section.Keys = false
@@ -231,6 +267,7 @@ takes_calls section.Done = false
 
 -- keys, or the end
 abbrev pub takes_keys : Section → Bool
+takes_keys section.Title = false
 takes_keys section.Opening = true
 takes_keys section.Calls = true
 takes_keys section.Keys = true

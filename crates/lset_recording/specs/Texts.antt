@@ -35,14 +35,9 @@ pub record IsRecording (c : Recording) : Type 0 where
 
 -- ---- its text
 
+-- the first line
 abbrev pub title : List ℕ
 title = codes "listset-calls 1"
-
--- the first line, with its newline
-abbrev pub title_line : List ℕ
-title_line = title ++ 10 ∷ []
-
--- ---- its lines after the title
 
 -- what is not there
 abbrev pub dash : List ℕ
@@ -67,8 +62,8 @@ abbrev pub end_line : Bool → List ℕ
 end_line cut_off = if cut_off then codes "cut" else codes "end"
 
 abbrev pub lines : Recording → List (List ℕ)
-lines c = opening_lines c.opening ++ map call_line c.calls ++ map key_line c.keys ++ end_line c.cut_off ∷ []
+lines c = title ∷ opening_lines c.opening ++ map call_line c.calls ++ map key_line c.keys ++ end_line c.cut_off ∷ []
 
--- [Recording text]: the bytes after the title
-abbrev pub text_after_title : Recording → List ℕ
-text_after_title c = text_of (lines c)
+-- [Recording text]: its lines, each with a newline
+abbrev pub recording_text : Recording → List ℕ
+recording_text c = text_of (lines c)

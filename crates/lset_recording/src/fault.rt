@@ -8,7 +8,7 @@ use thiserror::Error;
 /// What is wrong with a line of a recording.
 #[derive(Clone, Copy, Debug, PartialEq, Eq)]
 pub enum RecordingCause {
-    /// The first line is not `listset-calls 1`.
+    /// The first line is not `listset-calls 1`, or the text has no byte.
     Header,
     /// The line has not the pieces and the words of a line that may come there, or it has more than 128 bytes.
     Line,
@@ -19,7 +19,7 @@ pub enum RecordingCause {
     /// The call does not end after its begin, does not begin after each call above, has a moment of a call above, or is of a thread
     /// that has a call above pending.
     History,
-    /// The line has bytes and no newline, or the text has no byte left before the line `end` or `cut`.
+    /// The line has bytes and no newline, or behind the first line the text has no byte left before the line `end` or `cut`.
     NotEnded,
     /// There was no memory for what stands up to and with this line.
     Memory,

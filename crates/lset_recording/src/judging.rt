@@ -7,7 +7,7 @@ ghost use Rattle.lset_words.specs.History.{MayFollow};
 ghost use Rattle.lset_text.specs.Openings.{is_above};
 ghost use Rattle.lset_judge.specs.Stream.{record_of};
 ghost use Rattle.lset_recording.specs.Texts.{IsRecording, Recording, all_threads};
-ghost use Rattle.lset_recording.specs.Reading.{Comes, GoesOn, IsFormed, IsTaken, IsRefused, IsVerdictOnRecording, SoFar, cause_of, ending, is_done, nothing_told, section_after, with_line, with_told};
+ghost use Rattle.lset_recording.specs.Reading.{Comes, GoesOn, IsFormed, IsTaken, IsRefused, IsVerdictOnRecording, SoFar, cause_at_end, cause_if_long, cause_of, ending, is_done, nothing_told, section_after, with_line, with_told};
 ghost use Rattle.lset_recording.specs.Kept.{IsAnswered, IsFirst, IsJudging, IsKept, IsJudgeKept};
 
 use crate::fault::{RecordingCause, RecordingFault};
@@ -17,8 +17,8 @@ use lset_judge::{Judge, Overlaps, StreamCall, StreamFault, Verdict};
 use lset_text::is_above;
 use std::alloc::{AllocError, Global};
 
-/// The first line after the title.
-const FIRST_LINE: u64 = 2;
+/// The number of the first line, the title.
+const FIRST_LINE: u64 = 1;
 
 /// What `RecordingReader::finish` returns about a recording.
 #[derive(Debug, Drop)]
@@ -103,7 +103,7 @@ impl Judging {
     {
         Judging {
             alloc,
-            section: Section::Opening,
+            section: Section::Title,
             opening: Vec::new(alloc),
             judge: None,
             overlaps: Overlaps::new(alloc),
@@ -143,7 +143,7 @@ impl Judging {
             Line::Opening(key) => add_key(&mut self.opening, key),
             Line::Call(call) => self.keep_call(call),
             Line::Key(key) => add_key(&mut self.keys, key),
-            Line::End => Ok(()),
+            Line::Title | Line::End => Ok(()),
             Line::Cut => {
                 self.cut_off = true;
                 Ok(())
@@ -184,6 +184,30 @@ impl Judging {
         self.put(line)
     }
 
+    /// What is wrong with a line of too many bytes.
+    pub(crate) fn cause_if_long(&self) -> RecordingCause
+        ensures { result ≡ cause_if_long self.now.section }
+    {
+        match self.section {
+            Section::Title => RecordingCause::Header,
+            Section::Opening | Section::Calls | Section::Keys | Section::Done => {
+                RecordingCause::Line
+            }
+        }
+    }
+
+    /// What is wrong if the text has no further byte.
+    fn cause_at_end(&self) -> RecordingCause
+        ensures { result ≡ cause_at_end self.now.section }
+    {
+        match self.section {
+            Section::Title => RecordingCause::Header,
+            Section::Opening | Section::Calls | Section::Keys | Section::Done => {
+                RecordingCause::NotEnded
+            }
+        }
+    }
+
     fn is_done(&self) -> bool
         ensures { result ≡ is_done self.now.section }
     {
@@ -212,7 +236,7 @@ impl Judging {
         let (number, calls, cut_off) = (self.number, self.calls, self.cut_off);
         let overlapped = self.overlaps.count();
         if !self.is_done() {
-            return Err(RecordingFault::at(number, RecordingCause::NotEnded));
+            return Err(RecordingFault::at(number, self.cause_at_end()));
         }
         match self.verdict() {
             Ok(verdict) => Ok(RecordingAnswer {

@@ -1,5 +1,5 @@
-//! Long recordings of a set: the text `listset-calls 1`, read line by line and judged as it comes. Nothing is kept of a call that has
-//! ended but the state of its key, so memory does not grow with the length of the text. (This project's own format.)
+//! Recordings of a set: the text `listset-calls 1`, read line by line and judged as it comes. Of the calls of a key those are kept that
+//! began since no change of it was pending, so memory does not grow with the length of the text. (This project's own format.)
 #![tactic(auto)]
 
 mod fault;

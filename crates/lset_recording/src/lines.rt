@@ -11,10 +11,12 @@ ghost use Rattle.lset_recording.specs.Reading.{
   call_kinds,
   kinds,
   line_told,
+  title_told,
   section_after,
   takes_opening,
   takes_calls,
   takes_keys,
+  is_title,
 };
 
 use crate::fault::RecordingCause;
@@ -26,18 +28,23 @@ use lset_words::{Key, Reply};
 /// The most bytes of a line, without its newline.
 pub const LONGEST_LINE: usize = 128;
 
+/// The first line, without its newline.
+const TITLE: &[u8] = b"listset-calls 1";
+
 /// Which part a text has come to.
 #[derive(Clone, Copy)]
 pub enum Section {
+    Title,
     Opening,
     Calls,
     Keys,
     Done,
 }
 
-/// A line after the title: an opening key, a call, a key, the end, or where the recording was cut off.
+/// A line: the title, an opening key, a call, a key, the end, or where the recording was cut off.
 #[derive(Clone, Copy)]
 pub enum Line {
+    Title,
     Opening(u32),
     Call(StreamCall),
     Key(u32),
@@ -51,7 +58,7 @@ impl Line {
         ensures { result ≡ section_after self }
     {
         match self {
-            Line::Opening(_) => Section::Opening,
+            Line::Title | Line::Opening(_) => Section::Opening,
             Line::Call(_) => Section::Calls,
             Line::Key(_) => Section::Keys,
             Line::End | Line::Cut => Section::Done,
@@ -60,6 +67,12 @@ impl Line {
 }
 
 impl Section {
+    fn is_title(self) -> bool
+        ensures { result ≡ is_title self }
+    {
+        matches!(self, Section::Title)
+    }
+
     fn takes_opening(self) -> bool
         ensures { result ≡ takes_opening self }
     {
@@ -75,7 +88,7 @@ impl Section {
     fn takes_keys(self) -> bool
         ensures { result ≡ takes_keys self }
     {
-        !matches!(self, Section::Done)
+        !matches!(self, Section::Title | Section::Done)
     }
 }
 
@@ -250,10 +263,24 @@ fn line_in(section: Section, line: &[u8]) -> Result<Line, RecordingCause>
     call(second, rest)
 }
 
+/// What the first line says.
+fn title_told(line: &[u8]) -> Result<Line, RecordingCause>
+    ensures { result ≡ title_told line.now }
+{
+    if line == TITLE {
+        Ok(Line::Title)
+    } else {
+        Err(RecordingCause::Header)
+    }
+}
+
 /// What a line says in a text that has come to a section.
 pub fn line_told(section: Section, line: &[u8]) -> Result<Line, RecordingCause>
     ensures { result ≡ line_told section line.now }
 {
+    if section.is_title() {
+        return title_told(line);
+    }
     if line.len() > LONGEST_LINE {
         return Err(RecordingCause::Line);
     }

@@ -10,9 +10,9 @@ use crate::lines::LONGEST_LINE;
 use arrayvec::ArrayVec;
 use std::alloc::Global;
 
-/// A reader of a recording. It takes the bytes after the first line, `listset-calls 1`, in pieces of any length, and judges the calls
-/// as they come. It keeps the keys, the pending calls, and at most `LONGEST_LINE` bytes of a line, so memory does not grow with the number
-/// of calls. (This project's own.)
+/// A reader of a recording. It takes the bytes of the text, of which the first line is `listset-calls 1`, in pieces of any length, and judges
+/// the calls as they come. It keeps the keys, the calls that are pending, of each key the calls that began since no change of it was pending,
+/// and at most `LONGEST_LINE` bytes of a line, so memory does not grow with the number of calls. (This project's own.)
 #[derive(Drop)]
 pub struct RecordingReader {
     judging: Judging,
@@ -49,7 +49,7 @@ impl RecordingReader {
         ensures line { IfErr result (λ fault. fault.line ≡ self.old.judging.number) }
     {
         if self.is_long {
-            return Err(self.fault(RecordingCause::Line));
+            return Err(self.fault(self.judging.cause_if_long()));
         }
         match self.judging.read_line(self.line.as_slice()) {
             Ok(()) => {
@@ -152,7 +152,7 @@ impl RecordingReader {
     }
 }
 
-/// The bytes that say a recording, after its first line, are the one text of it.
+/// The bytes that say a recording are the one text of it.
 pub fn recordings_are_read()
     ensures { RecordingsAreRead }
 {}

@@ -10,7 +10,7 @@ pub use lset_optimistic::OptimisticList;
 pub use lset_rule::{Pause, Spin};
 pub use lset_server::{Device, EndReason, Ended, Sink, Source, buffered_session, session};
 pub use lset_steps::Machine;
-pub use lset_words::{Call, Key, MOST_OPENING, MOST_QUOTA, MOST_THREADS, Reply};
+pub use lset_words::{Call, Key, Kind, MOST_OPENING, MOST_QUOTA, MOST_THREADS, Reply};
 pub use lset_work::{Always, Gate};
 pub use std::alloc::Global;
 pub use std::io::{self, Read, Write};

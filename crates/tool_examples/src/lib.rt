@@ -6,5 +6,5 @@ mod example;
 mod texts;
 mod tool;
 
-pub use example::{ALL, Example, named, names_are_distinct};
+pub use example::{ALL, Example, named};
 pub use tool::{exampled, exampled_by, tool_example};

@@ -1,71 +1,48 @@
--- What is made of a text whose calls were read.
-use Rattle.std.proofs.Common.{◌≡◌, false, ℕ, ◌⊎◌, inl, inr, List, Ok, Err, sym, subst, ap, ◌∙◌}
-use Rattle.std.specs.Prelude.{Result, IfOk, IfErr}
-use Rattle.lset_history.specs.History.{HistoryValue}
-use Rattle.lset_calls.specs.declared.fault.CallsFault.{CallsFault}
-use Rattle.lset_calls.specs.Calls.{CallsValue, AreCalls}
-use Rattle.lset_calls.specs.Texts.{calls_text}
-use Rattle.lset_calls.specs.Histories.{IsHistoryOf}
-use Rattle.lset_calls.specs.Reading.{reading}
-use Rattle.lset_judge.specs.declared.verdict.Refusal.{Refusal}
-use Rattle.lset_judge.specs.declared.verdict.Verdict.{Verdict}
-use Rattle.lset_judge.specs.declared.verdict.Verdict.TheVariants.{NotLinearizable, Undecided}
-use Rattle.lset_judge.specs.Verdict.{IsVerdictWithoutQuota}
-use Rattle.tool_base.specs.declared.answer.Answer.{Answer}
+-- What is made of the bytes of an input.
+use Rattle.std.proofs.Common.{◌≡◌, ◌≢◌, ℕ, inl, inr, List, ◌++◌, Ok, Err, Option, Some, None, sym, subst}
+use Rattle.std.specs.Prelude.{IfSome}
+use Rattle.std.specs.Io.KnownBytes.{Consumes}
+use Rattle.lset_recording.specs.declared.fault.RecordingCause.{RecordingCause}
+use Rattle.lset_recording.specs.declared.fault.RecordingCause.TheVariants as wrong
+use Rattle.lset_recording.specs.declared.fault.RecordingFault.{RecordingFault}
+use Rattle.lset_recording.specs.declared.judging.RecordingAnswer.{RecordingAnswer}
+use Rattle.lset_recording.specs.Reading.{Says, fault}
+use Rattle.lset_recording.specs.Texts.{Recording}
+use Rattle.lset_recording.specs.Kept.{IsAnswered}
+use Rattle.lset_recording.proofs.TextFound.{text_found}
 use Rattle.tool_base.specs.declared.trouble.Trouble.{Trouble}
-use Rattle.tool_base.specs.declared.trouble.Trouble.TheVariants.{Memory}
-use Rattle.tool_base.specs.Tools.{AnswerValue, IsTaken, IsInputTrouble, view}
-use Rattle.tool_judge.specs.Judging.{AreKeysOf, IsAnswerOn, IsJudgedAs, IsRefusedAnswer, IsAnswerByPoints, IsFaultOfJudged, IsFirstFaultOfJudged, Judges}
+use Rattle.tool_base.specs.Tools.{AnswerValue}
+use Rattle.tool_base.specs.Trouble.{of_recording, of_recording_line}
+use Rattle.tool_judge.specs.Judging.{IsAnswerTo, Judges}
 
--- a trouble with its calls is one with the text
-pub refused : (bytes : List ℕ) (c : CallsValue) (t : Trouble) → IsTaken bytes → reading bytes ≡ Ok c
-    → (t ≡ Memory) ⊎ IsFaultOfJudged c t → Judges bytes (Err t)
-refused bytes c t taken e (inl m) = inl (subst (λ x. IsInputTrouble bytes x) (sym m) tt)
-refused bytes c t taken e (inr f) = inr (taken, subst (λ r. IsFirstFaultOfJudged r t) (sym e) f)
+-- a fault as a trouble
+pub of_fault : (bytes : List ℕ) (e : RecordingFault) (t : Trouble) → t ≡ of_recording e → (e.cause ≢ wrong.Memory → Says bytes (Err e))
+    → Judges bytes (Err t)
+of_fault bytes e t is says = by e.line e.cause is says
+  where
+    by : (line : ℕ) (cause : RecordingCause) → t ≡ of_recording_line line cause
+        → (cause ≢ wrong.Memory → Says bytes (Err (fault line cause))) → Judges bytes (Err t)
+    by line wrong.Memory is says = inr (inl is)
+    by line cause is says = inr (inr (fault line cause, says (λ bad. absurd cc), is))
 
-calls_in : CallsValue → Result CallsValue CallsFault → CallsValue
-calls_in c (Ok d) = d
-calls_in c (Err e) = c
-
--- a text that is read twice tells the same calls
-pub read_twice : (bytes : List ℕ) (c d : CallsValue) → reading bytes ≡ Ok c → reading bytes ≡ Ok d → c ≡ d
-unfolding calls_in
-read_twice bytes c d e f = ap (calls_in c) (sym e ∙ f)
-
--- what the points answer, if the judge does not decide
-pub by_points : (bytes : List ℕ) (c d : CallsValue) (h : HistoryValue) (left : List ℕ) (r : Result Answer Trouble)
-    → IsTaken bytes → AreCalls c → bytes ≡ calls_text c → reading bytes ≡ Ok c → reading bytes ≡ Ok d
-    → IsJudgedAs c h left Undecided → IfOk (view r) (IsAnswerByPoints d left)
-    → IfErr r (λ t. (t ≡ Memory) ⊎ IsFaultOfJudged d t) → Judges bytes (view r)
-by_points bytes c d h left (Ok a) taken are text e f judged answer trouble =
-    let value : AnswerValue = record { text = a.text.items; status = a.status } in (
-      taken,
-      c,
-      are,
-      text,
-      inl (
-        h,
-        left,
-        Undecided,
-        judged,
-        subst (λ z. IsAnswerByPoints z left value) (sym (read_twice bytes c d e f)) answer,
-      ),
-    )
-by_points bytes c d h left (Err t) taken are text e f judged answer trouble = refused bytes d t taken f trouble
-
--- what is answered if no order explains the calls
-pub refused_whole : (c : CallsValue) (h : HistoryValue) (lines left before after : List ℕ) (verdict : Verdict) (refusal : Refusal) (a : AnswerValue)
-    → c.cut_off ≡ false → IsHistoryOf c h → lines ≡ c.keys → AreKeysOf lines left → before ≡ left → IsVerdictWithoutQuota h before verdict
-    → verdict ≡ NotLinearizable refusal → after ≡ left → IsRefusedAnswer h after refusal a → IsAnswerOn c a
-refused_whole c h lines left before after verdict refusal a whole told keys are judged said is given answer = inl (
-  h,
-  left,
-  NotLinearizable refusal,
+-- the answer on what the bytes say
+pub answered : (bytes : List ℕ) (c : Recording) (said : RecordingAnswer) (a : AnswerValue) → Says bytes (Ok c) → IsAnswered c said
+    → IsAnswerTo said.verdict said.calls a → Judges bytes (Ok a)
+answered bytes c said a says is made = (
+  c,
+  says,
+  text_found bytes c says,
   record {
-    whole = whole;
-    history_is = told;
-    left_is = subst (λ ks. AreKeysOf ks left) keys are;
-    verdict_is = subst (λ v. IsVerdictWithoutQuota h left v) is (subst (λ ks. IsVerdictWithoutQuota h ks verdict) judged said);
+    recording = is.recording;
+    verdict = said.verdict;
+    verdict_is = is.verdict;
+    answer_is = subst (λ (n : ℕ). IsAnswerTo said.verdict n a) is.calls made;
   },
-  subst (λ ks. IsRefusedAnswer h ks refusal a) given answer,
 )
+
+-- of an input of which these bytes were read
+pub if_read : (all rest : Option (List ℕ)) (bytes : List ℕ) (P : List ℕ → Type 0) → Consumes all rest bytes
+    → ((more : List ℕ) → P (bytes ++ more)) → IfSome all P
+if_read None rest bytes P read each = tt
+if_read (Some xs) None bytes P read each = absurd read
+if_read (Some xs) (Some ys) bytes P read each = subst P (sym read) (each ys)

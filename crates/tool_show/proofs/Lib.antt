@@ -1,4 +1,3 @@
 pub mod InBars
 pub mod RunPictures
 mod Troubles
-mod CallsDrawn

@@ -14,16 +14,8 @@ use Rattle.lset_report.specs.ReportReading as reports
 use Rattle.tool_base.specs.declared.answer.Answer.{Answer}
 use Rattle.tool_base.specs.declared.trouble.Trouble.{Trouble}
 use Rattle.tool_base.specs.declared.trouble.Trouble.TheVariants.{CannotRead, Memory}
-use Rattle.tool_base.specs.Trouble.{of_schedule_line, of_report_line, of_calls_line, of_clash}
+use Rattle.tool_base.specs.Trouble.{of_schedule_line, of_report_line}
 use Rattle.tool_base.specs.Checking as checking
-use Rattle.lset_calls.specs.declared.fault.CallsCause.{CallsCause}
-use Rattle.lset_calls.specs.declared.fault.CallsCause.TheVariants as calls
-use Rattle.lset_calls.specs.declared.fault.CallsFault.{CallsFault}
-use Rattle.lset_calls.specs.declared.fault.ClashFault.{ClashFault}
-use Rattle.lset_calls.specs.declared.fault.ClashFault.TheVariants as clash
-use Rattle.lset_calls.specs.Calls.{CallsValue}
-use Rattle.lset_calls.specs.Reading as recorded
-use Rattle.tool_judge.specs.Judging as judging
 use Rattle.tool_drawing.specs.declared.picture.Window.{Window}
 use Rattle.tool_show.specs.Showing.{IsWrong, IsScheduleFault}
 
@@ -51,24 +43,10 @@ in_a_report : (r : Result ReportValue ReportFault) (t : Trouble) → checking.Is
 in_a_report (Err fault) t e = ap count_of e ∙ of_a_report fault.line fault.cause
 in_a_report (Ok r) t f = absurd f
 
-of_recorded : (number : ℕ) (cause : CallsCause) → count_of (of_calls_line number cause) ≡ 1
-of_recorded number calls.Memory = refl
-of_recorded number cause = refl
-
-of_a_clash : (fault : ClashFault) → count_of (of_clash fault) ≡ 1
-of_a_clash clash.Memory = refl
-of_a_clash fault = refl
-
-in_calls : (r : Result CallsValue CallsFault) (t : Trouble) → judging.IsFirstFault r t → count_of t ≡ 1
-in_calls (Err fault) t e = ap count_of e ∙ of_recorded fault.line fault.cause
-in_calls (Ok c) t (inl (fault, is, refused)) = ap count_of is ∙ of_a_clash fault
-in_calls (Ok c) t (inr (fault, is, lacking, unrefuted)) = ap count_of is ∙ of_recorded fault.line fault.cause
-
 in_a_text : (window : Window) (bytes : List ℕ) (t : Trouble) → (t ≡ Memory) ⊎ IsWrong window bytes t → count_of t ≡ 1
 in_a_text window bytes t (inl e) = ap count_of e
 in_a_text window bytes t (inr (inl (inl f))) = in_a_report (reports.reading bytes) t f.1
-in_a_text window bytes t (inr (inl (inr (inl f)))) = in_calls (recorded.reading bytes) t f.1
-in_a_text window bytes t (inr (inl (inr (inr f)))) = in_a_schedule (schedules.reading bytes) t f.2
+in_a_text window bytes t (inr (inl (inr f))) = in_a_schedule (schedules.reading bytes) t f.1
 in_a_text window bytes t (inr (inr p)) = ap count_of p.0
 
 pub can_be_read : (window : Window) (bytes : List ℕ) (made : Result Answer Trouble)

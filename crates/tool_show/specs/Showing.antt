@@ -8,10 +8,6 @@ use Rattle.lset_report.specs.Report.{ReportValue}
 use Rattle.lset_report.specs.ReportReading.{IsReport}
 use Rattle.lset_report.specs.ReportReading as report
 use Rattle.lset_report.specs.Texts.{title, report_text}
-use Rattle.lset_calls.specs.Calls.{CallsValue, AreCalls}
-use Rattle.lset_calls.specs.Texts.{calls_text}
-use Rattle.lset_calls.specs.Texts as calls
-use Rattle.lset_calls.specs.Reading as calls_reading
 use Rattle.lset_text.specs.Parts.{ended}
 use Rattle.lset_text.specs.declared.words.Version.TheVariants.{One, Two}
 use Rattle.tool_drawing.specs.declared.picture.Window.{Window}
@@ -23,8 +19,6 @@ use Rattle.tool_base.specs.declared.trouble.ValueName.TheVariants.{From}
 use Rattle.tool_base.specs.Tools.{Made, IsTaken, IsInputTrouble}
 use Rattle.tool_base.specs.Trouble.{of_schedule}
 use Rattle.tool_base.specs.Checking as checking
-use Rattle.tool_judge.specs.Judging as judging
-use Rattle.tool_show.specs.CallPictures.{IsPictureOfCalls}
 use Rattle.tool_show.specs.ReportPictures.{IsPictureOfReport}
 use Rattle.tool_show.specs.SchedulePictures.{IsPictureOfSchedule}
 
@@ -36,10 +30,6 @@ ShowsSchedule bytes v = (p : Plan) × IsSchedule p × (bytes ≡ schedule_text p
 abbrev pub ShowsReport : List ℕ → PictureValue → Type 0
 ShowsReport bytes v = (r : ReportValue) × IsReport r × (bytes ≡ report_text r) × IsPictureOfReport r v
 
--- the picture of the recorded calls whose text the bytes are
-abbrev pub ShowsCalls : List ℕ → PictureValue → Type 0
-ShowsCalls bytes v = (c : CallsValue) × AreCalls c × (bytes ≡ calls_text c) × IsPictureOfCalls c v
-
 -- the first line is this title
 abbrev pub has_title : List ℕ → List ℕ → Bool
 has_title title bytes = starts_with (λ a b. a == b) bytes (ended title)
@@ -48,25 +38,20 @@ has_title title bytes = starts_with (λ a b. a == b) bytes (ended title)
 abbrev pub has_report_title : List ℕ → Bool
 has_report_title bytes = has_title (title One) bytes || has_title (title Two) bytes
 
--- the first line is that of recorded calls
-abbrev pub has_calls_title : List ℕ → Bool
-has_calls_title = has_title calls.title
-
--- the picture of the schedule, the report or the recorded calls whose text the bytes are
+-- the picture of the schedule or the report whose text the bytes are
 abbrev pub ShowsText : List ℕ → PictureValue → Type 0
-ShowsText bytes v = ShowsSchedule bytes v ⊎ ShowsReport bytes v ⊎ ShowsCalls bytes v
+ShowsText bytes v = ShowsSchedule bytes v ⊎ ShowsReport bytes v
 
 -- the first error of a file that is not a schedule; a schedule has a picture, also if one of its events is refused
 abbrev pub IsScheduleFault : Result Plan ScheduleFault → Trouble → Type 0
 IsScheduleFault (Err fault) t = t ≡ of_schedule fault
 IsScheduleFault (Ok p) t = ⊥
 
--- the first error of the file: of a report or of recorded calls if it has the title of one, else of a schedule
+-- the first error of the file: of a report if it has the title of one, else of a schedule
 abbrev pub IsFirstFault : List ℕ → Trouble → Type 0
 IsFirstFault bytes t =
     (has_report_title bytes ≡ true) × checking.IsFirstFault (report.reading bytes) t
-    ⊎ (has_calls_title bytes ≡ true) × judging.IsFirstFault (calls_reading.reading bytes) t
-    ⊎ (has_report_title bytes ≡ false) × (has_calls_title bytes ≡ false) × IsScheduleFault (schedule.reading bytes) t
+    ⊎ (has_report_title bytes ≡ false) × IsScheduleFault (schedule.reading bytes) t
 
 -- 1 if a refusal is stated, of an order or of an event
 abbrev pub status_of : PictureValue → ℕ
@@ -77,8 +62,8 @@ abbrev pub IsDrawn : Window → PictureValue → Made → Type 0
 IsDrawn window v (Ok answer) = (is_past_the_last v window.from ≡ false) × (answer.status ≡ status_of v)
 IsDrawn window v (Err t) = (t ≡ Memory) ⊎ ((t ≡ Bad From) × (is_past_the_last v window.from ≡ true))
 
--- THE FIRST MOMENT IS REFUSED if something happens in the picture, of a schedule, up to an event that is refused, of a report
--- or of recorded calls, and all of it before that moment.
+-- THE FIRST MOMENT IS REFUSED if something happens in the picture, of a schedule, up to an event that is refused, or of a report, and all
+-- of it before that moment.
 abbrev pub IsPast : Window → List ℕ → Trouble → Type 0
 IsPast window bytes t = (t ≡ Bad From) × (v : PictureValue) × ShowsText bytes v × (is_past_the_last v window.from ≡ true)
 
@@ -86,10 +71,9 @@ IsPast window bytes t = (t ≡ Bad From) × (v : PictureValue) × ShowsText byte
 abbrev pub IsWrong : Window → List ℕ → Trouble → Type 0
 IsWrong window bytes t = IsFirstFault bytes t ⊎ IsPast window bytes t
 
--- What is made of the bytes of an input: a text of the picture of the schedule, the report or the recorded calls whose text
--- they are, which goes on to
--- the first moment of the window, with the status of that picture; or a trouble with the input, or its first fault, or a window
--- past the picture. How the picture looks as text or as SVG is tested.
+-- What is made of the bytes of an input: a text of the picture of the schedule or the report whose text they are, which goes on to the
+-- first moment of the window, with the status of that picture; or a trouble with the input, or its first fault, or a window past the
+-- picture. How the picture looks as text or as SVG is tested.
 abbrev pub Shows : Window → List ℕ → Made → Type 0
 Shows window bytes (Ok answer) =
     IsTaken bytes × (v : PictureValue) × ShowsText bytes v × (is_past_the_last v window.from ≡ false) × (answer.status ≡ status_of v)

@@ -7,10 +7,10 @@ ghost use Rattle.tool_base.specs.Tools as tools;
 ghost use Rattle.tool_base.specs.Checking as checking;
 ghost use Rattle.tool_base.specs.declared.trouble.Trouble.TheVariants.{Memory};
 ghost use Rattle.tool_show.specs.Showing.{ShowsSchedule, ShowsReport, ShowsText, Shows, IsDrawn, IsFirstFault, IsScheduleFault, IsWrong};
-ghost use Rattle.tool_show.specs.Showing.{has_calls_title, has_report_title, status_of};
+ghost use Rattle.tool_show.specs.Showing.{has_report_title, status_of};
 
-use crate::calls::{Drawing, of_calls};
-use crate::{Form, ending, picture_of_replay, picture_of_report};
+use crate::endings::ending;
+use crate::{Form, picture_of_replay, picture_of_report};
 use lset_report::read_report;
 use lset_schedule::read_schedule;
 use std::alloc::{AllocError, Global};
@@ -28,15 +28,6 @@ fn has_report_title(bytes: &[u8]) -> bool
     ensures { result ≡ has_report_title bytes.now }
 {
     bytes.starts_with(TITLE_ONE) || bytes.starts_with(TITLE_TWO)
-}
-
-/// The first line of a text of recorded calls.
-const TITLE_OF_CALLS: &[u8] = b"listset-calls 2\n";
-
-fn has_calls_title(bytes: &[u8]) -> bool
-    ensures { result ≡ has_calls_title bytes.now }
-{
-    bytes.starts_with(TITLE_OF_CALLS)
 }
 
 /// The picture of the schedule whose text the bytes are.
@@ -59,55 +50,30 @@ fn of_report(alloc: Global, bytes: &[u8]) -> Result<Picture, Trouble>
     Ok(picture)
 }
 
-/// What is drawn of a text that is no recording.
-fn of_picture(picture: Picture) -> Drawing
-    ensures { view result.picture ≡ view picture }
-{
-    Drawing {
-        picture,
-        says: None,
-    }
-}
-
-/// What is drawn of the schedule, the report or the recorded calls whose text the bytes are.
-fn drawing_of(alloc: Global, bytes: &[u8]) -> Result<Drawing, Trouble>
+/// The picture of the schedule or the report whose text the bytes are.
+fn picture_of(alloc: Global, bytes: &[u8]) -> Result<Picture, Trouble>
     requires { IsTaken bytes.now }
-    ensures shows { IfOk result (λ d. ShowsText bytes.now (view d.picture)) }
+    ensures shows { IfOk result (λ p. ShowsText bytes.now (view p)) }
     ensures trouble { IfErr result (λ t. (t ≡ Memory) ⊎ IsFirstFault bytes.now t) }
 {
     if has_report_title(bytes) {
-        return Ok(of_picture(of_report(alloc, bytes)?));
-    }
-    if has_calls_title(bytes) {
-        return of_calls(alloc, bytes);
-    }
-    Ok(of_picture(of_schedule(alloc, bytes)?))
-}
-
-/// The lines below a picture: those that are given, or else its ending.
-fn lines_below(
-    alloc: Global,
-    picture: &Picture,
-    says: Option<&[u8]>,
-) -> Result<Vec<u8>, AllocError> {
-    match says {
-        Some(lines) => Vec::from_slice(alloc, lines),
-        None => ending(alloc, picture),
+        of_report(alloc, bytes)
+    } else {
+        of_schedule(alloc, bytes)
     }
 }
 
-/// The picture as text, with the lines below it, or as an SVG.
+/// The picture as text, with its last lines, or as an SVG.
 fn text_of(
     alloc: Global,
     picture: &Picture,
-    says: Option<&[u8]>,
     form: Form,
     window: Window,
 ) -> Result<Vec<u8>, AllocError> {
     match form {
         Form::Text(width) => {
             let mut text = write_picture(alloc, picture, window, width)?;
-            text.extend_from_slice(&lines_below(alloc, picture, says)?)?;
+            text.extend_from_slice(&ending(alloc, picture)?)?;
             Ok(text)
         }
         Form::Svg => write_svg(alloc, picture, window),
@@ -125,26 +91,6 @@ fn status_of(picture: &Picture) -> u8
     }
 }
 
-/// As `drawn`, with these lines below the picture, if some are given.
-fn drawn_above(
-    alloc: Global,
-    picture: &Picture,
-    says: Option<&[u8]>,
-    form: Form,
-    window: Window,
-) -> Result<Answer, Trouble>
-    ensures { IsDrawn window (view picture.now) (tools.view result) }
-{
-    if is_past_the_last(picture, window.from) {
-        return Err(Trouble::Bad(ValueName::From));
-    }
-    let text = text_of(alloc, picture, says, form, window)?;
-    Ok(Answer {
-        text,
-        status: status_of(picture),
-    })
-}
-
 /// Draws a picture, of the moments in `window`, as text with its last lines, or as an SVG. The status is 1 if it states a
 /// refusal, of an order or of an event, else 0. The error is `Bad(From)` if the window begins past the last moment at which
 /// something happens, `Memory` if an allocation fails.
@@ -156,33 +102,37 @@ pub fn drawn(
 ) -> Result<Answer, Trouble>
     ensures { IsDrawn window (view picture.now) (tools.view result) }
 {
-    drawn_above(alloc, picture, None, form, window)
+    if is_past_the_last(picture, window.from) {
+        return Err(Trouble::Bad(ValueName::From));
+    }
+    let text = text_of(alloc, picture, form, window)?;
+    Ok(Answer {
+        text,
+        status: status_of(picture),
+    })
 }
 
-/// The picture of the schedule, the report or the recorded calls whose text the bytes are, as text or as an SVG. A window that begins past
-/// the last moment at which something happens is refused.
+/// The picture of the schedule or the report whose text the bytes are, as text or as an SVG. A window that begins past the last moment at
+/// which something happens is refused.
 fn answer_of(alloc: Global, bytes: &[u8], form: Form, window: Window) -> Result<Answer, Trouble>
     requires { IsTaken bytes.now }
     ensures shows { Shows window bytes.now (tools.view result) }
     ensures trouble { IfErr result (λ t. (t ≡ Memory) ⊎ IsWrong window bytes.now t) }
 {
-    let Drawing { picture, says } = drawing_of(alloc, bytes)?;
-    drawn_above(alloc, &picture, says.as_deref(), form, window)
+    let picture = picture_of(alloc, bytes)?;
+    drawn(alloc, &picture, form, window)
 }
 
-/// Draws a schedule, a report or recorded calls, given as the bytes of the text, in the moments of `window`. Of recorded
-/// calls it draws an order that explains them; if there is none, the calls of the window that `judge` shows, with its lines
-/// below; and, only if the judge's rule fails on no key, their report by their points. Allocates.
+/// Draws a schedule or a report, given as the bytes of the text, in the moments of `window`. Allocates.
 ///
-/// The status is 1 if the order of the report or an event of the schedule is refused, or if no order explains the calls,
-/// else 0. A schedule with such an event is drawn up to it.
+/// The status is 1 if the order of the report or an event of the schedule is refused, else 0. A schedule with such an event is
+/// drawn up to it.
 ///
 /// # Errors
 ///
 /// - `TooLong`: there are more than `LONGEST` bytes.
-/// - `Line`: the first error of `read_report` in a text with the first line of a report, of either version; in one with that
-///   of recorded calls that of `read_calls`, or the first line whose call conflicts with a line above, or, only if the judge's
-///   rule fails on no key, as of a `ceiling`, the first change that has no point; and of `read_schedule` in any other.
+/// - `Line`: the first error of `read_report` in a text with the first line of a report, of either version, and of
+///   `read_schedule` in any other.
 /// - `Bad(From)`: all that happens in the picture is before `window.from`.
 /// - `Memory`: an allocation failed.
 pub fn shown(alloc: Global, bytes: &[u8], form: Form, window: Window) -> Result<Answer, Trouble>
@@ -208,8 +158,8 @@ fn drawn_of<R: Read>(
     shown(alloc, &bytes, form, window)
 }
 
-/// Does what `show` does: draws the schedule, the report or the recorded calls on `input`, as its first line says, writes
-/// the picture to `output`, or one line about an error to `faults` and nothing to `output`, and returns the exit status.
+/// Does what `show` does: draws the schedule or the report on `input`, as its first line says, writes the picture to
+/// `output`, or one line about an error to `faults` and nothing to `output`, and returns the exit status.
 ///
 /// The status is 0 if the picture was written, 1 if it was written and says why the order or which event is refused, 2 if
 /// the window begins past the last moment of the picture, 3 if an allocation failed, else 1. A write to `faults` that fails

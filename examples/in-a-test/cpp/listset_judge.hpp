@@ -11,6 +11,7 @@
 #pragma once
 #include <algorithm>
 #include <atomic>
+#include <cerrno>
 #include <chrono>
 #include <cstdint>
 #include <cstdio>
@@ -18,6 +19,7 @@
 #include <cstring>
 #include <exception>
 #include <filesystem>
+#include <fstream>
 #include <functional>
 #include <memory>
 #include <new>
@@ -28,12 +30,12 @@
 #include <system_error>
 #include <thread>
 #include <typeinfo>
-#include <unordered_map>
 #include <utility>
 #include <vector>
 #include <csignal>
 #include <cxxabi.h>
 #include <dirent.h>
+#include <fcntl.h>
 #include <spawn.h>
 #include <sys/mman.h>
 #include <sys/wait.h>
@@ -49,22 +51,22 @@ namespace listset {
 // How the set is called. Each is checked before the first set is made.
 struct options {
     unsigned threads = 8;   // that call a set at once: 1 to 64
-    unsigned calls = 1000;  // of each thread: 1 or more, and 1,000,000 at most of all threads, or with `record` 1,000,000,000
+    unsigned calls = 1000;  // of each thread: 1 or more, and 1,000,000,000 at most of all, which rest after each 20,000 until these are written
     unsigned keys = 4;      // calls are on the keys below this: 1 to 1,048,576. On few keys more calls meet
     unsigned pauses = 20;   // before how many of 100 calls a thread pauses, for some microseconds at most: 0 to 100
     unsigned runs = 20;     // fresh sets that are called: 1 to 1,000,000
     unsigned seed = 1;      // what the calls, keys and pauses of the first run are drawn from; the next run has the next seed
     unsigned seconds = 10;  // a run in which no call begins or ends for so long is ended: 1 to 3,600
     bool own_process = true;  // false: in this process, which then crashes with the set (for a debugger, or for coverage)
-    std::string record = "";  // a folder that keeps each run, in parts of 20,000 calls: after each, threads rest until it is judged
+    std::string record = "";  // a folder that keeps the recording of each run; else that of a run that fails is kept, in TMPDIR or /tmp
 };
 
 // True if some order explains each run, and each run came to its end. It prints itself.
 struct verdict {
     bool ok = true;
     uint64_t calls = 0, overlapped = 0;  // those of them that overlapped a change of their key, by the judge
-    uint64_t seed = 0;                   // of the run that failed: why, its recording, and the file that has it
-    std::string said, recording, file;
+    uint64_t seed = 0;                   // of the run that failed: why, and the file that has its recording
+    std::string said, file;
     std::string judge;                   // which it was, and whether it says that it is proved
     explicit operator bool() const { return ok; }
 };
@@ -88,20 +90,16 @@ struct no_verdict : std::runtime_error {
 
 namespace judging {
 
-constexpr unsigned QUOTA = 16384;  // the most adds that answered true, of one thread number of a recording
 constexpr unsigned LONGEST = 100;  // looks at the counter, of a pause
-constexpr unsigned PART = 20000;  // calls of all threads from one rest to the next, of a run that is kept
+constexpr unsigned PART = 20000;  // calls of all threads from one rest to the next, at which they are written down
 
 inline void check(const options &it) {
     struct { const char *name; uint64_t given, least, most; } ranges[] = {
-        {"threads", it.threads, 1, 64}, {"threads times calls", uint64_t(it.threads) * it.calls, 1, it.record.empty() ? 1000000u : 1000000000u},
+        {"threads", it.threads, 1, 64}, {"threads times calls", uint64_t(it.threads) * it.calls, 1, 1000000000},
         {"keys", it.keys, 1, 1048576}, {"pauses", it.pauses, 0, 100}, {"runs", it.runs, 1, 1000000}, {"seconds", it.seconds, 1, 3600}};
     for (auto &[name, given, least, most] : ranges)
         if (given < least || given > most)
             throw no_verdict(name + (" is " + std::to_string(given)) + ", and has to be " + std::to_string(least) + " to " + std::to_string(most));
-    std::error_code fault;
-    if (!it.record.empty() && (std::filesystem::create_directories(it.record, fault), fault))
-        throw no_verdict("record is " + it.record + ", which is no folder and cannot be made one: name another");
 }
 
 // The three calls, by the names that the set has for them.
@@ -127,13 +125,13 @@ struct slot {
     std::atomic<unsigned> begin, end;  // 0 as long as it has none
 };
 
-// A run in memory that its process shares with this one; of a run in parts the part that goes on.
+// A run in memory that its process shares with this one: the part that goes on.
 struct area {
     const options how;
     const uint64_t seed;
-    const unsigned rows, parts;                   // the calls of each thread in a part, of which the last may have fewer
+    const unsigned rows, parts;                   // the calls of each thread in a part, of which the last may have fewer; how many there are
     slot *slots = nullptr;                        // those of each thread in turn
-    bool *opening = nullptr, *left = nullptr;     // of each key whether the set had it
+    bool *opening = nullptr, *left = nullptr;     // of each key whether the set had it, at first and at the end
     std::atomic<unsigned> tickets{0}, looks{0}, there{0}, done{0};
     std::atomic<unsigned> begun{0}, before{0};    // the parts, and the last moment of those before this one
     std::atomic<phase> at{GOING};
@@ -141,7 +139,7 @@ struct area {
     char why[240] = "";
 
     area(const options &it, uint64_t of_seed)
-        : how(it), seed(of_seed), rows(it.record.empty() ? it.calls : std::min(it.calls, PART / it.threads)), parts((it.calls - 1) / rows + 1) {}
+        : how(it), seed(of_seed), rows(std::min(it.calls, PART / it.threads)), parts((it.calls - 1) / rows + 1) {}
 
     static std::shared_ptr<area> of(const options &given, uint64_t of_seed) {
         size_t count = size_t(given.threads) * area(given, of_seed).rows, size = sizeof(area) + count * sizeof(slot) + 2 * given.keys;
@@ -218,15 +216,15 @@ template <class S> void look_up(S &set, area &run, bool *keys) {
 
 // Has the threads make each part, and rests after it until somebody has read it.
 template <class S> void lead(S &set, area &run) {
-    for (unsigned part = 1; run.waits([&] { return run.at == GOING; }); part++) {
+    look_up(set, run, run.opening);
+    for (unsigned part = 1; part <= run.parts; part++) {
+        if (!run.waits([&] { return run.at == GOING; })) return;
         run.before = run.tickets.load();
-        part == 1 ? look_up(set, run, run.opening) : (void)std::copy(run.left, run.left + run.how.keys, run.opening);
         run.begun = part;
         if (!run.waits([&] { return run.done == run.how.threads * part; })) return;
-        look_up(set, run, run.left);
-        if (part == run.parts) return;
-        run.at = RESTING;
+        if (part < run.parts) run.at = RESTING;
     }
+    look_up(set, run, run.left);
 }
 
 template <class S> void call_from_threads(S &set, area &run) {
@@ -322,104 +320,14 @@ inline std::string made_part(caller &by, const area &run) {
     return has_ended ? by.trouble() : "";
 }
 
-// ---- a run, as it is judged
-
-struct row {
-    unsigned thread;
-    kind call;
-    unsigned key, begin, end;
-    bool reply;
-};
-
-// The calls of one set by their begins, those that did not end, and the keys before and after.
-struct run {
-    std::vector<unsigned> opening;
-    std::vector<row> rows, pending;
-    std::vector<unsigned> left;
-    std::string trouble;  // how it went wrong, if it did; then it is not known what was left
-
-    run(const area &from, std::string how) : trouble(std::move(how)) {
-        for (unsigned key = 0; key < from.how.keys; key++) {
-            if (from.opening[key]) opening.push_back(key);
-            if (from.left[key]) left.push_back(key);
-        }
-        for (size_t i = 0; i < size_t(from.how.threads) * from.rows; i++) {
-            const slot &it = from.slots[i];
-            unsigned end = it.end, begin = it.begin;
-            bool has_ended = end > begin;  // (else it is that of a part before)
-            if (begin > from.before) (has_ended ? rows : pending).push_back({unsigned(i / from.rows), it.call, it.key, begin, has_ended ? end : 0, it.reply});
-        }
-        std::sort(rows.begin(), rows.end(), [](auto &a, auto &b) { return a.begin < b.begin; });
-    }
-
-    // The recording that `listset judge` reads.
-    std::string text() const;
-};
-
-inline std::string call_line(unsigned thread, const row &it) {
-    static const char *const words[] = {" add ", " remove ", " contains "};
-    std::string text = "call " + std::to_string(thread) + words[it.call] + std::to_string(it.key) + " " + std::to_string(it.begin) + " - ";
-    return text + (it.end == 0 ? "- -" : std::to_string(it.end) + (it.reply ? " true" : " false"));
-}
-
-// A thread whose quota is used goes on under another number.
-inline std::string run::text() const {
-    std::string calls;
-    std::unordered_map<unsigned, std::pair<unsigned, unsigned>> numbers;  // of each thread its number, and the adds of that
-    unsigned next = 0;
-    for (auto *of : {&rows, &pending})
-        for (auto &it : *of) {
-            auto &[number, added] = numbers.try_emplace(it.thread, 0, QUOTA).first->second;
-            if (added == QUOTA) number = next++, added = 0;
-            added += it.call == ADD && it.reply;
-            calls += call_line(number, it) + "\n";
-        }
-    std::string text = "listset-calls 2\nlist lazy\nthreads " + std::to_string(std::max(next, 1u)) + "\nquota " + std::to_string(QUOTA) + "\n";
-    for (unsigned key : opening) text += "opening " + std::to_string(key) + "\n";
-    text += calls;
-    if (!trouble.empty()) return text + "cut\n";
-    for (unsigned key : left) text += "key " + std::to_string(key) + "\n";
-    return text + "end\n";
-}
-
 // ---- the judge
 
-struct answer {
-    int status;  // -1: it cannot be run
-    std::string said;
+// Its name, what it says of its proof, and the command to which words are added.
+struct judge_found {
+    std::string name, proof;
+    std::vector<std::string> command;
+    std::vector<std::string> with(std::vector<std::string> words) const { return words.insert(words.begin(), command.begin(), command.end()), words; }
 };
-
-inline std::string all_of(FILE *from) {
-    std::string text;
-    char some[4096];
-    rewind(from);
-    for (size_t got; (got = fread(some, 1, sizeof some, from)) > 0;) text.append(some, got);
-    while (!text.empty() && text.back() == '\n') text.pop_back();
-    return text;
-}
-
-// What a command says of an input. Its input and outputs are files without a name.
-inline answer ran(std::vector<std::string> words, const std::string &input) {
-    struct closing { void operator()(FILE *it) const { fclose(it); } };
-    std::unique_ptr<FILE, closing> in(tmpfile()), out(tmpfile()), errors(tmpfile());
-    if (!in || !out || !errors || fwrite(input.data(), 1, input.size(), in.get()) != input.size())
-        throw no_verdict("there is no room for temporary files");
-    rewind(in.get());
-    posix_spawn_file_actions_t actions;
-    posix_spawn_file_actions_init(&actions);
-    posix_spawn_file_actions_adddup2(&actions, fileno(in.get()), 0);
-    posix_spawn_file_actions_adddup2(&actions, fileno(out.get()), 1);
-    posix_spawn_file_actions_adddup2(&actions, fileno(errors.get()), 2);
-    std::vector<char *> argv;
-    for (auto &it : words) argv.push_back(it.data());
-    argv.push_back(nullptr);
-    pid_t child;
-    int status, failed = posix_spawnp(&child, argv[0], &actions, nullptr, argv.data(), environ);
-    posix_spawn_file_actions_destroy(&actions);
-    if (failed || waitpid(child, &status, 0) != child) return {-1, ""};
-    std::string said = all_of(out.get());
-    return {WIFEXITED(status) ? WEXITSTATUS(status) : 128, said.empty() ? all_of(errors.get()) : said};
-}
 
 // The line in which a judge says whether it is proved.
 inline std::string proof_in(const std::string &version) {
@@ -427,47 +335,108 @@ inline std::string proof_in(const std::string &version) {
     return at == std::string::npos ? "proof unknown" : version.substr(at, version.find('\n', at) - at);
 }
 
-// The judge underneath: its name, what it says of its proof, and how it is asked.
-struct judge_found {
-    std::string name, proof;
-    std::function<answer(const std::string &)> ask;
+// What a command or the library says.
+struct answer {
+    int status;  // -1: it cannot be run
+    std::string said;
 };
 
 #ifdef LISTSET_H
-inline judge_found find_judge() {
-    auto ask = [](const std::string &recording) -> answer {
+// The library, which is given a recording at its end.
+struct asked {
+    std::string all;
+    explicit asked(const std::vector<std::string> &) {}
+    void write(const std::string &text) { all += text; }
+    answer end() {
         uint8_t status;
         size_t length;
-        std::unique_ptr<char, void (*)(void *)> said(listset_said(listset_judge, recording.data(), recording.size(), &length, &status), free);
+        std::unique_ptr<char, void (*)(void *)> said(listset_said(listset_judge, all.data(), all.size(), &length, &status), free);
         if (!said) throw no_verdict("there is no memory for the answer of liblistset");
         return {status, std::string(said.get(), length > 0 && said.get()[length - 1] == '\n' ? length - 1 : length)};
-    };
-    return {"liblistset", proof_in(listset_version()), ask};
-}
+    }
+};
+
+inline judge_found find_judge() { return {"liblistset", proof_in(listset_version()), {}}; }
 #else
+// A command, which is given its input as it grows, by a pipe; its outputs are files without a name.
+struct asked {
+    struct closing { void operator()(FILE *it) const { fclose(it); } };
+    std::unique_ptr<FILE, closing> out{tmpfile()}, errors{tmpfile()};
+    pid_t process = -1;
+    int to = -1;
+
+    explicit asked(std::vector<std::string> words) {
+        int ends[2];
+        if (!out || !errors || pipe(ends)) throw no_verdict("there is no room for temporary files");
+        for (int end : ends) fcntl(end, F_SETFD, FD_CLOEXEC);
+        posix_spawn_file_actions_t actions;
+        posix_spawn_file_actions_init(&actions);
+        posix_spawn_file_actions_adddup2(&actions, ends[0], 0);
+        posix_spawn_file_actions_adddup2(&actions, fileno(out.get()), 1);
+        posix_spawn_file_actions_adddup2(&actions, fileno(errors.get()), 2);
+        std::vector<char *> argv;
+        for (auto &it : words) argv.push_back(it.data());
+        argv.push_back(nullptr);
+        if (posix_spawnp(&process, argv[0], &actions, nullptr, argv.data(), environ)) process = -1;
+        posix_spawn_file_actions_destroy(&actions);
+        close(ends[0]);
+        to = ends[1];
+    }
+    ~asked() {
+        if (process != -1) kill(process, SIGKILL);
+        end();
+    }
+    void write(const std::string &text) {
+        sigset_t broken, before, pending;
+        sigemptyset(&broken), sigaddset(&broken, SIGPIPE);
+        pthread_sigmask(SIG_BLOCK, &broken, &before);
+        ssize_t count = 1;
+        for (size_t at = 0; at < text.size() && (count > 0 || errno == EINTR); at += count > 0 ? count : 0)
+            count = ::write(to, text.data() + at, text.size() - at);
+        int number;  // (one that has ended reads no further)
+        if (count < 0 && !sigpending(&pending) && sigismember(&pending, SIGPIPE)) sigwait(&broken, &number);
+        pthread_sigmask(SIG_SETMASK, &before, nullptr);
+    }
+    answer end() {
+        int status;
+        if (to != -1) close(std::exchange(to, -1));
+        if (process == -1 || waitpid(std::exchange(process, -1), &status, 0) < 0) return {-1, ""};
+        std::string said = all_of(out.get());
+        return {WIFEXITED(status) ? WEXITSTATUS(status) : 128, said.empty() ? all_of(errors.get()) : said};
+    }
+    static std::string all_of(FILE *from) {
+        std::string text;
+        char some[4096];
+        rewind(from);
+        for (size_t got; (got = fread(some, 1, sizeof some, from)) > 0;) text.append(some, got);
+        while (!text.empty() && text.back() == '\n') text.pop_back();
+        return text;
+    }
+};
+
 inline judge_found find_judge() {
     const char *named = std::getenv("LISTSET");
-    const std::string program = named ? named : "listset";
-    bool is_script = program.size() > 3 && program.substr(program.size() - 3) == ".js";
-    std::vector<std::string> words = is_script ? std::vector<std::string>{"node", program} : std::vector<std::string>{program};
-    auto with = [words](std::vector<std::string> more) { return more.insert(more.begin(), words.begin(), words.end()), more; };
-    answer version = ran(with({"--version", "--long"}), "");
+    const std::string name = named ? named : "listset";
+    bool is_script = name.size() > 3 && name.substr(name.size() - 3) == ".js";
+    judge_found found{name, "", is_script ? std::vector<std::string>{"node", name} : std::vector<std::string>{name}};
+    answer version = asked(found.with({"--version", "--long"})).end();
     if (version.status == -1 || version.status == 127)
-        throw no_verdict(is_script ? "node is not in PATH, which runs the " + program + " that LISTSET names"
-                         : named ? "LISTSET names " + program + ", which cannot be run: build listset, and name it there"
+        throw no_verdict(is_script ? "node is not in PATH, which runs the " + name + " that LISTSET names"
+                         : named ? "LISTSET names " + name + ", which cannot be run: build listset, and name it there"
                                  : "there is no listset in PATH: build it, and put it there or name it by LISTSET");
-    return {program, proof_in(version.said), [=](const std::string &recording) { return ran(with({"judge", "-"}), recording); }};
+    found.proof = proof_in(version.said);
+    return found;
 }
 #endif
 
-// What the judge says of a recording that no order explains, or nothing; and how many calls overlapped a change of their key.
+// What a judge says of a recording that no order explains, or nothing; and how many calls overlapped a change of their key.
 struct judgement {
     std::string refused;
     uint64_t overlapped;
 };
 
-inline judgement judged(const judge_found &by, const std::string &recording) {
-    auto [status, said] = by.ask(recording);
+inline judgement judged(const judge_found &by, const answer &given) {
+    auto &[status, said] = given;
     std::string first = said.substr(0, said.find('\n'));
     unsigned long long overlapped;
     if (status == 1 && first == "not linearizable") return {said, 0};
@@ -475,63 +444,98 @@ inline judgement judged(const judge_found &by, const std::string &recording) {
     throw no_verdict(by.name + " gave no verdict, but said: " + (first.empty() ? "nothing" : first) + ". Take a newer listset");
 }
 
-// The same of a run that may have come to no end, of which an older judge knows nothing to say.
-inline judgement judged(const judge_found &by, const std::string &recording, const std::string &trouble) try {
-    return judged(by, recording);
-} catch (const no_verdict &why) {
-    if (trouble.empty()) throw;
-    return {why.what(), 0};
-}
+// ---- a run, as it is judged
 
-// What is wrong with a run, or nothing.
-inline std::string fault_of(const run &it, const std::string &refused) {
-    if (it.trouble.empty()) return refused;
-    std::string under_way;
-    for (auto &call : it.pending) under_way += call_line(call.thread, call) + "\n";
-    return it.trouble + "\nunder way:\n" + under_way + "up to there: " + (refused.empty() ? "some order explains the calls" : refused);
-}
+// The text of a run: as it grows it is written into a file, and given to the judge.
+struct recording {
+    const std::string path;
+    bool is_kept;
+    std::ofstream file;
+    asked judge;
 
-inline bool is_written(const std::string &path, const std::string &text) {
-    FILE *file = fopen(path.c_str(), "w");
-    bool is_whole = file && fwrite(text.data(), 1, text.size(), file) == text.size();
-    return file && fclose(file) == 0 && is_whole;
-}
-
-// The file of a recording that failed, which the caller may hand on.
-inline std::string kept(const std::string &recording, uint64_t seed) {
-    const char *folder = std::getenv("TMPDIR");
-    static std::atomic<unsigned> files{0};
-    std::string name = "/listset-seed-" + std::to_string(seed) + "-" + std::to_string(getpid()) + "-" + std::to_string(++files) + ".calls";
-    std::string path = (folder ? folder : "/tmp") + name;
-    return is_written(path, recording) ? path : "no file, as none could be written";
-}
-
-// The file of a part of a run, in the folder `record`; none without it.
-inline std::string file_of(const area &run, unsigned part) {
-    std::string number = std::to_string(part);
-    if (run.how.record.empty()) return "";
-    return run.how.record + "/seed-" + std::to_string(run.seed) + "-part-" + std::string(6 - number.size(), '0') + number + ".calls";
-}
-
-// Judges each part of a run as it is made, until one fails.
-inline void judge_parts(caller &of, area &run, const judge_found &by, verdict &all) {
-    for (unsigned part = 1; std::remove(file_of(run, part).c_str()) == 0; part++) continue;  // those of an earlier run
-    for (unsigned part = 1; all.ok && part <= run.parts; part++) {
-        if (part > 1) run.at = GOING;
-        auto trouble = made_part(of, run);
-        if (run.at == UNMADE) throw no_verdict(run.why);
-        judging::run made(run, run.at == THREW ? run.why : trouble);
-        auto recording = made.text();
-        all.file = file_of(run, part);
-        if (!all.file.empty() && !is_written(all.file, recording))
-            throw no_verdict("record is " + run.how.record + ", where no file can be written: name another folder");
-        auto [refused, overlapped] = judged(by, recording, made.trouble);
-        all.calls += made.rows.size();
-        all.overlapped += overlapped;
-        all.said = fault_of(made, refused);
-        all.ok = all.said.empty();
-        if (!all.ok) all.recording = recording, all.file = all.file.empty() ? kept(recording, run.seed) : all.file;
+    recording(const options &how, uint64_t seed, const judge_found &by)
+        : path(path_of(how.record, seed)), is_kept(!how.record.empty()), judge(by.with({"judge", "-"})) {
+        std::error_code fault;
+        if (is_kept) std::filesystem::create_directories(how.record, fault);
+        file.open(path);
+        check();
     }
+    ~recording() {
+        if (!is_kept) std::remove(path.c_str());
+    }
+    static std::string path_of(const std::string &folder, uint64_t seed) {
+        static std::atomic<unsigned> files{0};
+        std::string name = "seed-" + std::to_string(seed);
+        if (!folder.empty()) return folder + "/" + name + ".calls";
+        const char *temporary = std::getenv("TMPDIR");
+        return (temporary ? temporary : "/tmp") + ("/listset-" + name) + "-" + std::to_string(getpid()) + "-" + std::to_string(++files) + ".calls";
+    }
+    void check() const {
+        if (!file) throw no_verdict("no file can be written in " + path.substr(0, path.rfind('/')) + ": name another folder by record");
+    }
+    void write(const std::string &text) { file << text, judge.write(text); }
+    answer end() { return file.close(), check(), judge.end(); }
+};
+
+struct row {
+    unsigned thread;
+    kind call;
+    unsigned key, begin, end;  // the end is 0 if it has none
+    bool reply;
+};
+
+inline std::string line_of(const row &it) {
+    static const char *const words[] = {" add ", " remove ", " contains "};
+    std::string text = "call " + std::to_string(it.thread) + words[it.call] + std::to_string(it.key) + " " + std::to_string(it.begin) + " ";
+    return text + (it.end == 0 ? "- -\n" : std::to_string(it.end) + (it.reply ? " true\n" : " false\n"));
+}
+
+// The calls of a part, by their begins.
+inline std::vector<row> rows_of(const area &from) {
+    std::vector<row> found;
+    for (size_t i = 0; i < size_t(from.how.threads) * from.rows; i++) {
+        const slot &it = from.slots[i];
+        unsigned end = it.end, begin = it.begin;  // (the end may be that of a part before)
+        if (begin > from.before) found.push_back({unsigned(i / from.rows), it.call, it.key, begin, end > begin ? end : 0, it.reply});
+    }
+    std::sort(found.begin(), found.end(), [](auto &a, auto &b) { return a.begin < b.begin; });
+    return found;
+}
+
+inline std::string lines_of_keys(const std::string &word, const bool *there, unsigned keys) {
+    std::string text;
+    for (unsigned key = 0; key < keys; key++)
+        if (there[key]) text += word + " " + std::to_string(key) + "\n";
+    return text;
+}
+
+// Records a run as it is made; gives how it went wrong, with the calls under way, or nothing.
+inline std::string record(caller &by, area &run, recording &to) {
+    std::string trouble, under_way;
+    for (unsigned part = 1; part <= run.parts && trouble.empty(); part++) {
+        if (part > 1) run.at = GOING;
+        trouble = made_part(by, run);
+        if (run.at == UNMADE) throw no_verdict(run.why);
+        if (run.at == THREW) trouble = run.why;
+        std::string text = part > 1 ? "" : "listset-calls 1\n" + lines_of_keys("opening", run.opening, run.how.keys);
+        for (auto &it : rows_of(run)) text += line_of(it), under_way += it.end == 0 ? line_of(it) : "";
+        to.write(text);
+    }
+    to.write(trouble.empty() ? lines_of_keys("key", run.left, run.how.keys) + "end\n" : "cut\n");
+    return trouble.empty() ? "" : trouble + "\nunder way:\n" + under_way;
+}
+
+// Judges one, which a caller makes that this starts.
+template <class Start> void judge_run(Start start, area &run, const judge_found &by, verdict &all) {
+    recording text(run.how, run.seed, by);
+    std::string trouble = record(*start(), run, text);
+    auto [refused, overlapped] = judged(by, text.end());
+    all.calls += uint64_t(run.how.threads) * run.how.calls;
+    all.overlapped += overlapped;
+    all.said = trouble.empty() ? refused : trouble + "up to there: " + (refused.empty() ? "some order explains the calls" : refused);
+    all.ok = all.said.empty();
+    all.file = text.path;
+    text.is_kept |= !all.ok;
 }
 
 }  // namespace judging
@@ -546,10 +550,11 @@ verdict judge(const options &how = {}, Make make = [] { return std::make_unique<
     for (uint64_t run = 0; all.ok && run < how.runs; run++) {
         all.seed = how.seed + run;
         auto area = judging::area::of(how, all.seed);
-        std::unique_ptr<judging::caller> caller;
-        if (how.own_process && judging::is_alone()) caller = std::make_unique<judging::child>(make, *area);
-        else caller = std::make_unique<judging::here>(make, area);
-        judging::judge_parts(*caller, *area, by, all);
+        auto start = [&]() -> std::unique_ptr<judging::caller> {
+            if (how.own_process && judging::is_alone()) return std::make_unique<judging::child>(make, *area);
+            return std::make_unique<judging::here>(make, area);
+        };
+        judging::judge_run(start, *area, by, all);
     }
     // (a test that passes may show no verdict)
     if (all.ok && is_few(all)) fprintf(stderr, "listset: %llu of %llu calls overlapped a change of their key; %s\n",

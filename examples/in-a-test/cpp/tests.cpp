@@ -1,5 +1,5 @@
 // The tests as a program of their own, which needs no library for tests:
-//     g++ -O2 -std=c++17 -pthread tests.cpp -o tests && ./tests         (./tests first: the first alone; ./tests crash: a crash)
+//     g++ -O2 -std=c++17 -pthread tests.cpp -o tests && ./tests         (./tests first: the first alone)
 #include "listset_judge.hpp"
 #include "lazy_list.hpp"
 #include "sets.hpp"
@@ -23,7 +23,7 @@ template <class S> listset::verdict is_right(const char *name, listset::options 
 template <class S> void is_refused(const char *name, listset::options how = {}) {
     auto verdict = listset::judge<S>(how);
     std::cout << name << ": " << verdict << "\n";
-    expect(!verdict && verdict.said.rfind("not linearizable", 0) == 0 && verdict.recording.rfind("listset-calls 2", 0) == 0, name);
+    expect(!verdict && verdict.said.rfind("not linearizable", 0) == 0, name);
 }
 
 std::string text_of(const std::string &file) {
@@ -50,22 +50,25 @@ std::vector<std::string> files_in(const std::string &folder) {
 
 std::string folder_of(const char *name) { return std::filesystem::temp_directory_path() / name; }
 
-// A run in three parts, each of which opens with the keys that the one before left.
+// The calls of all parts are in one recording, in the order of their begins.
 void is_kept() {
     listset::options how{8, 8000, 4, 0, 1, 1};
     how.record = folder_of("recorded"), how.own_process = false;
     is_right<MySet>("in four parts", how);
     how.calls = 6000, how.own_process = true;
     is_right<MySet>("in three parts", how);
-    auto files = files_in(how.record);
-    expect(files.size() == 3, "three parts");
-    std::vector<std::string> left;
-    for (auto &file : files) {
-        auto text = text_of(file);
-        expect(keys_of(text, "call").size() == (file == files.back() ? 8000 : 20000), "calls of a part");
-        expect(keys_of(text, "opening") == left, "a part opens with the keys that were left");
-        left = keys_of(text, "key");
+    auto text = text_of(how.record + "/seed-1.calls");
+    std::vector<std::string> calls = keys_of(text, "call");
+    std::vector<long> begins;
+    for (auto &it : calls) {
+        std::stringstream words(it);
+        std::string thread, call, key;
+        begins.emplace_back();
+        words >> thread >> call >> key >> begins.back();
     }
+    expect(calls.size() == 48000 && std::is_sorted(begins.begin(), begins.end()), "calls in the order of their begins");
+    expect(keys_of(text, "opening").empty() && text.rfind("listset-calls 1\ncall ", 0) == 0, "the recording begins once");
+    expect(text.find("\nend\n") == text.size() - 5, "the recording ends once");
 }
 
 // Each thread of each run has draws of its own, of all calls on all keys.
@@ -75,7 +78,7 @@ void is_drawn() {
     std::filesystem::remove_all(how.record);
     is_right<MySet>("two seeds", how);
     auto files = files_in(how.record);
-    auto name = [&](const char *seed) { return how.record + "/seed-" + seed + "-part-000001.calls"; };
+    auto name = [&](const char *seed) { return how.record + "/seed-" + seed + ".calls"; };
     expect(files == std::vector<std::string>{name("7"), name("8")}, "each run has a seed");
     std::set<std::vector<std::string>> drawn;
     for (auto &file : files)
@@ -101,19 +104,31 @@ template <class S> void ends_wrong(const std::string &how) {
     expect(!verdict && verdict.said == how + "\nunder way:\nup to there: some order explains the calls", how.c_str());
 }
 
-// A run that ends with the part that failed.
-template <class S> void ends_in_part(size_t part, const char *how, bool own_process) {
+// A long run that fails.
+template <class S> void fails_late(const char *how, const char *end) {
     listset::options options{8, 8000, 4, 0, 1, 1};
-    options.record = folder_of(own_process ? "crashed" : "refused"), options.own_process = own_process;
+    options.record = folder_of("failed");
     auto verdict = listset::judge<S>(options);
-    auto files = files_in(options.record);
-    expect(!verdict && verdict.said.rfind(how, 0) == 0, how);
-    expect(files.size() == part && files.back() == verdict.file && text_of(verdict.file) == verdict.recording, how);
+    auto text = text_of(verdict.file);
+    expect(!verdict && verdict.said.rfind(how, 0) == 0 && verdict.file == options.record + "/seed-1.calls", how);
+    expect(keys_of(text, "call").size() > 20000 && text.substr(text.rfind('\n', text.size() - 2) + 1) == end, how);
+}
+
+// What is right leaves no file.
+void is_left_no_file() {
+    auto folder = folder_of("empty");
+    std::filesystem::create_directories(folder);
+    const char *given = std::getenv("TMPDIR");
+    std::string before = given ? given : "/tmp";
+    setenv("TMPDIR", folder.c_str(), 1);
+    is_right<MySet>("without a file", {2, 9, 4, 20, 2, 1});
+    setenv("TMPDIR", before.c_str(), 1);
+    expect(files_in(folder).empty(), "no file is left");
 }
 
 int open_calls(const std::string &text) {
     int count = 0;
-    for (size_t at = 0; (at = text.find(" - - -\n", at)) != std::string::npos; at++) count++;
+    for (size_t at = 0; (at = text.find(" - -\n", at)) != std::string::npos; at++) count++;
     return count;
 }
 
@@ -125,10 +140,11 @@ template <class S> void stops(const char *how, const char *judged, bool own_proc
     auto verdict = listset::judge<S>(options);
     std::cout << verdict << "\n";
     expect(!verdict && verdict.said.rfind(how, 0) == 0 && verdict.said.find("\nunder way:\ncall ") != std::string::npos, how);
-    expect(verdict.said.find(judged) != std::string::npos && text_of(verdict.file) == verdict.recording, how);
+    auto recording = text_of(verdict.file);
+    expect(verdict.said.find(judged) != std::string::npos, how);
     // (what was under way stands there too; the calls that show a refusal may have one of them again)
-    expect(open_calls(verdict.recording) == open_calls(verdict.said.substr(0, verdict.said.find("up to there: "))), how);
-    expect(verdict.recording.size() > 4 && verdict.recording.substr(verdict.recording.size() - 5) == "\ncut\n", "it was cut off");
+    expect(open_calls(recording) == open_calls(verdict.said.substr(0, verdict.said.find("up to there: "))), how);
+    expect(recording.size() > 4 && recording.substr(recording.size() - 5) == "\ncut\n", "it was cut off");
 }
 
 template <class S> void says(const char *words, listset::options how) {
@@ -142,13 +158,13 @@ template <class S> void says(const char *words, listset::options how) {
 
 void gives_no_verdict() {
     says<MySet>("threads is 65, and has to be 1 to 64", {65, 9, 4, 20, 1, 1});
-    says<MySet>("threads times calls is 0, and has to be 1 to 1000000", {2, 0, 4, 20, 1, 1});
+    says<MySet>("threads times calls is 0, and has to be 1 to 1000000000", {2, 0, 4, 20, 1, 1});
     says<MySet>("keys is 0, and has to be 1 to 1048576", {2, 9, 0, 20, 1, 1});
     says<MySet>("pauses is 101, and has to be 0 to 100", {2, 9, 4, 101, 1, 1});
     says<MySet>("runs is 0, and has to be 1 to 1000000", {2, 9, 4, 20, 0, 1});
     says<MySet>("seconds is 3601, and has to be 1 to 3600", {2, 9, 4, 20, 1, 1, 3601});
-    says<MySet>("threads times calls is 1000000002, and has to be 1 to 1000000000", {2, 500000001, 4, 20, 1, 1, 10, true, "."});
-    says<MySet>("record is /dev/null/x, which is no folder and cannot be made one: name another", {2, 9, 4, 20, 1, 1, 10, true, "/dev/null/x"});
+    says<MySet>("threads times calls is 1000000002, and has to be 1 to 1000000000", {2, 500000001, 4, 20, 1, 1});
+    says<MySet>("no file can be written in /dev/null/x: name another folder by record", {2, 9, 4, 20, 1, 1, 10, true, "/dev/null/x"});
     says<CannotBeMade>("the set could not be made: std::runtime_error: no room", {2, 9, 4, 20, 1, 1});
 }
 
@@ -157,12 +173,12 @@ void all() {
     is_right<MySet>("64 threads", {64, 50, 4, 20, 1, 1});
     is_right<Standard>("Standard", {4, 200, 4, 20, 3, 1});
     expect(is_right<Slow>("Slow", {8, 200, 4, 20, 3, 1}).overlapped > 0, "calls that wait overlap");
-    expect(is_right<MySet>("past a quota", {1, 120000, 1, 0, 1, 1}).overlapped == 0, "calls in turn do not");
-    auto of = [](unsigned seed) { return listset::judge<FindsAll>({1, 50, 4, 20, 1, seed}).recording; };
+    expect(is_right<MySet>("calls in turn", {1, 120000, 1, 0, 1, 1}).overlapped == 0, "calls in turn do not");
+    auto of = [](unsigned seed) { return text_of(listset::judge<FindsAll>({1, 50, 4, 20, 1, seed}).file); };
     expect(of(1) == of(1) && of(1) != of(2), "a seed gives the same calls again");
     listset::options once{1, 50, 4, 20, 1, 1};
     auto first = listset::judge<FindsAll>(once), second = listset::judge<FindsAll>(once);
-    expect(first.file != second.file && text_of(first.file) == first.recording, "each recording has its file");
+    expect(first.file != second.file, "each recording has its file");
     is_refused<CheckThenAct>("CheckThenAct");
     is_refused<LostLock>("LostLock");
     is_refused<DoubleRemove>("DoubleRemove");
@@ -181,9 +197,9 @@ void all() {
     is_drawn();
     is_wrong_at_rest();
     is_kept();
-    ends_in_part<Stops<Crashes, 10000>>(2, "the set crashed: Segmentation fault\nunder way:\ncall ", true);
-    ends_in_part<FindsAllLate>(2, "not linearizable\n", true);
-    ends_in_part<FindsAll>(1, "not linearizable\n", false);
+    fails_late<Stops<Crashes, 10000>>("the set crashed: Segmentation fault\nunder way:\ncall ", "cut\n");
+    fails_late<FindsAllLate>("not linearizable\n", "end\n");
+    is_left_no_file();
     gives_no_verdict();
     for (bool own_process : {true, false})
         stops<FailsToAdd>("a call of the set threw std::runtime_error: no memory\n", "\nup to there: some order explains the calls", own_process);
@@ -192,11 +208,10 @@ void all() {
     stops<FailsWithLock>("a call of the set threw std::runtime_error: no memory\n", "\nup to there: some order explains the calls", false, 4, true);
 }
 
-int main(int words, char **word) {
+int main(int words, char **) {
     try {
         if (words == 1) all();
-        else if (word[1] == std::string("first")) is_right<MySet>("MySet");
-        else stops<Stops<Crashes>>("the set crashed: Segmentation fault\n", "\nup to there: some order explains the calls");
+        else is_right<MySet>("MySet");
     } catch (const std::exception &why) {
         failed++, std::cout << "FAILED: " << why.what() << "\n";
     }

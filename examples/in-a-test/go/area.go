@@ -14,7 +14,7 @@ import (
 
 const (
 	longest = 100   // looks at the counter, of a pause
-	part    = 20000 // calls of all goroutines from one rest to the next, of a run that is kept
+	rest    = 20000 // calls of all goroutines from one rest to the next, at which they are written down
 )
 
 var words = []string{"add", "remove", "contains"}
@@ -50,20 +50,20 @@ type head struct {
 	why                         [240]byte
 }
 
-// area is a run in memory that another process may share; of a run in parts that of the part which goes on.
+// area is a run in memory that another process may share: the part that goes on.
 type area struct {
 	Options
-	rows, parts int // the calls of each goroutine in a part, of which the last may have fewer
+	rows, parts int // the calls of each goroutine in a part, of which the last may have fewer; how many there are
 	memory      []byte
 	*head
 	slots         []slot
-	opening, left []byte // of each key 1 if the set had it
+	opening, left []byte // of each key 1 if the set had it, at first and at the end
 }
 
 func newArea(how Options) *area {
 	it := &area{Options: how, rows: how.Calls}
-	if how.Record != "" && how.Calls > part/how.Threads {
-		it.rows = part / how.Threads
+	if it.rows > rest/how.Threads {
+		it.rows = rest / how.Threads
 	}
 	it.parts = (how.Calls-1)/it.rows + 1
 	words := make([]uint64, it.size()/8+1) // (so that it is aligned)
@@ -83,15 +83,6 @@ func (it *area) lay(memory []byte) {
 	it.head = (*head)(unsafe.Pointer(&memory[0]))
 	it.slots = unsafe.Slice((*slot)(unsafe.Pointer(&slots[0])), it.Threads*it.rows)
 	it.opening, it.left = keys[:it.Keys], keys[it.Keys:]
-}
-
-func keysIn(there []byte) (found []int) {
-	for key, is := range there {
-		if is == 1 {
-			found = append(found, key)
-		}
-	}
-	return found
 }
 
 // ---- who reads the run
@@ -130,8 +121,8 @@ func (it *area) begin(seed int64, of caller) {
 
 func (it *area) goOn() { atomic.StoreUint32(&it.at, going) }
 
-// madePart waits until the part is made that goes on, or no call begins or ends for too long.
-func (it *area) madePart(of caller) (run, error) {
+// madePart waits until the part is made that goes on, or no call begins or ends for too long: then it gives how it went wrong.
+func (it *area) madePart(of caller) (string, error) {
 	trouble, since, seen := "", time.Now(), uint32(0)
 	for atomic.LoadUint32(&it.at) != resting {
 		if of.hasEnded() {
@@ -151,9 +142,9 @@ func (it *area) madePart(of caller) (run, error) {
 		trouble = string(it.why[:it.length])
 	}
 	if strings.HasPrefix(trouble, notMade) {
-		return run{}, errors.New(trouble)
+		return "", errors.New(trouble)
 	}
-	return it.run(trouble), nil
+	return trouble, nil
 }
 
 // ---- who makes it
@@ -209,14 +200,13 @@ func (it *area) lead(set Set) {
 				return
 			}
 			atomic.StoreUint32(&it.before, atomic.LoadUint32(&it.tickets))
-			copy(it.opening, it.left)
 		}
 		atomic.StoreUint32(&it.begun, part)
 		if !it.waits(func() bool { return atomic.LoadUint32(&it.done) == part*uint32(it.Threads) }) {
 			return
 		}
-		it.lookUp(set, it.left)
 	}
+	it.lookUp(set, it.left)
 }
 
 func (it *area) lookUp(set Set, keys []byte) {

@@ -13,6 +13,7 @@ import (
 	"bytes"
 	"errors"
 	"fmt"
+	"io"
 	"os"
 	"os/exec"
 	"path/filepath"
@@ -22,9 +23,7 @@ import (
 	"sync/atomic"
 )
 
-const (
-	quota = 16384 // the most adds that answered true, of one thread number of a recording
-)
+const mostCalls = 1000000000 // of all goroutines
 
 // Set is what is called from many goroutines at once.
 type Set interface {
@@ -36,14 +35,14 @@ type Set interface {
 // Options says how a set is called. Judge checks it before the first set is made.
 type Options struct {
 	Threads   int    // goroutines that call a set at once: 1 to 64
-	Calls     int    // of each goroutine: 1 or more, and 1,000,000 at most of all, or with Record 1,000,000,000
+	Calls     int    // of each goroutine: 1 or more, and 1,000,000,000 at most of all, which rest after each 20,000 until these are written
 	Keys      int    // calls are on the keys below this: 1 to 1,048,576. On few keys more calls meet
 	Pauses    int    // before how many of 100 calls a goroutine pauses, for some microseconds at most: 0 to 100
 	Runs      int    // fresh sets that are called: 1 to 1,000,000
 	Seed      int64  // what calls, keys and pauses of the first run are drawn from; the next run has the next seed
 	Seconds   int    // a run in which no call begins or ends for so long is ended: 1 to 3,600; 0 is 10
 	InProcess bool   // Check calls the set in this process, which then crashes with it (for a debugger, or for coverage)
-	Record    string // a folder that keeps each run, in parts of 20,000 calls: after each, goroutines rest until it is judged
+	Record    string // a folder that keeps the recording of each run; else that of a run that fails is kept, in the folder for temporary files
 }
 
 // Usual is 20 runs of 8 goroutines by 1,000 calls on 4 keys.
@@ -70,10 +69,10 @@ func (it Verdict) String() string {
 	return fmt.Sprintf("ok: %d calls, of which %d overlapped a change of their key%s; judge: %s", it.Calls, it.Overlapped, it.few(), it.Judge)
 }
 
-// Failed is a run that failed: what the judge said of it, the recording that it judged, the file that has it, and which judge it was.
+// Failed is a run that failed: what the judge said of it, the file that has its recording, and which judge it was.
 type Failed struct {
-	Seed                         int64
-	Said, Recording, File, Judge string
+	Seed              int64
+	Said, File, Judge string
 }
 
 func (it *Failed) Error() string {
@@ -166,7 +165,7 @@ func judged(how Options, callerOf func(*area) (caller, error)) (Verdict, error) 
 	}
 	defer of.stop()
 	for one := 0; err == nil && one < how.Runs; one++ {
-		err = it.judgeParts(how.Seed+int64(one), of, by, &verdict)
+		err = it.judge(how.Seed+int64(one), of, by, &verdict)
 	}
 	if err == nil && verdict.few() != "" {
 		fmt.Fprintln(os.Stderr, verdict) // (a test that passes may show no log)
@@ -174,33 +173,33 @@ func judged(how Options, callerOf func(*area) (caller, error)) (Verdict, error) 
 	return verdict, err
 }
 
-// judgeParts has a run made, and judges each part of it as it is made, up to the first that fails.
-func (it *area) judgeParts(seed int64, of caller, by *judgeFound, verdict *Verdict) error {
-	for part := 1; part <= it.parts; part++ {
+// judge has a run made, and judges it as it is made.
+func (it *area) judge(seed int64, of caller, by *judgeFound, verdict *Verdict) error {
+	recording, err := newRecording(seed, it.Record, by)
+	if err != nil {
+		return err
+	}
+	defer recording.close()
+	it.begin(seed, of)
+	for part := 1; part <= it.parts && recording.trouble == ""; part++ {
 		if part > 1 {
 			it.goOn()
-		} else {
-			it.begin(seed, of)
 		}
-		run, err := it.madePart(of)
+		trouble, err := it.madePart(of)
+		if err == nil {
+			err = recording.write(it.text(part, trouble), trouble)
+		}
 		if err != nil {
 			return err
 		}
-		overlapped, err := run.judged(by, it, part)
-		if err != nil {
-			return err
-		}
-		verdict.Calls += len(run.rows)
-		verdict.Overlapped += overlapped
 	}
-	return nil
+	overlapped, err := recording.judged()
+	verdict.Calls += it.Threads * it.Calls
+	verdict.Overlapped += overlapped
+	return err
 }
 
 func (it Options) check() error {
-	mostCalls := 1000000
-	if it.Record != "" {
-		mostCalls = 1000000000
-	}
 	for _, option := range []struct {
 		name               string
 		given, least, most int
@@ -211,9 +210,6 @@ func (it Options) check() error {
 		if option.given < option.least || option.given > option.most {
 			return fmt.Errorf("%s is %d, and has to be %d to %d", option.name, option.given, option.least, option.most)
 		}
-	}
-	if it.Record != "" && os.MkdirAll(it.Record, 0o777) != nil {
-		return fmt.Errorf("Record is %s, which is no folder and cannot be made one: name another", it.Record)
 	}
 	return nil
 }
@@ -228,24 +224,15 @@ type row struct {
 	reply      bool
 }
 
-func (it *row) line(number int) string {
+func (it *row) line() string {
 	if it.end == 0 {
-		return fmt.Sprintf("call %d %s %d %d - - -\n", number, it.call, it.key, it.begin)
+		return fmt.Sprintf("call %d %s %d %d - -\n", it.thread, it.call, it.key, it.begin)
 	}
-	return fmt.Sprintf("call %d %s %d %d - %d %t\n", number, it.call, it.key, it.begin, it.end, it.reply)
+	return fmt.Sprintf("call %d %s %d %d %d %t\n", it.thread, it.call, it.key, it.begin, it.end, it.reply)
 }
 
-// run is the calls of one set by their begins, those that did not end, and the keys before and after; of a run in parts those of a
-// part. Of a set that crashed or hung the last are not known.
-type run struct {
-	opening       []int
-	rows, pending []row
-	left          []int
-	trouble       string
-}
-
-func (it *area) run(trouble string) run {
-	made := run{opening: keysIn(it.opening), left: keysIn(it.left), trouble: trouble}
+// callsOfPart gives the calls of the part that was made, by their begins.
+func (it *area) callsOfPart() (found []row) {
 	before := atomic.LoadUint32(&it.before) // (calls that began by then are of parts before)
 	for i := range it.slots {
 		at := &it.slots[i]
@@ -253,109 +240,111 @@ func (it *area) run(trouble string) run {
 		if row.begin <= before {
 			continue
 		}
-		row.call, row.key = words[at.call], at.key
-		if row.end > row.begin {
-			row.reply = at.reply == 1
-			made.rows = append(made.rows, row)
-		} else {
+		if row.end < row.begin {
 			row.end = 0 // (it is that of a part before)
-			made.pending = append(made.pending, row)
 		}
+		row.call, row.key, row.reply = words[at.call], at.key, at.reply == 1
+		found = append(found, row)
 	}
-	sort.Slice(made.rows, func(i, j int) bool { return made.rows[i].begin < made.rows[j].begin })
-	return made
+	sort.Slice(found, func(i, j int) bool { return found[i].begin < found[j].begin })
+	return found
 }
 
-// judged is how many calls overlapped a change of their key, by the judge; or the error says what is wrong, with this part of a run.
-func (it *run) judged(by *judgeFound, of *area, part int) (int, error) {
-	recording := it.text()
-	file, err := of.keep(part, recording)
+// part is what a recording has of a part of a run, and its lines of the calls that have not ended.
+type part struct{ text, underWay string }
+
+// text is what a recording has of the part that was made, which is the last if there is trouble.
+func (it *area) text(number int, trouble string) part {
+	var text, underWay strings.Builder
+	if number == 1 {
+		text.WriteString("listset-calls 1\n" + linesOf("opening", it.opening))
+	}
+	for _, row := range it.callsOfPart() {
+		text.WriteString(row.line())
+		if row.end == 0 {
+			underWay.WriteString(row.line())
+		}
+	}
+	if trouble != "" {
+		text.WriteString("cut\n")
+	} else if number == it.parts {
+		text.WriteString(linesOf("key", it.left) + "end\n")
+	}
+	return part{text.String(), underWay.String()}
+}
+
+func linesOf(word string, there []byte) string {
+	var lines strings.Builder
+	for key, is := range there {
+		if is == 1 {
+			fmt.Fprintf(&lines, "%s %d\n", word, key)
+		}
+	}
+	return lines.String()
+}
+
+// recording is the text of a run: as it grows it is written into a file, and given to the judge.
+type recording struct {
+	seed    int64
+	file    *os.File
+	isKept  bool
+	by      *judgeFound
+	asked   asked
+	trouble string // how the run came to no end, and the calls under way, if it did not
+}
+
+func newRecording(seed int64, record string, by *judgeFound) (*recording, error) {
+	it, folder, err := &recording{seed: seed, isKept: record != "", by: by}, record, error(nil)
+	if it.isKept {
+		if err = os.MkdirAll(folder, 0o777); err == nil {
+			it.file, err = os.Create(filepath.Join(folder, fmt.Sprintf("seed-%d.calls", seed)))
+		}
+	} else {
+		folder = os.TempDir()
+		it.file, err = os.CreateTemp(folder, fmt.Sprintf("listset-seed-%d-*.calls", seed))
+	}
 	if err != nil {
-		return 0, err
+		return nil, fmt.Errorf("no file can be written in %s: name another folder by Record", folder)
 	}
-	overlapped, said, err := by.judged(recording)
-	if err != nil && it.trouble != "" {
-		said, err = err.Error(), nil // (an older judge knows no `cut`)
+	if it.asked, err = by.ask(); err != nil {
+		it.close()
 	}
+	return it, err
+}
+
+// write writes a part of the run, and whether it came to no end there.
+func (it *recording) write(made part, trouble string) error {
+	if trouble != "" {
+		it.trouble = trouble + "\nunder way:\n" + made.underWay
+	}
+	it.asked.Write([]byte(made.text)) // (one that has ended reads no further)
+	_, err := it.file.WriteString(made.text)
+	return err
+}
+
+// judged is how many calls of the run overlapped a change of their key, by the judge; or the error says what is wrong with it.
+func (it *recording) judged() (int, error) {
+	overlapped, said, err := it.by.judged(it.asked.answer())
 	if err != nil || said == "" && it.trouble == "" {
 		return overlapped, err
 	}
-	if file == "" {
-		file = kept(recording, of.seed)
-	}
-	failed := Failed{of.seed, said, recording, file, by.String()}
+	it.isKept = true
+	failed := Failed{it.seed, said, it.file.Name(), it.by.String()}
 	if it.trouble == "" {
 		return 0, &NotLinearizable{failed}
-	}
-	underWay := ""
-	for _, row := range it.pending {
-		underWay += row.line(row.thread)
 	}
 	if said == "" {
 		said = "some order explains the calls"
 	}
-	failed.Said = fmt.Sprintf("%s\nunder way:\n%sup to there: %s", it.trouble, underWay, said)
+	failed.Said = it.trouble + "up to there: " + said
 	return 0, &NotEnded{failed}
 }
 
-// keep is the file that keeps a part of a run, in the folder Record; none without it. Parts of an earlier run go at the first.
-func (it *area) keep(part int, recording string) (string, error) {
-	if it.Record == "" {
-		return "", nil
+func (it *recording) close() {
+	it.file.Close()
+	if !it.isKept {
+		os.Remove(it.file.Name())
 	}
-	file := func(part int) string {
-		return filepath.Join(it.Record, fmt.Sprintf("seed-%d-part-%06d.calls", it.seed, part))
-	}
-	for old := 1; part == 1 && os.Remove(file(old)) == nil; old++ {
-	}
-	if os.WriteFile(file(part), []byte(recording), 0o666) != nil {
-		return "", fmt.Errorf("Record is %s, where no file can be written: name another folder", it.Record)
-	}
-	return file(part), nil
-}
-
-// kept is the file of a recording that failed, which the caller may hand on.
-func kept(recording string, seed int64) string {
-	file, err := os.CreateTemp("", fmt.Sprintf("listset-seed-%d-*.calls", seed))
-	if err == nil {
-		file.Close()
-		err = os.WriteFile(file.Name(), []byte(recording), 0o666)
-	}
-	if err != nil {
-		return "no file, as none could be written"
-	}
-	return file.Name()
-}
-
-// text is the recording that `listset judge` reads. A goroutine whose quota is used goes on under another number.
-func (it *run) text() string {
-	var text, calls strings.Builder
-	next, number, left := 0, map[int]int{}, map[int]int{}
-	for _, call := range append(append([]row{}, it.rows...), it.pending...) {
-		if left[call.thread] == 0 {
-			number[call.thread], left[call.thread] = next, quota
-			next++
-		}
-		if call.call == "add" && call.reply {
-			left[call.thread]--
-		}
-		calls.WriteString(call.line(number[call.thread]))
-	}
-	if next == 0 { // (a recording has a thread, also without a call)
-		next = 1
-	}
-	fmt.Fprintf(&text, "listset-calls 2\nlist lazy\nthreads %d\nquota %d\n", next, quota)
-	for _, key := range it.opening {
-		fmt.Fprintf(&text, "opening %d\n", key)
-	}
-	text.WriteString(calls.String())
-	if it.trouble != "" {
-		return text.String() + "cut\n"
-	}
-	for _, key := range it.left {
-		fmt.Fprintf(&text, "key %d\n", key)
-	}
-	return text.String() + "end\n"
 }
 
 // ---- the judge
@@ -363,7 +352,13 @@ func (it *run) text() string {
 // judgeFound is the judge underneath: its name, what it says of its proof, and how it is asked.
 type judgeFound struct {
 	name, proof string
-	ask         func(recording string) (status int, said string)
+	ask         func() (asked, error)
+}
+
+// asked is a judge that is given a recording as it grows.
+type asked interface {
+	io.Writer
+	answer() (status int, said string)
 }
 
 // library is liblistset, in a test with the tag `listset` (library.go).
@@ -383,10 +378,13 @@ func findJudge() (*judgeFound, error) {
 	if strings.HasSuffix(name, ".js") {
 		command = []string{"node", name}
 	}
-	status, version := ran(command, "", "--version", "--long")
+	status, version := 127, ""
+	if it, err := start(append(command, "--version", "--long")); err == nil {
+		status, version = it.answer()
+	}
 	switch {
 	case status != 127:
-		ask := func(recording string) (int, string) { return ran(command, recording, "judge", "-") }
+		ask := func() (asked, error) { return start(append(command, "judge", "-")) }
 		return &judgeFound{name, proofIn(version), ask}, nil
 	case len(command) > 1:
 		return nil, fmt.Errorf("node is not in PATH, which runs the %s that LISTSET names", name)
@@ -406,26 +404,35 @@ func proofIn(version string) string {
 	return "proof unknown"
 }
 
-// ran gives the status of a command with these words on this input, 127 if it cannot be run, and what it said.
-func ran(command []string, input string, words ...string) (int, string) {
-	var out, errs bytes.Buffer
-	made := exec.Command(command[0], append(command[1:len(command):len(command)], words...)...)
-	made.Stdin, made.Stdout, made.Stderr = strings.NewReader(input), &out, &errs
-	err := made.Run()
-	var ended *exec.ExitError
-	if made.ProcessState == nil || err != nil && !errors.As(err, &ended) && made.ProcessState.ExitCode() < 0 {
-		return 127, ""
+// program is a command, which is given its input as it grows.
+type program struct {
+	io.WriteCloser
+	made      *exec.Cmd
+	out, errs bytes.Buffer
+}
+
+func start(words []string) (it *program, err error) {
+	it = &program{made: exec.Command(words[0], words[1:]...)}
+	it.made.Stdout, it.made.Stderr = &it.out, &it.errs
+	if it.WriteCloser, err = it.made.StdinPipe(); err == nil {
+		err = it.made.Start()
 	}
-	said := strings.TrimSpace(out.String())
+	return it, err
+}
+
+// answer gives the status of a command, and what it said.
+func (it *program) answer() (int, string) {
+	it.Close()
+	it.made.Wait()
+	said := strings.TrimSpace(it.out.String())
 	if said == "" {
-		said = strings.TrimSpace(errs.String())
+		said = strings.TrimSpace(it.errs.String())
 	}
-	return made.ProcessState.ExitCode(), said
+	return it.made.ProcessState.ExitCode(), said
 }
 
 // judged is how many calls of a recording overlapped a change of their key, and what the judge says if no order explains it.
-func (it *judgeFound) judged(recording string) (overlapped int, refused string, err error) {
-	status, said := it.ask(recording)
+func (it *judgeFound) judged(status int, said string) (overlapped int, refused string, err error) {
 	if _, err := fmt.Sscanf(said, "ok %d calls\n%d of them", new(int), &overlapped); status == 0 && err == nil {
 		return overlapped, "", nil
 	}

@@ -7,6 +7,8 @@ import (
 	"path/filepath"
 	"reflect"
 	"runtime"
+	"sort"
+	"strconv"
 	"strings"
 	"sync"
 	"sync/atomic"
@@ -85,9 +87,18 @@ func TestASeedGivesTheSameCallsAgain(t *testing.T) {
 		}
 		return found
 	}
-	if of(1).Recording != of(1).Recording || of(1).Recording == of(2).Recording {
+	text := func(seed int64) string { return textOf(t, of(seed).File) }
+	if text(1) != text(1) || text(1) == text(2) {
 		t.Fatal("other calls")
 	}
+}
+
+func textOf(t *testing.T, file string) string {
+	text, err := os.ReadFile(file)
+	if err != nil {
+		t.Fatal(err)
+	}
+	return string(text)
 }
 
 func TestTheLastSeedHasRuns(t *testing.T) {
@@ -135,7 +146,7 @@ func TestMayOpenWithKeys(t *testing.T) {
 	Check(t, opens, Options{Threads: 4, Calls: 200, Keys: 4, Runs: 3})
 }
 
-func TestGoesOnPastAQuota(t *testing.T) {
+func TestCallsInTurnDoNotOverlap(t *testing.T) {
 	if isRight(t, NewMySet, Options{Threads: 1, Calls: 120000, Keys: 1, Runs: 1}).Overlapped > 0 {
 		t.Fatal("calls in turn do not overlap")
 	}
@@ -266,14 +277,14 @@ func stopped(t *testing.T, err error, how, judged string) {
 	if !errors.As(err, &found) {
 		t.Fatal(err)
 	}
-	text, err := os.ReadFile(found.File)
-	if !strings.HasPrefix(found.Said, how) || !strings.Contains(found.Said, "\nunder way:\ncall ") || string(text) != found.Recording {
-		t.Fatal(found, err)
+	if !strings.HasPrefix(found.Said, how) || !strings.Contains(found.Said, "\nunder way:\ncall ") {
+		t.Fatal(found)
 	}
 	// (what was under way stands there too; the calls that show a refusal may have one of them again)
 	underWay, _, _ := strings.Cut(found.Said, "up to there: ")
-	if strings.Count(found.Recording, " - - -\n") != strings.Count(underWay, " - - -\n") || !strings.HasSuffix(found.Recording, "\ncut\n") {
-		t.Fatal(found.Recording)
+	recording := textOf(t, found.File)
+	if strings.Count(recording, " - -\n") != strings.Count(underWay, " - -\n") || !strings.HasSuffix(recording, "\ncut\n") {
+		t.Fatal(recording)
 	}
 	if !strings.Contains(found.Said, "\nup to there: "+judged) {
 		t.Fatal(found)
@@ -328,22 +339,25 @@ func keysOf(recording, word string) (found []string) {
 	return found
 }
 
-func TestALongRunIsKeptInParts(t *testing.T) {
+func TestALongRunIsOneRecording(t *testing.T) {
 	how := Options{Threads: 8, Calls: 8000, Keys: 4, Runs: 1, Seed: 1, Record: filepath.Join(os.TempDir(), "recorded")}
 	isRight(t, NewMySet, how)
 	how.Calls = 6000
 	Check(t, NewMySet, how)
-	var calls []int
-	var left []string
-	for i, file := range filesIn(t, how.Record) {
-		text, err := os.ReadFile(file)
-		if opening := keysOf(string(text), "opening"); err != nil || !reflect.DeepEqual(opening, left) {
-			t.Fatal("part", i, "opens with", opening, "and not with", left, err)
-		}
-		left, calls = keysOf(string(text), "key"), append(calls, len(keysOf(string(text), "call")))
+	text := textOf(t, filepath.Join(how.Record, "seed-1.calls"))
+	if !strings.HasPrefix(text, "listset-calls 1\ncall ") || strings.Index(text, "\nend\n") != len(text)-5 {
+		t.Fatal("it has to begin and to end once")
 	}
-	if !reflect.DeepEqual(calls, []int{20000, 20000, 8000}) {
-		t.Fatal(calls)
+	var begins []int
+	for _, call := range keysOf(text, "call") {
+		begin, err := strconv.Atoi(strings.Fields(call)[3])
+		if err != nil {
+			t.Fatal(err)
+		}
+		begins = append(begins, begin)
+	}
+	if len(begins) != 48000 || !sort.IntsAreSorted(begins) {
+		t.Fatal(len(begins), "calls, which have to be in the order of their begins")
 	}
 }
 
@@ -351,7 +365,7 @@ func TestEachGoroutineOfEachRunDrawsCallsOfItsOwn(t *testing.T) {
 	how := Options{Threads: 2, Calls: 300, Keys: 5, Runs: 2, Seed: 7, Record: t.TempDir()}
 	isRight(t, NewMySet, how)
 	files, drawn := filesIn(t, how.Record), map[string]bool{}
-	begin, end := filepath.Join(how.Record, "seed-"), "-part-000001.calls"
+	begin, end := filepath.Join(how.Record, "seed-"), ".calls"
 	if !reflect.DeepEqual(files, []string{begin + "7" + end, begin + "8" + end}) {
 		t.Fatal(files)
 	}
@@ -383,35 +397,37 @@ func (it *FindsAllLate) Contains(key uint32) bool {
 	return atomic.AddInt32(&it.calls, 1) > 8000 || it.MySet.Contains(key)
 }
 
-// endsIn has a run fail in a part, whose file the failure names.
-func endsIn(t *testing.T, it Failed, how Options, said string, parts int) {
-	files := filesIn(t, how.Record)
-	if !strings.HasPrefix(it.Said, said) || len(files) != parts || files[parts-1] != it.File {
-		t.Fatal(it.Said, it.File, files)
+// failsLate has a long run fail, whose recording ends with a line.
+func failsLate(t *testing.T, it Failed, how Options, said, end string) {
+	if !strings.HasPrefix(it.Said, said) || it.File != filepath.Join(how.Record, "seed-1.calls") {
+		t.Fatal(it.Said, it.File)
 	}
-	if text, err := os.ReadFile(it.File); err != nil || string(text) != it.Recording {
-		t.Fatal(it.File, err)
+	if text := textOf(t, it.File); len(keysOf(text, "call")) < 20000 || !strings.HasSuffix(text, end) {
+		t.Fatal(it.File)
 	}
 }
 
-func TestALongRunEndsWithThePartThatFailed(t *testing.T) {
+func TestALongRunMayFail(t *testing.T) {
 	var crashed *NotEnded
 	var refused *NotLinearizable
-	how := Options{Threads: 8, Calls: 8000, Keys: 4, Runs: 1, Seed: 1, Record: filepath.Join(os.TempDir(), "crashed")}
+	how := Options{Threads: 8, Calls: 8000, Keys: 4, Runs: 1, Seed: 1, Record: filepath.Join(os.TempDir(), "failed")}
 	exits := func() *Stops { return &Stops{MySet: NewMySet(), last: func() { os.Exit(3) }, due: 10000} }
 	if err := failed(t, exits, how); !errors.As(err, &crashed) {
 		t.Fatal(err)
 	}
-	endsIn(t, crashed.Failed, how, "the set ended its process with the status 3\nunder way:\ncall ", 2)
-	how.Record = filepath.Join(os.TempDir(), "refused")
-	if _, err := Judge(func() FindsAll { return FindsAll{NewMySet()} }, how); !errors.As(err, &refused) {
-		t.Fatal(err)
-	}
-	endsIn(t, refused.Failed, how, "not linearizable\n", 1)
+	failsLate(t, crashed.Failed, how, "the set ended its process with the status 3\nunder way:\ncall ", "\ncut\n")
 	if _, err := Judge(func() *FindsAllLate { return &FindsAllLate{MySet: NewMySet()} }, how); !errors.As(err, &refused) {
 		t.Fatal(err)
 	}
-	endsIn(t, refused.Failed, how, "not linearizable\n", 2)
+	failsLate(t, refused.Failed, how, "not linearizable\n", "\nend\n")
+}
+
+func TestWhatIsRightLeavesNoFile(t *testing.T) {
+	t.Setenv("TMPDIR", t.TempDir())
+	isRight(t, NewMySet, Options{Threads: 2, Calls: 9, Keys: 4, Runs: 2})
+	if files := filesIn(t, os.TempDir()); len(files) > 0 {
+		t.Fatal(files)
+	}
 }
 
 func TestACheckThatIsNotComeToAgain(t *testing.T) {
@@ -470,16 +486,13 @@ func TestWhatGivesNoVerdictIsOneSentence(t *testing.T) {
 	few := Options{Threads: 2, Calls: 9, Keys: 4, Runs: 1}
 	with := func(change func(*Options)) error { how := few; change(&how); return of(how) }
 	says("Threads is 65, and has to be 1 to 64", with(func(it *Options) { it.Threads = 65 }))
-	says("Calls is 0, and has to be 1 to 1000000", with(func(it *Options) { it.Calls = 0 }))
-	says("Threads times Calls is 1000002, and has to be 1 to 1000000", with(func(it *Options) { it.Calls = 500001 }))
+	says("Calls is 0, and has to be 1 to 1000000000", with(func(it *Options) { it.Calls = 0 }))
+	says("Threads times Calls is 1000000002, and has to be 1 to 1000000000", with(func(it *Options) { it.Calls = 500000001 }))
 	says("Keys is 0, and has to be 1 to 1048576", with(func(it *Options) { it.Keys = 0 }))
 	says("Pauses is 101, and has to be 0 to 100", with(func(it *Options) { it.Pauses = 101 }))
 	says("Runs is 0, and has to be 1 to 1000000", with(func(it *Options) { it.Runs = 0 }))
 	says("Seconds is 3601, and has to be 1 to 3600", with(func(it *Options) { it.Seconds = 3601 }))
-	says("Threads times Calls is 1000000002, and has to be 1 to 1000000000",
-		with(func(it *Options) { it.Calls, it.Record = 500000001, "." }))
-	says("Record is /dev/null/x, which is no folder and cannot be made one: name another",
-		with(func(it *Options) { it.Record = "/dev/null/x" }))
+	says("no file can be written in /dev/null/x: name another folder by Record", with(func(it *Options) { it.Record = "/dev/null/x" }))
 	_, err := Judge(func() *MySet { panic("no room") }, few)
 	says("the set could not be made: no room", err)
 	_, err = Judge(func() Set { return nil }, few)

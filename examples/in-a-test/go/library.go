@@ -7,22 +7,27 @@ package judge
 import "C"
 
 import (
+	"bytes"
 	"strings"
 	"unsafe"
 )
 
 func init() {
-	library = &judgeFound{"liblistset", proofIn(C.GoString(C.listset_version())), askLibrary}
+	ask := func() (asked, error) { return &inLibrary{}, nil }
+	library = &judgeFound{"liblistset", proofIn(C.GoString(C.listset_version())), ask}
 }
 
-func askLibrary(recording string) (int, string) {
+// inLibrary is given a recording at its end.
+type inLibrary struct{ bytes.Buffer }
+
+func (it *inLibrary) answer() (int, string) {
 	var status C.uint8_t
-	text := C.CString(recording)
-	defer C.free(unsafe.Pointer(text))
+	text := C.CBytes(it.Bytes())
+	defer C.free(text)
 	room := make([]byte, 4096)
 	for {
 		at := (*C.char)(unsafe.Pointer(&room[0]))
-		length := int(C.listset_judge(text, C.size_t(len(recording)), at, C.size_t(len(room)), &status))
+		length := int(C.listset_judge((*C.char)(text), C.size_t(it.Len()), at, C.size_t(len(room)), &status))
 		if length <= len(room) {
 			return int(status), strings.TrimSpace(string(room[:length]))
 		}

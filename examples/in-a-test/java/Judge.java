@@ -4,6 +4,7 @@ import java.io.IOException;
 import java.io.ObjectInputStream;
 import java.io.ObjectOutputStream;
 import java.io.Serializable;
+import java.io.Writer;
 import java.lang.invoke.MethodHandles;
 import java.lang.invoke.VarHandle;
 import java.net.URISyntaxException;
@@ -38,10 +39,9 @@ import java.util.regex.Pattern;
  * its JVM is judged up to there, as one that hangs.
  */
 public final class Judge {
-    private static final int QUOTA = 16_384; // the most adds that answered true, of one thread number of a recording
-    private static final int NUMBERS = 64; // of threads, of a recording
+    private static final int MOST_CALLS = 1_000_000_000; // of all threads
     private static final int LONGEST = 100; // looks at the counter, of a pause
-    private static final int PART = 20_000; // calls of all threads from one rest to the next, of a run that is kept
+    private static final int PART = 20_000; // calls of all threads from one rest to the next, at which they are written down
 
     private Judge() { }
 
@@ -49,14 +49,14 @@ public final class Judge {
      * How a set is called.
      *
      * @param threads that call a set at once: 1 to 64
-     * @param calls of each thread: 1 or more, and 1,000,000 at most of all threads, or with {@code record} 1,000,000,000
+     * @param calls of each thread: 1 or more, and 1,000,000,000 at most of all, which rest after each 20,000 until these are written
      * @param keys calls are on the keys below this: 1 to 1,048,576. On few keys more calls meet
      * @param pauses before how many of 100 calls a thread pauses, for some microseconds at most: 0 to 100
      * @param runs fresh sets that are called: 1 to 1,000,000
      * @param seed what calls, keys and pauses of the first run are drawn from; the next run has the next seed
      * @param seconds a run in which no call begins or ends for so long is ended: 1 to 3,600
      * @param ownProcess false: in this JVM, which then ends with the set (for a debugger, or for coverage)
-     * @param record a folder that keeps each run, in parts of 20,000 calls: after each, threads rest until it is judged; null is none
+     * @param record a folder that keeps the recording of each run; else, if it is null, that of a run that fails is kept in java.io.tmpdir
      */
     public record Options(int threads, int calls, int keys, int pauses, int runs, long seed, int seconds, boolean ownProcess, String record)
             implements Serializable {
@@ -86,20 +86,15 @@ public final class Judge {
             return new Options(threads, calls, keys, pauses, runs, seed, seconds, ownProcess, record);
         }
 
-        private int rows() { return record == null ? calls : Math.min(calls, PART / threads); }
+        private int rows() { return Math.min(calls, PART / threads); }
 
         private void check() {
             check("threads", threads, 1, 64);
-            check("threads times calls", (long) threads * calls, 1, record == null ? 1_000_000 : 1_000_000_000);
+            check("threads times calls", (long) threads * calls, 1, MOST_CALLS);
             check("keys", keys, 1, 1_048_576);
             check("pauses", pauses, 0, 100);
             check("runs", runs, 1, 1_000_000);
             check("seconds", seconds, 1, 3600);
-            try {
-                if (record != null) Files.createDirectories(Path.of(record));
-            } catch (IOException none) {
-                throw new NoVerdict("record is " + record + ", which is no folder and cannot be made one: name another");
-            }
         }
 
         private static void check(String name, long given, long least, long most) {
@@ -121,28 +116,27 @@ public final class Judge {
         }
     }
 
-    /** What the judge said of the run of this seed, the recording that it judged, and the file that has it. */
+    /** What the judge said of the run of this seed, and the file that has its recording. */
     public static class Failed extends AssertionError {
         public final long seed;
-        public final String said, recording, file;
+        public final String said, file;
 
-        Failed(long seed, String said, String recording, String file, Program judge) {
+        Failed(long seed, String said, Path file, Program judge) {
             super("seed " + seed + ": " + said + "\nrecorded in " + file + "; judge: " + judge);
             this.seed = seed;
             this.said = said;
-            this.recording = recording;
-            this.file = file;
+            this.file = file.toString();
         }
     }
 
     /** No order explains the run. */
     public static final class NotLinearizable extends Failed {
-        NotLinearizable(long seed, String said, String recording, String file, Program judge) { super(seed, said, recording, file, judge); }
+        NotLinearizable(long seed, String said, Path file, Program judge) { super(seed, said, file, judge); }
     }
 
     /** The set ended its JVM, hung or threw in the run, which was judged up to there. */
     public static final class NotEnded extends Failed {
-        NotEnded(long seed, String said, String recording, String file, Program judge) { super(seed, said, recording, file, judge); }
+        NotEnded(long seed, String said, Path file, Program judge) { super(seed, said, file, judge); }
     }
 
     /** Nothing is known of the set: an option is out of range, no set could be made, or there is no judge. */
@@ -174,30 +168,28 @@ public final class Judge {
         Program program = Program.found();
         Calls<S> calls = new Calls<>(make, add, remove, contains);
         Caller child = how.ownProcess ? Child.of(calls, how) : null;
-        long count = 0, overlapped = 0;
+        long overlapped = 0;
         try (Caller caller = child == null ? new Here<>(calls, new Area(how)) : child) {
-            for (int one = 0; one < how.runs; one++) {
-                caller.area().begin(how.seed + one, caller);
-                for (int part = 1; part <= caller.area().parts; part++) {
-                    if (part > 1) caller.area().goOn();
-                    Run run = caller.area().madePart(caller);
-                    overlapped += run.judge(program, how.record, part);
-                    count += run.rows.size();
-                }
-            }
+            for (int one = 0; one < how.runs; one++) overlapped += judged(caller, how.seed + one, program);
         }
-        Verdict verdict = new Verdict(count, overlapped, program.toString());
+        Verdict verdict = new Verdict((long) how.threads * how.calls * how.runs, overlapped, program.toString());
         if (verdict.isFew()) System.err.println(verdict); // (a test that passes may show no verdict)
         return verdict;
     }
 
-    /** The file of a recording that failed, which the caller may hand on. */
-    private static String kept(String recording, long seed) {
-        try {
-            Path file = Files.createTempFile("listset-seed-" + seed + "-", ".calls");
-            return Files.writeString(file, recording).toString();
-        } catch (IOException full) {
-            return "no file, as none could be written";
+    /** How many calls of a run overlapped a change of their key; throws if it failed. */
+    private static long judged(Caller caller, long seed, Program program) {
+        Area area = caller.area();
+        try (Recording recording = new Recording(seed, area.how.record, program)) {
+            area.begin(seed, caller);
+            String trouble = null;
+            for (int part = 1; part <= area.parts && trouble == null; part++) {
+                if (part > 1) area.goOn();
+                Part made = area.madePart(caller, part);
+                recording.write(made.text);
+                trouble = made.trouble;
+            }
+            return recording.judged(trouble);
         }
     }
 
@@ -207,7 +199,7 @@ public final class Judge {
         boolean reply(S set, int call, int key) { return (call == 0 ? add : call == 1 ? remove : contains).test(set, key); }
     }
 
-    /** A run in memory that another JVM may share; of a run in parts that of the part which goes on. */
+    /** A run in memory that another JVM may share: the part that goes on. */
     private static final class Area {
         private static final VarHandle INT = MethodHandles.byteBufferViewVarHandle(int[].class, ByteOrder.nativeOrder());
         // Where numbers are: the last moment of the parts before is BEFORE, and IS_HERE that another JVM has come.
@@ -218,8 +210,8 @@ public final class Judge {
         private static final String NOT_MADE = "the set could not be made: ", THREW = "a call of the set threw "; // how WHY begins
 
         private final Options how;
-        private final int rows, parts; // the calls of each thread in a part, of which the last may have fewer
-        private final int opening, left; // where of each key it is written whether the set had it
+        private final int rows, parts; // the calls of each thread in a part, of which the last may have fewer; how many there are
+        private final int opening, left; // where of each key it is written whether the set had it, at first and at the end
         private final ByteBuffer memory;
 
         Area(Options how) { this(how, ByteBuffer.allocateDirect(sizeOf(how))); }
@@ -252,7 +244,7 @@ public final class Judge {
         }
 
         /** Waits until the part is made that goes on, or no call begins or ends for too long. */
-        Run madePart(Caller caller) {
+        Part madePart(Caller caller, int number) {
             String trouble = null;
             int seen = -1;
             for (long since = System.nanoTime(); trouble == null && get(AT) != RESTING; LockSupport.parkNanos(300_000)) {
@@ -268,7 +260,7 @@ public final class Judge {
             }
             if (get(FAILED) == 1) trouble = textOf(WHY, get(LENGTH));
             if (trouble != null && trouble.startsWith(NOT_MADE)) throw new NoVerdict(trouble);
-            return run(trouble);
+            return part(number, trouble);
         }
 
         private String textOf(int at, int length) {
@@ -277,24 +269,32 @@ public final class Judge {
             return new String(bytes, StandardCharsets.UTF_8);
         }
 
-        private Run run(String trouble) {
-            List<Row> rows = new ArrayList<>(), pending = new ArrayList<>();
-            int before = get(BEFORE);
-            for (int i = 0; i < how.threads * this.rows; i++) {
-                int at = SLOTS + i * SLOT, end = get(at + END), begin = get(at + BEGIN);
-                if (begin <= before) continue; // (it is of a part before)
-                boolean hasEnded = end > begin;
-                Row row = new Row(i / this.rows, get(at + CALL), get(at + KEY), begin, hasEnded ? end : 0, get(at + REPLY) == 1);
-                (hasEnded ? rows : pending).add(row);
+        private Part part(int number, String trouble) {
+            StringBuilder text = new StringBuilder(number > 1 ? "" : "listset-calls 1\n" + linesOfKeys("opening ", opening)), underWay = new StringBuilder();
+            for (Row it : rows()) {
+                text.append(it.line());
+                if (it.end == 0) underWay.append(it.line());
             }
-            rows.sort(Comparator.comparingInt(Row::begin));
-            return new Run(memory.getLong(SEED), keysAt(opening), rows, pending, keysAt(left), trouble);
+            if (trouble != null) return new Part(text.append("cut\n").toString(), trouble + "\nunder way:\n" + underWay);
+            if (number == parts) text.append(linesOfKeys("key ", left)).append("end\n");
+            return new Part(text.toString(), null);
         }
 
-        private List<Integer> keysAt(int at) {
-            List<Integer> found = new ArrayList<>();
-            for (int key = 0; key < how.keys; key++) if (memory.get(at + key) == 1) found.add(key);
+        /** The calls of the part by their begins. */
+        private List<Row> rows() {
+            List<Row> found = new ArrayList<>();
+            for (int i = 0; i < how.threads * rows; i++) {
+                int at = SLOTS + i * SLOT, end = get(at + END), begin = get(at + BEGIN); // (the end may be that of a part before)
+                if (begin > get(BEFORE)) found.add(new Row(i / rows, get(at + CALL), get(at + KEY), begin, end > begin ? end : 0, get(at + REPLY) == 1));
+            }
+            found.sort(Comparator.comparingInt(Row::begin));
             return found;
+        }
+
+        private String linesOfKeys(String word, int at) {
+            StringBuilder lines = new StringBuilder();
+            for (int key = 0; key < how.keys; key++) if (memory.get(at + key) == 1) lines.append(word).append(key).append('\n');
+            return lines.toString();
         }
 
         /** Makes a set and calls it, to the end. */
@@ -343,12 +343,11 @@ public final class Judge {
                     set(AT, RESTING);
                     if (!waits(() -> get(AT) == GOING)) return;
                     set(BEFORE, get(TICKETS));
-                    for (int key = 0; key < how.keys; key++) memory.put(opening + key, memory.get(left + key));
                 }
                 set(BEGUN, part);
                 if (!waits(() -> get(DONE) == part * how.threads)) return;
-                lookUp(calls, set, left);
             }
+            lookUp(calls, set, left);
         }
 
         private <S> void lookUp(Calls<S> calls, S set, int at) {
@@ -516,71 +515,68 @@ public final class Judge {
     private static final String[] WORDS = {"add", "remove", "contains"};
 
     private record Row(int thread, int call, int key, int begin, int end, boolean reply) {
-        boolean isAdd() { return reply && call == 0; }
-
-        String line(int number) {
-            return "call " + number + " " + WORDS[call] + " " + key + " " + begin + " - " + (end > 0 ? end + " " + reply : "- -") + "\n";
+        String line() {
+            return "call " + thread + " " + WORDS[call] + " " + key + " " + begin + " " + (end > 0 ? end + " " + reply : "- -") + "\n";
         }
     }
 
-    /**
-     * The calls of one set by their begins, those that did not end, and the keys before and after; of a run in parts those of a part. Of
-     * a set that hung or ended its JVM the last are unknown.
-     */
-    private record Run(long seed, List<Integer> opening, List<Row> rows, List<Row> pending, List<Integer> left, String trouble) {
-        /** How many calls overlapped a change of their key; throws if it failed: as this part of a run, which the folder {@code record} keeps. */
-        long judge(Program program, String record, int part) {
-            String recording = text(), file = keep(record, part, recording);
-            Judgement judged = trouble == null ? program.judged(recording) : program.judgedUpTo(recording);
-            if (judged.refused == null && trouble == null) return judged.overlapped;
-            if (file == null) file = kept(recording, seed);
-            if (trouble != null) throw new NotEnded(seed, saidOfTrouble(judged.refused), recording, file, program);
-            throw new NotLinearizable(seed, judged.refused, recording, file, program);
-        }
+    /** What a recording has of a part of a run; and how this came to no end, with the calls under way, or null. */
+    private record Part(String text, String trouble) { }
 
-        /** The file that keeps a part of a run; null without a folder. Parts of an earlier run go at the first. */
-        private String keep(String record, int part, String recording) {
-            if (record == null) return null;
+    /** The text of a run: as it grows it is written into a file, and given to the judge. */
+    private static final class Recording implements AutoCloseable {
+        private final long seed;
+        private final Program program;
+        private final Path folder, file;
+        private final Writer to;
+        private final Asked asked;
+        private boolean isKept;
+
+        Recording(long seed, String record, Program program) {
+            this.seed = seed;
+            this.program = program;
+            isKept = record != null;
+            folder = Path.of(isKept ? record : System.getProperty("java.io.tmpdir"));
             try {
-                for (int old = 1; part == 1 && Files.deleteIfExists(file(record, old)); old++) continue;
-                return Files.writeString(file(record, part), recording).toString();
+                if (isKept) Files.createDirectories(folder);
+                file = isKept ? folder.resolve("seed-" + seed + ".calls") : Files.createTempFile(folder, "listset-seed-" + seed + "-", ".calls");
+                to = Files.newBufferedWriter(file);
             } catch (IOException none) {
-                throw new NoVerdict("record is " + record + ", where no file can be written: name another folder");
+                throw unwritten();
             }
+            asked = program.asked("judge", "-");
         }
 
-        private Path file(String record, int part) { return Path.of(record, String.format("seed-%d-part-%06d.calls", seed, part)); }
+        private NoVerdict unwritten() { return new NoVerdict("no file can be written in " + folder + ": name another folder by record"); }
 
-        private String saidOfTrouble(String refused) {
-            StringBuilder underWay = new StringBuilder();
-            for (Row it : pending) underWay.append(it.line(it.thread));
-            return trouble + "\nunder way:\n" + underWay + "up to there: " + (refused == null ? "some order explains the calls" : refused);
-        }
-
-        List<Row> all() {
-            List<Row> found = new ArrayList<>(rows);
-            found.addAll(pending);
-            return found;
-        }
-
-        /** The recording that the judge reads. A thread whose quota is used goes on under another number. */
-        String text() {
-            StringBuilder text = new StringBuilder(), head = new StringBuilder("listset-calls 2\nlist lazy\nthreads ");
-            int[] number = new int[NUMBERS], adds = new int[NUMBERS];
-            int next = 0;
-            for (Row it : all()) {
-                if (adds[it.thread] == 0) {
-                    number[it.thread] = next++;
-                    adds[it.thread] = QUOTA;
-                }
-                if (it.isAdd()) adds[it.thread]--;
-                text.append(it.line(number[it.thread]));
+        void write(String text) {
+            try {
+                to.write(text);
+            } catch (IOException full) {
+                throw unwritten();
             }
-            head.append(Math.max(next, 1)).append("\nquota ").append(QUOTA).append('\n');
-            for (int key : opening) head.append("opening ").append(key).append('\n');
-            if (trouble != null) return head.append(text).append("cut\n").toString();
-            for (int key : left) text.append("key ").append(key).append('\n');
-            return head.append(text).append("end\n").toString();
+            asked.write(text);
+        }
+
+        /** How many calls overlapped a change of their key; throws if no order explains them, or the run came to no end. */
+        long judged(String trouble) {
+            Judgement judged = program.judged(asked.answer());
+            isKept |= trouble != null || judged.refused != null;
+            String said = judged.refused == null ? "some order explains the calls" : judged.refused;
+            if (trouble != null) throw new NotEnded(seed, trouble + "up to there: " + said, file, program);
+            if (judged.refused != null) throw new NotLinearizable(seed, said, file, program);
+            return judged.overlapped;
+        }
+
+        @Override public void close() {
+            asked.process.destroy();
+            try {
+                to.close();
+            } catch (IOException full) {
+                throw unwritten();
+            } finally {
+                if (!isKept) file.toFile().delete();
+            }
         }
     }
 
@@ -591,77 +587,64 @@ public final class Judge {
         private static final Pattern OK = Pattern.compile("ok [0-9]+ calls\n([0-9]+) of them.*", Pattern.DOTALL);
     }
 
+    /** The status of a command, and what it said. */
+    private record Answer(int status, String said) { }
+
+    /** A command, which is given its input as it grows. */
+    private record Asked(Process process) {
+        void write(String text) {
+            try {
+                process.getOutputStream().write(text.getBytes(StandardCharsets.US_ASCII));
+            } catch (IOException ended) {
+                // (one that has ended reads no further)
+            }
+        }
+
+        Answer answer() {
+            try {
+                try {
+                    process.getOutputStream().close();
+                } catch (IOException ended) {
+                    // (the same)
+                }
+                String said = new String(process.getInputStream().readAllBytes()).strip(), errors = new String(process.getErrorStream().readAllBytes()).strip();
+                return new Answer(process.waitFor(), said.isEmpty() ? errors : said);
+            } catch (IOException | InterruptedException why) {
+                throw new NoVerdict("the judge could not be asked: ", why);
+            }
+        }
+    }
+
     /** The program that judges: its name, the command to which words are added, and what it says of its proof. It prints itself. */
     private record Program(String name, List<String> command, String proof) {
-        private record Answer(int status, String said) { }
-
         @Override public String toString() { return name + ", " + proof; }
 
         static Program found() {
             String named = System.getenv("LISTSET"), name = named == null ? "listset" : named;
             boolean isScript = name.endsWith(".js");
-            List<String> command = isScript ? List.of("node", name) : List.of(name);
-            Answer version = ran(command, "--version", "--long");
-            if (version.status == 127 && isScript) throw new NoVerdict("node is not in PATH, which runs the " + name + " that LISTSET names");
-            if (version.status == 127) {
-                throw new NoVerdict(named != null ? "LISTSET names " + named + ", which cannot be run: build listset, and name it there"
-                    : "there is no listset in PATH: build it, and put it there or name it by LISTSET");
-            }
-            String proof = version.said.lines().filter(it -> it.startsWith("proof ")).findFirst().orElse("proof unknown");
-            return new Program(name, command, proof);
+            Program asked = new Program(name, isScript ? List.of("node", name) : List.of(name), "");
+            String proof = asked.asked("--version", "--long").answer().said.lines().filter(it -> it.startsWith("proof ")).findFirst().orElse("proof unknown");
+            return new Program(name, asked.command, proof);
         }
 
-        Judgement judged(String recording) {
-            Path file = null;
-            try {
-                file = Files.writeString(Files.createTempFile("listset-", ".calls"), recording);
-                Answer answer = ran(command, "judge", file.toString());
-                Matcher ok = Judgement.OK.matcher(answer.said);
-                if (answer.status == 0 && ok.matches()) return new Judgement(null, Long.parseLong(ok.group(1)));
-                if (answer.status == 1 && answer.said.startsWith("not linearizable")) return new Judgement(answer.said, 0);
-                String first = answer.said.isEmpty() ? "nothing" : answer.said.lines().findFirst().get();
-                throw new NoVerdict(name + " gave no verdict, but said: " + first + ". Take a newer listset");
-            } catch (IOException why) {
-                throw new NoVerdict("the judge could not be asked: ", why);
-            } finally {
-                if (file != null) file.toFile().delete();
-            }
-        }
-
-        /** The same of a run that came to no end, of which an older judge knows nothing to say. */
-        Judgement judgedUpTo(String recording) {
-            try {
-                return judged(recording);
-            } catch (NoVerdict why) {
-                return new Judgement(why.getMessage(), 0);
-            }
-        }
-
-        /** The status of a command with these words, 127 if it cannot be run, and what it said. */
-        private static Answer ran(List<String> command, String... words) {
+        Asked asked(String... words) {
             List<String> all = new ArrayList<>(command);
             all.addAll(List.of(words));
-            Path errors = null;
             try {
-                errors = Files.createTempFile("listset-", ".errors");
-                Process child = started(new ProcessBuilder(all).redirectError(errors.toFile()));
-                if (child == null) return new Answer(127, "");
-                String out = new String(child.getInputStream().readAllBytes()).strip();
-                int status = child.waitFor();
-                return new Answer(status, out.isEmpty() ? Files.readString(errors).strip() : out);
-            } catch (IOException | InterruptedException why) {
-                throw new NoVerdict("the judge could not be asked: ", why);
-            } finally {
-                if (errors != null) errors.toFile().delete();
+                return new Asked(new ProcessBuilder(all).start());
+            } catch (IOException none) {
+                throw new NoVerdict(command.size() > 1 ? "node is not in PATH, which runs the " + name + " that LISTSET names"
+                    : System.getenv("LISTSET") != null ? "LISTSET names " + name + ", which cannot be run: build listset, and name it there"
+                    : "there is no listset in PATH: build it, and put it there or name it by LISTSET");
             }
         }
 
-        private static Process started(ProcessBuilder command) {
-            try {
-                return command.start();
-            } catch (IOException none) {
-                return null;
-            }
+        Judgement judged(Answer answer) {
+            Matcher ok = Judgement.OK.matcher(answer.said);
+            if (answer.status == 0 && ok.matches()) return new Judgement(null, Long.parseLong(ok.group(1)));
+            if (answer.status == 1 && answer.said.startsWith("not linearizable")) return new Judgement(answer.said, 0);
+            String first = answer.said.isEmpty() ? "nothing" : answer.said.lines().findFirst().get();
+            throw new NoVerdict(name + " gave no verdict, but said: " + first + ". Take a newer listset");
         }
     }
 }

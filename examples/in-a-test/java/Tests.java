@@ -10,8 +10,7 @@ import java.util.function.Supplier;
 import java.util.stream.Stream;
 
 /**
- * The tests as a program of their own: {@code javac Judge.java Sets.java Tests.java && java Tests}; or {@code java Tests first}, one; or
- * {@code java Tests crash}.
+ * The tests as a program of their own: {@code javac Judge.java Sets.java Tests.java && java Tests}; or {@code java Tests first}, one.
  */
 final class Tests {
     private static final Judge.Options ALL = new Judge.Options(), FEW = ALL.ofSize(2, 9, 4).ofRuns(1, 1);
@@ -32,14 +31,14 @@ final class Tests {
         }
     }
 
-    private static String recordingOf(long seed) { return refusedOf(seed).recording; }
+    private static String recordingOf(long seed) { return textOf(refusedOf(seed).file); }
 
     private static void isRefused(String name, Supplier<Judge.Verdict> judged) {
         try {
             fail(name + ": " + judged.get());
         } catch (Judge.NotLinearizable refused) {
             System.out.println(name + ": " + refused.getMessage());
-            if (!refused.said.startsWith("not linearizable") || !refused.recording.startsWith("listset-calls 2")) fail(name);
+            if (!refused.said.startsWith("not linearizable")) fail(name);
         }
     }
 
@@ -49,13 +48,13 @@ final class Tests {
         } catch (Judge.NotEnded found) {
             System.out.println(found.getMessage());
             // (what was under way stands there too; the calls that show a refusal may have one of them again)
-            if (openCalls(found.recording) != openCalls(found.said.split("\nup to there: ")[0]) || !found.recording.endsWith("\ncut\n")) fail("under way");
-            boolean isSaid = found.said.startsWith(words + "\nunder way:\ncall ");
-            if (!isSaid || !found.said.contains("\nup to there: " + judged) || !found.recording.equals(textOf(found.file))) fail(words);
+            String recording = textOf(found.file);
+            if (openCalls(recording) != openCalls(found.said.split("\nup to there: ")[0]) || !recording.endsWith("\ncut\n")) fail("under way");
+            if (!found.said.startsWith(words + "\nunder way:\ncall ") || !found.said.contains("\nup to there: " + judged)) fail(words);
         }
     }
 
-    private static long openCalls(String text) { return text.lines().filter(it -> it.endsWith(" - - -")).count(); }
+    private static long openCalls(String text) { return text.lines().filter(it -> it.endsWith(" - -")).count(); }
 
     private static String textOf(String file) {
         try {
@@ -80,17 +79,15 @@ final class Tests {
         return recording.lines().filter(it -> it.startsWith(word + " ")).map(it -> it.substring(word.length() + 1)).toList();
     }
 
-    /** A run in three parts, each of which opens with the keys that the one before left. */
+    /** The calls of all parts are in one recording, in the order of their begins. */
     private static void isKept() {
         Judge.Options how = ALL.ofRuns(1, 1).ofPauses(0).ofRecord(folder("recorded"));
         isRight("in four parts", ConcurrentSkipListSet::new, how.ofSize(8, 8000, 4).ofOwnProcess(false));
         isRight("in three parts", ConcurrentSkipListSet::new, how.ofSize(8, 6000, 4));
-        List<String> left = List.of(), texts = filesIn(how.record()).stream().map(Tests::textOf).toList();
-        if (!texts.stream().map(it -> keysOf(it, "call").size()).toList().equals(List.of(20_000, 20_000, 8000))) fail("calls of parts");
-        for (String it : texts) {
-            if (!keysOf(it, "opening").equals(left)) fail("a part opens with the keys that were left");
-            left = keysOf(it, "key");
-        }
+        String text = textOf(how.record() + "/seed-1.calls");
+        List<Integer> begins = keysOf(text, "call").stream().map(it -> Integer.valueOf(it.split(" ")[3])).toList();
+        if (begins.size() != 48_000 || !begins.equals(begins.stream().sorted().toList())) fail("calls in the order of their begins");
+        if (!text.startsWith("listset-calls 1\ncall ") || text.indexOf("\nend\n") != text.length() - 5) fail("one begin, and one end");
     }
 
     /** Each thread of each run has draws of its own, of all calls on all keys. */
@@ -99,7 +96,7 @@ final class Tests {
         filesIn(how.record()).forEach(it -> Path.of(it).toFile().delete()); // (those of an earlier run)
         isRight("two seeds", ConcurrentSkipListSet::new, how);
         List<String> files = filesIn(how.record());
-        String begin = how.record() + "/seed-", end = "-part-000001.calls";
+        String begin = how.record() + "/seed-", end = ".calls";
         if (!files.equals(List.of(begin + 7 + end, begin + 8 + end))) fail("each run has a seed: " + files);
         Set<List<String>> drawn = new HashSet<>();
         for (String text : files.stream().map(Tests::textOf).toList()) {
@@ -136,16 +133,25 @@ final class Tests {
         }
     }
 
-    /** A run that ends with the part that failed. */
-    private static void endsIn(int parts, String words, Judge.Make<? extends Set<Integer>> make, boolean ownProcess) {
-        Judge.Options how = ALL.ofSize(8, 8000, 4).ofPauses(0).ofOwnProcess(ownProcess).ofRecord(folder(ownProcess ? "exited" : "refused"));
+    /** A long run that fails, whose recording ends with this line. */
+    private static void failsLate(String words, String end, Judge.Make<? extends Set<Integer>> make) {
+        Judge.Options how = ALL.ofSize(8, 8000, 4).ofPauses(0).ofRecord(folder("failed"));
         try {
             fail(words + ": " + Judge.judge(make, how));
         } catch (Judge.Failed found) {
-            List<String> files = filesIn(how.record());
-            boolean isLast = files.size() == parts && files.get(parts - 1).equals(found.file);
-            if (!found.said.startsWith(words) || !isLast || !textOf(found.file).equals(found.recording)) fail(found.getMessage() + files);
+            List<String> lines = textOf(found.file).lines().toList();
+            boolean isIt = found.said.startsWith(words) && found.file.equals(how.record() + "/seed-1.calls");
+            if (!isIt || lines.size() < 20_000 || !lines.get(lines.size() - 1).equals(end)) fail(found.getMessage());
         }
+    }
+
+    /** What is right leaves no file. */
+    private static void leavesNoFile() {
+        String before = System.setProperty("java.io.tmpdir", folder("empty"));
+        Path.of(folder("")).toFile().mkdirs();
+        isRight("without a file", ConcurrentSkipListSet::new, FEW.ofOwnProcess(false));
+        if (!filesIn(System.getProperty("java.io.tmpdir")).isEmpty()) fail("no file is left");
+        System.setProperty("java.io.tmpdir", before);
     }
 
     private static void says(String words, Judge.Make<? extends Set<Integer>> make, Judge.Options how) {
@@ -169,14 +175,14 @@ final class Tests {
 
     private static void givesNoVerdict() {
         says("threads is 65, and has to be 1 to 64", ConcurrentSkipListSet::new, FEW.ofSize(65, 9, 4));
-        says("threads times calls is 0, and has to be 1 to 1000000", ConcurrentSkipListSet::new, FEW.ofSize(2, 0, 4));
+        says("threads times calls is 0, and has to be 1 to 1000000000", ConcurrentSkipListSet::new, FEW.ofSize(2, 0, 4));
         says("keys is 0, and has to be 1 to 1048576", ConcurrentSkipListSet::new, FEW.ofSize(2, 9, 0));
         says("pauses is 101, and has to be 0 to 100", ConcurrentSkipListSet::new, FEW.ofPauses(101));
         says("runs is 0, and has to be 1 to 1000000", ConcurrentSkipListSet::new, FEW.ofRuns(0, 1));
         says("seconds is 0, and has to be 1 to 3600", ConcurrentSkipListSet::new, FEW.ofSeconds(0));
-        Judge.Options tooMany = FEW.ofSize(2, 500_000_001, 4).ofRecord(".");
+        Judge.Options tooMany = FEW.ofSize(2, 500_000_001, 4);
         says("threads times calls is 1000000002, and has to be 1 to 1000000000", ConcurrentSkipListSet::new, tooMany);
-        String noFolder = "record is /dev/null/x, which is no folder and cannot be made one: name another";
+        String noFolder = "no file can be written in /dev/null/x: name another folder by record";
         says(noFolder, ConcurrentSkipListSet::new, FEW.ofRecord("/dev/null/x"));
         says("the set could not be made: java.lang.IllegalStateException: no room", Tests::notMade, FEW);
     }
@@ -189,7 +195,7 @@ final class Tests {
         isRight("OpensWithKeys", Sets.OpensWithKeys::new, ALL.ofRuns(3, 1));
         if (isRight("Slow", Sets.Slow::new, ALL.ofRuns(3, 1)).overlapped() == 0) fail("calls that wait overlap");
         Judge.Options longer = ALL.ofSize(1, 120_000, 1).ofRuns(1, 1);
-        if (isRight("past a quota", ConcurrentSkipListSet::new, longer).overlapped() > 0) fail("calls in turn do not overlap");
+        if (isRight("calls in turn", ConcurrentSkipListSet::new, longer).overlapped() > 0) fail("calls in turn do not overlap");
         if (!recordingOf(1).equals(recordingOf(1)) || recordingOf(1).equals(recordingOf(2))) fail("a seed gives the same calls again");
         if (refusedOf(1).file.equals(refusedOf(1).file)) fail("each recording has its file");
         isRefused("CheckThenAct", () -> Judge.judge(Sets.CheckThenAct::new));
@@ -206,9 +212,9 @@ final class Tests {
         isDrawn();
         isRefusedAtRest();
         isKept();
-        endsIn(2, exited + "\nunder way:\ncall ", Sets.ExitsLate::new, true);
-        endsIn(2, "not linearizable\n", Sets.FindsAllLate::new, true);
-        endsIn(1, "not linearizable\n", Sets.FindsAll::new, false);
+        failsLate(exited + "\nunder way:\ncall ", "cut", Sets.ExitsLate::new);
+        failsLate("not linearizable\n", "end", Sets.FindsAllLate::new);
+        leavesNoFile();
         isRight("that cannot be passed on", notPassedOn(new Object()), ALL.ofRuns(1, 1));
         givesNoVerdict();
         stops(Sets.Overflows::new, ALL, "a call of the set threw java.lang.StackOverflowError", "some order explains the calls");
@@ -219,8 +225,7 @@ final class Tests {
     public static void main(String[] words) {
         try {
             if (words.length == 0) all();
-            else if (words[0].equals("first")) isRight("ConcurrentSkipListSet", ConcurrentSkipListSet::new, ALL);
-            else stops(Sets.Exits::new, ALL, "the set ended its process with the status 3", "some order explains the calls");
+            else isRight("ConcurrentSkipListSet", ConcurrentSkipListSet::new, ALL);
         } catch (RuntimeException | AssertionError why) {
             fail(why.getMessage());
         }

@@ -29,8 +29,8 @@ import threading
 import time
 import warnings
 
-QUOTA = 16_384  # the most adds that answered true, of one thread number of a recording
-PART = 20_000  # calls of all threads from one rest to the next, of a run that is kept
+PART = 20_000  # calls of all threads from one rest to the next, at which they are written down
+MOST_CALLS = 1_000_000_000  # of all threads
 GOING, RESTING, STOPPING, ENDED = range(4)
 WORDS = ADD, REMOVE, CONTAINS = "add", "remove", "contains"
 OVERLAPPED = re.compile("ok [0-9]+ calls\n([0-9]+) of them")
@@ -50,11 +50,11 @@ class Verdict(collections.namedtuple("Verdict", "calls overlapped judge")):
 
 
 class Failed(AssertionError):
-    """What the judge said of the run of the seed `seed`, `said`; the recording that it judged, `recording`; the file that has it."""
+    """What the judge said of the run of the seed `seed`, `said`; the file that has its recording, `file`."""
 
-    def __init__(self, seed, said, recording, file, judge):
-        self.seed, self.said, self.recording, self.file = seed, said, recording, file or kept(recording, seed)
-        super().__init__(f"seed {seed}: {said}\nrecorded in {self.file}; judge: {judge}")
+    def __init__(self, seed, said, file, judge):
+        self.seed, self.said, self.file = seed, said, file
+        super().__init__(f"seed {seed}: {said}\nrecorded in {file}; judge: {judge}")
 
 
 class NotLinearizable(Failed):
@@ -74,24 +74,22 @@ def judge(make, *, threads=8, calls=1000, keys=4, pauses=20, runs=20, seed=1, se
     that crashes or hangs.
 
     threads -- that call a set at once: 1 to 64
-    calls -- of each thread: 1 or more, and 1,000,000 at most of all threads, or with `record` 1,000,000,000
+    calls -- of each thread: 1 or more, and 1,000,000,000 at most of all threads, which rest after each 20,000 until these are written
     keys -- calls are on the keys below this: 1 to 1,048,576. On few keys more calls meet
     pauses -- before how many of 100 lines of the set a thread lets others go on: 0 to 100
     runs -- fresh sets that are called: 1 to 1,000,000
     seed -- what calls, keys and pauses of the first run are drawn from; the next run has the next seed
     seconds -- a run in which no call begins or ends for so long is ended: 1 to 3,600
     own_process -- False: in this process, which then crashes with the set (for a debugger, or for coverage)
-    record -- a folder that keeps each run, in parts of 20,000 calls: after each, threads rest until it is judged
+    record -- a folder that keeps the recording of each run; else that of a run that fails is kept, in the folder for temporary files
     """
     __tracebackhide__ = True  # (pytest shows the line of the test alone)
-    most_calls = 1_000_000 if record is None else 1_000_000_000
-    check(threads=(threads, 1, 64), calls=(calls, 1, most_calls), keys=(keys, 1, 1_048_576), pauses=(pauses, 0, 100), runs=(runs, 1, 1_000_000))
-    check(**{"threads times calls": (threads * calls, 1, most_calls), "seconds": (seconds, 1, 3600)})
-    make_folder(record)
+    check(threads=(threads, 1, 64), calls=(calls, 1, MOST_CALLS), keys=(keys, 1, 1_048_576), pauses=(pauses, 0, 100), runs=(runs, 1, 1_000_000))
+    check(**{"threads times calls": (threads * calls, 1, MOST_CALLS), "seconds": (seconds, 1, 3600)})
     by, judged = Judge(), []
     for one in range(seed, seed + runs):
         is_own = own_process and hasattr(os, "fork") and threading.active_count() == 1
-        judged.append(judged_run(make, Run(threads, calls, keys, pauses, one, seconds, record), by, is_own))
+        judged.append(judged_run(make, Run(threads, calls, keys, pauses, one, seconds), by, is_own, record))
     verdict = Verdict(*map(sum, zip(*judged)), str(by))
     if verdict.few():
         warnings.warn(str(verdict), RuntimeWarning, stacklevel=2)  # (a test that passes may show no verdict)
@@ -104,63 +102,78 @@ def check(**judge_options):
             raise NoVerdict(f"{name} is {given}, and has to be {least} to {most}")
 
 
-def make_folder(record):
-    try:
-        if record is not None:
-            pathlib.Path(record).mkdir(parents=True, exist_ok=True)
-    except OSError:
-        raise NoVerdict(f"record is {record}, which is no folder and cannot be made one: name another") from None
-
-
-def judged_run(make, run, by, is_own):
-    """How many calls a run has, and how many of them overlapped a change of their key. Each part is judged as it is made."""
+def judged_run(make, run, by, is_own, record):
+    """How many calls a run has, and how many of them overlapped a change of their key."""
     __tracebackhide__ = True
-    calls = overlapped = 0
-    with contextlib.closing(run.in_child(make) if is_own else run.in_this(make)) as parts:
-        for part, trouble in enumerate(parts, 1):
-            run.read(trouble)
-            recording = run.text()
-            file = run.keep(part, recording)
-            met, refused = by.judged_up_to(recording) if run.trouble else by.judged(recording)
-            if run.trouble:
-                under_way = "".join(f"{line_of(it.thread, it)}\n" for it in run.pending)
-                said = f"{run.trouble}\nunder way:\n{under_way}up to there: {refused or 'some order explains the calls'}"
-                raise NotEnded(run.seed, said, recording, file, by)
-            if refused:
-                raise NotLinearizable(run.seed, refused, recording, file, by)
-            calls, overlapped = calls + len(run.rows), overlapped + met
-    return calls, overlapped
+    with Recording(run.seed, by, record) as recording:
+        with contextlib.closing(run.in_child(make) if is_own else run.in_this(make)) as parts:
+            for trouble in parts:
+                run.read(trouble)
+                recording.write(run.text())
+                if run.trouble:
+                    break
+        overlapped, refused = recording.judged()
+        recording.is_kept |= bool(run.trouble or refused)
+    if run.trouble:
+        under_way = "".join(f"{line_of(it)}\n" for it in run.rows if not it.end)
+        said = f"{run.trouble}\nunder way:\n{under_way}up to there: {refused or 'some order explains the calls'}"
+        raise NotEnded(run.seed, said, recording.file, by)
+    if refused:
+        raise NotLinearizable(run.seed, refused, recording.file, by)
+    return run.threads * run.calls, overlapped
 
 
-def kept(recording, seed):
-    """The file of a recording that failed, which the caller may hand on."""
-    try:
-        with tempfile.NamedTemporaryFile("w", prefix=f"listset-seed-{seed}-", suffix=".calls", delete=False) as file:
-            file.write(recording)
-    except OSError:
-        return "no file, as none could be written"
-    return pathlib.Path(file.name)
+class Recording:
+    """The text of a run: as it grows it is written into a file, and given to the judge."""
+
+    def __init__(self, seed, by, record):
+        self.is_kept, folder = record is not None, pathlib.Path(record or tempfile.gettempdir())
+        try:
+            folder.mkdir(parents=True, exist_ok=True)
+            if self.is_kept:
+                self.to = open(folder / f"seed-{seed}.calls", "w")
+            else:
+                self.to = tempfile.NamedTemporaryFile("w", prefix=f"listset-seed-{seed}-", suffix=".calls", dir=folder, delete=False)
+        except OSError:
+            raise NoVerdict(f"no file can be written in {folder}: name another folder by record") from None
+        self.file, self.by, self.asked = pathlib.Path(self.to.name), by, by.ask()
+
+    def __enter__(self):
+        return self
+
+    def write(self, text):
+        self.to.write(text)
+        self.asked.write(text)
+
+    def judged(self):
+        self.to.close()
+        return self.by.judged(*self.asked.answer())
+
+    def __exit__(self, *_):
+        self.to.close()
+        self.asked.end()
+        if not self.is_kept:
+            self.file.unlink()
 
 
 # ---- a run, recorded
 
 
 class Run:
-    """The calls of one set by their begins, `rows`, and those that did not end, `pending`, with the keys before and after, `opening`
-    and `left`; of a run in parts those of one part. They are written down as the run goes, in memory that a process of its own shares
-    with this one."""
+    """The calls of one set in parts, of which `rows` has the last by their begins. They are written down as the run goes, in memory that
+    a process of its own shares with this one."""
 
     SLOT, COUNT = struct.Struct("=IIIBB"), struct.Struct("=I")  # of a call: begin, end or 0, key, word, reply; how far a thread is
     WHY, RAISED = 240, "a call of the set raised "  # the bytes of what was raised, and how they begin if a call under way raised it
 
-    def __init__(self, threads, calls, keys, pauses, seed, seconds, record):
+    def __init__(self, threads, calls, keys, pauses, seed, seconds):
         self.threads, self.calls, self.keys, self.pauses, self.seed, self.seconds = threads, calls, keys, pauses, seed, seconds
-        self.record, self.tickets, self.there = record, itertools.count(1), threading.Barrier(threads + 1)
-        # of each thread the most calls of a part, and the parts
-        self.most = calls if record is None else min(calls, PART // threads)
-        self.parts = -(-calls // self.most)
+        self.tickets, self.there = itertools.count(1), threading.Barrier(threads + 1)
+        # of each thread the most calls of a part; the parts; how many were read
+        self.most = min(calls, PART // threads)
+        self.parts, self.part = -(-calls // self.most), 0
         # what was raised; whether it goes on; how far each thread is, the looks, and the last moment of the parts before; of each key
-        # whether the set had it; the calls
+        # whether the set had it at first, and at the end; the calls
         self.at_keys = self.WHY + 1 + (threads + 2) * self.COUNT.size
         self.at_slots = self.at_keys + 2 * keys
         self.slots = mmap.mmap(-1, self.at_slots + threads * self.most * self.SLOT.size)
@@ -285,7 +298,7 @@ class Run:
                     return
                 self.there.wait()  # none begins before all are there
                 self.there.wait()
-                self.look_up(contains, True)
+            self.look_up(contains, True)
         except threading.BrokenBarrierError:
             pass
         finally:
@@ -296,7 +309,6 @@ class Run:
         while self.at == RESTING:
             time.sleep(0.0005)
         self.count(self.threads + 1, next(self.tickets))
-        self.slots[self.at_keys : self.at_keys + self.keys] = self.slots[self.at_keys + self.keys : self.at_slots]
         return self.at == GOING
 
     def look_up(self, contains, is_left):
@@ -336,39 +348,25 @@ class Run:
         why = self.slots[: self.WHY].rstrip(b"\0").decode(errors="replace")
         if why and not why.startswith(self.RAISED):
             raise NoVerdict(why)
-        self.trouble, self.rows, self.pending = why or trouble, [], []
-        self.opening, self.left = ([key for key in range(self.keys) if self.slots[at + key]] for at in (self.at_keys, self.at_keys + self.keys))
+        self.trouble, self.rows, self.part = why or trouble, [], self.part + 1
         before = self.before()  # (calls that began by then are of parts before)
         for at in range(self.threads * self.most):
             begin, end, key, word, reply = self.SLOT.unpack_from(self.slots, self.at_slots + at * self.SLOT.size)
             if begin > before:
-                (self.rows if end else self.pending).append(Call(begin, end, at // self.most, WORDS[word], key, bool(reply)))
+                self.rows.append(Call(begin, end, at // self.most, WORDS[word], key, bool(reply)))
         self.rows.sort()
 
-    def keep(self, part, recording):
-        """The file that keeps a part, in the folder `record`; None without it. Parts of an earlier run go at the first."""
-        if self.record is None:
-            return None
-        name, folder = f"seed-{self.seed}-part-", pathlib.Path(self.record)
-        try:
-            for old in folder.glob(f"{name}*.calls") if part == 1 else ():
-                old.unlink()
-            (folder / f"{name}{part:06}.calls").write_text(recording)
-        except OSError:
-            raise NoVerdict(f"record is {self.record}, where no file can be written: name another folder") from None
-        return folder / f"{name}{part:06}.calls"
-
     def text(self):
-        """The recording that `listset judge` reads. A thread whose quota is used goes on under another number."""
-        calls, threads, added, number = [], 0, collections.Counter(), {}
-        for it in itertools.chain(self.rows, self.pending):
-            if it.thread not in number or added[it.thread] == QUOTA:
-                number[it.thread], added[it.thread], threads = threads, 0, threads + 1
-            added[it.thread] += it.call == ADD and it.reply
-            calls.append(line_of(number[it.thread], it))
-        head = ["listset-calls 2", "list lazy", f"threads {max(threads, 1)}", f"quota {QUOTA}"]
-        rest = ["cut"] if self.trouble else [*(f"key {key}" for key in self.left), "end"]
-        return "\n".join([*head, *(f"opening {key}" for key in self.opening), *calls, *rest, ""])
+        """What the recording has of this part."""
+        first, last = self.part == 1, self.trouble or self.part == self.parts
+        lines = ["listset-calls 1", *self.lines_of_keys("opening", False)] if first else []
+        lines += map(line_of, self.rows)
+        if last:
+            lines += ["cut"] if self.trouble else [*self.lines_of_keys("key", True), "end"]
+        return "".join(f"{it}\n" for it in lines)
+
+    def lines_of_keys(self, word, is_left):
+        return (f"{word} {key}" for key in range(self.keys) if self.slots[self.at_keys + is_left * self.keys + key])
 
 
 def end_with_parent():
@@ -376,8 +374,8 @@ def end_with_parent():
         ctypes.CDLL(None).prctl(1, signal.SIGKILL)
 
 
-def line_of(number, it):
-    return f"call {number} {it.call} {it.key} {it.begin} - {f'{it.end} {str(it.reply).lower()}' if it.end else '- -'}"
+def line_of(it):
+    return f"call {it.thread} {it.call} {it.key} {it.begin} {f'{it.end} {str(it.reply).lower()}' if it.end else '- -'}"
 
 
 def is_true(call, reply):
@@ -407,8 +405,7 @@ class Judge:
         try:
             import listset
 
-            self.name, self.ask, version = "liblistset", functools.partial(asked, listset.said), listset.version()
-            listset.judge_text  # (an older one is no judge)
+            self.name, self.ask, version = "liblistset", functools.partial(Library, listset.said), listset.version()
         except (ImportError, AttributeError):
             self.name, self.ask, version = program()
         self.proof = next((it for it in version.splitlines() if it.startswith("proof ")), "proof unknown")
@@ -416,10 +413,9 @@ class Judge:
     def __str__(self):
         return f"{self.name}, {self.proof}"
 
-    def judged(self, recording):
+    def judged(self, status, said):
         """How many calls of a recording overlapped a change of their key, and None; or 0, and what the judge says if no order explains
         it."""
-        status, said = self.ask(recording)
         met = OVERLAPPED.match(said)
         if status == 0 and met:
             return int(met[1]), None
@@ -428,17 +424,41 @@ class Judge:
         first = said.partition("\n")[0] or "nothing"
         raise NoVerdict(f"{self.name} gave no verdict, but said: {first}. Take a newer listset")
 
-    def judged_up_to(self, recording):
-        """The same of a run that came to no end, of which an older judge knows nothing to say."""
-        try:
-            return self.judged(recording)
-        except NoVerdict as why:
-            return 0, str(why)
+
+class Library:
+    """The library, which is given a recording at its end."""
+
+    def __init__(self, said):
+        self.said, self.text = said, []
+
+    def write(self, text):
+        self.text.append(text)
+
+    def answer(self):
+        answer, status = self.said("judge", "".join(self.text).encode())
+        return status, answer.decode(errors="replace").strip()
+
+    def end(self):
+        pass
 
 
-def asked(said, recording):
-    answer, status = said("judge", recording.encode())
-    return status, answer.decode(errors="replace").strip()
+class Program:
+    """A program, which reads a recording as it grows."""
+
+    def __init__(self, words):
+        self.process = subprocess.Popen(words, stdin=subprocess.PIPE, stdout=subprocess.PIPE, stderr=subprocess.PIPE, text=True)
+
+    def write(self, text):
+        with contextlib.suppress(BrokenPipeError):  # (one that has ended reads no further)
+            self.process.stdin.write(text)
+
+    def answer(self):
+        said, errors = self.process.communicate()
+        return self.process.returncode, (said or errors).strip()
+
+    def end(self):
+        self.process.kill()
+        self.process.communicate()
 
 
 def program():
@@ -447,17 +467,12 @@ def program():
     name = named or "listset"
     words = ["node", name] if name.endswith(".js") else [name]
     try:
-        status, version = ran([*words, "--version", "--long"], "")
+        status, version = Program([*words, "--version", "--long"]).answer()
     except OSError:
         status = 127
     if status != 127:
-        return name, functools.partial(ran, [*words, "judge", "-"]), version
+        return name, functools.partial(Program, [*words, "judge", "-"]), version
     if len(words) > 1:
         raise NoVerdict(f"node is not in PATH, which runs the {name} that LISTSET names")
     where = f"LISTSET names {named}, which cannot be run: build listset, and name it there"
     raise NoVerdict(where if named else "there is no listset in PATH: build it, and put it there or name it by LISTSET")
-
-
-def ran(words, given):
-    done = subprocess.run(words, input=given, capture_output=True, text=True)
-    return done.returncode, (done.stdout or done.stderr).strip()

@@ -205,7 +205,7 @@ class Sets(unittest.TestCase):
         self.assertEqual(verdict.calls, 20_000)
         self.assertGreater(verdict.overlapped, 0)
 
-    def test_a_thread_goes_on_past_its_quota(self):
+    def test_calls_in_turn_do_not_overlap(self):
         with self.assertWarnsRegex(RuntimeWarning, "that is few"):
             verdict = listset_judge.judge(MySet, threads=1, calls=120_000, keys=1, pauses=0, runs=1)
         self.assertEqual(verdict.overlapped, 0)
@@ -219,7 +219,7 @@ class Sets(unittest.TestCase):
     def recording_of(self, seed):
         with self.assertRaises(listset_judge.NotLinearizable) as refused:
             listset_judge.judge(FindsAll, threads=1, calls=50, runs=1, seed=seed)
-        return refused.exception.recording
+        return refused.exception.file.read_text()
 
     def test_a_set_may_open_with_keys(self):
         listset_judge.judge(OpensWithKeys, threads=2, calls=100, runs=2)
@@ -247,11 +247,10 @@ class Sets(unittest.TestCase):
                 listset_judge.judge(make, seconds=1 if make is Hangs else 10, **FEW)
             self.assertTrue(found.exception.said.startswith(f"{how}\nunder way:\ncall "), found.exception)
             self.assertIn(f"\nup to there: {judged}", found.exception.said)
-            self.assertEqual(found.exception.file.read_text(), found.exception.recording)
             # (what was under way stands there too; the calls that show a refusal may have one of them again)
-            under_way = found.exception.said.partition("up to there: ")[0]
-            self.assertEqual(found.exception.recording.count(" - - -\n"), under_way.count(" - - -\n"))
-            self.assertTrue(found.exception.recording.endswith("\ncut\n"))
+            recording, under_way = found.exception.file.read_text(), found.exception.said.partition("up to there: ")[0]
+            self.assertEqual(recording.count(" - -\n"), under_way.count(" - -\n"))
+            self.assertTrue(recording.endswith("\ncut\n"))
 
     def test_a_crash_is_judged_whatever_the_keys(self):
         with self.assertRaisesRegex(listset_judge.NotEnded, "up to there: some order explains the calls"):
@@ -298,28 +297,24 @@ class Sets(unittest.TestCase):
     def test_in_this_process(self):
         listset_judge.judge(MySet, threads=2, calls=100, runs=2, own_process=False)
 
-    def test_a_long_run_is_kept_in_parts(self):
+    def test_a_long_run_is_one_recording(self):
         folder = pathlib.Path(tempfile.gettempdir(), "recorded")
         for calls, own_process in ((15_500, False), (11_000, True)):
             how = {"threads": 4, "calls": calls, "pauses": 0, "runs": 1, "own_process": own_process}
             self.assertEqual(listset_judge.judge(MySet, **how, record=folder).calls, 4 * calls)
-        parts = [[it.split() for it in file.read_text().splitlines()] for file in sorted(folder.iterdir())]
-        opening, left, calls = ([[it[1] for it in part if it[0] == word] for part in parts] for word in ("opening", "key", "call"))
-        self.assertEqual([len(it) for it in calls], [20_000, 20_000, 4000])
-        self.assertEqual(opening, [[], *left[:-1]])
-
-    def test_the_calls_of_all_parts_count(self):
-        judged = mock.patch.object(listset_judge.Judge, "judged", return_value=(3, None))
-        with mock.patch.object(listset_judge, "PART", 40), judged, tempfile.TemporaryDirectory() as folder:
-            verdict = listset_judge.judge(MySet, threads=2, calls=50, pauses=0, runs=2, record=folder)
-        self.assertEqual(verdict[:2], (200, 18))
+        lines = [it.split() for it in (folder / "seed-1.calls").read_text().splitlines()]
+        words = [it[0] for it in lines]
+        self.assertEqual([(it, words.count(it)) for it in ("listset-calls", "opening", "call", "end")],
+                         [("listset-calls", 1), ("opening", 0), ("call", 44_000), ("end", 1)])
+        begins = [int(it[4]) for it in lines if it[0] == "call"]
+        self.assertEqual(begins, sorted(begins))
 
     def test_each_thread_of_each_run_draws_calls_of_its_own(self):
         drawn = set()
         with tempfile.TemporaryDirectory() as folder:
             listset_judge.judge(MySet, threads=2, calls=300, keys=5, pauses=0, runs=2, seed=7, record=folder)
             names = sorted(os.listdir(folder))
-            self.assertEqual(names, ["seed-7-part-000001.calls", "seed-8-part-000001.calls"])
+            self.assertEqual(names, ["seed-7.calls", "seed-8.calls"])
             for text in [pathlib.Path(folder, name).read_text() for name in names]:
                 for number in ("0", "1"):
                     calls = tuple(tuple(it[2:4]) for it in map(str.split, text.splitlines()) if it[:2] == ["call", number])
@@ -327,32 +322,35 @@ class Sets(unittest.TestCase):
                     drawn.add(calls)
         self.assertEqual(len(drawn), 4)
 
-    def test_a_long_run_ends_with_the_part_that_failed(self):
-        for make, raised, said, parts in (
-            (CrashesLate, listset_judge.NotEnded, "the set crashed: SIGSEGV\nunder way:\ncall ", 2),
-            (FindsAllLate, listset_judge.NotLinearizable, "not linearizable", 2),
-            (FindsAll, listset_judge.NotLinearizable, "not linearizable", 1),
+    def test_a_long_run_may_fail(self):
+        for make, raised, said, end in (
+            (CrashesLate, listset_judge.NotEnded, "the set crashed: SIGSEGV\nunder way:\ncall ", "cut"),
+            (FindsAllLate, listset_judge.NotLinearizable, "not linearizable", "end"),
         ):
             with self.subTest(said), tempfile.TemporaryDirectory() as folder:
                 with self.assertRaises(raised) as found:
                     listset_judge.judge(make, threads=2, calls=20_000, pauses=0, record=folder)
                 self.assertTrue(found.exception.said.startswith(said), found.exception)
-                names = [f"seed-1-part-{part:06}.calls" for part in range(1, parts + 1)]
-                self.assertEqual(sorted(os.listdir(folder)), names)
-                self.assertEqual(found.exception.file, pathlib.Path(folder, names[-1]))
-                self.assertEqual(found.exception.file.read_text(), found.exception.recording)
+                self.assertEqual(found.exception.file, pathlib.Path(folder, "seed-1.calls"))
+                lines = found.exception.file.read_text().splitlines()
+                self.assertGreater(len(lines), 20_000)
+                self.assertEqual(lines[-1], end)
+
+    def test_only_what_fails_is_kept(self):
+        with tempfile.TemporaryDirectory() as folder, mock.patch.object(tempfile, "tempdir", folder):
+            listset_judge.judge(MySet, threads=2, calls=9, runs=2)
+            self.assertEqual(os.listdir(folder), [])
 
     def test_what_gives_no_verdict_is_one_sentence(self):
         for make, how, said in (
             (MySet, {"threads": 65}, "threads is 65, and has to be 1 to 64"),
             (MySet, {"calls": 0}, "calls is 0, and has to be 1 to 1000000"),
-            (MySet, {"calls": 500_001}, "threads times calls is 1000002, and has to be 1 to 1000000"),
+            (MySet, {"calls": 500_000_001}, "threads times calls is 1000000002, and has to be 1 to 1000000000"),
             (MySet, {"keys": "4"}, "keys is 4, and has to be 1 to 1048576"),
             (MySet, {"pauses": 101}, "pauses is 101, and has to be 0 to 100"),
             (MySet, {"runs": 0}, "runs is 0, and has to be 1 to 1000000"),
             (MySet, {"seconds": 0}, "seconds is 0, and has to be 1 to 3600"),
-            (MySet, {"calls": 500_000_001, "record": "."}, "threads times calls is 1000000002, and has to be 1 to 1000000000"),
-            (MySet, {"record": "/dev/null/x"}, "record is /dev/null/x, which is no folder and cannot be made one: name another"),
+            (MySet, {"record": "/dev/null/x"}, "no file can be written in /dev/null/x: name another folder by record"),
             (cannot_be_made, {}, "the set could not be made: no room"),
             (AnswersNone, {"calls": 99}, "add answered None, and has to answer True or False"),
             (object, {}, "a call of the set failed: 'object' object has no attribute"),

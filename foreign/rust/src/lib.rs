@@ -62,14 +62,9 @@ pub fn replay(schedule: impl AsRef<[u8]>) -> Result<String, Wrong> {
     of_text(calls::listset_replay, schedule.as_ref())
 }
 
-/// The report of recorded calls.
-pub fn report(calls: impl AsRef<[u8]>) -> Result<String, Wrong> {
-    of_text(calls::listset_report, calls.as_ref())
-}
-
-/// `ok N calls` if some order explains recorded calls; else the few calls that show that none does.
-pub fn judge_text(calls: impl AsRef<[u8]>) -> Result<String, Wrong> {
-    of_text(calls::listset_judge, calls.as_ref())
+/// `ok N calls` if some order explains the calls of a recording; else a few calls that show that none does.
+pub fn judge_text(recording: impl AsRef<[u8]>) -> Result<String, Wrong> {
+    of_text(calls::listset_judge, recording.as_ref())
 }
 
 /// Whether the order of a report explains its calls; else the first fault.
@@ -92,7 +87,7 @@ pub fn draft(draft: impl AsRef<[u8]>) -> Result<String, Wrong> {
     of_text(calls::listset_draft, draft.as_ref())
 }
 
-/// The picture of a schedule, a report or recorded calls.
+/// The picture of a schedule or a report.
 pub fn show(text: impl AsRef<[u8]>, window: Window) -> Result<String, Wrong> {
     of_two_texts(calls::listset_show, text.as_ref(), options(window).as_bytes())
 }

@@ -64,28 +64,20 @@ fn each_value_of_a_generated_schedule_has_its_place() {
     assert_ne!(of(u64::MAX), of(u64::from(u32::MAX)));
 }
 
-const CALLS: &str = "listset-calls 2
-list lock-free
-threads 2
-quota 4
-call 0 add 5 1 3 6 true
-call 1 contains 5 2 - 4 true
+const RECORDING: &str = "listset-calls 1
+call 0 add 5 1 6 true
+call 1 contains 5 2 4 true
 key 5
 end
 ";
 
 #[test]
-fn recorded_calls_are_judged() {
-    assert_eq!(check(report(CALLS).unwrap()), Ok(()));
-    let without_key = report(CALLS.replace("key 5\n", "")).unwrap();
-    assert_eq!(check(without_key).unwrap_err().to_string(), "refused WrongSet");
-    let without_point = CALLS.replace("1 3 6", "1 - 6");
-    assert_eq!(check(report(&without_point).unwrap()), Ok(()));
-    let with_ceiling = without_point.replace("key 5", "call 1 ceiling 4 7 - 8 at-5\nkey 5");
-    assert_eq!(report(with_ceiling).unwrap_err().status, 1);
-    assert!(judge_text(without_point).unwrap().starts_with("ok 2 calls\n"));
-    let refused = judge_text(CALLS.replace("key 5\n", "")).unwrap_err();
+fn a_recording_is_judged() {
+    assert!(judge_text(RECORDING).unwrap().starts_with("ok 2 calls\n"));
+    let refused = judge_text(RECORDING.replace("key 5\n", "")).unwrap_err();
     assert!(refused.status == 1 && refused.text.starts_with("not linearizable\n"), "{refused}");
+    let wrong = judge_text(RECORDING.replace("calls 1", "calls 2")).unwrap_err();
+    assert_eq!((wrong.status, wrong.text.as_str()), (1, "listset: line 1: Header\n"));
 }
 
 #[test]

@@ -1,12 +1,11 @@
-// Judge, calls recorded from a set of the reader's own: their text is pasted or opened as a file, and the proved judge decides. No
-// points are wanted but for a ceiling or a full.
+// Judge, calls recorded from a set of the reader's own: their text is pasted or opened as a file, and the proved judge decides.
 import { drawRecorded } from "../draw/judged.js";
 import { byId } from "../page/dom.js";
 import { askLong, LONG_TEXT } from "../page/long_run.js";
 import { tag } from "../run/markup.js";
-import { RECORDED_EXAMPLE, recordedInWords, verdictOnCalls, withNewline } from "../run/recorded.js";
+import { RECORDED_EXAMPLE, verdictOnCalls, withNewline } from "../run/recorded.js";
 
-const MOST_DRAWN = 40; // calls that are drawn as bars
+const WIDEST = 900; // pixels of a drawing
 const recorded = { text: "", isOpen: false }; // what stands in the box when another activity is shown
 const recordedPart = (name) => byId(`recorded-${name}`);
 
@@ -14,27 +13,25 @@ const PARTS = `<p class="lead">The forms in <code>examples/in-a-test</code> reco
     begin and end, and keep a recording that fails. Paste its text, or open the file: the proved <code>judge</code> says whether any order
     explains the calls.</p>
   <textarea id="recorded-text" rows="7" spellcheck="false" autocapitalize="off" wrap="off" aria-label="recorded calls"
-    placeholder="listset-calls 2"></textarea>
+    placeholder="listset-calls 1"></textarea>
   <p class="line"><button id="recorded-judge">Judge these calls</button>
     <label class="button">Open a file<input type="file" id="recorded-file"></label>
     <button id="recorded-example">Load an example</button></p>
-  <p id="recorded-verdict" role="status"></p><ul id="recorded-reasons"></ul><div id="recorded-picture"></div><ol id="recorded-calls"></ol>`;
+  <p id="recorded-verdict" role="status"></p><ul id="recorded-reasons"></ul><div id="recorded-picture"></div>`;
 
 export const drawRecordedBox = () =>
   tag("details", { id: "recorded-box", class: "card", ...(recorded.isOpen ? { open: "" } : {}) },
     tag("summary", {}, "<h2>Judge calls recorded from your own set</h2>"), PARTS);
 
-function showVerdict({ kind, says, reasons, calls }) {
+function showVerdict({ kind, says, reasons, calls, from }) {
   recordedPart("verdict").className = kind;
   recordedPart("verdict").textContent = says;
   recordedPart("reasons").innerHTML = reasons.map((reason) => tag("li", {}, reason)).join("");
-  const isDrawn = calls.length > 0 && calls.length <= MOST_DRAWN;
-  const width = Math.max(300, recordedPart("reasons").clientWidth);
-  recordedPart("picture").innerHTML = isDrawn ? drawRecorded(calls, Math.min(width, 900)) : "";
-  recordedPart("calls").innerHTML = calls.map((call) => tag("li", {}, recordedInWords(call))).join("");
+  const width = Math.min(Math.max(300, recordedPart("picture").clientWidth), WIDEST);
+  recordedPart("picture").innerHTML = calls.length > 0 ? drawRecorded(calls, from, width) : "";
 }
 
-const nothing = { kind: "", says: "", reasons: [], calls: [] };
+const nothing = { kind: "", says: "", reasons: [], calls: [], from: null };
 
 async function judgeCalls() {
   const text = withNewline(recordedPart("text").value);

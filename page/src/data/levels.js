@@ -39,16 +39,6 @@ export const BREAK_LEVELS = {
     ],
     shortest: [15, 2],
   },
-  "last-slot": {
-    grade: 0,
-    story: "Each thread may add two keys. This list allows fewer.",
-    hints: [
-      "One thread is enough. It adds.",
-      "Two adds of different keys.",
-      "Let t0 add 4, and then 5. What does the second add answer?",
-    ],
-    shortest: [17, 2],
-  },
   "new-slot": {
     grade: 0,
     story: "Each key that is added needs a node of its own. Does it get one?",
@@ -165,5 +155,4 @@ export const LACKS_IN_WORDS = {
   "mark-in-remove": "A remove marks a node that is marked already.",
   "mark-at-key": "A contains does not look at the mark of the node with its key.",
   "new-slot": "An add writes into the node of its last key.",
-  "last-slot": "An add answers full while a slot is free.",
 };

@@ -1,7 +1,8 @@
 // Draws the bars on which the reader puts points: each is a slider for the keyboard; the call that clashes is red.
 import { placeLabels, ROW_HEIGHT, signOf, widthOf } from "./labels.js";
 import { lastMoment, nameOfCall } from "../run/judged.js";
-import { callText, chipOf, colourOf, escaped, label, tag } from "../run/markup.js";
+import { callText, chipOf, colourOf, escaped, label, tag, title } from "../run/markup.js";
+import { recordedInWords } from "../run/recorded.js";
 
 const JUDGE_LEFT = 50;
 const JUDGE_RIGHT = 20;
@@ -87,22 +88,33 @@ function drawJudgedBar(call, reply, scale, y) {
 
 const frameOf = ({ width, height }) => ({ width, height, viewBox: `0 0 ${width} ${height}` });
 
-// Recorded calls as bars, each thread's in a lane and their moments one after the other: a clock may leave any room between two.
-export function drawRecorded(calls, width) {
-  const inOrder = (numbers) => [...new Set(numbers)].sort((one, other) => one - other);
+// Recorded calls as bars, each thread's in a lane and their moments one after the other: a clock may leave any room between two. A line
+// stands at the moment from which those of a refusal have no order.
+export function drawRecorded(calls, from, width) {
+  const inOrder = (numbers) => [...new Set(numbers)].sort((one, other) => (one < other ? -1 : 1));
   const threads = inOrder(calls.map(({ thread }) => thread));
-  const moments = inOrder(calls.flatMap(({ begun, ended }) => (ended === null ? [begun] : [begun, ended])));
+  const ends = calls.flatMap(({ begun, ended }) => (ended === null ? [begun] : [begun, ended]));
+  const moments = inOrder(from === null ? ends : [...ends, from.moment]);
   const momentOf = (at) => (at === null ? null : moments.indexOf(at) + 1);
   const laneOf = ({ thread }) => threads.indexOf(thread);
-  const placed = calls.map((call) => ({ ...call, thread: laneOf(call), begun: momentOf(call.begun), ended: momentOf(call.ended) }));
+  const placed = calls.map((call, id) => ({ ...call, id, thread: laneOf(call), begun: momentOf(call.begun), ended: momentOf(call.ended) }));
   const scale = judgeScale({ calls: placed, last: moments.length + 1, threads: threads.length }, width);
   const bars = placed.map((call) => {
     const bar = drawJudgedBar(call, call.reply ?? OPEN, scale, scale.y(call.thread));
-    return tag("g", { class: `bar own still ${colourOf(threads[call.thread])}${call.ended === null ? " open" : ""}` }, bar);
+    const still = { class: `bar own still ${colourOf(threads[call.thread])}${call.ended === null ? " open" : ""}` };
+    return tag("g", still, title(recordedInWords(calls[call.id])), bar);
   });
   const lanes = threads.map((thread, at) => drawJudgedLane(scale, at, thread));
-  const frame = { ...frameOf(scale), role: "img", "aria-label": calls.map(nameOfCall).join(", ") };
-  return tag("svg", frame, ...lanes, ...bars);
+  const below = from === null ? 0 : ROW_HEIGHT;
+  const frame = { ...frameOf({ ...scale, height: scale.height + below }), role: "img", "aria-label": calls.map(nameOfCall).join(", ") };
+  return tag("svg", frame, ...lanes, from === null ? "" : drawFrom(from.says, scale, momentOf(from.moment)), ...bars);
+}
+
+function drawFrom(says, { x, step, width, height }, moment) {
+  const at = x(moment) + step / 2;
+  const anchor = at > width / 2 ? { x: at - 6, "text-anchor": "end" } : { x: at + 6 };
+  const words = label({ class: "note", y: height + ROW_HEIGHT - 4, ...anchor }, says);
+  return tag("line", { class: "cursor", x1: at, x2: at, y1: 0, y2: height + ROW_HEIGHT }) + words;
 }
 
 function drawOwnPoint(call, at, y, scale) {

@@ -4,9 +4,15 @@ export const FIRST_ROOM = 1 << 22; // bytes handed to the engine for its answer,
 export const LARGE_MEMORY = 1 << 28; // past so many bytes an instance is not used again
 
 export class Engine {
-  constructor(module) {
+  // `read` puts bytes of an input of the host at the front of a piece of the memory, and tells how many, or -1.
+  constructor(module, read = () => -1) {
     this.module = module;
     this.instance = null;
+    this.host = { env: { read: (input, at, count) => BigInt(read(input, this.piece(Number(at), Number(count)))) } };
+  }
+
+  piece(at, count) {
+    return new Uint8Array(this.instance.exports.memory.buffer, at, count);
   }
 
   static async start() {
@@ -21,11 +27,20 @@ export class Engine {
   }
 
   askBytes(name, ...given) {
+    return this.answered((exports) => answerOf(exports, name, given));
+  }
+
+  // What the judge says of a recording of any length, which it reads from an input in pieces.
+  judgeFrom(input) {
+    return this.answered((exports) => answerInRoom(exports, "listset_judge_from", [[input]], FIRST_ROOM));
+  }
+
+  answered(answer) {
     if (this.instance === null || this.instance.exports.memory.buffer.byteLength > LARGE_MEMORY) {
-      this.instance = new WebAssembly.Instance(this.module, {});
+      this.instance = new WebAssembly.Instance(this.module, this.host);
     }
     try {
-      return answerOf(this.instance.exports, name, given);
+      return answer(this.instance.exports);
     } catch (fault) {
       this.instance = null; // after a trap the memory is not looked at again
       throw new Error(`the engine stopped: ${fault.message}`);

@@ -7,6 +7,7 @@ import { LACKING } from "../../made/classics.js";
 import { LISTS } from "../../made/rows.js";
 import { exerciseOf, nameOfCall, otherOrders } from "./judged.js";
 import { escaped } from "./markup.js";
+import { refusalIn } from "./refusal.js";
 import { scheduleOfTrace, titleOf } from "./schedule_text.js";
 import { isFailed, isLock, momentAt, sentenceOf } from "./sentences.js";
 import { State } from "./state.js";
@@ -58,45 +59,30 @@ export function verdictOnLacking(ask, lacks, schedule) {
   return { kind: "broken", says: `Broken: ${whyNone(text, lines)}. ${UNEXPLAINED}`, report: text };
 }
 
-// Why no order explains a report, in words, of the lines with which `show` ends: the key, the moment at which it is there or is not,
-// and the few calls after it that have no order; or the call that answers full too soon.
-function whyNone(report, [reason, ...lines]) {
+// Why no order explains a report, in words, of the lines with which `show` ends: the key, the event after which it is there or is not,
+// and the few calls that have no order from there.
+function whyNone(report, lines) {
+  const refusal = refusalIn(lines);
+  if (refusal === null) return lines[0];
   const exercise = exerciseOf(report, "claim");
-  const full = /^call (\d+) answers full/.exec(reason);
-  if (full !== null) return fullInWords(exercise, exercise.calls[full[1]]);
-  const [, key, end] = /^no order explains the calls of key (\d+) (up|and)/.exec(reason) ?? [];
-  if (key === undefined) return reason;
-  if (end === "and" && isLost(exercise, Number(key))) return `${key} was added once and never removed, and at the end the set does not have it`;
-  const start = /^key \d+ is (there|not there) at moment (\d+)$/.exec(lines[0] ?? "");
-  const calls = lines.map((line) => callInWords(exercise, line)).filter((words) => words !== null);
-  const last = end === "and" ? [`at the end the set ${isLeft(exercise, key) ? "has it" : "does not have it"}`] : [];
-  const then = [...calls, ...last].join(", ");
-  if (start === null) return then === "" ? reason : then;
-  const when = start[2] === "0" ? "at first" : `after event ${start[2]}`;
-  return `${key} is ${start[1]} ${when}, and then ${then}`;
-}
-
-const isChange = (operation, call) => call.operation === operation && call.reply === "true";
-const isLeft = ({ keyLines }, key) => keyLines.includes(`key ${key}`);
-
-function fullInWords({ head, calls }, call) {
-  const own = calls.filter((other) => other.thread === call.thread && isChange("add", other));
-  const quota = head[3].replace("quota ", "");
-  return `${nameOfCall(call)} answers full, and its thread had put in ${own.length} of the ${quota} keys of its quota`;
+  const { key, isLeft, since, is, calls } = refusal;
+  if (isLeft && isLost(exercise, key)) return `${key} was added once and never removed, and at the end the set does not have it`;
+  const left = exercise.keyLines.includes(`key ${key}`) ? "has it" : "does not have it";
+  const then = [...calls.map((call) => callInWords(exercise, call)), ...(isLeft ? [`at the end the set ${left}`] : [])].join(", ");
+  if (is === null) return then === "" ? lines[0] : then;
+  return `${key} is ${is} ${since === null ? "at first" : `after event ${since}`}, and then ${then}`;
 }
 
 // Whether a key was put in once, and neither taken out nor there at first, and is not left.
-function isLost(exercise, key) {
-  const count = (operation) => exercise.calls.filter((call) => isChange(operation, call) && call.key === key).length;
-  const isOpening = exercise.head.includes(`opening ${key}`);
-  return count("add") === 1 && count("remove") === 0 && !isOpening && !isLeft(exercise, key);
+function isLost({ calls, head, keyLines }, key) {
+  const count = (operation) => calls.filter((call) => call.operation === operation && call.reply === "true" && call.key === key).length;
+  const isThere = head.includes(`opening ${key}`) || keyLines.includes(`key ${key}`);
+  return count("add") === 1 && count("remove") === 0 && !isThere;
 }
 
-// A call of such a line, with its reply; null if the line is that of no call.
-function callInWords({ calls }, line) {
-  const [, operation, key, begun] = /^call \d+ (\w+) (\d+) (\d+) - /.exec(line) ?? [];
-  const call = calls.find((one) => one.operation === operation && one.key === Number(key) && one.begun === Number(begun));
-  if (call === undefined) return null;
+// A call of a refusal as the report has it: the judge reads a ceiling and a full as looks at a key.
+function callInWords({ calls }, { thread, begun }) {
+  const call = calls.find((one) => one.thread === thread && one.begun === Number(begun));
   return `${nameOfCall(call)} ${call.ended === null ? "is open" : `answers ${call.reply}`}`;
 }
 

@@ -20,36 +20,16 @@ export const CAUSES = {
   Lost: "the broken list's step would access a word outside its table",
 };
 
-const NOT_ENDED = 'the text must end with the line "end", or with "cut" if the recording was cut off';
-
 // Those of recorded calls.
 export const CAUSES_OF_CALLS = {
-  NotEnded: NOT_ENDED,
-  Header: 'line 1 must be "listset-calls 2", or "listset-calls 3", a long recording',
-  Kind: 'line 2 must be "list" and one of coarse, fine, optimistic, lazy, lock-free',
-  Threads: 'line 3 must be "threads" and a number from 1 to 64',
-  Quota:
-    'line 4 must be "quota" and a number from 0 to 16384; if calls have points or there is a ceiling or a full, ' +
-    "no less than the adds of a thread that answered true",
+  Header: 'line 1 must be "listset-calls 1"',
   Line:
-    'expected "call T CALL K BEGIN POINT END REPLY", with - for what is missing; "opening K" only above all calls, ' +
-    'and only below them "key K" and "end", or "cut"',
-  Number: "a moment is not a number from 1 to 4294967295, or another number not one from 0 to 4294967295",
-  TooMany: "there are more opening keys, calls or keys than the judge reads",
-  Opening: "an opening key must be above the one before",
-  History: "there is no such thread, or it has two calls at a time, or two calls have one moment, or a call does not end after its begin",
-  Point: "a point must lie between the begin and the end; if there is a ceiling or a full, each add and remove that answered true needs one",
-};
-
-// Those of a long recording, of version 3, which has other lines.
-export const CAUSES_OF_LONG = {
-  NotEnded: NOT_ENDED,
-  Line:
-    'expected "call T CALL K BEGIN END REPLY" in at most 128 bytes, with - for what is missing, and without ceiling or full; ' +
-    '"opening K" only above all calls, and only below them "key K" and "end", or "cut"',
+    'expected "call T CALL K BEGIN END REPLY" in at most 128 bytes, with - - in place of END REPLY of a pending call; the calls are add, ' +
+    'remove and contains; "opening K" only above all calls, and only below them "key K" and "end", or "cut"',
   Number: "a moment is not a number from 1 to 9223372036854775807, or another number not one from 0 to 4294967295",
   Opening: "an opening key must be above the one before, and a key that is left above the one before",
   History:
     "the calls do not come in the order of their begins, or one does not end after its begin, or two have one moment, " +
     "or a thread has two at a time",
+  NotEnded: 'the text must end with the line "end", or with "cut" if the recording was cut off',
 };

@@ -9,7 +9,7 @@ use std::time::Duration;
 use crate::{child, no_verdict, words_of, Failure, Options};
 
 const LONGEST: u32 = 100; // looks at the counter, of a pause
-const PART: u32 = 20_000; // calls of all threads from one rest to the next, of a run that is kept
+const PART: u32 = 20_000; // calls of all threads from one rest to the next, at which they are written down
 pub const WORDS: [&str; 3] = ["add", "remove", "contains"];
 
 /// How it is said that there was no set to call.
@@ -55,7 +55,7 @@ impl<S> CallsOf<'_, S> {
     }
 }
 
-/// The memory of a run; of a run in parts that of the part which goes on. All in it are atomics, of which zero bytes are values.
+/// The memory of a run: of the part that goes on. All in it are atomics, of which zero bytes are values.
 pub struct Area {
     place: *mut u8,
     layout: Layout,
@@ -71,7 +71,7 @@ unsafe impl Sync for Area {}
 
 impl Area {
     pub fn new(options: &Options, seed: u64) -> Result<Area, Failure> {
-        let rows = if options.record.is_some() { options.calls.min(PART / options.threads) } else { options.calls };
+        let rows = options.calls.min(PART / options.threads);
         let slots = options.threads as usize * rows as usize;
         let size = size_of_head() + slots * std::mem::size_of::<Slot>() + 2 * options.keys as usize;
         let layout = Layout::from_size_align(size, 64).expect("a million calls have room");
@@ -193,16 +193,13 @@ impl Area {
             if part > 1 && !at_rest() {
                 return;
             }
-            if part > 1 {
-                head.before.store(head.tickets.load(SeqCst), SeqCst);
-                opening.iter().zip(left).for_each(|(to, from)| to.store(from.load(SeqCst), SeqCst));
-            }
+            head.before.store(head.tickets.load(SeqCst), SeqCst);
             head.begun.store(part, SeqCst);
             if !self.waits(|| head.done.load(SeqCst) == part * self.options.threads) {
                 return;
             }
-            self.look_up(set, calls_of, left);
         }
+        self.look_up(set, calls_of, left);
     }
 
     fn look_up<S>(&self, set: &S, calls_of: &CallsOf<S>, keys: &[AtomicBool]) {

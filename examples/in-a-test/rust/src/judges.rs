@@ -1,7 +1,7 @@
 //! The judge underneath.
 use std::fmt;
-use std::io::{Error, Write};
-use std::process::{Command, Stdio};
+use std::io::{self, Write};
+use std::process::{Child, Command, Stdio};
 
 use crate::{no_verdict, Failure};
 
@@ -21,6 +21,12 @@ pub enum Judged {
     Refused(String),
 }
 
+/// A judge that is given a recording as it grows; the library is given it at its end.
+pub enum Asked {
+    Program(Child),
+    Library(String),
+}
+
 impl fmt::Display for Judge {
     fn fmt(&self, f: &mut fmt::Formatter<'_>) -> fmt::Result {
         write!(f, "{}, {}", self.name, self.proof)
@@ -36,7 +42,7 @@ impl Judge {
         let name = named.clone().unwrap_or_else(|| "listset".to_string());
         let is_script = name.ends_with(".js");
         let command = if is_script { vec!["node".to_string(), name.clone()] } else { vec![name.clone()] };
-        match ran(&command, &["--version", "--long"], "") {
+        match Asked::program(&command, &["--version", "--long"]).and_then(Asked::answer) {
             Ok((Some(127), _)) | Err(_) => no_verdict(match named {
                 Some(it) if is_script => format!("node is not in PATH, which runs the {it} that LISTSET names"),
                 Some(it) => format!("LISTSET names {it}, which cannot be run: build listset, and name it there"),
@@ -46,9 +52,15 @@ impl Judge {
         }
     }
 
-    pub fn judged(&self, recording: &str) -> Result<Judged, Failure> {
-        let answer = if self.command.is_empty() { library::judge(recording) } else { ran(&self.command, &["judge", "-"], recording) };
-        let (status, said) = answer.unwrap_or_else(|fault| (None, fault.to_string()));
+    pub fn ask(&self) -> Result<Asked, Failure> {
+        if self.command.is_empty() {
+            return Ok(Asked::Library(String::new()));
+        }
+        Asked::program(&self.command, &["judge", "-"]).or_else(|fault| no_verdict(format!("{} cannot be run: {fault}", self.name)))
+    }
+
+    pub fn judged(&self, asked: Asked) -> Result<Judged, Failure> {
+        let (status, said) = asked.answer().unwrap_or_else(|fault| (None, fault.to_string()));
         match (status, overlapped_in(&said)) {
             (Some(0), Some(overlapped)) => Ok(Judged::Ok { overlapped }),
             (Some(1), _) if said.starts_with("not linearizable") => Ok(Judged::Refused(said)),
@@ -57,6 +69,34 @@ impl Judge {
                 no_verdict(format!("{} gave no verdict, but said: {first}. Take a newer listset", self.name))
             }
         }
+    }
+}
+
+impl Asked {
+    fn program(command: &[String], words: &[&str]) -> io::Result<Asked> {
+        let mut made = Command::new(&command[0]);
+        made.args(&command[1..]).args(words).stdin(Stdio::piped()).stdout(Stdio::piped()).stderr(Stdio::piped());
+        Ok(Asked::Program(made.spawn()?))
+    }
+
+    pub fn write(&mut self, text: &str) {
+        match self {
+            Asked::Library(all) => *all += text,
+            // (one that has ended reads no further)
+            Asked::Program(child) => _ = child.stdin.as_mut().map(|to| to.write_all(text.as_bytes())),
+        }
+    }
+
+    /// Its status, and what it said.
+    fn answer(self) -> io::Result<(Option<i32>, String)> {
+        let (status, said) = match self {
+            Asked::Library(all) => library::judge(&all),
+            Asked::Program(child) => {
+                let ended = child.wait_with_output()?;
+                (ended.status.code(), if ended.stdout.is_empty() { ended.stderr } else { ended.stdout })
+            }
+        };
+        Ok((status, String::from_utf8_lossy(&said).trim().to_string()))
     }
 }
 
@@ -70,24 +110,9 @@ fn proof_in(version: &str) -> String {
     version.lines().find(|it| it.starts_with("proof ")).unwrap_or("proof unknown").to_string()
 }
 
-/// The status of a command with these words on this input, and what it said.
-fn ran(command: &[String], words: &[&str], input: &str) -> Result<(Option<i32>, String), Error> {
-    let mut made = Command::new(&command[0]);
-    made.args(&command[1..]).args(words).stdin(Stdio::piped()).stdout(Stdio::piped()).stderr(Stdio::piped());
-    let mut child = made.spawn()?;
-    let mut to = child.stdin.take().expect("it is piped");
-    std::thread::scope(|scope| {
-        scope.spawn(move || to.write_all(input.as_bytes())); // (one that has ended reads no further)
-        let ended = child.wait_with_output()?;
-        let said = if ended.stdout.is_empty() { ended.stderr } else { ended.stdout };
-        Ok((ended.status.code(), String::from_utf8_lossy(&said).trim().to_string()))
-    })
-}
-
 #[cfg(linked)]
 mod library {
     use std::ffi::CStr;
-    use std::io::Error;
     use std::os::raw::c_char;
 
     extern "C" {
@@ -100,16 +125,17 @@ mod library {
         Some(unsafe { CStr::from_ptr(listset_version()) }.to_string_lossy().into_owned())
     }
 
-    pub fn judge(recording: &str) -> Result<(Option<i32>, String), Error> {
+    pub fn judge(recording: &str) -> (Option<i32>, Vec<u8>) {
         let mut room = vec![0; 4096];
         loop {
             let mut status = 0;
             // SAFETY: the pointers are those of a text, a room of that size and a status, which nobody else writes.
             let length = unsafe { listset_judge(recording.as_ptr(), recording.len(), room.as_mut_ptr(), room.len(), &mut status) };
-            if length <= room.len() {
-                return Ok((Some(status.into()), String::from_utf8_lossy(&room[..length]).trim().to_string()));
-            }
+            let is_whole = length <= room.len();
             room.resize(length, 0);
+            if is_whole {
+                return (Some(status.into()), room);
+            }
         }
     }
 }
@@ -120,7 +146,7 @@ mod library {
         None
     }
 
-    pub fn judge(_: &str) -> Result<(Option<i32>, String), std::io::Error> {
+    pub fn judge(_: &str) -> (Option<i32>, Vec<u8>) {
         unreachable!("there is no library")
     }
 }

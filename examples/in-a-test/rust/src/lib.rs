@@ -16,7 +16,7 @@
 mod area;
 mod child;
 mod judges;
-mod run;
+mod recording;
 
 use std::any::Any;
 use std::fmt;
@@ -25,10 +25,9 @@ use std::path::PathBuf;
 
 use area::{Area, CallsOf, NOT_MADE};
 use judges::Judge;
-use run::Run;
+use recording::{Part, Recording};
 
-const MOST_CALLS: u64 = 1_000_000; // of a recording
-const MOST_CALLS_KEPT: u64 = 1_000_000_000; // of one in parts
+const MOST_CALLS: u64 = 1_000_000_000; // of all threads
 const FEW: u64 = 5; // of 100 calls
 
 /// How the set is called. Each field is checked before the first set is made.
@@ -36,7 +35,7 @@ const FEW: u64 = 5; // of 100 calls
 pub struct Options {
     /// Threads that call a set at once: 1 to 64.
     pub threads: u32,
-    /// Calls of each thread: 1 or more, and 1,000,000 at most of all threads, or with `record` 1,000,000,000.
+    /// Calls of each thread: 1 or more, and 1,000,000,000 at most of all threads, which rest after each 20,000 until these are written.
     pub calls: u32,
     /// Calls are on the keys below this: 1 to 1,048,576. On few keys more calls meet.
     pub keys: u32,
@@ -51,7 +50,7 @@ pub struct Options {
     /// If false, sets are called in this process, which then crashes or hangs with them. That is for a debugger, for coverage, and for
     /// a set that needs threads which this process has started.
     pub own_process: bool,
-    /// A folder that keeps each run, in parts of 20,000 calls: after each, threads rest until it is judged.
+    /// A folder that keeps the recording of each run. Else that of a run that fails is kept, in the folder for temporary files.
     pub record: Option<PathBuf>,
 }
 
@@ -91,8 +90,6 @@ pub struct Failed {
     pub seed: u64,
     /// What the judge said, below how the run came to no end if it did not.
     pub said: String,
-    /// What was judged.
-    pub recording: String,
     /// The file that has the recording.
     pub file: String,
     pub judge: String,
@@ -152,18 +149,16 @@ pub fn judge<S: Sync>(
     let mut verdict = Verdict { calls: 0, overlapped: 0, judge: judge.to_string() };
     for seed in (u64::from(options.seed)..).take(options.runs as usize) {
         let area = Area::new(&options, seed)?;
-        let mut part = 0;
+        let mut recording = Recording::new(&area, &judge)?;
         child::run(&area, &|at_rest| area.call_all(&make, &calls_of, at_rest), &mut |trouble| {
             let why = area.why_it_failed();
-            if let Some(why) = why.as_ref().filter(|it| it.starts_with(NOT_MADE)) {
-                return no_verdict(why.clone());
+            match why.as_ref().filter(|it| it.starts_with(NOT_MADE)) {
+                Some(why) => no_verdict(why.clone()),
+                None => recording.write(&Part::of(&area, why.or(trouble))),
             }
-            let run = Run::of(&area, why.or(trouble));
-            part += 1;
-            verdict.overlapped += run.judged(&judge, &area, part)?;
-            verdict.calls += run.rows.len() as u64;
-            Ok(())
         })?;
+        verdict.overlapped += recording.judged()?;
+        verdict.calls += u64::from(options.threads) * u64::from(options.calls);
     }
     if verdict.is_few() {
         let _ = writeln!(std::io::stderr(), "{verdict}"); // (which a test that passes shows, unlike what `eprintln!` prints)
@@ -176,20 +171,15 @@ impl Options {
         let all_calls = u64::from(self.threads) * u64::from(self.calls);
         let ranges = [
             ("threads", u64::from(self.threads), 1, 64),
-            ("threads times calls", all_calls, 1, if self.record.is_some() { MOST_CALLS_KEPT } else { MOST_CALLS }),
+            ("threads times calls", all_calls, 1, MOST_CALLS),
             ("keys", u64::from(self.keys), 1, 1_048_576),
             ("pauses", u64::from(self.pauses), 0, 100),
             ("runs", u64::from(self.runs), 1, 1_000_000),
             ("seconds", u64::from(self.seconds), 1, 3600),
         ];
-        if let Some((name, given, least, most)) = ranges.iter().find(|(_, given, least, most)| !(least..=most).contains(&given)) {
-            return no_verdict(format!("{name} is {given}, and has to be {least} to {most}"));
-        }
-        match &self.record {
-            Some(it) if std::fs::create_dir_all(it).is_err() => {
-                no_verdict(format!("record is {}, which is no folder and cannot be made one: name another", it.display()))
-            }
-            _ => Ok(()),
+        match ranges.iter().find(|(_, given, least, most)| !(least..=most).contains(&given)) {
+            Some((name, given, least, most)) => no_verdict(format!("{name} is {given}, and has to be {least} to {most}")),
+            None => Ok(()),
         }
     }
 }

@@ -59,7 +59,7 @@ fn a_set_is_linearizable_by_closures_and_may_open_with_keys() {
 }
 
 #[test]
-fn a_thread_goes_on_past_its_quota() {
+fn calls_in_turn_do_not_overlap() {
     let options = Options { threads: 1, calls: 120_000, keys: 1, pauses: 0, runs: 1, ..Options::default() };
     let verdict = judge!(MySet, options).unwrap();
     assert!(verdict.overlapped == 0 && verdict.to_string().contains("that is few"), "{verdict}");
@@ -70,7 +70,7 @@ fn a_seed_gives_the_same_calls_again() {
     let of = |seed| {
         let options = Options { threads: 1, calls: 50, runs: 1, seed, ..Options::default() };
         match listset_judge::judge(MySet::new, MySet::add, MySet::remove, |_, _| true, options) {
-            Err(Failure::NotLinearizable(it)) => (it.recording, it.file),
+            Err(Failure::NotLinearizable(it)) => (fs::read_to_string(&it.file).unwrap(), it.file),
             other => panic!("{other:?}"),
         }
     };
@@ -202,11 +202,12 @@ fn what_hangs_or_crashes_is_judged_up_to_there() {
     let said = |seconds, at_last: fn(), contains: fn(&Stops, u32) -> bool| {
         let make = move || Stops { set: MySet::new(), due: 30, removes: AtomicU64::new(0), at_last };
         match listset_judge::judge(make, Stops::add, Stops::remove, contains, Options { seconds, keys: 64, ..Options::default() }) {
-            Err(Failure::NotEnded(it)) if std::fs::read_to_string(&it.file).unwrap() == it.recording => {
+            Err(Failure::NotEnded(it)) => {
                 // (what was under way stands there too; the calls that show a refusal may have one of them again)
                 let under_way = it.said.split("\nup to there: ").next().unwrap();
-                assert_eq!(it.recording.matches(" - - -\n").count(), format!("{under_way}\n").matches(" - - -\n").count(), "{}", it.recording);
-                assert!(it.recording.ends_with("\ncut\n"), "{}", it.recording);
+                let recording = fs::read_to_string(&it.file).unwrap();
+                assert_eq!(recording.matches(" - -\n").count(), format!("{under_way}\n").matches(" - -\n").count(), "{recording}");
+                assert!(recording.ends_with("\ncut\n"), "{recording}");
                 it.said
             }
             other => panic!("{other:?}"),
@@ -269,16 +270,14 @@ fn long(calls: u32, name: &str, own_process: bool) -> Options {
 }
 
 #[test]
-fn a_long_run_is_kept_in_parts() {
+fn a_long_run_is_one_recording() {
     judge!(MySet, long(8000, "recorded", false)).unwrap();
     assert_eq!(judge!(MySet, long(6000, "recorded", true)).unwrap().calls, 48_000);
-    let files = files_in(&std::env::temp_dir().join("recorded"));
-    let texts: Vec<String> = files.iter().map(|it| fs::read_to_string(it).unwrap()).collect();
-    let counts: Vec<usize> = texts.iter().map(|it| keys_of(it, "call").len()).collect();
-    assert_eq!(counts, [20_000, 20_000, 8000]);
-    let opening: Vec<_> = texts.iter().map(|it| keys_of(it, "opening")).collect();
-    let left: Vec<_> = texts.iter().map(|it| keys_of(it, "key")).collect();
-    assert!(opening[0].is_empty() && opening[1..] == left[..2], "{opening:?} {left:?}");
+    let text = fs::read_to_string(std::env::temp_dir().join("recorded/seed-1.calls")).unwrap();
+    let begins: Vec<u32> = keys_of(&text, "call").iter().map(|it| it.split(' ').nth(3).unwrap().parse().unwrap()).collect();
+    assert_eq!(begins.len(), 48_000);
+    assert!(begins.windows(2).all(|it| it[0] < it[1]));
+    assert!(text.starts_with("listset-calls 1\ncall ") && text.find("\nend\n") == Some(text.len() - 5));
 }
 
 #[test]
@@ -288,7 +287,7 @@ fn each_thread_of_each_run_draws_calls_of_its_own() {
     judge!(MySet, Options { threads: 2, keys: 5, runs: 2, seed: 7, ..long(300, "drawn", true) }).unwrap();
     let files = files_in(&folder);
     let names: Vec<_> = files.iter().map(|it| it.file_name().unwrap().to_str().unwrap()).collect();
-    assert_eq!(names, ["seed-7-part-000001.calls", "seed-8-part-000001.calls"]);
+    assert_eq!(names, ["seed-7.calls", "seed-8.calls"]);
     let mut drawn = BTreeSet::new();
     for text in files.iter().map(|it| fs::read_to_string(it).unwrap()) {
         for thread in ["call 0", "call 1"] {
@@ -300,31 +299,31 @@ fn each_thread_of_each_run_draws_calls_of_its_own() {
     assert_eq!(drawn.len(), 4);
 }
 
-/// A run fails in its last part, whose file the failure names.
-fn ends_with(judged: Result<listset_judge::Verdict, Failure>, folder: &str, parts: usize, how: &str) {
+/// A long run that fails, whose recording ends with this line.
+fn fails_late(judged: Result<listset_judge::Verdict, Failure>, name: &str, how: &str, end: &str) {
     let (Err(Failure::NotEnded(it)) | Err(Failure::NotLinearizable(it))) = judged else { panic!("it has to fail: {judged:?}") };
-    let files = files_in(&std::env::temp_dir().join(folder));
-    assert!(it.said.starts_with(how) && files.len() == parts && files[parts - 1].display().to_string() == it.file, "{}", it.said);
-    assert_eq!(fs::read_to_string(&it.file).unwrap(), it.recording);
+    let file = std::env::temp_dir().join(name).join("seed-1.calls");
+    assert!(it.said.starts_with(how) && it.file == file.display().to_string(), "{}", it.said);
+    let text = fs::read_to_string(file).unwrap();
+    assert!(keys_of(&text, "call").len() > 20_000 && text.lines().last() == Some(end));
 }
 
 #[cfg(target_os = "linux")]
 #[test]
-fn a_long_run_ends_with_the_part_that_crashed() {
+fn a_long_run_may_crash() {
     let make = || Stops { set: MySet::new(), due: 10_000, removes: AtomicU64::new(0), at_last: || std::process::abort() };
     let judged = listset_judge::judge(make, Stops::add, Stops::remove, Stops::contains, long(8000, "crashed", true));
-    ends_with(judged, "crashed", 2, "the set crashed: signal 6, SIGABRT\nunder way:\ncall ");
+    fails_late(judged, "crashed", "the set crashed: signal 6, SIGABRT\nunder way:\ncall ", "cut");
 }
 
 #[test]
-fn a_long_run_ends_with_the_part_that_is_refused() {
-    let judged = |own_process| {
+fn a_long_run_may_be_refused() {
+    for own_process in [true, false] {
         let calls = AtomicU64::new(0);
         let seldom = |set: &MySet, key| set.contains(key) || calls.fetch_add(1, SeqCst) > 8000;
-        listset_judge::judge(MySet::new, MySet::add, MySet::remove, seldom, long(8000, "refused", own_process))
-    };
-    ends_with(judged(false), "refused", 3, "not linearizable\n");
-    ends_with(judged(true), "refused", 3, "not linearizable\n");
+        let judged = listset_judge::judge(MySet::new, MySet::add, MySet::remove, seldom, long(8000, "refused", own_process));
+        fails_late(judged, "refused", "not linearizable\n", "end");
+    }
 }
 
 /// It cannot be made, or its `add` fails.
@@ -342,16 +341,15 @@ fn what_gives_no_verdict_is_one_sentence() {
     let said = |judged: Result<listset_judge::Verdict, Failure>| judged.unwrap_err().to_string();
     let few = || Options { threads: 2, calls: 9, runs: 1, ..Options::default() };
     assert_eq!(said(judge!(MySet, Options { threads: 65, ..few() })), "threads is 65, and has to be 1 to 64");
-    assert_eq!(said(judge!(MySet, Options { calls: 0, ..few() })), "threads times calls is 0, and has to be 1 to 1000000");
+    assert_eq!(said(judge!(MySet, Options { calls: 0, ..few() })), "threads times calls is 0, and has to be 1 to 1000000000");
     assert_eq!(said(judge!(MySet, Options { keys: 0, ..few() })), "keys is 0, and has to be 1 to 1048576");
     assert_eq!(said(judge!(MySet, Options { pauses: 101, ..few() })), "pauses is 101, and has to be 0 to 100");
     assert_eq!(said(judge!(MySet, Options { runs: 0, ..few() })), "runs is 0, and has to be 1 to 1000000");
     assert_eq!(said(judge!(MySet, Options { seconds: 0, ..few() })), "seconds is 0, and has to be 1 to 3600");
-    let kept = |record: &str| Options { record: Some(record.into()), ..few() };
-    let too_many = said(judge!(MySet, Options { calls: 500_000_001, ..kept(".") }));
+    let too_many = said(judge!(MySet, Options { calls: 500_000_001, ..few() }));
     assert_eq!(too_many, "threads times calls is 1000000002, and has to be 1 to 1000000000");
-    let no_folder = said(judge!(MySet, kept("/dev/null/x")));
-    assert_eq!(no_folder, "record is /dev/null/x, which is no folder and cannot be made one: name another");
+    let no_folder = said(judge!(MySet, Options { record: Some("/dev/null/x".into()), ..few() }));
+    assert_eq!(no_folder, "no file can be written in /dev/null/x: name another folder by record");
     assert_eq!(said(judge!(Fails, few())), "the set could not be made: no room");
 }
 

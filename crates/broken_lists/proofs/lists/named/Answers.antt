@@ -7,5 +7,5 @@ use Rattle.broken_lists.proofs.lists.named.Goals as goal
 pub returns-clause-only : goal.returns-clause-only
 returns-clause-only c = λ e is.
     let at = is_listed e in
-    let known : at.0 < 14 = at.1 in
+    let known : at.0 < 13 = at.1 in
     absurd (c.loop-broken.invariant at.0 e (omega arith) (is ∙ sym (ap name_of at.2)))

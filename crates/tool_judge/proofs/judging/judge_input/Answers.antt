@@ -1,45 +1,38 @@
-use Rattle.std.proofs.Common.{◌≡◌, ap, sym, ◌∙◌, false, Err, subst}
-use Rattle.std.specs.Prelude.{IfSome}
+use Rattle.std.proofs.Common.{◌≡◌, ◌<◌, [], ◌++◌, take, length, refl, ap, ◌∙◌, subst, sym, append-nil, rules}
+use Rattle.std.specs.Io.KnownBytes.{Consumes}
+use Rattle.std.proofs.KnownBytes.{Consumes-nil, Consumes-trans, Consumes-whole}
 use Rattle.std.proofs.lemmas.Result.{err_from_is_err_and}
-use Rattle.tool_base.specs.Heads.{after_long_title, begins_long}
 use Rattle.tool_base.specs.Tools.{view}
-use Rattle.tool_base.proofs.HeadLaws.{other_input}
-use Rattle.tool_judge.specs.Judging.{Judges, JudgesAny}
-use Rattle.tool_judge.proofs.LongAnswered.{long_any, short_any, head_refused, rest_refused}
+use Rattle.tool_judge.specs.Judging.{Judges}
+use Rattle.tool_judge.proofs.Answered.{of_fault, if_read}
 use Rattle.tool_judge.proofs.judging.judge_input.Goals as goal
 
-pub returns-in_err-head : goal.returns-in_err-head
-returns-in_err-head g c =
-    let all = g.R.Read.remaining c.args.input.now in
+pub loop-init : goal.loop-init
+loop-init g c = ([], Consumes-nil _, c.new-reader.ensures)
+
+pub returns-then-count-eq0 : goal.returns-then-count-eq0
+returns-then-count-eq0 g c =
+    let (bytes, read, is) = c.loop.invariant in
+    let none : take c.in-Ok.count c.read.new.buf ≡ [] = rw c.if-count-eq0.true refl in
+    let room : 0 < length c.read.new.buf = search rules in
+    Consumes-whole _ _ bytes (λ all. Judges all (view c.answer_of.result))
+    (subst (Consumes _ _) (ap (λ t. bytes ++ t) none ∙ append-nil bytes) (Consumes-trans _ _ _ bytes _ read c.in-Ok.ensures.bytes.0))
+    (c.in-Ok.ensures.bytes.1 c.if-count-eq0.true room) (c.answer_of.ensures.judges bytes is)
+
+pub loop-preserved : goal.loop-preserved
+loop-preserved g c =
+    let (bytes, read, is) = c.loop.invariant in
+    let piece = take c.in-Ok.count c.read.new.buf in
+    (bytes ++ piece, Consumes-trans _ _ _ bytes _ read c.in-Ok.ensures.bytes.0, c.in_ok-feed.ensures.taken bytes is)
+
+pub returns-in_err-feed : goal.returns-in_err-feed
+returns-in_err-feed g c =
+    let (bytes, read, is) = c.loop.invariant in
+    let piece = take c.in-Ok.count c.read.new.buf in
+    let e = c.in_err-feed.field-0.0 in
     let p = err_from_is_err_and c.from_residual.result c.from_residual.ensures.1 in
-    subst (λ r. IfSome all (λ bytes. JudgesAny bytes (view r))) (sym p.1)
-    (head_refused all c.in_err-head.field-0.0 p.0 p.2 c.in_err-head.ensures.other)
-
-pub returns-in-Some : goal.returns-in-Some
-returns-in-Some g c =
-    let same = c.deref.ensures.value in
-    long_any (g.R.Read.remaining c.args.input.now) (g.R.Read.remaining c.head_of.new.input) c.in_ok-head.head.items c.in-Some.front.now
-    (view c.judge_long.result) c.in_ok-head.ensures.head.0 (ap begins_long (sym same) ∙ c.in-Some.ensures.0)
-    (c.in-Some.ensures.1 ∙ ap after_long_title same) c.judge_long.ensures
-
-pub returns-in_err-bytes : goal.returns-in_err-bytes
-returns-in_err-bytes g c =
-    let all = g.R.Read.remaining c.args.input.now in
-    let rest = g.R.Read.remaining c.head_of.new.input in
-    let head = c.in_ok-head.head.items in
-    let other : begins_long head ≡ false = ap begins_long (sym c.deref.ensures.value) ∙ c.in_default.ensures in
-    let p = err_from_is_err_and c.from_residual-in_err-bytes.result c.from_residual-in_err-bytes.ensures.1 in
-    subst (λ r. IfSome all (λ bytes. JudgesAny bytes (view r))) (sym p.1)
-    (rest_refused all c.in_err-bytes.field-0.0 p.0 p.2 c.in_err-bytes.ensures.other
-    (λ same. c.in_err-bytes.ensures.too_long (ap Err same) all c.in_ok-head.ensures.head)
-    (other_input all rest head c.in_ok-head.ensures.head other))
-
-pub returns : goal.returns
-returns g c =
-    let all = g.R.Read.remaining c.args.input.now in
-    let head = c.in_ok-head.head.items in
-    let text = c.in_ok-bytes.bytes.items in
-    let other : begins_long text ≡ false =
-    c.in_ok-bytes.ensures.begins ∙ ap begins_long (sym c.deref.ensures.value) ∙ c.in_default.ensures in
-    short_any all text (view c.judge_short.result) (c.in_ok-bytes.ensures.whole all c.in_ok-head.ensures.head) other
-    (subst (λ t. Judges t (view c.judge_short.result)) c.deref-2.ensures.value c.judge_short.ensures.judges)
+    if_read (g.R.Read.remaining c.args.input.now) (g.R.Read.remaining c.read.new.self) (bytes ++ piece)
+    (λ all. Judges all (view c.from_residual.result)) (Consumes-trans _ _ _ bytes _ read c.in-Ok.ensures.bytes.0) (λ more.
+    let whole = (bytes ++ piece) ++ more in
+    subst (λ r. Judges whole (view r)) (sym p.1)
+    (of_fault whole e p.0 p.2 (λ other. c.in_err-feed.ensures.refused bytes is other more)))

@@ -1,7 +1,6 @@
 use Rattle.std.proofs.Common.{◌≡◌, ◌++◌, ◌∷◌, [], Err, refl, sym, ap, subst, ◌∙◌}
 use Rattle.lset_recording.specs.declared.fault.RecordingFault.{RecordingFault}
-use Rattle.lset_recording.specs.declared.fault.RecordingCause.TheVariants as wrong
-use Rattle.lset_recording.specs.Reading.{IsTaken, IsRefused, Says, fault}
+use Rattle.lset_recording.specs.Reading.{IsTaken, IsRefused, Says, cause_if_long, fault}
 use Rattle.lset_recording.specs.Kept.{IsHeld}
 use Rattle.lset_recording.proofs.ReadLaws.{too_long, line_taken, line_refused}
 use Rattle.lset_recording.proofs.reader.RecordingReader.line_in.Goals as goal
@@ -10,8 +9,11 @@ pub returns-then-self-clause-refused : goal.returns-then-self-clause-refused
 returns-then-self-clause-refused c = λ bytes is other more.
     let r = c.args.self.now in
     let many = subst (IsHeld is.held r.line.items) c.if-self.true is.line in
-    subst (λ (e : RecordingFault). Says ((bytes ++ 10 ∷ []) ++ more) (Err e)) (sym c.fault.ensures)
-    (line_refused bytes r is wrong.Line (too_long is.told is.held many) more)
+    let cause : c.cause_if_long.result ≡ cause_if_long is.told.section =
+    c.cause_if_long.ensures ∙ ap cause_if_long is.judging.section in
+    subst (λ (e : RecordingFault). Says ((bytes ++ 10 ∷ []) ++ more) (Err e))
+    (sym (c.fault.ensures ∙ ap (fault r.judging.number) cause))
+    (line_refused bytes r is (cause_if_long is.told.section) (too_long is.told is.held many) more)
 
 pub returns-in-Ok-clause-taken : goal.returns-in-Ok-clause-taken
 returns-in-Ok-clause-taken c = λ bytes is.

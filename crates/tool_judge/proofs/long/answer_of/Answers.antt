@@ -1,7 +1,0 @@
-use Rattle.tool_judge.proofs.LongAnswered.{answered}
-use Rattle.tool_judge.proofs.long.answer_of.Goals as goal
-
-pub returns-clause-judges : goal.returns-clause-judges
-returns-clause-judges c = λ bytes is.
-    let said = c.in_ok-said.ensures.said bytes is in
-    answered bytes said.0 c.in_ok-said.said c.in_ok-answer.answer said.1 said.2 c.in_ok-answer.ensures
