@@ -19,6 +19,7 @@ pub use events::{LineEvent, event_of};
 pub use fault::ReplayFault;
 pub use placed_report::PlacedReport;
 pub use replaying::{replay, replay_with_points};
+pub use start::run_of;
 pub use traced::{CallEnd, Deed, TracedEvent};
 pub use tracing::{Run, Steps};
 pub use upto::{FrontReport, replay_upto};
