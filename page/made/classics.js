@@ -12,7 +12,7 @@ export const CLASSICS = {
   "full": {
     "question": "A thread with one slot adds 5, removes it and adds 7. Is there a slot for 7?",
     "turnsOn": "No: each slot is used once, so no thread ever reaches a node that holds another key than before. full changes nothing, and is correct from the begin of its call.",
-    "without": "A slot that is used again changes the key of a node at which other threads may be (new-slot). A quota that ends too soon answers full while a slot is free (last-slot).",
+    "without": "A slot that is used again changes the key of a node at which other threads may be (new-slot).",
     "turns": [14, 19],
     "lacks": []
   },
@@ -143,6 +143,5 @@ export const LACKING = {
   "mark-in-add": "lock-free",
   "mark-in-remove": "lock-free",
   "mark-at-key": "lock-free",
-  "new-slot": "lock-free",
-  "last-slot": "lock-free"
+  "new-slot": "lock-free"
 };

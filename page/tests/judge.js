@@ -219,7 +219,7 @@ function checkRefusals(ask) {
   const open = saidOf(ask, `${TITLE}call 0 add 5 1 - -\ncall 1 contains 5 2 3 false\ncall 1 remove 5 4 5 true\nkey 5\nend`);
   const isPending = open.calls.some(({ ended }) => ended === null) && open.reasons.join().includes("add(5) of t0, begun at 1, is pending");
   check(`a pending call: ${open.reasons}`, open.kind === "none" && isPending);
-  const left = saidOf(ask, `${TITLE}key 5\nend`).reasons;
+  const left = saidOf(ask, `${TITLE}call 0 contains 5 1 2 false\nkey 5\nend`).reasons;
   const unchanged = ["No order explains the calls of key 5 and leaves it as it was left.", "At first the key is not there.", "No later call changes it."];
   check(`left otherwise: ${left}`, left.join() === unchanged.join());
 }

@@ -3,11 +3,12 @@
 //! Each function writes what the program prints of the text, its result or the line about an error, to the front of `room`,
 //! returns its length in bytes, and sets `status` to the program's exit status: 0; 1 if something is wrong with the text; 2
 //! if a name is wrong; 3 if an allocation failed. If `room` is too short nothing is written there: call again with that many
-//! bytes. No function blocks or keeps state.
+//! bytes. No function keeps state, and none but `listset_judge_from` blocks.
 #![tactic(auto)]
 
 mod generating;
 mod handing;
+mod host;
 mod showing;
 mod words;
 
@@ -19,21 +20,20 @@ ghost use Rattle.tool_base.specs.Generating.{Generates};
 ghost use Rattle.tool_draft.specs.Drafting.{Drafts};
 ghost use Rattle.tool_trace.specs.Tracing.{Traces};
 ghost use Rattle.tool_examples.specs.Exampling.{Exampled};
-ghost use Rattle.tool_judge.specs.Judging.{JudgesAny};
-ghost use Rattle.tool_report.specs.Reporting.{Reports};
+ghost use Rattle.tool_judge.specs.Judging.{Judges};
 ghost use Rattle.tool_broken.specs.BrokenTools as broken;
 ghost use Rattle.ffi_page.specs.Page.{Hands, OfText, MakesBroken, OfWords, ShowsBy, ShowsBrokenBy};
 
 use generating::generated_by;
 use handing::hand;
+use host::HostInput;
 use showing::{shown_broken_by, shown_by};
 use std::alloc::Global;
 use tool_base::{checked, faults_told, replayed};
 use tool_broken::{replayed_broken, traced_broken};
 use tool_draft::drafted;
 use tool_examples::{exampled, exampled_by};
-use tool_judge::judge_bytes;
-use tool_report::report_bytes;
+use tool_judge::{judge_bytes, judge_input};
 use tool_trace::traced;
 
 /// What `listset replay` prints of a schedule: its report; or the line about the first error of the text, the first event
@@ -50,22 +50,8 @@ pub extern "C" fn listset_replay(
     hand(alloc, replayed(alloc, text), room, status)
 }
 
-/// What `listset report` prints of recorded calls: their report, or that no order explains them; or the line about the first
-/// error of the text, the first line whose call conflicts with a line above, or a text that is too long.
-#[unsafe(no_mangle)]
-pub extern "C" fn listset_report(
-    alloc: Global,
-    text: &[u8],
-    room: &mut [u8],
-    status: &mut u8,
-) -> usize
-    ensures { Hands (OfText Reports text.now) room.old room.new status.new result }
-{
-    hand(alloc, report_bytes(alloc, text), room, status)
-}
-
-/// What `listset judge` prints of recorded calls: `ok N calls` if some order explains them; `not linearizable`, with the
-/// calls that show it and status 1, if none does; or the line about the first error of the text, or a text that is too long.
+/// What `listset judge` prints of a recording: `ok N calls`, and lines about it, if some order explains them; `not linearizable`,
+/// with the calls that show it and status 1, if none does; or the line about the first error of the text.
 #[unsafe(no_mangle)]
 pub extern "C" fn listset_judge(
     alloc: Global,
@@ -73,9 +59,26 @@ pub extern "C" fn listset_judge(
     room: &mut [u8],
     status: &mut u8,
 ) -> usize
-    ensures { Hands (OfText JudgesAny text.now) room.old room.new status.new result }
+    ensures { Hands (OfText Judges text.now) room.old room.new status.new result }
 {
     hand(alloc, judge_bytes(alloc, text), room, status)
+}
+
+/// What `listset judge` prints of the recording, of any length, in the file with this number (a file descriptor, which is 0 for the
+/// standard input). It is read in pieces to its end, or to the first error. Blocks as its reads do. If `room` is too short the answer
+/// is lost; 8,192 bytes are enough.
+#[unsafe(no_mangle)]
+pub extern "C" fn listset_judge_from(
+    alloc: Global,
+    file: i32,
+    room: &mut [u8],
+    status: &mut u8,
+) -> usize
+    // (what a file has, no contract says; of all that may be read that of `judge_input` says what is answered)
+    ensures { Hands (λ _. Unit {0}) room.old room.new status.new result }
+{
+    let mut input = HostInput { file };
+    hand(alloc, judge_input(alloc, &mut input), room, status)
 }
 
 /// What `listset check` prints of a report: `ok`, or the first fault of its order with status 1; or the line about the first
@@ -121,9 +124,9 @@ pub extern "C" fn listset_trace_with_chains(
     hand(alloc, traced(alloc, text, true), room, status)
 }
 
-/// What `listset show` prints of a schedule, a report or recorded calls: the picture, with status 1 if it says why the order
-/// of a report is refused, that no order explains the calls, or which event of a schedule is refused, up to which that is
-/// drawn; or the line about the first error of the text, or a text that is too long.
+/// What `listset show` prints of a schedule or a report: the picture, with status 1 if it says why the order of a report is
+/// refused, or which event of a schedule is refused, up to which that is drawn; or the line about the first error of the text,
+/// or a text that is too long.
 ///
 /// The options are the values of `--from`, `--to` and `--width`, in this order, with a zero byte between two: a `=` and the
 /// value, or nothing if the option is not given; what is missing at the end is not given. For a wrong option the line is
@@ -141,8 +144,8 @@ pub extern "C" fn listset_show(
     hand(alloc, shown_by(alloc, text, false, options), room, status)
 }
 
-/// What `listset show --svg` prints of a schedule, a report or recorded calls: the picture of `listset_show` as an SVG, with
-/// its statuses, lines and options.
+/// What `listset show --svg` prints of a schedule or a report: the picture of `listset_show` as an SVG, with its statuses,
+/// lines and options.
 #[unsafe(no_mangle)]
 pub extern "C" fn listset_show_svg(
     alloc: Global,

@@ -24,8 +24,8 @@ fn asked_by(alloc: Global, svg: bool, options: &[u8]) -> Result<(Form, Window), 
     }
 }
 
-/// Draws a schedule, a report or recorded calls, given as the bytes of the text, as text or as an SVG (`svg`), in the
-/// moments and the width of the options. The errors are those of `shown`, and `Bad` if an option is wrong.
+/// Draws a schedule or a report, given as the bytes of the text, as text or as an SVG (`svg`), in the moments and the width of
+/// the options. The errors are those of `shown`, and `Bad` if an option is wrong.
 pub fn shown_by(alloc: Global, bytes: &[u8], svg: bool, options: &[u8]) -> Result<Answer, Trouble>
     ensures shows { ShowsBy svg options.now bytes.now (view result) }
     ensures read { IfErr result (λ t. t ≢ CannotRead) }

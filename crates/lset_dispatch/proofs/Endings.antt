@@ -4,7 +4,7 @@ use Rattle.std.specs.Prelude.{◌≢◌}
 use Rattle.clap.specs.declared.error.kind.ErrorKind.{ErrorKind}
 use Rattle.clap.specs.declared.error.kind.ErrorKind.TheVariants as kind
 use Rattle.clap.specs.Words.{Text}
-use Rattle.lset_command.specs.CommandLine.{Choice, OptionValues, file_by, parts_of, path_of}
+use Rattle.lset_command.specs.CommandLine.{Choice, OptionValues, file_by, path_of}
 use Rattle.lset_command.specs.declared.command_line.Command.{Command}
 use Rattle.lset_command.specs.declared.command_line.Command.TheVariants.{Serve}
 use Rattle.tool_base.specs.declared.trouble.ValueName.{ValueName}
@@ -12,8 +12,7 @@ use Rattle.tool_base.specs.declared.trouble.Trouble.TheVariants.{CannotRead, Bad
 use Rattle.tool_show.specs.Asking.{asked_of}
 use Rattle.tool_base.specs.Tools.{Made, Ends}
 use Rattle.lset_dispatch.specs.Dispatch.{CommandEnds, Does, DoesBy, DoesOn, DoesOnInput, IsHelp, ServesBy, ShowsBy, ShowsAsked}
-use Rattle.lset_dispatch.specs.Dispatch.{ShowsFor, TakenEnds}
-use Rattle.tool_parts.specs.Parting.{EndsFiles, JudgesFiles, keys_of_words}
+use Rattle.lset_dispatch.specs.Dispatch.{ShowsFor}
 use Rattle.tool_drawing.specs.declared.picture.Window.{Window}
 use Rattle.tool_show.specs.declared.asking.Form.{Form}
 
@@ -48,26 +47,10 @@ module _ (output_old output_new faults_old faults_new : Option (List ℕ)) (stat
       (subst (λ v. CommandEnds (ServesBy file v input) output_old output_new faults_old faults_new status) same ends)
 
   pub with_choice : (IsFile : Option (List ℕ) → Type 0) (input : Option (List ℕ)) (a b : Choice) → a ≡ b
-      → TakenEnds (parts_of a) a IsFile input output_old output_new faults_old faults_new status
-      → TakenEnds (parts_of b) b IsFile input output_old output_new faults_old faults_new status
+      → CommandEnds (DoesOnInput a IsFile input) output_old output_new faults_old faults_new status
+      → CommandEnds (DoesOnInput b IsFile input) output_old output_new faults_old faults_new status
   with_choice IsFile input a b same ends =
-      subst (λ choice. TakenEnds (parts_of choice) choice IsFile input output_old output_new faults_old faults_new status) same ends
-
-  -- on the input or one file, if `judge` has not several
-  pub not_several : (IsFile : Option (List ℕ) → Type 0) (input : Option (List ℕ)) (choice : Choice) (parts : Option (List Text))
-      → None ≡ parts → CommandEnds (DoesOnInput choice IsFile input) output_old output_new faults_old faults_new status
-      → TakenEnds parts choice IsFile input output_old output_new faults_old faults_new status
-  not_several IsFile input choice parts none ends =
-      subst (λ p. TakenEnds p choice IsFile input output_old output_new faults_old faults_new status) none ends
-
-  -- on several files
-  pub on_files : (IsFile : Option (List ℕ) → Type 0) (input : Option (List ℕ)) (choice : Choice) (keys : Option Text) (paths : List Text)
-      (parts : Option (List Text)) → keys ≡ choice.options.keys → Some paths ≡ parts
-      → EndsFiles (JudgesFiles (keys_of_words keys) paths IsFile) output_old output_new faults_old faults_new status
-      → TakenEnds parts choice IsFile input output_old output_new faults_old faults_new status
-  on_files IsFile input choice keys paths parts asked some ends =
-      subst (λ p. TakenEnds p choice IsFile input output_old output_new faults_old faults_new status) some
-      (subst (λ k. EndsFiles (JudgesFiles (keys_of_words k) paths IsFile) output_old output_new faults_old faults_new status) asked ends)
+      subst (λ choice. CommandEnds (DoesOnInput choice IsFile input) output_old output_new faults_old faults_new status) same ends
 
   -- on the input, where no file is named
   pub on_input : (IsFile : Option (List ℕ) → Type 0) (input : Option (List ℕ)) (choice : Choice) → None ≡ path_of choice

@@ -5,9 +5,9 @@ use Rattle.clap.specs.Words.{Text, fault_of, kind_of, subcommand_of, HasKind}
 use Rattle.clap.specs.declared.error.Error.{Error}
 use Rattle.clap.specs.declared.error.kind.ErrorKind.{ErrorKind}
 use Rattle.clap.specs.declared.error.kind.ErrorKind.TheVariants.{OutOfMemory, DisplayHelp, DisplayVersion}
-use Rattle.lset_command.specs.CommandLine.{Choice, OptionValues, choice_of, file_by, listset, parts_of, path_of}
+use Rattle.lset_command.specs.CommandLine.{Choice, OptionValues, choice_of, file_by, listset, path_of}
 use Rattle.lset_command.specs.declared.command_line.Command.{Command}
-use Rattle.lset_command.specs.declared.command_line.Command.TheVariants.{Replay, Judge, Report, Check, Show, Trace, Draft, Example}
+use Rattle.lset_command.specs.declared.command_line.Command.TheVariants.{Replay, Judge, Check, Show, Trace, Draft, Example}
 use Rattle.lset_command.specs.declared.command_line.Command.TheVariants.{Gen, Run, Serve, Faults}
 use Rattle.tool_base.specs.declared.trouble.ValueName.{ValueName}
 use Rattle.tool_base.specs.declared.trouble.Trouble.TheVariants.{CannotRead, Memory, Bad}
@@ -16,9 +16,7 @@ use Rattle.tool_base.specs.Replaying.{Replays}
 use Rattle.tool_base.specs.Checking.{Checks}
 use Rattle.tool_base.specs.Generating.{Generates}
 use Rattle.tool_base.specs.Faults.{TellsFaults}
-use Rattle.tool_judge.specs.Judging.{JudgesAny}
-use Rattle.tool_report.specs.Reporting.{Reports}
-use Rattle.tool_parts.specs.Parting.{EndsFiles, JudgesFiles, JudgesKeys, keys_of_words}
+use Rattle.tool_judge.specs.Judging.{Judges}
 use Rattle.tool_drawing.specs.declared.picture.Window.{Window}
 use Rattle.tool_show.specs.declared.asking.Form.{Form}
 use Rattle.tool_show.specs.Asking.{asked_of}
@@ -42,11 +40,6 @@ abbrev pub TracesFor : Option Text → Option (List ℕ) → Made → Type 0
 TracesFor None input made = IfSome input (λ bytes. Traces bytes made)
 TracesFor (Some name) input made = broken.ByName (λ l m. IfSome input (λ bytes. broken.Traces l bytes m)) name made
 
--- what `judge` makes of its input: of all calls, or of those of the keys that an option asks for
-abbrev pub JudgesFor : Option Text → Option (List ℕ) → Made → Type 0
-JudgesFor None input made = IfSome input (λ bytes. JudgesAny bytes made)
-JudgesFor (Some keys) input made = JudgesKeys keys input made
-
 abbrev pub ShowsFor : Option Text → Window → Option (List ℕ) → Made → Type 0
 ShowsFor None window input made = IfSome input (λ bytes. Shows window bytes made)
 ShowsFor (Some name) window input made = broken.ByName (λ l m. IfSome input (λ bytes. broken.Shows window l bytes m)) name made
@@ -68,8 +61,7 @@ ServesBy (Some word) values input old first made = serve.ServesWith (serve.serve
 -- the old to the first: `serve` writes the line that names its port, the others write nothing.
 abbrev pub DoesBy : Command → List Text → OptionValues → Option (List ℕ) → Option (List ℕ) → Option (List ℕ) → Made → Type 0
 DoesBy Replay values options input old first made = (first ≡ old) × ReplaysFor options.lacks input made
-DoesBy Judge values options input old first made = (first ≡ old) × JudgesFor options.keys input made
-DoesBy Report values options input old first made = (first ≡ old) × IfSome input (λ bytes. Reports bytes made)
+DoesBy Judge values options input old first made = (first ≡ old) × IfSome input (λ bytes. Judges bytes made)
 DoesBy Check values options input old first made = (first ≡ old) × IfSome input (λ bytes. Checks bytes made)
 DoesBy Show values options input old first made = (first ≡ old) × ShowsBy options input made
 DoesBy Trace values options input old first made = (first ≡ old) × TracesFor options.lacks input made
@@ -99,14 +91,6 @@ abbrev pub CommandEnds : (Option (List ℕ) → Option (List ℕ) → Made → T
     → Option (List ℕ) → ℕ → Type 0
 CommandEnds IsMade output_old output_new faults_old faults_new status =
     (first : Option (List ℕ)) × Ends (IsMade output_old first) first output_new faults_old faults_new status
-
--- HOW A COMMAND THAT IS TAKEN ENDS: `judge` of several files as these say, each other command by what it makes
-abbrev pub TakenEnds : Option (List Text) → Choice → (Option (List ℕ) → Type 0) → Option (List ℕ) → Option (List ℕ) → Option (List ℕ)
-    → Option (List ℕ) → Option (List ℕ) → ℕ → Type 0
-TakenEnds None choice IsFile input output_old output_new faults_old faults_new status =
-    CommandEnds (DoesOnInput choice IsFile input) output_old output_new faults_old faults_new status
-TakenEnds (Some paths) choice IsFile input output_old output_new faults_old faults_new status =
-    EndsFiles (JudgesFiles (keys_of_words choice.options.keys) paths IsFile) output_old output_new faults_old faults_new status
 
 -- ---- words that are not taken
 
@@ -138,7 +122,7 @@ Declines kind output_old output_new faults_old faults_new status =
 abbrev pub Runs : List Text → (Option (List ℕ) → Type 0) → Option (List ℕ) → Option (List ℕ) → Option (List ℕ) → Option (List ℕ) →
     Option (List ℕ) → ℕ → Type 0
 Runs words IsFile input output_old output_new faults_old faults_new status =
-    ((fault_of listset words ≡ []) × TakenEnds (parts_of (choice_of (subcommand_of listset words))) (choice_of (subcommand_of listset words))
-    IsFile input output_old output_new faults_old faults_new status)
+    ((fault_of listset words ≡ []) × CommandEnds (DoesOnInput (choice_of (subcommand_of listset words)) IsFile input) output_old output_new
+    faults_old faults_new status)
     ⊎ ((error : Error) × HasKind (fault_of listset words) error × Declines (kind_of error) output_old output_new faults_old
     faults_new status)

@@ -2,7 +2,7 @@ ghost use Rattle.std.specs.Prelude.{◌≡◌, option_map, string_bytes};
 ghost use Rattle.std.specs.Option.{option_copied};
 ghost use Rattle.lset_command.specs.CommandLine.{choice_in, options_of};
 ghost use Rattle.tool_base.specs.Tools.{Ends};
-ghost use Rattle.lset_dispatch.specs.Dispatch.{CommandEnds, Does, JudgesFor, ReplaysFor, ShowsBy, TracesFor};
+ghost use Rattle.lset_dispatch.specs.Dispatch.{CommandEnds, Does, ReplaysFor, ShowsBy, TracesFor};
 
 use lset_command::{Command, Options, Words};
 use std::alloc::Global;
@@ -16,14 +16,12 @@ use tool_broken::{tool_replay_broken, tool_show_broken, tool_trace_broken};
 use tool_draft::tool_draft;
 use tool_examples::tool_example;
 use tool_judge::tool_judge;
-use tool_parts::tool_judge_keys;
-use tool_report::tool_report;
 use tool_run::tool_run;
 use tool_serve::{tool_serve, tool_serve_with};
 use tool_show::{read_asked, tool_show};
 use tool_trace::tool_trace;
 
-pub(crate) fn text_of(option: &Option<String>) -> Option<&str>
+fn text_of(option: &Option<String>) -> Option<&str>
     ensures { option_copied result ≡ option_map string_bytes option.now }
 {
     Some(option.as_ref()?.as_str())
@@ -69,23 +67,6 @@ fn replay<R: Read, W: Write, F: Write>(
     }
 }
 
-/// Judges the input, or the part of it whose keys the options ask for, and gives the exit status.
-fn judge<R: Read, W: Write, F: Write>(
-    alloc: Global,
-    options: &Options,
-    input: &mut R,
-    output: &mut W,
-    faults: &mut F,
-) -> u8
-    ensures { Ends (JudgesFor (options_of options.now).keys (R.remaining input.old))
-        (W.contents output.old) (W.contents output.new) (F.contents faults.old) (F.contents faults.new) result }
-{
-    match text_of(&options.keys) {
-        None => tool_judge(alloc, input, output, faults),
-        Some(keys) => tool_judge_keys(alloc, keys, input, output, faults),
-    }
-}
-
 /// Traces the input, by the list that the options say lacks a check, if they do, and gives the exit status.
 fn trace<R: Read, W: Write, F: Write>(
     alloc: Global,
@@ -103,9 +84,9 @@ fn trace<R: Read, W: Write, F: Write>(
     }
 }
 
-/// Executes a command with its tool, and returns the exit status. `replay`, `judge`, `report`, `check`, `show`, `trace` and
-/// `draft` read `input`; `serve` opens with its keys if it was given a FILE; the other commands use their arguments only.
-/// Writes the result to `output`, or one line about an error to `faults`.
+/// Executes a command with its tool, and returns the exit status. `replay`, `judge`, `check`, `show`, `trace` and `draft`
+/// read `input`; `serve` opens with its keys if it was given a FILE; the other commands use their arguments only. Writes the
+/// result to `output`, or one line about an error to `faults`.
 ///
 /// Allocates. `run` and `serve` start threads on `rt` and block until they end; `serve` listens on it.
 pub fn run_command<
@@ -120,8 +101,7 @@ pub fn run_command<
     let options = &words.options;
     match words.command {
         Command::Replay => replay(alloc, options, input, output, faults),
-        Command::Judge => judge(alloc, options, input, output, faults),
-        Command::Report => tool_report(alloc, input, output, faults),
+        Command::Judge => tool_judge(alloc, input, output, faults),
         Command::Check => tool_check(alloc, input, output, faults),
         Command::Show => show(alloc, options, input, output, faults),
         Command::Trace => trace(alloc, options, input, output, faults),

@@ -1,10 +1,10 @@
 ghost use Rattle.std.specs.Prelude.{◌≡◌, IfOk};
 ghost use Rattle.clap.specs.Words.{FailsBy, fault_of, kind_of, subcommand_of};
 ghost use Rattle.clap.specs.Walk.{texts};
-ghost use Rattle.lset_command.specs.CommandLine.{choice_in, choice_of, listset, parts_of};
-ghost use Rattle.lset_dispatch.specs.Dispatch.{CommandEnds, Declines, DoesOnInput, Runs, TakenEnds};
+ghost use Rattle.lset_command.specs.CommandLine.{choice_in, choice_of, listset};
+ghost use Rattle.lset_dispatch.specs.Dispatch.{CommandEnds, Declines, DoesOnInput, Runs};
 
-use crate::command::{run_command, text_of};
+use crate::command::run_command;
 use clap::Error;
 use lset_command::{Words, is_out_of_memory, words_given};
 use std::alloc::Global;
@@ -16,7 +16,6 @@ use std::sync::Wait;
 use std::thread::Threads;
 use std::time::Clock;
 use tool_base::{Answer, FAULTS, Trouble, deliver, put};
-use tool_parts::tool_judge_parts;
 
 /// Ends a run whose command line `words_given` did not take, and returns the exit status. Writes the help or the version
 /// that was asked for to `output`, status 0, or what is wrong to `faults`, status 2. If an allocation failed, before or now,
@@ -64,26 +63,6 @@ fn run_on_file<
     }
 }
 
-/// Does the command of the words: that of `judge` of several files on these, each other one as `run_on_file` does.
-fn run_taken<
-    H: Files + Net<Listener = TcpListener, Stream = TcpStream> + Threads + Wait + Clock + Sync,
-    R: Read,
-    W: Write,
-    F: Write,
->(rt: &H, alloc: Global, words: &Words, input: &mut R, output: &mut W, faults: &mut F) -> u8
-    ensures { TakenEnds (parts_of (choice_in words.now)) (choice_in words.now)
-        (λ bytes. (file : H.File) × (bytes ≡ H.File.remaining file)) (R.remaining input.old)
-        (W.contents output.old) (W.contents output.new) (F.contents faults.old) (F.contents faults.new) result }
-{
-    match words.parts() {
-        None => run_on_file(rt, alloc, words, input, output, faults),
-        Some(paths) => {
-            let keys = text_of(&words.options.keys);
-            tool_judge_parts(rt, alloc, keys, paths, output, faults)
-        }
-    }
-}
-
 /// Reads the command line, without the program's name: no word at all means `replay`. The help on `faults` is what the
 /// command `faults` prints. Allocates.
 ///
@@ -99,8 +78,8 @@ pub fn tool_words(alloc: Global, words: &[&str]) -> Result<Words, Error>
 }
 
 /// Runs the program on its command line, without the program's name, and returns the exit status. Reads the file that is
-/// named among the files of `rt`, the several files of `judge`, or `input` if none or `-` is named; writes the result to
-/// `output`, or what is wrong to `faults`.
+/// named among the files of `rt`, or `input` if none or `-` is named; writes the result to `output`, or what is wrong to
+/// `faults`.
 ///
 /// `serve` opens with the keys of its FILE or, at `-`, of `input`, and reads nothing without one. Allocates. `run` and
 /// `serve` start threads on `rt` and block until they end; `serve` listens on it.
@@ -114,7 +93,7 @@ pub fn run_words<
         (W.contents output.old) (W.contents output.new) (F.contents faults.old) (F.contents faults.new) result }
 {
     match tool_words(alloc, words) {
-        Ok(words) => run_taken(rt, alloc, &words, input, output, faults),
+        Ok(words) => run_on_file(rt, alloc, &words, input, output, faults),
         Err(error) => decline(alloc, &error, output, faults),
     }
 }

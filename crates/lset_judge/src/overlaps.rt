@@ -4,20 +4,58 @@
 use crate::asked::may_turn;
 use crate::stream::StreamCall;
 use std::alloc::{AllocError, Global};
+use std::collections::BTreeMap;
 
-/// A call that has not ended yet: its key, its end, whether it changes the key, and whether it has been counted.
-#[derive(Clone, Copy)]
+/// From so many ends on those that are over are left out, each time that the list has doubled.
+const LEAST_KEPT: usize = 16;
+
+/// The calls of a key that have not ended.
+#[derive(Drop)]
 struct Open {
-    key: u32,
-    end: u64,
-    changes: bool,
-    counted: bool,
+    /// The last end of a change.
+    change: u64,
+    /// The ends of the calls that overlap no change so far.
+    alone: Vec<u64>,
+    /// How long the list may be.
+    room: usize,
 }
 
-/// Counts the calls that overlap an `add` or a `remove` of their key that answered true, other than themselves.
+impl Open {
+    /// One more call, of which this is the begin and the end: how many calls overlap a change only now.
+    fn add(&mut self, begun: u64, end: u64, changes: bool) -> Result<u64, AllocError> {
+        let mut met = 0u64;
+        if changes {
+            let more = self.alone.iter().filter(|other| begun < **other).count();
+            met = met.saturating_add(more as u64);
+            self.alone.clear();
+        }
+        if begun < self.change {
+            met = met.saturating_add(1);
+        } else {
+            self.push(begun, end)?;
+        }
+        if changes {
+            self.change = self.change.max(end);
+        }
+        Ok(met)
+    }
+
+    fn push(&mut self, begun: u64, end: u64) -> Result<(), AllocError> {
+        if self.alone.len() >= self.room {
+            self.alone.retain(|other| begun < *other);
+            self.room = self.alone.len().saturating_mul(2).max(LEAST_KEPT);
+        }
+        self.alone.push(end)?;
+        Ok(())
+    }
+}
+
+/// Counts the calls that overlap an `add` or a `remove` of their key that answered true, other than themselves. A call costs a search
+/// among the keys, whatever the number of pending calls.
 #[derive(Drop)]
 pub struct Overlaps {
-    open: Vec<Open>,
+    alloc: Global,
+    open: BTreeMap<u32, Open>,
     count: u64,
 }
 
@@ -25,41 +63,31 @@ impl Overlaps {
     /// No calls yet.
     pub fn new(alloc: Global) -> Overlaps {
         Overlaps {
-            open: Vec::new(alloc),
+            alloc,
+            open: BTreeMap::new(alloc),
             count: 0,
         }
     }
 
     /// One more call, which begins after all calls before it.
     pub fn add(&mut self, call: StreamCall) -> Result<(), AllocError> {
-        self.open.retain(|open| call.begun < open.end);
         let key = call.call.key().0;
-        let changes = may_turn(call) && call.ended.is_some();
-        let mut met = false;
-        let mut more = 0u64;
-        for open in &mut self.open {
-            if open.key == key {
-                met = met || open.changes;
-                if changes && !open.counted {
-                    open.counted = true;
-                    more = more.saturating_add(1);
-                }
-            }
-        }
-        if met {
-            more = more.saturating_add(1);
-        }
-        self.count = self.count.saturating_add(more);
-        let end = match call.ended {
-            Some((end, _)) => end,
-            None => u64::MAX,
+        let (end, changes) = match call.ended {
+            Some((end, _)) => (end, may_turn(call)),
+            None => (u64::MAX, false),
         };
-        self.open.push(Open {
-            key,
-            end,
-            changes,
-            counted: met,
-        })?;
+        if let Some(open) = self.open.get_mut(&key) {
+            let met = open.add(call.begun, end, changes)?;
+            self.count = self.count.saturating_add(met);
+            return Ok(());
+        }
+        let mut open = Open {
+            change: 0,
+            alone: Vec::new(self.alloc),
+            room: LEAST_KEPT,
+        };
+        open.add(call.begun, end, changes)?;
+        self.open.insert(key, open)?;
         Ok(())
     }
 

@@ -47,9 +47,9 @@ listset: line L: CAUSE, in recorded calls; exit status 1
   Header    Line 1 must be 'listset-calls 1'. Only the command judge reads recorded calls.
   Line      Expected 'opening K', 'call T CALL K BEGIN END REPLY' and 'key K', in this order, then 'end'; or 'cut' for 'key' lines and 'end'.
             For example 'call 1 add 5 3 9 true', or while the call is pending 'call 1 add 5 3 - -'. CALL is add, remove or contains, a
-            reply is true or false, and a line has at most 128 bytes. A call of ceiling is not judged: take these lines out, and the other
-            calls are:
-              grep -v ceiling FILE | listset judge -
+            reply is true or false, and a line has at most 128 bytes. A ceiling, and an add that answered full, are not judged: take
+            their lines out, and the others are:
+              grep -v -e ceiling -e full FILE | listset judge -
   Number    Moments are numbers from 1 to 9223372036854775807; all else as in a schedule.
   Opening   Opening keys must increase, and so must keys; this one is not above the one before.
   History   The call does not end after it begins; or a line above has one of its moments, or a call of the same thread that is pending
@@ -80,8 +80,8 @@ not linearizable, from judge; exit status 1
             The replies of the calls that had ended by moment M fit no order.
   no order explains the calls of key K and leaves it as it was left
             Every order leaves the key in the set and there is no line 'key K', or the reverse.
-  after the calls that ended by moment S the key is there, by this change:
-            Every order of the key's calls up to moment S leaves it so. The next line is the last call of them that changed the key.
+  after the calls that ended by moment S the key is there (or: not there), by this change:
+            Every order of the key's calls up to moment S leaves it so. The next line is the last of them that changed it.
   from there these calls have no order:
             The error is in these calls. With the key as the lines above say, no order gives all of their replies.
   N more calls of the key that began at moments A to B are not shown: whatever they did, these have no order

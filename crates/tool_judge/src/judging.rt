@@ -4,6 +4,7 @@ ghost use Rattle.tool_base.specs.Tools.{Ends};
 ghost use Rattle.tool_base.specs.Tools as tools;
 ghost use Rattle.tool_base.specs.declared.trouble.Trouble.TheVariants.{CannotRead};
 ghost use Rattle.tool_judge.specs.Judging.{IsAnswerTo, Judges};
+ghost use Rattle.tool_judge.specs.Exact.{AnswersAreRight};
 
 use crate::texts::{ok_text, refused_text};
 use lset_judge::Verdict;
@@ -63,7 +64,13 @@ pub fn judge_bytes(alloc: Global, bytes: &[u8]) -> Result<Answer, Trouble>
     answer_of(alloc, reader)
 }
 
-fn judge_input<R: Read>(alloc: Global, input: &mut R) -> Result<Answer, Trouble>
+/// Judges the recording on the input, which is read in pieces of `READ_SIZE` bytes to its end or to the first error, as `judge_bytes` judges
+/// its text. Allocates; blocks as the input does.
+///
+/// # Errors
+///
+/// Those of `judge_bytes`; `CannotRead` if a read fails, which is not repeated.
+pub fn judge_input<R: Read>(alloc: Global, input: &mut R) -> Result<Answer, Trouble>
     ensures { IfSome (R.remaining input.old) (λ bytes. Judges bytes (tools.view result)) }
 {
     let mut reader = RecordingReader::new(alloc);
@@ -97,3 +104,10 @@ pub fn tool_judge<R: Read, W: Write, F: Write>(
     let made = judge_input(alloc, input);
     deliver(alloc, made, output, faults)
 }
+
+/// What `judge_bytes` and `tool_judge` answer is right: unless memory or a read failed, it is `ok` with status 0 exactly if the bytes are a
+/// recording and some order explains its calls and leaves its keys, or some keys if it was cut off; `not linearizable` with status 1 exactly
+/// if they are a recording and none does; and a line and a cause exactly if that line is the first that is wrong, for this cause.
+pub fn answers_are_right()
+    ensures { AnswersAreRight }
+{}

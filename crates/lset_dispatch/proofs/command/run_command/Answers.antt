@@ -1,7 +1,7 @@
 use Rattle.std.proofs.Common.{◌≡◌, ◌∙◌, Some, None, ap, map, refl}
 use Rattle.std.specs.String.{string_bytes}
 use Rattle.lset_command.specs.CommandLine.{file_by, options_of}
-use Rattle.lset_command.specs.declared.command_line.Command.TheVariants.{Replay, Judge, Report, Check, Show, Trace, Draft, Example}
+use Rattle.lset_command.specs.declared.command_line.Command.TheVariants.{Replay, Judge, Check, Show, Trace, Draft, Example}
 use Rattle.lset_command.specs.declared.command_line.Command.TheVariants.{Gen, Run, Serve, Faults}
 use Rattle.tool_examples.specs.Exampling.{Exampled}
 use Rattle.lset_dispatch.proofs.Endings.{at_command, at_once, served, with_argument}
@@ -11,10 +11,7 @@ pub returns-in-Replay : goal.returns-in-Replay
 returns-in-Replay g c = at_command _ _ _ _ _ _ Replay _ _ _ _ c.in-Replay.is refl (at_once _ _ _ _ _ _ c.replay.ensures)
 
 pub returns-in-Judge : goal.returns-in-Judge
-returns-in-Judge g c = at_command _ _ _ _ _ _ Judge _ _ _ _ c.in-Judge.is refl (at_once _ _ _ _ _ _ c.judge.ensures)
-
-pub returns-in-Report : goal.returns-in-Report
-returns-in-Report g c = at_command _ _ _ _ _ _ Report _ _ _ _ c.in-Report.is refl (at_once _ _ _ _ _ _ c.tool_report.ensures)
+returns-in-Judge g c = at_command _ _ _ _ _ _ Judge _ _ _ _ c.in-Judge.is refl (at_once _ _ _ _ _ _ c.tool_judge.ensures)
 
 pub returns-in-Check : goal.returns-in-Check
 returns-in-Check g c = at_command _ _ _ _ _ _ Check _ _ _ _ c.in-Check.is refl (at_once _ _ _ _ _ _ c.tool_check.ensures)

@@ -1,0 +1,17 @@
+use libc::read;
+use std::io::{self, ErrorKind, Read};
+
+/// An input of the host, by the number of its file.
+#[derive(Drop)]
+pub struct HostInput {
+    pub file: i32,
+}
+
+impl Read for HostInput {
+    fn read(&mut self, buffer: &mut [u8]) -> io::Result<usize> {
+        match usize::try_from(read(self.file, buffer)) {
+            Ok(count) => Ok(count),
+            Err(_) => Err(io::Error::from(ErrorKind::Other)),
+        }
+    }
+}

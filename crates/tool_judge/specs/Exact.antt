@@ -1,0 +1,42 @@
+-- THE ANSWER SAYS EXACTLY whether some order explains a recording.
+use Rattle.std.specs.Prelude.{◌≡◌, ℕ, ◌⊎◌, Bool, true, false, List, codes, length, Result, Ok, Err}
+use Rattle.lset_history.specs.History.{HistoryValue}
+use Rattle.lset_judge.specs.Verdict.{IsExplained}
+use Rattle.lset_judge.specs.Stream.{stream_history}
+use Rattle.lset_recording.specs.declared.fault.RecordingFault.{RecordingFault}
+use Rattle.lset_recording.specs.Texts.{Recording, all_threads}
+use Rattle.lset_recording.specs.Reading.{Says}
+use Rattle.tool_base.specs.declared.trouble.Trouble.TheVariants.{CannotRead, Memory}
+use Rattle.tool_base.specs.Trouble.{of_recording}
+use Rattle.tool_base.specs.Tools.{AnswerValue, Made}
+use Rattle.tool_judge.specs.Judging.{Begins, Judges, ok_line}
+
+abbrev pub history_of : Recording → HistoryValue
+history_of c = stream_history all_threads c.opening c.calls
+
+abbrev pub HasOrderIf : Bool → Recording → Type 0
+HasOrderIf true c = (keys : List ℕ) × IsExplained (history_of c) keys
+HasOrderIf false c = IsExplained (history_of c) c.keys
+
+-- SOME ORDER EXPLAINS THE CALLS of a recording and leaves its keys; or some keys, if the recording was cut off
+abbrev pub HasOrder : Recording → Type 0
+HasOrder c = HasOrderIf c.cut_off c
+
+-- it is `ok`, and some order does; or `not linearizable`, and none does
+abbrev pub IsRight : Recording → AnswerValue → Type 0
+IsRight c answer = (HasOrder c × (answer.status ≡ 0) × Begins (ok_line (length c.calls)) answer.text)
+    ⊎ ((HasOrder c → ⊥) × (answer.status ≡ 1) × Begins (codes "not linearizable\n") answer.text)
+
+-- the bytes say this, and nothing else
+abbrev pub SaysOnly : List ℕ → Result Recording RecordingFault → Type 0
+SaysOnly bytes read = Says bytes read × ((other : Result Recording RecordingFault) → Says bytes other → other ≡ read)
+
+-- THE ANSWER IS RIGHT: the bytes are a recording, and it is told whether some order explains that; or the first wrong line is told, and its
+-- cause; or a read failed, or memory was refused
+abbrev pub JudgesRightly : List ℕ → Made → Type 0
+JudgesRightly bytes (Ok answer) = (c : Recording) × SaysOnly bytes (Ok c) × IsRight c answer
+JudgesRightly bytes (Err t) =
+    (t ≡ CannotRead) ⊎ ((t ≡ Memory) ⊎ ((fault : RecordingFault) × SaysOnly bytes (Err fault) × (t ≡ of_recording fault)))
+
+abbrev pub AnswersAreRight : Type 0
+AnswersAreRight = (bytes : List ℕ) (made : Made) → Judges bytes made → JudgesRightly bytes made
