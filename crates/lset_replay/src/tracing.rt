@@ -162,6 +162,9 @@ impl<W: Steps + Drop> Run<W> {
         let moment = self.moments.last();
         let seat = self.pending.get_mut(thread as usize)?;
         if let Deed::Begin(call, number) = deed {
+            if seat.is_some() {
+                return None;
+            }
             *seat = Some(Pending {
                 number,
                 call,

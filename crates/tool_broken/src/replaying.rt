@@ -1,8 +1,3 @@
-ghost use Rattle.std.specs.Prelude.{◌≢◌, IfErr, IfSome};
-ghost use Rattle.tool_base.specs.Tools.{Ends, view};
-ghost use Rattle.tool_base.specs.declared.trouble.Trouble.TheVariants.{CannotRead};
-ghost use Rattle.tool_broken.specs.BrokenTools.{ByName, Replays};
-
 use crate::asking::{broken_of, report_of};
 use broken_lists::BrokenList;
 use lset_report::write_report;
@@ -11,8 +6,6 @@ use std::io::{Read, Write};
 use tool_base::{Answer, Trouble, deliver, input_of};
 
 fn replayed_by(alloc: Global, broken: BrokenList, bytes: &[u8]) -> Result<Answer, Trouble>
-    ensures replays { Replays broken bytes.now (view result) }
-    ensures read { IfErr result (λ t. t ≢ CannotRead) }
 {
     let report = report_of(alloc, broken, bytes)?;
     let text = write_report(alloc, &report)?;
@@ -29,15 +22,12 @@ fn replayed_by(alloc: Global, broken: BrokenList, bytes: &[u8]) -> Result<Answer
 /// schedule names another list, or with the event at which the run ends: it is not enabled, or, `Lost`, it would access a
 /// word outside the table; `Memory` if an allocation fails.
 pub fn replayed_broken(alloc: Global, name: &[u8], bytes: &[u8]) -> Result<Answer, Trouble>
-    ensures replays { ByName (λ l made. Replays l bytes.now made) name.now (view result) }
-    ensures read { IfErr result (λ t. t ≢ CannotRead) }
 {
     let broken = broken_of(name)?;
     replayed_by(alloc, broken, bytes)
 }
 
 fn replayed_input<R: Read>(alloc: Global, name: &[u8], input: &mut R) -> Result<Answer, Trouble>
-    ensures { ByName (λ l made. IfSome (R.remaining input.old) (λ bytes. Replays l bytes made)) name.now (view result) }
 {
     let broken = broken_of(name)?;
     let bytes = input_of(alloc, input)?;
@@ -55,8 +45,6 @@ pub fn tool_replay_broken<R: Read, W: Write, F: Write>(
     output: &mut W,
     faults: &mut F,
 ) -> u8
-    ensures { Ends (ByName (λ l made. IfSome (R.remaining input.old) (λ bytes. Replays l bytes made)) name.now)
-        (W.contents output.old) (W.contents output.new) (F.contents faults.old) (F.contents faults.new) result }
 {
     let made = replayed_input(alloc, name.as_bytes(), input);
     deliver(alloc, made, output, faults)

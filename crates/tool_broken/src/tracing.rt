@@ -1,8 +1,3 @@
-ghost use Rattle.std.specs.Prelude.{◌≢◌, IfErr, IfSome};
-ghost use Rattle.tool_base.specs.Tools.{Ends, view};
-ghost use Rattle.tool_base.specs.declared.trouble.Trouble.TheVariants.{CannotRead};
-ghost use Rattle.tool_broken.specs.BrokenTools.{ByName, Traces};
-
 use crate::asking::{broken_of, cause_of, schedule_of};
 use broken_lists::{BrokenList, run_broken};
 use lset_schedule::Schedule;
@@ -31,8 +26,6 @@ fn traced_by(
     bytes: &[u8],
     chains: bool,
 ) -> Result<Answer, Trouble>
-    ensures traces { Traces broken bytes.now (view result) }
-    ensures read { IfErr result (λ t. t ≢ CannotRead) }
 {
     let schedule = schedule_of(alloc, broken, bytes)?;
     let silent = EventLines::after(head_of(alloc, broken, &schedule)?);
@@ -59,8 +52,6 @@ pub fn traced_broken(
     bytes: &[u8],
     chains: bool,
 ) -> Result<Answer, Trouble>
-    ensures traces { ByName (λ l made. Traces l bytes.now made) name.now (view result) }
-    ensures read { IfErr result (λ t. t ≢ CannotRead) }
 {
     let broken = broken_of(name)?;
     traced_by(alloc, broken, bytes, chains)
@@ -72,7 +63,6 @@ fn traced_input<R: Read>(
     chains: bool,
     input: &mut R,
 ) -> Result<Answer, Trouble>
-    ensures { ByName (λ l made. IfSome (R.remaining input.old) (λ bytes. Traces l bytes made)) name.now (view result) }
 {
     let broken = broken_of(name)?;
     let bytes = input_of(alloc, input)?;
@@ -91,8 +81,6 @@ pub fn tool_trace_broken<R: Read, W: Write, F: Write>(
     output: &mut W,
     faults: &mut F,
 ) -> u8
-    ensures { Ends (ByName (λ l made. IfSome (R.remaining input.old) (λ bytes. Traces l bytes made)) name.now)
-        (W.contents output.old) (W.contents output.new) (F.contents faults.old) (F.contents faults.new) result }
 {
     let made = traced_input(alloc, name.as_bytes(), chains, input);
     deliver(alloc, made, output, faults)
