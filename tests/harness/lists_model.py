@@ -140,7 +140,6 @@ LACKING = {
     "mark-in-remove": ("lock-free", "9 | exchange curr.link from succ to succ* | success but for a mark: -k, 10; else 1"),
     "mark-at-key": ("lock-free", "22 | load curr.link | answers true"),
     "new-slot": ("lock-free", ""),  # (each add takes the first slot)
-    "last-slot": ("lock-free", ""),  # (an add is full one slot too soon)
 }
 # The row to which a remove comes in place of another, where it holds one lock: it looks at a key first, and locks a node to go past it
 ROWS_OF_ONE_LOCK = {3: 4, 4: 5, 5: 3, 12: 13}
@@ -285,7 +284,7 @@ class List:
     def decide(self, it, found):
         """Decides on the key word at which a walk has stopped."""
         word, same = it.call.word, found == it.call.key + 1
-        if word == "add" and not same and it.used + (self.lacks == "last-slot") < self.quota:
+        if word == "add" and not same and it.used < self.quota:
             it.pc = self.table.add
         elif word == "remove" and same:
             it.pc = self.table.remove

@@ -28,34 +28,27 @@ impl Read for Drops {
     }
 }
 
-/// The lines `call`, each with what comes after its moments, and the last line.
-fn text_of(alloc: Global, head: &str, between: &str, after: &str) -> Result<String, AllocError> {
-    let mut text = String::from_str(alloc, head)?;
+/// A recording.
+fn recording(alloc: Global) -> Result<String, AllocError> {
+    let mut text = String::from_str(alloc, "listset-calls 1\n")?;
     for number in 0..CALLS {
         let begun = 2 * number + 1;
         let end = begun + 1;
-        writeln!(&mut text, "call 0 contains 5 {begun}{between} {end}{after}")?;
+        writeln!(&mut text, "call 0 contains 5 {begun} {end} false")?;
     }
     writeln!(&mut text, "end")?;
     Ok(text)
 }
 
-/// What `judge` writes of a text that comes byte by byte begins so.
-fn assert_judged<R: Abort>(rt: &R, alloc: Global, text: String) {
+#[test]
+fn a_recording_comes_byte_by_byte(rt: HostRuntime) -> Result<(), Fail> {
+    let alloc = rt.alloc();
+    let text = recording(alloc)?;
     let mut input = Drops { text, next: 0 };
     let (mut output, mut faults) = (Vec::new(alloc), Vec::new(alloc));
     let status = tool_judge(alloc, &mut input, &mut output, &mut faults);
     assert!(rt; status == 0 && faults.is_empty());
     assert!(rt; output.starts_with(b"ok 4000 calls\n".as_slice()));
-}
-
-#[test]
-fn recorded_calls_come_byte_by_byte(rt: HostRuntime) -> Result<(), Fail> {
-    let alloc = rt.alloc();
-    let head = "listset-calls 2\nlist lazy\nthreads 1\nquota 0\n";
-    assert_judged(&rt, alloc, text_of(alloc, head, " -", " false")?);
-    let text = text_of(alloc, "listset-calls 1\n", "", " false")?;
-    assert_judged(&rt, alloc, text);
     Ok(())
 }
 
@@ -81,7 +74,7 @@ fn a_report_comes_byte_by_byte(rt: HostRuntime) -> Result<(), Fail> {
 #[test]
 fn an_answer_is_written_byte_by_byte(rt: HostRuntime) -> Result<(), Fail> {
     let alloc = rt.alloc();
-    let text = text_of(alloc, "listset-calls 1\n", "", " false")?.into_bytes();
+    let text = recording(alloc)?.into_bytes();
     let plan = Plan { most: 1, ..WHOLE };
     let mut output = Writer::new(alloc, plan);
     let mut faults = Vec::new(alloc);

@@ -1,250 +1,217 @@
-//! The judges beside a search of all orders, on small histories that are drawn.
+//! The judge beside a search of all orders, on small histories that are drawn: its verdict, and each claim of a refusal.
 
-ghost use Rattle.std.specs.Prelude.{◌<◌, IfOk, length};
-ghost use Rattle.std.specs.List.Sorted.{IsStrictlyIncreasing};
+ghost use Rattle.std.specs.Prelude.{◌<◌};
 
-use crate::made::reply_of;
+use crate::histories::{Calls, Drawn, calls_of, drawn, keys_of};
 use crate::prelude::*;
+use crate::refusals::Refused;
+use crate::search::{ALL_SETS, may_change, of_key, sets_left};
+use lset_judge::{Judged, Overlaps, judge};
 
 const HISTORIES: u32 = 100_000;
 
-const THREADS: u32 = 3;
+/// So many histories have ceilings, and replies `full`.
+const OF_ANY_CALLS: u32 = 20_000;
 
-const MOST_CALLS: usize = 7;
+/// How often what was met.
+#[derive(Debug, Default, Drop)]
+struct Counts {
+    right: u32,
+    by_a_moment: u32,
+    left_wrong: u32,
+    later: u32,
+    hiding: u32,
+    without_window: u32,
+}
 
-/// The keys 0 and 1 of a set, a bit for each.
-fn keys_of(alloc: Global, set: usize) -> Result<Vec<u32>, AllocError>
-    ensures rising { IfOk result (λ v. IsStrictlyIncreasing v.items) }
-    ensures few { IfOk result (λ v. length v.items < 3) }
-{
-    match set {
-        0 => Ok(Vec::new(alloc)),
-        1 => Vec::from_slice(alloc, &[0]),
-        2 => Vec::from_slice(alloc, &[1]),
-        _ => Vec::from_slice(alloc, &[0, 1]),
+impl Counts {
+    fn count(&mut self, refused: &Refused<'_>) {
+        match refused.refusal.moment {
+            Some(_) => self.by_a_moment += 1,
+            None => self.left_wrong += 1,
+        }
+        match &refused.window {
+            Some(window) => {
+                self.later += u32::from(window.since > 0);
+                self.hiding += u32::from(refused.hides_a_change(window));
+            }
+            None => self.without_window += u32::from(!refused.of_key.is_empty()),
+        }
+    }
+
+    /// Whether enough was met of all, and almost each refusal of a key with calls has a window.
+    fn are_enough(&self) -> bool {
+        let least = [
+            self.right,
+            self.by_a_moment,
+            self.left_wrong,
+            self.later,
+            self.hiding,
+        ];
+        let are_enough = least.iter().all(|count| *count > HISTORIES / 100);
+        are_enough && self.without_window < HISTORIES / 1000
     }
 }
 
-/// What a set of the two keys answers, and leaves.
-fn answered(set: usize, call: Call) -> (Reply, usize) {
-    let bit = 1usize << (call.key().0 % 2);
-    let is_there = set & bit != 0;
-    let (is_true, after) = match call {
-        Call::Add(_) => (!is_there, set | bit),
-        Call::Remove(_) => (is_there, set & !bit),
-        Call::Contains(_) | Call::Ceiling(_) => (is_there, set),
+/// The sets that the calls of a history leave, in any order of theirs.
+fn left_by(drawn: &Drawn, calls: &[StreamCall]) -> u8 {
+    sets_left(calls, 1 << (drawn.opening % 8))
+}
+
+/// The judge of these calls, and how many of them overlap a change of their key.
+fn judge_of(alloc: Global, drawn: &Drawn, calls: &[StreamCall]) -> Result<(Judge, u64), Fail> {
+    let mut judge = Judge::new(alloc, &keys_of(alloc, drawn.opening)?)?;
+    let mut overlaps = Overlaps::new(alloc);
+    for call in calls {
+        judge.add(*call)?;
+        overlaps.add(*call)?;
+    }
+    Ok((judge, overlaps.count()))
+}
+
+/// Whether two calls are of one key, and each begins before the other ends.
+fn overlap(call: &StreamCall, other: &StreamCall) -> bool {
+    let begins_in_time = |first: &StreamCall, second: &StreamCall| -> bool {
+        second.ended.is_none_or(|(end, _)| first.begun < end)
     };
-    (reply_of(is_true), after)
+    let is_same_key = call.call.key() == other.call.key();
+    is_same_key && begins_in_time(call, other) && begins_in_time(other, call)
 }
 
-/// The bit of a call among the calls that an order has placed.
-fn bit_of(number: usize) -> usize {
-    1usize << (number % MOST_CALLS)
-}
-
-fn is_placed(placed: usize, number: usize) -> bool {
-    placed & bit_of(number) != 0
-}
-
-/// Whether a call that begins at this moment may be the next of an order that has placed these calls: no other that ended before is still
-/// to come.
-fn is_free(calls: &[CallRecord], placed: usize, begun: u32) -> bool {
-    for (number, earlier) in calls.iter().enumerate() {
-        if let Some((end, _)) = earlier.ended {
-            if !is_placed(placed, number) && end < begun {
-                return false;
-            }
-        }
+/// How many of the calls overlap another one that has changed their key.
+fn overlapped(calls: &[StreamCall]) -> u64 {
+    let mut count = 0u64;
+    for call in calls {
+        let overlaps = calls.iter().any(|other| {
+            other.begun != call.begun
+                && other.ended.is_some()
+                && may_change(other)
+                && overlap(call, other)
+        });
+        count += u64::from(overlaps);
     }
-    true
+    count
 }
 
-fn are_ended_placed(calls: &[CallRecord], placed: usize) -> bool {
-    for (number, call) in calls.iter().enumerate() {
-        if call.ended.is_some() && !is_placed(placed, number) {
-            return false;
-        }
-    }
-    true
-}
-
-/// Where it stands whether some order places these calls, a bit for each of seven, and leaves this set of four.
-fn mark_of(placed: usize, set: usize) -> usize
-    ensures { result < 512 }
-{
-    4 * (placed % 128) + set % 4
-}
-
-/// Marks what one more call reaches from a set after these calls: an ended call as it answered, and an open one with true.
-fn reach(calls: &[CallRecord], reached: &mut [bool; 512], placed: usize, set: usize) {
-    for (number, call) in calls.iter().enumerate() {
-        let (reply, after) = answered(set, call.call);
-        let wanted = call.ended.map_or(Reply::True, |(_, reply)| reply);
-        if reply == wanted && !is_placed(placed, number) && is_free(calls, placed, call.begun) {
-            let mark = mark_of(placed | bit_of(number), after);
-            reached[mark] = true;
-        }
-    }
-}
-
-/// Whether some order of all ended calls, and of some open ones, has these replies and leaves this set.
-fn has_order(calls: &[CallRecord], opening: usize, left: usize) -> bool {
-    let mut reached = [false; 512];
-    let first = mark_of(0, opening);
-    reached[first] = true;
-    for placed in 0..128usize {
-        for set in 0..4usize {
-            if reached[mark_of(placed, set)] {
-                if set == left && are_ended_placed(calls, placed) {
-                    return true;
-                }
-                reach(calls, &mut reached, placed, set);
-            }
-        }
-    }
-    false
-}
-
-fn drawn_call(rng: &mut Pcg32) -> Call {
-    let key = Key(rng.next_u32() % 2);
-    match rng.next_u32() % 3 {
-        0 => Call::Add(key),
-        1 => Call::Remove(key),
-        _ => Call::Contains(key),
-    }
-}
-
-fn is_one_of(rng: &mut Pcg32, many: u32) -> bool
-    requires { 0 < many }
-{
-    rng.next_u32() % many == 0
-}
-
-/// A small history that is drawn; the set with which it opens, and the one that it leaves.
-#[derive(Drop)]
-struct Drawn {
-    history: History,
-    opening: usize,
-    left: usize,
-}
-
-/// A history of a set that is right, but for one reply of twelve.
-fn drawn_history(alloc: Global, rng: &mut Pcg32) -> Result<Drawn, Fail> {
-    let opening = (rng.next_u32() % 4) as usize;
-    let mut set = opening;
-    let mut history = History::opened(alloc, THREADS, 7, keys_of(alloc, opening)?);
-    let mut open: [Option<(u32, Call, Option<Reply>)>; 3] = [None; 3];
-    for at in 1..18u32 {
-        let thread = rng.next_u32() % THREADS;
-        match open[thread as usize] {
-            None => {
-                if history.calls().len() < MOST_CALLS {
-                    let call = drawn_call(rng);
-                    let begun = history.begin(thread, call, at)?;
-                    let (reply, after) = answered(set, call);
-                    let is_early = is_one_of(rng, 2);
-                    set = if is_early { after } else { set };
-                    open[thread as usize] = Some((begun, call, is_early.then_some(reply)));
-                }
-            }
-            Some((begun, call, early)) => {
-                let (late, after) = answered(set, call);
-                let reply = early.unwrap_or(late);
-                set = if early.is_none() { after } else { set };
-                let is_true = (reply == Reply::True) != is_one_of(rng, 12);
-                history.end(begun, reply_of(is_true), at)?;
-                open[thread as usize] = None;
-            }
-        }
-    }
-    if is_one_of(rng, 4) {
-        set = (rng.next_u32() % 4) as usize;
-    }
-    Ok(Drawn {
-        history,
-        opening,
-        left: set,
-    })
-}
-
-/// Whether the calls have an order, whichever keys it leaves.
-fn has_some_order(calls: &[CallRecord], opening: usize) -> bool {
-    (0..4).any(|left| has_order(calls, opening, left))
-}
-
-/// What the judges of histories say of one: with a quota, which is large enough here, without one, and of a recording that was cut off.
-fn verdicts(alloc: Global, history: &History, keys: &[u32]) -> Result<[Verdict; 3], AllocError>
-    requires { IsStrictlyIncreasing keys.now }
-{
-    Ok([
-        judge(alloc, history, keys)?,
-        judge_without_quota(alloc, history, keys)?,
-        judge_cut_off(alloc, history)?,
-    ])
-}
-
-/// The calls of a history one after another.
-fn streamed(alloc: Global, history: &History) -> Result<Stream, Fail> {
-    let mut stream = Stream::new(alloc, history.opening())?;
-    for made in history.calls() {
-        stream.add(StreamCall {
-            thread: made.thread,
-            call: made.call,
-            begun: u64::from(made.begun),
-            ended: made.ended.map(|(end, reply)| (u64::from(end), reply)),
-        })?;
-    }
-    Ok(stream)
-}
-
-/// Whether a stream of the calls and the judge of their history say the same: the same moment, if there is one, and then the same key.
-fn is_same(verdict: Verdict, told: StreamVerdict) -> bool {
-    match (verdict, told) {
-        (Verdict::Linearizable, StreamVerdict::Linearizable) => true,
-        (Verdict::NotLinearizable(refusal), StreamVerdict::NotLinearizable(told)) => {
-            let is_same_key = told.moment.is_none() || told.key == refusal.key;
-            is_same_key && told.moment == refusal.moment.map(|moment| u64::from(moment))
-        }
-        _ => false,
-    }
-}
-
-/// Whether some order explains a small history, which each judge and a stream say.
-fn is_explained<R: Abort>(rt: &R, alloc: Global, drawn: &Drawn, number: u32) -> Result<bool, Fail> {
-    let (calls, history) = (drawn.history.calls(), &drawn.history);
-    let keys = keys_of(alloc, drawn.left)?;
-    let is_explained = has_order(calls, drawn.opening, drawn.left);
-    let has_some = has_some_order(calls, drawn.opening);
-    let [judged, without_quota, cut_off] = verdicts(alloc, history, &keys)?;
+/// A verdict on calls that leave a set, or any, is that of the search, and all that it says is right.
+fn assert_right<R: Abort>(
+    rt: &R,
+    alloc: Global,
+    drawn: &Drawn,
+    verdict: Verdict,
+    left: Option<u32>,
+    counts: &mut Counts,
+) -> Result<(), Fail> {
+    let calls = calls_of(alloc, &drawn.history)?;
+    let wanted = left.map_or(ALL_SETS, |set| 1u8 << (set % 8));
+    let has_order = left_by(drawn, &calls) & wanted != 0;
+    let Verdict::NotLinearizable(refusal, window) = verdict else {
+        assert!(rt; has_order, "{calls:?} have no order");
+        counts.right += 1;
+        return Ok(());
+    };
+    assert!(rt; !has_order, "{calls:?} have an order");
+    let refused = Refused {
+        refusal,
+        window,
+        calls: &calls,
+        of_key: of_key(alloc, &calls, refusal.key)?,
+        opening: drawn.opening,
+    };
+    let is_right = refused.is_right(alloc, left.unwrap_or(0))?;
+    let window = &refused.window;
     assert!(rt;
-        (judged == Verdict::Linearizable) == is_explained,
-        "history {number}"
+        is_right,
+        "{calls:?} of {}: {refusal:?}, {window:?}",
+        drawn.opening
     );
-    assert!(rt; without_quota == judged, "{number}, without a quota");
-    assert!(rt;
-        (cut_off == Verdict::Linearizable) == has_some,
-        "{number}, cut off"
-    );
-    let told = streamed(alloc, history)?.close(&keys)?;
-    assert!(rt; is_same(judged, told), "{number}, as a stream");
-    let told = streamed(alloc, history)?.close_cut_off()?;
-    assert!(rt;
-        is_same(cut_off, told),
-        "{number}, as a stream that was cut off"
-    );
-    Ok(is_explained)
+    counts.count(&refused);
+    Ok(())
 }
 
 #[test]
-fn the_judges_say_what_a_search_of_all_orders_finds(rt: HostRuntime) -> Result<(), Fail> {
-    let mut rng = Pcg32::seed_from_u64(1);
-    let mut explained = 0u32;
+fn a_verdict_is_that_of_a_search_of_all_orders(rt: HostRuntime) -> Result<(), Fail> {
+    let alloc = rt.alloc();
+    let (mut rng, mut counts) = (Pcg32::seed_from_u64(1), Counts::default());
     for number in 0..HISTORIES {
-        let drawn = drawn_history(rt.alloc(), &mut rng)?;
-        if is_explained(&rt, rt.alloc(), &drawn, number)? {
-            explained = explained.saturating_add(1);
+        let drawn = drawn(alloc, &mut rng, Calls::Plain)?;
+        let calls = calls_of(alloc, &drawn.history)?;
+        let (judge, many) = judge_of(alloc, &drawn, &calls)?;
+        assert!(rt; many == overlapped(&calls), "{many} overlap: {calls:?}");
+        let (verdict, left) = if number % 4 == 0 {
+            (judge.close_cut_off()?, None)
+        } else {
+            (judge.close(&keys_of(alloc, drawn.left)?)?, Some(drawn.left))
+        };
+        assert_right(&rt, alloc, &drawn, verdict, left, &mut counts)?;
+    }
+    assert!(rt; counts.are_enough(), "{counts:?}");
+    Ok(())
+}
+
+/// A call as the judge reads it: one that answered `full` has not seen its key, and a `ceiling` that found a key has seen it.
+fn read_as(call: StreamCall) -> StreamCall {
+    let key = call.call.key();
+    let (read, reply) = match (call.call, call.ended) {
+        (Call::Ceiling(_), Some((_, Reply::At(found)))) => (Call::Contains(found), Reply::True),
+        (Call::Ceiling(_), _) | (Call::Add(_), Some((_, Reply::Full))) => (
+            Call::Contains(key),
+            Reply::False,
+        ),
+        (_, Some((_, reply))) => (call.call, reply),
+        (_, None) => return call,
+    };
+    StreamCall {
+        call: read,
+        ended: call.ended.map(|(end, _)| (end, reply)),
+        ..call
+    }
+}
+
+fn read_calls(alloc: Global, calls: &[StreamCall]) -> Result<Vec<StreamCall>, AllocError> {
+    let mut read = Vec::new(alloc);
+    for call in calls {
+        read.push(read_as(*call))?;
+    }
+    Ok(read)
+}
+
+/// Whether the judge decides a history of these calls.
+fn are_plain(calls: &[StreamCall]) -> bool {
+    calls.iter().all(|call| match call.ended {
+        None => true,
+        Some((_, reply)) => {
+            matches!(reply, Reply::True | Reply::False) && !matches!(call.call, Call::Ceiling(_))
+        }
+    })
+}
+
+/// A history with a `ceiling` or a `full` is refused if its calls as they are read have no order, and then they have none as they are. Else it
+/// is not decided.
+#[test]
+fn a_history_is_refused_rightly_and_never_accepted(rt: HostRuntime) -> Result<(), Fail> {
+    let alloc = rt.alloc();
+    let mut rng = Pcg32::seed_from_u64(2);
+    let mut refused = 0u32;
+    for _ in 0..OF_ANY_CALLS {
+        let drawn = drawn(alloc, &mut rng, Calls::Any)?;
+        let calls = calls_of(alloc, &drawn.history)?;
+        let read = left_by(&drawn, &read_calls(alloc, &calls)?);
+        assert!(rt; left_by(&drawn, &calls) & !read == 0, "{calls:?}");
+        let has_order = read & (1u8 << (drawn.left % 8)) != 0;
+        let keys = keys_of(alloc, drawn.left)?;
+        match judge(alloc, &drawn.history, &keys)? {
+            Judged::Linearizable => assert!(rt; has_order && are_plain(&calls), "{calls:?}"),
+            Judged::Undecided => assert!(rt; has_order && !are_plain(&calls), "{calls:?}"),
+            Judged::NotLinearizable(_, _) => {
+                assert!(rt; !has_order, "{calls:?}");
+                refused += 1;
+            }
         }
     }
-    assert!(rt; 30_000 < explained && explained < 70_000, "{explained}");
+    assert!(rt;
+        refused > OF_ANY_CALLS / 10 && refused < OF_ANY_CALLS,
+        "{refused}"
+    );
     Ok(())
 }

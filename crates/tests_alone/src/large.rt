@@ -2,8 +2,8 @@
 //! take longer.
 
 use crate::made::{FIVE, in_turn, rising_keys};
-use crate::orders::is_found;
 use crate::prelude::*;
+use lset_judge::{Judged, judge};
 use lset_recording::{RecordingAnswer, RecordingReader};
 
 /// So many calls a report may have.
@@ -25,16 +25,25 @@ fn true_calls<F: Fn(u32) -> Call>(
 
 /// The threads take turns, and each call finds a key of its own, of a set that opens with as many keys as a list may.
 #[test]
-fn a_million_calls_are_judged_and_an_order_of_them_is_found(rt: HostRuntime) -> Result<(), Fail> {
+fn a_million_calls_are_judged(rt: HostRuntime) -> Result<(), Fail> {
     let alloc = rt.alloc();
     let calls = true_calls(alloc, MOST_CALLS, |number| Call::Contains(Key(number)))?;
     let keys = rising_keys(alloc, MOST_OPENING)?;
     let opened = History::opened(alloc, MOST_THREADS, 0, rising_keys(alloc, MOST_OPENING)?);
     let history = in_turn(opened, &calls)?;
-    assert!(rt; judge(alloc, &history, &keys)? == Verdict::Linearizable);
-    assert!(rt; judge_cut_off(alloc, &history)? == Verdict::Linearizable);
-    assert!(rt; is_found(alloc, &history, &keys)?);
+    assert!(rt; matches!(judge(alloc, &history, &keys)?, Judged::Linearizable));
     Ok(())
+}
+
+/// Whether the history is refused, by this key and this moment.
+fn is_refused(
+    alloc: Global,
+    history: &History,
+    key: Key,
+    moment: Option<u64>,
+) -> Result<bool, AllocError> {
+    let judged = judge(alloc, history, &[])?;
+    Ok(matches!(judged, Judged::NotLinearizable(told, _) if told == Refusal { key, moment }))
 }
 
 /// How often key 5 goes in and out.
@@ -57,12 +66,10 @@ fn in_and_out(alloc: Global, last: Reply) -> Result<History, Fail> {
 fn the_last_of_many_changes_of_a_key_is_wrong(rt: HostRuntime) -> Result<(), Fail> {
     let alloc = rt.alloc();
     let right = in_and_out(alloc, Reply::False)?;
-    assert!(rt; judge(alloc, &right, &[])? == Verdict::Linearizable);
-    let refused = Verdict::NotLinearizable(Refusal {
-        key: FIVE,
-        moment: Some(4 * TIMES + 2),
-    });
-    assert!(rt; judge(alloc, &in_and_out(alloc, Reply::True)?, &[])? == refused);
+    assert!(rt; matches!(judge(alloc, &right, &[])?, Judged::Linearizable));
+    let wrong = in_and_out(alloc, Reply::True)?;
+    let moment = Some(u64::from(4 * TIMES + 2));
+    assert!(rt; is_refused(alloc, &wrong, FIVE, moment)?);
     Ok(())
 }
 
@@ -118,30 +125,27 @@ fn each_of_many_keys_is_wrong(rt: HostRuntime) -> Result<(), Fail> {
     let removes = true_calls(alloc, MANY_KEYS, |number| Call::Remove(Key(number)))?;
     for (calls, moment) in [(adds, None), (removes, Some(2))] {
         let history = in_turn(History::new(alloc, MOST_THREADS, MOST_QUOTA), &calls)?;
-        let refused = Verdict::NotLinearizable(Refusal {
-            key: Key(0),
-            moment,
-        });
-        assert!(rt; judge(alloc, &history, &[])? == refused);
+        assert!(rt; is_refused(alloc, &history, Key(0), moment)?);
     }
     Ok(())
 }
 
 /// Each of so many threads adds a key of its own, and no call ends.
-const MANY_PENDING: u32 = 3_000;
+const MANY_PENDING: u32 = 100_000;
 
 #[test]
-fn a_stream_of_thousands_of_pending_calls(rt: HostRuntime) -> Result<(), Fail> {
-    let mut stream = Stream::new(rt.alloc(), &[])?;
+fn many_calls_are_pending(rt: HostRuntime) -> Result<(), Fail> {
+    let mut judge = Judge::new(rt.alloc(), &[])?;
     for thread in 0..MANY_PENDING {
-        stream.add(StreamCall {
+        judge.add(StreamCall {
             thread,
             call: Call::Add(Key(thread)),
             begun: LAST_MOMENT - u64::from(MANY_PENDING - thread),
             ended: None,
         })?;
     }
-    assert!(rt; stream.close(&[0, 500, 2999])? == StreamVerdict::Linearizable);
+    let verdict = judge.close(&[0, 500, 99_999])?;
+    assert!(rt; matches!(verdict, Verdict::Linearizable));
     Ok(())
 }
 
@@ -150,23 +154,23 @@ const MORE_KEYS: u32 = 1_100_000;
 
 /// Each of the keys is looked for.
 #[test]
-fn a_stream_of_calls_of_more_keys_than_a_list_has(rt: HostRuntime) -> Result<(), Fail> {
+fn calls_of_more_keys_than_a_list_has(rt: HostRuntime) -> Result<(), Fail> {
     let keys = rising_keys(rt.alloc(), MORE_KEYS)?;
-    let mut stream = Stream::new(rt.alloc(), &keys)?;
+    let mut judge = Judge::new(rt.alloc(), &keys)?;
     for key in &keys {
         let begun = 2 * u64::from(*key) + 1;
-        stream.add(StreamCall {
+        judge.add(StreamCall {
             thread: *key % 8,
             call: Call::Contains(Key(*key)),
             begun,
             ended: Some((begun + 1, Reply::True)),
         })?;
     }
-    assert!(rt; stream.close(&keys)? == StreamVerdict::Linearizable);
+    assert!(rt; matches!(judge.close(&keys)?, Verdict::Linearizable));
     Ok(())
 }
 
-/// So many keys are there as a long recording begins, and so many calls look for one.
+/// So many keys are there as a recording begins, and so many calls look for one.
 const LONG_KEYS: u32 = 200_000;
 
 const LONG_CALLS: u32 = 100_000;
@@ -193,20 +197,23 @@ fn feed_keys(alloc: Global, reader: &mut RecordingReader, word: &str) -> Result<
 }
 
 #[test]
-fn a_long_recording_of_many_keys_in_pieces_of_a_byte(rt: HostRuntime) -> Result<(), Fail> {
+fn a_recording_of_many_keys_in_pieces_of_a_byte(rt: HostRuntime) -> Result<(), Fail> {
     let alloc = rt.alloc();
     let mut reader = RecordingReader::new(alloc);
+    reader.feed(b"listset-calls 1\n")?;
     feed_keys(alloc, &mut reader, "opening")?;
     for number in 0..LONG_CALLS {
         feed_call(alloc, &mut reader, number)?;
     }
     feed_keys(alloc, &mut reader, "key")?;
     reader.feed(b"end\n")?;
-    let judged = RecordingAnswer {
-        verdict: StreamVerdict::Linearizable,
-        calls: u64::from(LONG_CALLS),
-        cut_off: false,
-    };
-    assert!(rt; reader.finish()? == judged);
+    let RecordingAnswer {
+        verdict,
+        calls,
+        overlapped,
+        cut_off,
+    } = reader.finish()?;
+    assert!(rt; matches!(verdict, Verdict::Linearizable) && !cut_off);
+    assert!(rt; calls == u64::from(LONG_CALLS) && overlapped == 0);
     Ok(())
 }

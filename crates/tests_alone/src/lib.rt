@@ -17,6 +17,8 @@ mod draws;
 #[cfg(test)]
 mod failures;
 #[cfg(test)]
+mod histories;
+#[cfg(test)]
 mod judge;
 #[cfg(test)]
 mod large;
@@ -29,13 +31,13 @@ mod opening_keys;
 #[cfg(test)]
 mod openings;
 #[cfg(test)]
-mod orders;
-#[cfg(test)]
 mod prelude;
 #[cfg(test)]
-mod recordings;
+mod refusals;
 #[cfg(test)]
 mod runs;
+#[cfg(test)]
+mod search;
 #[cfg(test)]
 mod servers;
 #[cfg(test)]

@@ -2,16 +2,10 @@
 ghost use Rattle.std.specs.Prelude.{◌≤◌};
 
 use crate::made::{in_turn, rising_keys};
-use crate::orders::is_found;
 use crate::prelude::*;
 use crate::worlds::make_call;
-use lset_calls::{history_of, read_calls, recording_of, report_of};
-use lset_claims::{Claim, claim_of};
-use lset_judge::{overlapped, window_of_refusal};
+use lset_judge::{Judged, judge};
 use lset_recording::RecordingReader;
-use lset_order::{Found, find_order};
-use lset_parts::Parts;
-use lset_points::judge_by_points;
 use lset_report::{read_report, write_report};
 use lset_schedule::{programs, read_schedule, write_schedule};
 
@@ -146,64 +140,22 @@ fn adds(alloc: Global, size: u32) -> Result<History, Fail>
     Ok(in_turn(history, &calls)?)
 }
 
-/// So many adds have an order, and leave their keys.
-fn has_order<R: Abort>(rt: &R, alloc: Global, size: u32) -> Result<(), Fail>
+/// So many adds have an order that leaves their keys, and none that leaves nothing, which is shown.
+fn is_judged<R: Abort>(rt: &R, alloc: Global, size: u32) -> Result<(), Fail>
     requires { size ≤ 200 }
 {
     let history = adds(alloc, size)?;
-    let keys = rising_keys(alloc, size)?;
-    assert!(rt;
-        judge(alloc, &history, &keys)? == Verdict::Linearizable,
-        "{size}"
-    );
-    assert!(rt;
-        judge_without_quota(alloc, &history, &keys)? == Verdict::Linearizable,
-        "{size}"
-    );
-    assert!(rt;
-        judge_cut_off(alloc, &history)? == Verdict::Linearizable,
-        "{size}"
-    );
-    assert!(rt; is_found(alloc, &history, &keys)?, "{size}");
-    assert!(rt;
-        matches!(claim_of(alloc, &history, &keys)?, Claim::Explained),
-        "{size}"
-    );
-    assert!(rt; overlapped(alloc, &history)? == 0, "{size}");
-    let mut parts = Parts::new(Vec::new(alloc));
-    assert!(rt;
-        parts.judge(alloc, 0, &history, &keys) == Ok(Verdict::Linearizable),
-        "{size}"
-    );
-    Ok(())
-}
-
-/// So many adds have no order that leaves nothing, and those of no key are shown.
-fn has_no_order<R: Abort>(rt: &R, alloc: Global, size: u32) -> Result<(), Fail>
-    requires { size ≤ 200 }
-{
-    let history = adds(alloc, size)?;
-    let Verdict::NotLinearizable(refusal) = judge(alloc, &history, &[])? else {
-        return Err(Fail::new("no key is lost"));
-    };
-    let window = window_of_refusal(alloc, &history, &[], refusal)?;
-    assert!(rt;
-        window.left == Some(false) && window.calls.is_empty(),
-        "{size}"
-    );
-    assert!(rt;
-        matches!(find_order(alloc, &history, &[])?, Found::NoOrder(_)),
-        "{size}"
-    );
-    assert!(rt;
-        matches!(claim_of(alloc, &history, &[])?, Claim::OfKey(_, _)),
-        "{size}"
-    );
+    let judged = judge(alloc, &history, &rising_keys(alloc, size)?)?;
+    assert!(rt; matches!(judged, Judged::Linearizable), "{size}");
+    let judged = judge(alloc, &history, &[])?;
+    let is_lost =
+        matches!(&judged, Judged::NotLinearizable(_, Some(window)) if window.calls.is_empty());
+    assert!(rt; is_lost == (size > 0), "{size}");
     Ok(())
 }
 
 /// Each of so many threads has an add pending, and each took effect.
-fn has_order_of_pending<R: Abort>(rt: &R, alloc: Global, threads: u32) -> Result<(), Fail>
+fn is_judged_pending<R: Abort>(rt: &R, alloc: Global, threads: u32) -> Result<(), Fail>
     requires some { 1 ≤ threads }
     requires few { threads ≤ 64 }
 {
@@ -211,12 +163,8 @@ fn has_order_of_pending<R: Abort>(rt: &R, alloc: Global, threads: u32) -> Result
     for thread in 0..threads {
         history.begin(thread, Call::Add(Key(thread)), thread + 1)?;
     }
-    let keys = rising_keys(alloc, threads)?;
-    assert!(rt;
-        judge(alloc, &history, &keys)? == Verdict::Linearizable,
-        "{threads}"
-    );
-    assert!(rt; is_found(alloc, &history, &keys)?, "{threads}");
+    let judged = judge(alloc, &history, &rising_keys(alloc, threads)?)?;
+    assert!(rt; matches!(judged, Judged::Linearizable), "{threads}");
     Ok(())
 }
 
@@ -225,20 +173,17 @@ fn sets_and_histories_of_each_size(rt: HostRuntime) -> Result<(), Fail> {
     let alloc = rt.alloc();
     for size in 0..=MOST_SIZE {
         has_oracle(&rt, alloc, size)?;
-        has_order(&rt, alloc, size)?;
-        if size > 0 {
-            has_no_order(&rt, alloc, size)?;
-        }
-        has_order_of_pending(&rt, alloc, threads_of(size))?;
+        is_judged(&rt, alloc, size)?;
+        is_judged_pending(&rt, alloc, threads_of(size))?;
     }
     Ok(())
 }
 
-/// A stream of so many calls that find a key each, and of as many adds that are pending.
-fn stream_of(alloc: Global, size: u32) -> Result<Stream, Fail>
+/// The judge of so many calls that find a key each, and of as many adds that are pending.
+fn judge_of(alloc: Global, size: u32) -> Result<Judge, Fail>
     requires { size ≤ 200 }
 {
-    let mut stream = Stream::new(alloc, &rising_keys(alloc, size)?)?;
+    let mut judge = Judge::new(alloc, &rising_keys(alloc, size)?)?;
     for number in 0..2 * size {
         let begun = 2 * u64::from(number) + 1;
         let (call, ended) = if number < size {
@@ -247,31 +192,28 @@ fn stream_of(alloc: Global, size: u32) -> Result<Stream, Fail>
             (Call::Add(Key(number)), None)
         };
         let thread = number;
-        stream.add(StreamCall {
+        judge.add(StreamCall {
             thread,
             call,
             begun,
             ended,
         })?;
     }
-    Ok(stream)
+    Ok(judge)
 }
 
-/// The lines of a recording: so many opening keys, each of which is looked for, and is left.
-fn lines_of(alloc: Global, head: &str, size: u32, between: &str) -> Result<String, Fail>
+/// A recording: so many opening keys, each of which is looked for, and is left.
+fn recording_of(alloc: Global, size: u32) -> Result<String, Fail>
     requires { size ≤ 200 }
 {
-    let mut text = String::from_str(alloc, head)?;
+    let mut text = String::from_str(alloc, "listset-calls 1\n")?;
     for key in 0..size {
         writeln!(&mut text, "opening {key}")?;
     }
     for key in 0..size {
         let begun = 2 * key + 1;
         let end = begun + 1;
-        writeln!(
-            &mut text,
-            "call 0 contains {key} {begun}{between} {end} true"
-        )?;
+        writeln!(&mut text, "call 0 contains {key} {begun} {end} true")?;
     }
     for key in 0..size {
         writeln!(&mut text, "key {key}")?;
@@ -280,36 +222,18 @@ fn lines_of(alloc: Global, head: &str, size: u32, between: &str) -> Result<Strin
     Ok(text)
 }
 
-/// A long recording of so many calls, whose lines behind the first are read in pieces of one byte more.
-fn is_long_read<R: Abort>(rt: &R, alloc: Global, size: u32) -> Result<(), Fail>
+/// A recording of so many calls is read in pieces of one byte more.
+fn is_read<R: Abort>(rt: &R, alloc: Global, size: u32) -> Result<(), Fail>
     requires { size ≤ 200 }
 {
-    let text = lines_of(alloc, "", size, "")?;
+    let text = recording_of(alloc, size)?;
     let mut reader = RecordingReader::new(alloc);
     for piece in text.as_bytes().chunks(size as usize + 1) {
         reader.feed(piece)?;
     }
     let answer = reader.finish()?;
     assert!(rt; answer.calls == u64::from(size), "{size}");
-    assert!(rt; answer.verdict == StreamVerdict::Linearizable, "{size}");
-    Ok(())
-}
-
-/// A recording of so many calls is a history, and a report.
-fn is_recording_read<R: Abort>(rt: &R, alloc: Global, size: u32) -> Result<(), Fail>
-    requires { size ≤ 200 }
-{
-    let head = "listset-calls 2\nlist lazy\nthreads 1\nquota 0\n";
-    let text = lines_of(alloc, head, size, " -")?;
-    let bytes = text.as_bytes();
-    let history = history_of(alloc, read_calls(alloc, bytes)?)?;
-    assert!(rt; history.calls().len() == size as usize, "{size}");
-    let recording = recording_of(alloc, read_calls(alloc, bytes)?)?;
-    assert!(rt; recording.keys == rising_keys(alloc, size)?, "{size}");
-    let report = report_of(alloc, read_calls(alloc, bytes)?)?;
-    assert!(rt; report.order.len() == size as usize, "{size}");
-    let pointed = judge_by_points(alloc, read_calls(alloc, bytes)?)?;
-    assert!(rt; pointed.fault.is_none(), "{size}");
+    assert!(rt; matches!(answer.verdict, Verdict::Linearizable), "{size}");
     Ok(())
 }
 
@@ -318,12 +242,11 @@ fn recordings_of_each_size(rt: HostRuntime) -> Result<(), Fail> {
     let alloc = rt.alloc();
     for size in 0..=MOST_SIZE {
         let keys = rising_keys(alloc, 2 * size)?;
-        let told = stream_of(alloc, size)?.close(&keys)?;
-        assert!(rt; told == StreamVerdict::Linearizable, "{size}");
-        let told = stream_of(alloc, size)?.close_cut_off()?;
-        assert!(rt; told == StreamVerdict::Linearizable, "{size}");
-        is_long_read(&rt, alloc, size)?;
-        is_recording_read(&rt, alloc, size)?;
+        let verdict = judge_of(alloc, size)?.close(&keys)?;
+        assert!(rt; matches!(verdict, Verdict::Linearizable), "{size}");
+        let verdict = judge_of(alloc, size)?.close_cut_off()?;
+        assert!(rt; matches!(verdict, Verdict::Linearizable), "{size}");
+        is_read(&rt, alloc, size)?;
     }
     Ok(())
 }

@@ -1,5 +1,6 @@
-//! Calls in a stream: which fault is named if a call has several, and what is said of calls without an order.
+//! Calls that come one after another: which fault is named if one has several, and what is said of calls without an order.
 
+use crate::made::{FIVE, reply_of};
 use crate::prelude::*;
 
 fn add_of_six(thread: u32, begun: u64, ended: Option<(u64, Reply)>) -> StreamCall {
@@ -11,7 +12,7 @@ fn add_of_six(thread: u32, begun: u64, ended: Option<(u64, Reply)>) -> StreamCal
     }
 }
 
-/// Calls of key 6, each with a reply with which no stream takes it.
+/// Calls of key 6, each with a reply with which the judge does not take it.
 const NOT_PLAIN: [(Call, Reply); 5] = [
     (Call::Add(Key(6)), Reply::Full),
     (Call::Remove(Key(6)), Reply::Nothing),
@@ -51,30 +52,30 @@ fn with_faults(made: (Call, Reply)) -> [(StreamCall, StreamFault); 10] {
 
 #[test]
 fn the_first_fault_of_a_call_is_named(rt: HostRuntime) -> Result<(), Fail> {
-    let mut stream = Stream::new(rt.alloc(), &[])?;
-    stream.add(add_of_six(3, 2, Some((7, Reply::True))))?;
+    let mut judge = Judge::new(rt.alloc(), &[])?;
+    judge.add(add_of_six(3, 2, Some((7, Reply::True))))?;
     for made in NOT_PLAIN {
         for (call, fault) in with_faults(made) {
-            assert_eq!(rt; stream.add(call), Err(fault), "{call:?}");
+            assert_eq!(rt; judge.add(call), Err(fault), "{call:?}");
         }
     }
     let taken = add_of_six(3, 5, Some((7, Reply::False)));
-    assert_eq!(rt; stream.add(taken), Err(StreamFault::Taken));
+    assert_eq!(rt; judge.add(taken), Err(StreamFault::Taken));
     // A later pending call takes the end, and an earlier one is of the thread.
-    stream.add(add_of_six(4, 3, Some((8, Reply::True))))?;
+    judge.add(add_of_six(4, 3, Some((8, Reply::True))))?;
     let both = add_of_six(3, 5, Some((8, Reply::True)));
-    assert!(rt; stream.add(both) == Err(StreamFault::Taken));
+    assert!(rt; judge.add(both) == Err(StreamFault::Taken));
     // An earlier call ends at its begin, and one that is still pending is of the thread.
-    stream.add(add_of_six(5, 4, Some((6, Reply::True))))?;
+    judge.add(add_of_six(5, 4, Some((6, Reply::True))))?;
     let begins_taken = add_of_six(3, 6, Some((9, Reply::True)));
-    assert!(rt; stream.add(begins_taken) == Err(StreamFault::Taken));
+    assert!(rt; judge.add(begins_taken) == Err(StreamFault::Taken));
     Ok(())
 }
 
 #[test]
-fn calls_that_cannot_come_next_in_a_stream(rt: HostRuntime) -> Result<(), Fail> {
-    let mut stream = Stream::new(rt.alloc(), &[])?;
-    stream.add(add_of_six(u32::MAX, 2, Some((7, Reply::True))))?;
+fn calls_that_cannot_come_next(rt: HostRuntime) -> Result<(), Fail> {
+    let mut judge = Judge::new(rt.alloc(), &[])?;
+    judge.add(add_of_six(u32::MAX, 2, Some((7, Reply::True))))?;
     let late = Some((LAST_MOMENT + 1, Reply::True));
     let (full, taken) = (Some((6, Reply::Full)), Some((7, Reply::False)));
     let ended = Some((6, Reply::False));
@@ -88,27 +89,58 @@ fn calls_that_cannot_come_next_in_a_stream(rt: HostRuntime) -> Result<(), Fail> 
         (add_of_six(u32::MAX, 5, ended), StreamFault::Busy),
     ];
     for (call, fault) in others {
-        assert!(rt; stream.add(call) == Err(fault), "{fault}");
+        assert!(rt; judge.add(call) == Err(fault), "{fault}");
     }
-    stream.add(add_of_six(9, 5, ended))?;
-    assert!(rt; stream.close(&[6])? == StreamVerdict::Linearizable);
+    judge.add(add_of_six(9, 5, ended))?;
+    let verdict = judge.close(&[6])?;
+    assert!(rt; matches!(verdict, Verdict::Linearizable));
     Ok(())
 }
 
-/// Key 6 has no order, by this moment.
-fn refused_by(moment: Option<u64>) -> StreamVerdict {
-    let key = Key(6);
-    StreamVerdict::NotLinearizable(StreamRefusal { key, moment })
+/// Whether a verdict says that key 6 has no order, by this moment.
+fn is_refused_by(verdict: &Verdict, by: Option<u64>) -> bool {
+    let (key, moment) = (Key(6), by);
+    matches!(verdict, Verdict::NotLinearizable(told, Some(_)) if *told == Refusal { key, moment })
 }
 
 #[test]
-fn what_a_stream_says_of_calls_without_an_order(rt: HostRuntime) -> Result<(), Fail> {
+fn what_is_said_of_calls_without_an_order(rt: HostRuntime) -> Result<(), Fail> {
     let alloc = rt.alloc();
-    let mut stream = Stream::new(alloc, &[6])?;
-    stream.add(add_of_six(9, 5, Some((LAST_MOMENT, Reply::True))))?;
-    assert!(rt; stream.close_cut_off()? == refused_by(Some(LAST_MOMENT)));
-    let mut stream = Stream::new(alloc, &[6])?;
-    stream.add(add_of_six(9, 5, None))?;
-    assert!(rt; stream.close(&[])? == refused_by(None));
+    let mut judge = Judge::new(alloc, &[6])?;
+    judge.add(add_of_six(9, 5, Some((LAST_MOMENT, Reply::True))))?;
+    assert!(rt; is_refused_by(&judge.close_cut_off()?, Some(LAST_MOMENT)));
+    let mut judge = Judge::new(alloc, &[6])?;
+    judge.add(add_of_six(9, 5, None))?;
+    assert!(rt; is_refused_by(&judge.close(&[])?, None));
+    Ok(())
+}
+
+/// So many calls do not find key 5, then one does, and the next does not, while a long `add` is pending.
+const LOOKS: u64 = 102;
+
+#[test]
+fn of_many_calls_those_that_show_the_error_are_left(rt: HostRuntime) -> Result<(), Fail> {
+    let mut judge = Judge::new(rt.alloc(), &[])?;
+    judge.add(StreamCall {
+        thread: 0,
+        call: Call::Add(FIVE),
+        begun: 1,
+        ended: Some((1000, Reply::True)),
+    })?;
+    for number in 1..=LOOKS {
+        judge.add(StreamCall {
+            thread: 1,
+            call: Call::Contains(FIVE),
+            begun: 2 * number,
+            ended: Some((2 * number + 1, reply_of(number == LOOKS - 1))),
+        })?;
+    }
+    let Verdict::NotLinearizable(refusal, Some(window)) = judge.close(&[5])? else {
+        return Err(Fail::new("the calls are not refused"));
+    };
+    assert!(rt; refusal.key == FIVE && refusal.moment == Some(205));
+    let begins: [u64; 3] = [1, 202, 204];
+    assert!(rt; window.calls.iter().map(|call| call.begun).eq(begins));
+    assert!(rt; window.since == 0 && !window.there && window.before.is_none());
     Ok(())
 }

@@ -7,8 +7,6 @@ use tool_draft::tool_draft;
 use tool_drawing::Window;
 use tool_examples::tool_example;
 use tool_judge::tool_judge;
-use tool_parts::tool_judge_keys;
-use tool_report::tool_report;
 use tool_run::tool_run;
 use tool_show::{Form, tool_show};
 use tool_trace::tool_trace;
@@ -24,9 +22,6 @@ pub enum Tool {
     Replay,
     Check,
     Judge,
-    /// Of these keys.
-    JudgeKeys(&'static str),
-    Report,
     Draft,
     /// As text.
     Show,
@@ -66,17 +61,15 @@ const REPORT: &str =
 const LEFT_OUT: &str =
     "listset-report 1\nlist coarse\nthreads 1\nquota 4\ncall 0 0 add 5 1 8 true\nkey 5\nend\n";
 
-/// Two calls that an order explains.
-const FEW: &str = "listset-calls 2\nlist lazy\nthreads 1\nquota 4\n\
-    call 0 add 5 1 - 2 true\ncall 0 contains 5 3 - 4 true\nkey 5\nend\n";
+/// Calls that an order explains.
+const EXPLAINED: &str =
+    "listset-calls 1\nopening 7\ncall 0 add 5 1 4 true\ncall 1 remove 7 2 - -\nkey 5\nend\n";
 
 /// Two adds of one key that changed the set.
-const BOTH: &str = "listset-calls 2\nlist lazy\nthreads 2\nquota 4\n\
-    call 0 add 5 1 - 4 true\ncall 1 add 5 2 - 3 true\nkey 5\nend\n";
+const BOTH: &str = "listset-calls 1\ncall 0 add 5 1 4 true\ncall 1 add 5 2 3 true\nkey 5\nend\n";
 
-/// A long recording.
-const LONG: &str =
-    "listset-calls 1\nopening 7\ncall 0 add 5 1 4 true\ncall 1 remove 7 2 - -\nkey 5\nend\n";
+/// A recording without its end.
+const UNENDED: &str = "listset-calls 1\ncall 0 add 5 1 4 true\nkey 5\n";
 
 const DRAFT: &str = "listset-draft 2\nlist coarse\nthreads 1\nquota 4\nbegin 0 add 5\ngo 0 out\n";
 
@@ -87,19 +80,15 @@ const LOOK: &str =
     "listset-schedule 2\nlist lazy\nthreads 1\nquota 0\nbegin 0 contains 5\ngo 0 2\n";
 
 /// Those that write on the output, and those that write a line about an error alone.
-pub const ROWS: [Row; 37] = [
+pub const ROWS: [Row; 31] = [
     (Tool::Replay, SCHEDULE),
     (Tool::Check, REPORT),
     (Tool::Check, LEFT_OUT),
-    (Tool::Judge, FEW),
+    (Tool::Judge, EXPLAINED),
     (Tool::Judge, BOTH),
-    (Tool::Judge, LONG),
-    (Tool::JudgeKeys("1/2"), FEW),
-    (Tool::Report, FEW),
-    (Tool::Report, BOTH),
     (Tool::Draft, DRAFT),
     (Tool::Show, SCHEDULE),
-    (Tool::Show, BOTH),
+    (Tool::Show, LEFT_OUT),
     (Tool::Show, IDLE),
     (Tool::Svg, SCHEDULE),
     (Tool::TraceChains, SCHEDULE),
@@ -113,11 +102,9 @@ pub const ROWS: [Row; 37] = [
     (Tool::Run("coarse"), ""),
     (Tool::Replay, REPORT),
     (Tool::Check, SCHEDULE),
-    (Tool::Judge, REPORT),
-    (Tool::JudgeKeys("0/1"), REPORT),
-    (Tool::Report, REPORT),
+    (Tool::Judge, UNENDED),
     (Tool::Draft, REPORT),
-    (Tool::Show, DRAFT),
+    (Tool::Show, BOTH),
     (Tool::Trace, REPORT),
     (Tool::ReplayLacking(MARK), REPORT),
     (Tool::ShowLacking("lock"), LOOK),
@@ -174,8 +161,6 @@ pub fn ran<R: Host>(
         Tool::Replay => tool_replay(alloc, from, to, also),
         Tool::Check => tool_check(alloc, from, to, also),
         Tool::Judge => tool_judge(alloc, from, to, also),
-        Tool::JudgeKeys(keys) => tool_judge_keys(alloc, keys, from, to, also),
-        Tool::Report => tool_report(alloc, from, to, also),
         Tool::Draft => tool_draft(alloc, from, to, also),
         Tool::Show => tool_show(alloc, Form::Text(100), ALL, from, to, also),
         Tool::Svg => tool_show(alloc, Form::Svg, ALL, from, to, also),

@@ -1,9 +1,9 @@
-use Rattle.std.proofs.Common.{◌≡◌, ◌++◌, ◌∷◌, [], Err, refl, sym, ap, subst, ◌∙◌}
+use Rattle.std.proofs.Common.{◌≡◌, ◌++◌, ◌∷◌, [], Err, sym, ap, subst, ◌∙◌}
 use Rattle.lset_recording.specs.declared.fault.RecordingFault.{RecordingFault}
 use Rattle.lset_recording.specs.Reading.{IsTaken, IsRefused, Says, cause_if_long, fault}
 use Rattle.lset_recording.specs.Kept.{IsHeld}
-use Rattle.lset_recording.proofs.ReadLaws.{too_long, line_taken, line_refused}
-use Rattle.lset_recording.proofs.reader.RecordingReader.line_in.Goals as goal
+use Rattle.lset_recording.proofs.ReadLaws.{too_long, stands, line_read, line_refused}
+use Rattle.lset_recording.proofs.reader.RecordingReader.newline_in.Goals as goal
 
 pub returns-then-self-clause-refused : goal.returns-then-self-clause-refused
 returns-then-self-clause-refused c = λ bytes is other more.
@@ -13,7 +13,8 @@ returns-then-self-clause-refused c = λ bytes is other more.
     c.cause_if_long.ensures ∙ ap cause_if_long is.judging.section in
     subst (λ (e : RecordingFault). Says ((bytes ++ 10 ∷ []) ++ more) (Err e))
     (sym (c.fault.ensures ∙ ap (fault r.judging.number) cause))
-    (line_refused bytes r is (cause_if_long is.told.section) (too_long is.told is.held many) more)
+    (line_refused bytes is.held r.judging.number is.told (stands bytes r is) (cause_if_long is.told.section)
+    (too_long is.told is.held many) more)
 
 pub returns-in-Ok-clause-taken : goal.returns-in-Ok-clause-taken
 returns-in-Ok-clause-taken c = λ bytes is.
@@ -21,7 +22,8 @@ returns-in-Ok-clause-taken c = λ bytes is.
     let held : is.held ≡ r.line.items = subst (IsHeld is.held r.line.items) c.if-self.false is.line in
     let line : c.as_slice.result.now ≡ is.held = c.as_slice.ensures.value ∙ sym held in
     let t = c.in-Ok.ensures.taken is.told is.judging in
-    line_taken bytes r is _ t.0 (subst (λ l. IsTaken is.told l t.0) line t.1) t.2 t.3 c.clear.ensures c.if-self.false refl
+    line_read bytes is.held r.judging.number is.told (stands bytes r is) t.0 _ (subst (λ l. IsTaken is.told l t.0) line t.1) t.2 t.3
+    c.clear.ensures c.if-self.false is.sound
 
 pub returns-in-Err-clause-refused : goal.returns-in-Err-clause-refused
 returns-in-Err-clause-refused c = λ bytes is other more.
@@ -33,7 +35,8 @@ returns-in-Err-clause-refused c = λ bytes is other more.
     c.fault-in-Err.ensures ∙ ap (λ n. fault n cause) c.in-Err.ensures.same in
     let refused = c.in-Err.ensures.refused (λ memory. other (ap (λ (e : RecordingFault). e.cause) named ∙ memory)) is.told is.judging in
     subst (λ (e : RecordingFault). Says ((bytes ++ 10 ∷ []) ++ more) (Err e)) (sym named)
-    (line_refused bytes r is cause (subst (λ l. IsRefused is.told l cause) line refused) more)
+    (line_refused bytes is.held r.judging.number is.told (stands bytes r is) cause
+    (subst (λ l. IsRefused is.told l cause) line refused) more)
 
 pub returns-then-self-clause-line : goal.returns-then-self-clause-line
 returns-then-self-clause-line c = ap (λ (e : RecordingFault). e.line) c.fault.ensures
