@@ -1,16 +1,8 @@
-use crate::asking::{broken_of, report_of};
-use broken_lists::BrokenList;
+use crate::asking::{input_for, report_of};
 use lset_report::write_report;
 use std::alloc::Global;
 use std::io::{Read, Write};
-use tool_base::{Answer, Trouble, deliver, input_of};
-
-fn replayed_by(alloc: Global, broken: BrokenList, bytes: &[u8]) -> Result<Answer, Trouble>
-{
-    let report = report_of(alloc, broken, bytes)?;
-    let text = write_report(alloc, &report)?;
-    Ok(Answer { text, status: 0 })
-}
+use tool_base::{Answer, Trouble, deliver};
 
 /// Runs a schedule, given as the bytes of its text, on the broken list of this name. The answer is the text of the report,
 /// of version 2, with status 0. The report's order is that of the steps that the list's table names as its linearization
@@ -21,17 +13,10 @@ fn replayed_by(alloc: Global, broken: BrokenList, bytes: &[u8]) -> Result<Answer
 /// `Bad(Lacks)` if no list has this name; `TooLong`; `Line` with the first error of the text, with `Kind` in line 2 if the
 /// schedule names another list, or with the event at which the run ends: it is not enabled, or, `Lost`, it would access a
 /// word outside the table; `Memory` if an allocation fails.
-pub fn replayed_broken(alloc: Global, name: &[u8], bytes: &[u8]) -> Result<Answer, Trouble>
-{
-    let broken = broken_of(name)?;
-    replayed_by(alloc, broken, bytes)
-}
-
-fn replayed_input<R: Read>(alloc: Global, name: &[u8], input: &mut R) -> Result<Answer, Trouble>
-{
-    let broken = broken_of(name)?;
-    let bytes = input_of(alloc, input)?;
-    replayed_by(alloc, broken, &bytes)
+pub fn replayed_broken(alloc: Global, name: &[u8], bytes: &[u8]) -> Result<Answer, Trouble> {
+    let report = report_of(alloc, name, bytes)?;
+    let text = write_report(alloc, &report)?;
+    Ok(Answer { text, status: 0 })
 }
 
 /// Does what `replay --lacks NAME` does: runs the schedule on `input` on the broken list of this name, writes only the
@@ -44,8 +29,11 @@ pub fn tool_replay_broken<R: Read, W: Write, F: Write>(
     input: &mut R,
     output: &mut W,
     faults: &mut F,
-) -> u8
-{
-    let made = replayed_input(alloc, name.as_bytes(), input);
+) -> u8 {
+    let made = input_for(alloc, name, input).and_then(|bytes| replayed_broken(
+        alloc,
+        name.as_bytes(),
+        &bytes,
+    ));
     deliver(alloc, made, output, faults)
 }

@@ -1,23 +1,9 @@
-use crate::asking::{broken_of, report_of};
-use broken_lists::BrokenList;
+use crate::asking::{input_for, report_of};
 use std::alloc::Global;
 use std::io::{Read, Write};
-use tool_base::{Answer, Trouble, deliver, input_of};
+use tool_base::{Answer, Trouble, deliver};
 use tool_drawing::Window;
 use tool_show::{Form, drawn, picture_of_report};
-
-fn shown_by(
-    alloc: Global,
-    broken: BrokenList,
-    bytes: &[u8],
-    form: Form,
-    window: Window,
-) -> Result<Answer, Trouble>
-{
-    let report = report_of(alloc, broken, bytes)?;
-    let picture = picture_of_report(alloc, report)?;
-    drawn(alloc, &picture, form, window)
-}
 
 /// Draws the report that `replayed_broken` makes, as `show` draws any report: with status 0 if its order explains it; with
 /// status 1 if the order is refused, and last lines that say whether another order explains it. Allocates. The errors are
@@ -28,23 +14,10 @@ pub fn shown_broken(
     bytes: &[u8],
     form: Form,
     window: Window,
-) -> Result<Answer, Trouble>
-{
-    let broken = broken_of(name)?;
-    shown_by(alloc, broken, bytes, form, window)
-}
-
-fn shown_input<R: Read>(
-    alloc: Global,
-    name: &[u8],
-    form: Form,
-    window: Window,
-    input: &mut R,
-) -> Result<Answer, Trouble>
-{
-    let broken = broken_of(name)?;
-    let bytes = input_of(alloc, input)?;
-    shown_by(alloc, broken, &bytes, form, window)
+) -> Result<Answer, Trouble> {
+    let report = report_of(alloc, name, bytes)?;
+    let picture = picture_of_report(alloc, report)?;
+    drawn(alloc, &picture, form, window)
 }
 
 /// Does what `show --lacks NAME` does: draws the report of the schedule on `input` on the broken list of this name, to
@@ -59,8 +32,13 @@ pub fn tool_show_broken<R: Read, W: Write, F: Write>(
     input: &mut R,
     output: &mut W,
     faults: &mut F,
-) -> u8
-{
-    let made = shown_input(alloc, name.as_bytes(), form, window, input);
+) -> u8 {
+    let made = input_for(alloc, name, input).and_then(|bytes| shown_broken(
+        alloc,
+        name.as_bytes(),
+        &bytes,
+        form,
+        window,
+    ));
     deliver(alloc, made, output, faults)
 }

@@ -1,3 +1,6 @@
+ghost use Rattle.std.specs.Prelude.{IfOk};
+ghost use Rattle.lset_schedule.specs.Plan.{HasWordsOfVersion, view};
+
 use crate::fault::{DraftCause, DraftFault};
 use crate::stepping::{steps_to, take_steps};
 use crate::value::{Draft, DraftLine};
@@ -48,23 +51,25 @@ fn make_line<M: Machine>(
 /// The world before any event of a draft.
 fn start_of<M: Machine>(alloc: Global, draft: &Draft) -> Result<World<M>, AllocError> {
     let keys = draft.opening.as_slice();
-    match layout_opening(draft.threads, draft.quota, keys.len() as u32) {
-        Ok(layout) => World::<M>::opened(alloc, layout, keys),
-        Err(_) => Err(AllocError),
-    }
+    let Ok(layout) = layout_opening(draft.threads, draft.quota, keys.len() as u32) else {
+        unreachable!();
+    };
+    World::<M>::opened(alloc, layout, keys)
 }
 
 /// The lines of a schedule that the lines of a draft stand for on the list of the machine `M`.
 fn lines_on<M: Machine>(alloc: Global, draft: &Draft) -> Result<Vec<Line>, DraftFault> {
     let mut world = start_of::<M>(alloc, draft)?;
-    let first = draft.first_event_line();
+    let mut number = draft.first_event_line();
     let mut lines = Vec::new(alloc);
     let mut left = MOST_EVENTS;
-    for (index, line) in draft.lines.iter().enumerate() {
-        let made = make_line(&mut world, *line, left)
-            .map_err(|cause| DraftFault::Line(first + index as u64, cause))?;
+    for line in &draft.lines {
+        let made = make_line(&mut world, *line, left).map_err(|cause| DraftFault::Line(
+            number, cause,
+        ))?;
         lines.push(made)?;
         left = left.saturating_sub(made.event_count());
+        number = number.saturating_add(1);
     }
     Ok(lines)
 }
@@ -78,6 +83,10 @@ struct Expanding<'a> {
 
 impl Task for Expanding<'_> {
     type Out = Result<Vec<Line>, DraftFault>;
+
+    ghost may = { λ task kind. Unit {0} };
+
+    ghost done = { λ task table result. Unit {0} };
 
     fn run<M: List>(self) -> Result<Vec<Line>, DraftFault> {
         lines_on::<M>(self.alloc, self.draft)
@@ -98,7 +107,9 @@ impl Task for Expanding<'_> {
 /// - `Waits`: the thread does not get to where the line sends it within 10,000 steps or the events left.
 ///
 /// `Memory`: an allocation failed.
-pub fn schedule_of(alloc: Global, draft: &Draft) -> Result<Schedule, DraftFault> {
+pub fn schedule_of(alloc: Global, draft: &Draft) -> Result<Schedule, DraftFault>
+    ensures { IfOk result (λ s. HasWordsOfVersion (view s)) }
+{
     let lines = on_list(draft.kind, Expanding { alloc, draft })?;
     let opening = draft.opening.to_vec(alloc)?;
     Ok(Schedule {

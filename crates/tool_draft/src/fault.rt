@@ -1,5 +1,5 @@
 use lset_steps::StepFault;
-use std::alloc::AllocError;
+use std::alloc::{AllocError, AllocFailed};
 use thiserror::Error;
 
 /// Why a line of a draft does not become a line of a schedule.
@@ -32,6 +32,12 @@ pub enum DraftFault {
 
 impl From<AllocError> for DraftFault {
     fn from(_refused: AllocError) -> DraftFault {
+        DraftFault::Memory
+    }
+}
+
+impl<T: Drop> From<AllocFailed<T>> for DraftFault {
+    fn from(_refused: AllocFailed<T>) -> DraftFault {
         DraftFault::Memory
     }
 }

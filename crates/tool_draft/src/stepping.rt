@@ -3,15 +3,8 @@
 use crate::DraftCause;
 use lset_steps::{Event, Machine, StepFault, World};
 
-/// Whether a thread is at a row or, if the row is 0, has no call pending.
-fn stands_before<M: Machine>(world: &World<M>, thread: u32, row: u32) -> bool {
-    match world.holds(thread) {
-        Some(local) => u32::from(local.pc) == row,
-        None => unreachable!(),
-    }
-}
-
-/// Steps a thread until it is at a row, at least once and at most `most` times; returns how many steps it made.
+/// Steps a thread until it is at a row (0: it has no call pending), at least once and at most `most` times; returns how many
+/// steps it made.
 pub fn steps_to<M: Machine>(
     world: &mut World<M>,
     thread: u32,
@@ -20,7 +13,9 @@ pub fn steps_to<M: Machine>(
 ) -> Result<u32, DraftCause> {
     for taken in 0..most {
         world.step(Event::Go(thread))?;
-        if stands_before(world, thread, row) {
+        if let Some(local) = world.holds(thread)
+            && u32::from(local.pc) == row
+        {
             return Ok(taken + 1);
         }
     }

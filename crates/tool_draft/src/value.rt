@@ -1,3 +1,7 @@
+ghost use Rattle.std.specs.Prelude.{◌<◌, ◌≤◌, length};
+ghost use Rattle.std.specs.List.Sorted.{IsStrictlyIncreasing};
+ghost use Rattle.lset_words.specs.declared.TheConstants.{MOST_OPENING, MOST_QUOTA, MOST_THREADS};
+
 use lset_schedule::{FIRST_LINE, Line};
 use lset_words::Kind;
 
@@ -30,6 +34,8 @@ pub struct Draft {
     pub quota: u32,
     pub opening: Vec<u32>,
     pub lines: Vec<DraftLine>,
+    ghost rising: { IsStrictlyIncreasing opening.items },
+    ghost within: { (0 < threads) × (threads ≤ MOST_THREADS) × (quota ≤ MOST_QUOTA) × (length opening.items ≤ MOST_OPENING) },
 }
 
 impl Draft {

@@ -1,12 +1,36 @@
+ghost use Rattle.std.specs.Prelude.{◌≡◌, IsTrue};
+ghost use Rattle.std.specs.List.{AllByRecursion};
+ghost use Rattle.lset_text.specs.Openings.{HasOpening};
+ghost use Rattle.lset_schedule.specs.Plan.{HasCallOfLine};
+
 use lset_schedule::{Line, Version};
 use lset_words::Call;
 
+fn is_of_first(line: &Line) -> bool
+    ensures { IsTrue result → HasCallOfLine Version.One line.now }
+{
+    match *line {
+        Line::Begin(_, Call::Ceiling(_)) => false,
+        Line::Begin(_, Call::Add(_) | Call::Remove(_) | Call::Contains(_)) | Line::Go(_, _) => true,
+    }
+}
+
+fn are_of_first(lines: &[Line]) -> bool
+    ensures { IsTrue result → AllByRecursion (HasCallOfLine Version.One) lines.now }
+{
+    for line in lines {
+        if !is_of_first(line) {
+            return false;
+        }
+    }
+    true
+}
+
 /// Returns the smallest version of a schedule that has these opening keys and the calls of these lines.
-pub fn least_version(opening: &[u32], lines: &[Line]) -> Version {
-    let has_ceiling = lines
-        .iter()
-        .any(|line| matches!(line, Line::Begin(_, Call::Ceiling(_))));
-    if opening.is_empty() && !has_ceiling {
+pub fn least_version(opening: &[u32], lines: &[Line]) -> Version
+    ensures { result ≡ Version.One → HasOpening Version.One opening.now × AllByRecursion (HasCallOfLine Version.One) lines.now }
+{
+    if opening.is_empty() && are_of_first(lines) {
         Version::One
     } else {
         Version::Two

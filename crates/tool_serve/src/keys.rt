@@ -2,7 +2,7 @@
 
 use lset_text::{cut, is_above, number};
 use lset_words::MOST_OPENING;
-use std::alloc::{AllocError, Global};
+use std::alloc::{AllocFailed, Global};
 use tool_base::{KeyCause, LineCause, Trouble};
 
 /// Why a text has no keys with which a set can open.
@@ -14,8 +14,8 @@ pub enum KeysFault {
     Memory,
 }
 
-impl From<AllocError> for KeysFault {
-    fn from(_refused: AllocError) -> KeysFault {
+impl<T: Drop> From<AllocFailed<T>> for KeysFault {
+    fn from(_refused: AllocFailed<T>) -> KeysFault {
         KeysFault::Memory
     }
 }
@@ -53,7 +53,7 @@ impl<'a> Remaining<'a> {
     fn without(self, word: &[u8]) -> Remaining<'a> {
         match cut(self.text, b'\n') {
             Some((first, rest)) if piece_after(first, word).is_some() => Remaining {
-                line: self.line + 1,
+                line: self.line.saturating_add(1),
                 text: rest,
             },
             _ => self,

@@ -19,7 +19,7 @@ pub struct ServeRequest {
     /// The slots of each seat, 0 to `MOST_QUOTA`.
     pub quota: u32,
     /// 0 to `MOST_PORT`; 0 lets the system choose.
-    pub port: u32,
+    pub port: u16,
     /// How many connections are served, 0 to `MOST_SESSIONS_ASKED`.
     pub sessions: u32,
 }
@@ -30,7 +30,9 @@ pub fn read_serve_request(values: &[String]) -> Result<ServeRequest, ValueName> 
     let kind = kind_at(values, 0).ok_or(ValueName::Kind)?;
     let seats = number_at(values, 1, 1, MOST_THREADS).ok_or(ValueName::Seats)?;
     let quota = number_at(values, 2, 0, MOST_QUOTA).ok_or(ValueName::Quota)?;
-    let port = number_at(values, 3, 0, MOST_PORT).ok_or(ValueName::Port)?;
+    let port = number_at(values, 3, 0, MOST_PORT)
+        .and_then(|port| u16::try_from(port).ok())
+        .ok_or(ValueName::Port)?;
     let sessions = number_at(values, 4, 0, MOST_SESSIONS_ASKED).ok_or(ValueName::Sessions)?;
     Ok(ServeRequest {
         kind,

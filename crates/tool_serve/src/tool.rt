@@ -17,7 +17,7 @@ use std::net::{Ipv4Addr, Net, TcpListener, TcpStream};
 use std::sync::Wait;
 use std::thread::Threads;
 use std::time::Clock;
-use tool_base::{Answer, ServeName, Trouble, deliver, input_of, put};
+use tool_base::{Answer, ServeName, Trouble, ValueName, deliver, input_of, put};
 
 fn trouble_of(cause: ServeCause) -> Trouble {
     match cause {
@@ -27,6 +27,16 @@ fn trouble_of(cause: ServeCause) -> Trouble {
         ServeCause::Send => Trouble::Serve(ServeName::Send),
         ServeCause::Memory => Trouble::Memory,
         ServeCause::Left => Trouble::Serve(ServeName::Left),
+    }
+}
+
+/// Of a request that `read_serve_request` made and keys that `read_keys` made, only memory can be refused.
+fn trouble_opening(fault: OpenFault) -> Trouble {
+    match fault {
+        OpenFault::Seats => Trouble::Bad(ValueName::Seats),
+        OpenFault::Quota => Trouble::Bad(ValueName::Quota),
+        OpenFault::Opening => Trouble::Bad(ValueName::Keys),
+        OpenFault::Memory => Trouble::Memory,
     }
 }
 
@@ -44,10 +54,10 @@ fn announce<W: Write>(alloc: Global, output: &mut W, port: u16) -> Result<(), Tr
 fn listen<R: Net<Listener = TcpListener, Stream = TcpStream>, W: Write>(
     rt: &R,
     alloc: Global,
-    port: u32,
+    port: u16,
     output: &mut W,
 ) -> Result<TcpListener, Trouble> {
-    let Ok(listener) = TcpListener::bind(rt, (Ipv4Addr::LOCALHOST, port as u16)) else {
+    let Ok(listener) = TcpListener::bind(rt, (Ipv4Addr::LOCALHOST, port)) else {
         return Err(Trouble::CannotListen);
     };
     let Ok(address) = listener.local_addr() else {
@@ -71,15 +81,14 @@ fn serve_list<
 ) -> Result<Answer, Trouble> {
     let (set, seats) = match open_with::<M>(alloc, request.seats, request.quota, keys) {
         Ok(opened) => opened,
-        Err(OpenFault::Memory) => return Err(Trouble::Memory),
-        Err(_) => unreachable!(),
+        Err(fault) => return Err(trouble_opening(fault)),
     };
     let listener = listen(rt, alloc, request.port, output)?;
     match serve(rt, alloc, listener, set, seats, request.sessions) {
-        Ok(served) => {
-            let text = served_text(alloc, &served)?;
-            Ok(Answer { text, status: 0 })
-        }
+        Ok(served) => Ok(Answer {
+            text: served_text(alloc, &served)?,
+            status: 0,
+        }),
         Err(fault) => Err(trouble_of(fault.cause)),
     }
 }
