@@ -22,7 +22,7 @@ SHOWN = {
     "functions-texts": {
         "lset_schedule": ["read_schedule", "write_schedule", "generate"],
         "lset_report": ["read_report", "write_report"],
-        "lset_replay": ["replay", "trace"],
+        "lset_replay": ["replay", "run_of", "Run::make"],
         "tool_draft": ["read_draft", "schedule_of"],
     },
     "functions-running": {

@@ -1,6 +1,8 @@
 pub mod Pieces
 pub mod LineKinds
 pub mod MomentLaws
+pub mod NumbersBefore
+pub mod QuickLines
 pub mod Followed
 pub mod Judged
 pub mod ReadLaws

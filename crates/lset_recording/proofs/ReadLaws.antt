@@ -1,14 +1,13 @@
 -- How a text goes on from byte to byte and from line to line.
-use Rattle.std.proofs.Common.{◌≡◌, ◌≢◌, ℕ, zero, suc, ◌+◌, ◌<◌, inl, inr, Bool, true, false, eqb, List, [], ◌∷◌, ◌++◌, length, refl, sym, ap, subst, ◌∙◌}
-use Rattle.std.proofs.Common.{append_assoc, append-nil, arith, length-append, Result, Ok, Err, take, drop, get_or, take-append-drop, add-one, cond}
+use Rattle.std.proofs.Common.{◌≡◌, ◌≢◌, ℕ, zero, suc, ◌+◌, ◌<◌, ◌≤◌, inl, inr, Bool, true, false, eqb, List, [], ◌∷◌, ◌++◌, length, refl, sym, ap, subst, ◌∙◌}
+use Rattle.std.proofs.Common.{append_assoc, append-nil, arith, length-append, Result, Ok, Err, cond}
 use Rattle.std.specs.Prelude.{◌==◌, IfOk, IfErr, Option, Some, None}
+use Rattle.std.specs.List.{AllByRecursion}
 use Rattle.std.specs.Str.{bytes_eq}
-use Rattle.std.proofs.Math.Seq.{take-suc}
-use Rattle.std.proofs.lemmas.Bool.{ne_eqb, lt-ltb}
-use Rattle.std.proofs.lemmas.List.Elements.{All-cons, All-nil}
-use Rattle.std.proofs.lemmas.List.Sums.{sum_by-append, sum_by-cons, count_by_more_yes}
+use Rattle.std.proofs.lemmas.Bool.{lt-ltb}
+use Rattle.std.proofs.lemmas.List.Elements.{All-nil, recursion_from_All}
+use Rattle.std.proofs.lemmas.List.Sums.{sum_by-append, sum_by-cons}
 use Rattle.std.proofs.lemmas.List.Splits.{slice_split_none, slice_split_at}
-use Rattle.lset_words.proofs.Numbers.{equal_test, unequal_test}
 use Rattle.lset_text.specs.Parts.{cut_at, Lacks}
 use Rattle.lset_text.specs.Kinds.{line_in}
 use Rattle.lset_text.specs.declared.words.Version.TheVariants.{One}
@@ -67,109 +66,123 @@ too_long s line many = inl (by s.section)
 newlines_and : (bytes more : List ℕ) → newlines (bytes ++ more) ≡ newlines bytes + newlines more
 newlines_and bytes more = sum_by-append (λ (b : ℕ). cond (b == 10) 1 0) bytes more
 
-no_newline : (b : ℕ) → b ≢ 10 → newlines (b ∷ []) ≡ 0
-no_newline b other =
-    let test : (b == 10) ≡ false = unequal_test b 10 other in
-    let one = sum_by-cons (λ (x : ℕ). cond (x == 10) 1 0) b [] in
-    let here : ◌≡◌ {A = ℕ} (cond (b == 10) 1 0) 0 = rw test refl in
-    let none : newlines [] ≡ 0 = refl in
-    omega (arith, one, here, none)
+no_newlines : (bytes : List ℕ) → AllByRecursion (λ b. eqb b 10 ≡ false) bytes → newlines bytes ≡ 0
+no_newlines [] lacks = refl
+no_newlines (b ∷ bs) lacks =
+    let cons = sum_by-cons (λ (x : ℕ). cond (x == 10) 1 0) b bs in
+    let here : ◌≡◌ {A = ℕ} (cond (b == 10) 1 0) 0 = rw lacks.0 refl in
+    let others = no_newlines bs lacks.1 in
+    omega (arith, cons, here, others)
 
 -- a newline of a piece ends a line of it
-pub line_of_piece : (bytes piece : List ℕ) (i line : ℕ) → i < length piece → get_or piece i 0 ≡ 10
-    → line ≡ first_line + newlines (bytes ++ take i piece) → IsLineOf bytes piece line
-line_of_piece bytes piece i line low is at =
-    let before = newlines_and bytes (take i piece) in
-    let all = newlines_and bytes piece in
-    let parts = newlines_and (take (i + 1) piece) (drop (i + 1) piece) in
-    let whole = ap newlines (take-append-drop (i + 1) piece) in
-    let more = count_by_more_yes (λ (b : ℕ). b == 10) piece i 0 low (equal_test (get_or piece i 0) 10 is) in
-    (omega (arith, at, before), omega (arith, at, before, all, parts, whole, more))
-
-pub at_newline : {X : Type 0} (res : Result X RecordingFault) (b n : ℕ) → b ≡ 10 → IfErr res (λ e. e.line ≡ n)
-    → IfErr res (λ e. (b ≡ 10) × (e.line ≡ n))
-at_newline (Ok x) b n is line = tt
-at_newline (Err e) b n is line = (is, line)
+pub line_of_piece : (bytes done line more : List ℕ) (n : ℕ) → n ≡ first_line + newlines (bytes ++ done)
+    → IsLineOf bytes (done ++ (line ++ 10 ∷ more)) n
+line_of_piece bytes done line more n at =
+    let before = newlines_and bytes done in
+    let all = newlines_and bytes (done ++ (line ++ 10 ∷ more)) in
+    let parts = newlines_and done (line ++ 10 ∷ more) in
+    let last = newlines_and line (10 ∷ more) in
+    let one : newlines (10 ∷ more) ≡ 1 + newlines more = sum_by-cons (λ (x : ℕ). cond (x == 10) 1 0) 10 more in
+    (omega (arith, at, before), omega (arith, at, before, all, parts, last, one))
 
 -- ---- the bytes so far
 
--- one byte more of a line
-pub held_more : (bytes : List ℕ) (byte : ℕ) (r q : RecordingReader) → byte ≢ 10 → (is : IsRead bytes r) → q.judging ≡ r.judging
-    → q.failed ≡ r.failed → IsHeld (is.held ++ byte ∷ []) q.line.items q.is_long → IsRead (bytes ++ byte ∷ []) q
-held_more bytes byte r q other is same sound line = record {
-  told = is.told;
-  judging = subst (IsJudging is.told) (sym same) is.judging;
-  held = is.held ++ byte ∷ [];
-  lacks = Lacks-append 10 is.held (byte ∷ []) is.lacks
-      (All-cons (λ x. eqb x 10 ≡ false) byte [] (ne_eqb byte 10 other) (All-nil (λ x. eqb x 10 ≡ false)));
+-- where a text stands: what the lines above say is told, and some bytes of the next line are held
+pub record StandsAt (bytes held : List ℕ) (n : ℕ) (s : SoFar) : Type 0 where
+  pub lacks : Lacks 10 held
+  pub goes : (more : List ℕ) (read : Result Recording RecordingFault) → Reads n s (cut_at 10 (held ++ more)) read → Says (bytes ++ more) read
+  pub counted : n ≡ first_line + newlines bytes
+
+pub stands : (bytes : List ℕ) (r : RecordingReader) (is : IsRead bytes r) → StandsAt bytes is.held r.judging.number is.told
+stands bytes r is = record { lacks = is.lacks; goes = is.goes; counted = is.counted }
+
+pub read_at : (bytes held : List ℕ) (s : SoFar) (r : RecordingReader) → StandsAt bytes held r.judging.number s → IsJudging s r.judging
+    → IsHeld held r.line.items r.is_long → r.failed ≡ None → IsRead bytes r
+read_at bytes held s r at judging line sound = record {
+  told = s;
+  judging = judging;
+  held = held;
+  lacks = at.lacks;
   line = line;
-  goes = λ more read h.
-      subst (λ (t : List ℕ). Says t read) (sym (append_assoc bytes (byte ∷ []) more))
-      (is.goes (byte ∷ more) read
-      (subst (λ (t : List ℕ). Reads r.judging.number is.told (cut_at 10 t) read) (append_assoc is.held (byte ∷ []) more)
-      (subst (λ (n : ℕ). Reads n is.told (cut_at 10 ((is.held ++ byte ∷ []) ++ more)) read) (ap (λ j. j.number) same) h)));
-  counted =
-      let and = newlines_and bytes (byte ∷ []) in
-      let no = no_newline byte other in
-      let number = ap (λ j. j.number) same in
-      let was = is.counted in
-      omega (arith, and, no, number, was);
-  sound = sound ∙ is.sound;
+  goes = at.goes;
+  counted = at.counted;
+  sound = sound;
 }
 
-module _ (bytes : List ℕ) (r : RecordingReader) (is : IsRead bytes r) where
-  goes_by : (more : List ℕ) (read : Result Recording RecordingFault) → Reads r.judging.number is.told (is.held ∷ cut_at 10 more) read
+-- more bytes of a line
+pub held_more : (bytes held more : List ℕ) (n : ℕ) (s : SoFar) → StandsAt bytes held n s → Lacks 10 more
+    → StandsAt (bytes ++ more) (held ++ more) n s
+held_more bytes held more n s at lacks = record {
+  lacks = Lacks-append 10 held more at.lacks lacks;
+  goes = λ rest read h.
+      subst (λ (t : List ℕ). Says t read) (sym (append_assoc bytes more rest))
+      (at.goes (more ++ rest) read (subst (λ (t : List ℕ). Reads n s (cut_at 10 t) read) (append_assoc held more rest) h));
+  counted =
+      let and = newlines_and bytes more in
+      let none = no_newlines more (recursion_from_All (λ b. eqb b 10 ≡ false) more lacks) in
+      let was = at.counted in
+      omega (arith, and, none, was);
+}
+
+module _ (bytes held : List ℕ) (n : ℕ) (s : SoFar) (at : StandsAt bytes held n s) where
+  goes_by : (more : List ℕ) (read : Result Recording RecordingFault) → Reads n s (held ∷ cut_at 10 more) read
       → Says ((bytes ++ 10 ∷ []) ++ more) read
   goes_by more read h =
       subst (λ (t : List ℕ). Says t read) (sym (append_assoc bytes (10 ∷ []) more))
-      (is.goes (10 ∷ more) read
-      (subst (λ (ps : List (List ℕ)). Reads r.judging.number is.told ps read) (sym (line_and is.held more is.lacks)) h))
+      (at.goes (10 ∷ more) read (subst (λ (ps : List (List ℕ)). Reads n s ps read) (sym (line_and held more at.lacks)) h))
 
   -- a line that is taken
-  pub line_taken : (q : RecordingReader) (t : SoFar) → IsTaken is.told is.held t → IsJudging t q.judging
-      → q.judging.number ≡ r.judging.number + 1 → q.line.items ≡ [] → q.is_long ≡ false → q.failed ≡ r.failed
-      → IsRead (bytes ++ 10 ∷ []) q
-  line_taken q t taken judging next none short sound = record {
-    told = t;
-    judging = judging;
-    held = [];
+  line_taken : (t : SoFar) → IsTaken s held t → StandsAt (bytes ++ 10 ∷ []) [] (n + 1) t
+  line_taken t taken = record {
     lacks = All-nil (λ b. eqb b 10 ≡ false);
-    line = subst (IsHeld [] q.line.items) (sym short) (sym none);
-    goes = λ more read h. goes_by more read
-        (reads_more r.judging.number is.told t is.held (cut_at 10 more) read (some_part 10 more) taken
-        (subst (λ (n : ℕ). Reads n t (cut_at 10 more) read) next h));
+    goes = λ more read h. goes_by more read (reads_more n s t held (cut_at 10 more) read (some_part 10 more) taken h);
     counted =
         let and = newlines_and bytes (10 ∷ []) in
         let one : newlines (10 ∷ []) ≡ 1 = refl in
-        let was = is.counted in
-        omega (arith, and, one, next, was);
-    sound = sound ∙ is.sound;
+        let was = at.counted in
+        omega (arith, and, one, was);
   }
 
   -- and one that is refused
-  pub line_refused : (cause : RecordingCause) → IsRefused is.told is.held cause → (more : List ℕ)
-      → Says ((bytes ++ 10 ∷ []) ++ more) (Err (fault r.judging.number cause))
+  pub line_refused : (cause : RecordingCause) → IsRefused s held cause → (more : List ℕ)
+      → Says ((bytes ++ 10 ∷ []) ++ more) (Err (fault n cause))
   line_refused cause refused more =
-      goes_by more (Err (fault r.judging.number cause))
-      (reads_last r.judging.number is.told is.held (cut_at 10 more) cause (some_part 10 more) refused)
+      goes_by more (Err (fault n cause)) (reads_last n s held (cut_at 10 more) cause (some_part 10 more) refused)
+
+  pub line_read : (t : SoFar) (q : RecordingReader) → IsTaken s held t → IsJudging t q.judging → q.judging.number ≡ n + 1
+      → q.line.items ≡ [] → q.is_long ≡ false → q.failed ≡ None → IsRead (bytes ++ 10 ∷ []) q
+  line_read t q taken judging next none short sound =
+      read_at (bytes ++ 10 ∷ []) [] t q (subst (λ (m : ℕ). StandsAt (bytes ++ 10 ∷ []) [] m t) (sym next) (line_taken t taken)) judging
+      (subst (IsHeld [] q.line.items) (sym short) (sym none)) sound
 
   -- the end of the text
-  pub at_end : (read : Result Recording RecordingFault) → read ≡ ending r.judging.number is.told is.held → Says bytes read
+  pub at_end : (read : Result Recording RecordingFault) → read ≡ ending n s held → Says bytes read
   at_end read ends =
       subst (λ (t : List ℕ). Says t read) (append-nil bytes)
-      (is.goes [] read
-      (subst (λ (ps : List (List ℕ)). Reads r.judging.number is.told ps read)
-      (sym (ap (cut_at 10) (append-nil is.held) ∙ slice_split_none (λ b. eqb b 10) is.held is.lacks)) ends))
+      (at.goes [] read
+      (subst (λ (ps : List (List ℕ)). Reads n s ps read)
+      (sym (ap (cut_at 10) (append-nil held) ∙ slice_split_none (λ b. eqb b 10) held at.lacks)) ends))
 
--- a byte that is kept, and one for which there is no room
-pub held_on : (long : Bool) (held kept new : List ℕ) (b : ℕ) → IsHeld held kept long → new ≡ kept ++ b ∷ [] → IsHeld (held ++ b ∷ []) new long
-held_on true held kept new b is more = omega (arith, is, length-append held (b ∷ []))
-held_on false held kept new b is more = ap (λ (t : List ℕ). t ++ b ∷ []) is ∙ sym more
+-- bytes that are kept, and bytes for which there is no room
+pub held_on : (long : Bool) (held kept new more : List ℕ) → IsHeld held kept long → new ≡ kept ++ more → IsHeld (held ++ more) new long
+held_on true held kept new more is now = omega (arith, is, length-append held more)
+held_on false held kept new more is now = ap (λ (t : List ℕ). t ++ more) is ∙ sym now
 
-pub held_full : (long : Bool) (held kept : List ℕ) (b : ℕ) → IsHeld held kept long → length kept ≡ LONGEST_LINE
-    → LONGEST_LINE < length (held ++ b ∷ [])
-held_full true held kept b is full = omega (arith, is, length-append held (b ∷ []))
-held_full false held kept b is full = let long = ap length is in omega (arith, long, full, length-append held (b ∷ []))
+pub held_full : (long : Bool) (held kept more : List ℕ) → IsHeld held kept long
+    → (length kept + length more ≤ LONGEST_LINE → ⊥) → LONGEST_LINE < length (held ++ more)
+held_full true held kept more is full = omega (arith, is, length-append held more)
+held_full false held kept more is full = let long = ap length is in omega (arith, long, full, length-append held more)
+
+-- ---- a line that lies whole in a piece
+
+pub nothing_held : (bytes : List ℕ) (r : RecordingReader) (is : IsRead bytes r) → r.is_long ≡ false → r.line.items ≡ [] → [] ≡ is.held
+nothing_held bytes r is short none = sym (subst (IsHeld is.held r.line.items) short is.line ∙ none)
+
+pub whole_line : (bytes line : List ℕ) (r : RecordingReader) (is : IsRead bytes r) → Lacks 10 line → r.is_long ≡ false → r.line.items ≡ []
+    → StandsAt (bytes ++ line) line r.judging.number is.told
+whole_line bytes line r is lacks short none =
+    subst (λ (held : List ℕ). StandsAt (bytes ++ line) (held ++ line) r.judging.number is.told) (sym (nothing_held bytes r is short none))
+    (held_more bytes is.held line r.judging.number is.told (stands bytes r is) lacks)
 
 -- ---- the end
 
@@ -182,16 +195,14 @@ some_left n s [] some = absurd (omega (arith, some))
 some_left n s (b ∷ bs) some = refl
 
 module _ (r : RecordingReader) where
-  nothing_held : (bytes : List ℕ) (is : IsRead bytes r) → r.is_long ≡ false → r.line.items ≡ [] → [] ≡ is.held
-  nothing_held bytes is short none = sym (subst (IsHeld is.held r.line.items) short is.line ∙ none)
-
   pub finished : (res : Result RecordingAnswer RecordingFault) → r.is_long ≡ false → r.line.items ≡ []
       → IfOk res (λ answer. (s : SoFar) → IsJudging s r.judging → (ending r.judging.number s [] ≡ Ok s.told) × IsAnswered s.told answer)
       → IfOk res (λ answer. (bytes : List ℕ) → IsRead bytes r → (c : Recording) × Says bytes (Ok c) × IsAnswered c answer)
   finished (Ok answer) short none said = λ bytes is.
       let s = said is.told is.judging in (
         is.told.told,
-        at_end bytes r is (Ok is.told.told) (sym s.0 ∙ ap (ending r.judging.number is.told) (nothing_held bytes is short none)),
+        at_end bytes is.held r.judging.number is.told (stands bytes r is) (Ok is.told.told)
+            (sym s.0 ∙ ap (ending r.judging.number is.told) (nothing_held bytes r is short none)),
         s.1,
       )
   finished (Err e) short none said = tt
@@ -201,30 +212,24 @@ module _ (r : RecordingReader) where
       → IfErr res (λ e. e.cause ≢ wrong.Memory → (bytes : List ℕ) → IsRead bytes r → Says bytes (Err e))
   not_finished (Ok answer) short none said = tt
   not_finished (Err e) short none said = λ other bytes is.
-      at_end bytes r is (Err e) (sym (said other is.told is.judging) ∙ ap (ending r.judging.number is.told) (nothing_held bytes is short none))
+      at_end bytes is.held r.judging.number is.told (stands bytes r is) (Err e)
+      (sym (said other is.told is.judging) ∙ ap (ending r.judging.number is.told) (nothing_held bytes r is short none))
 
   pub line_of_end : (res : Result RecordingAnswer RecordingFault) → IfErr res (λ e. e.line ≡ r.judging.number)
       → IfErr res (λ e. (bytes : List ℕ) → IsRead bytes r → e.line ≡ first_line + newlines bytes)
   line_of_end (Ok answer) line = tt
   line_of_end (Err e) line = λ bytes is. line ∙ is.counted
 
--- ---- the bytes of a piece
-
-pub piece_more : (bytes piece : List ℕ) (i : ℕ) → i < length piece
-    → (bytes ++ take i piece) ++ get_or piece i 0 ∷ [] ≡ bytes ++ take (i + 1) piece
-piece_more bytes piece i lt =
-    append_assoc bytes (take i piece) (get_or piece i 0 ∷ [])
-    ∙ ap (λ t. bytes ++ t) (sym (take-suc piece i 0 lt) ∙ ap (λ j. take j piece) (sym (add-one i)))
+-- ---- the lines of a piece
 
 -- a text that has a fault has it whatever comes
-pub refused_rest : (bytes piece : List ℕ) (i : ℕ) (e : RecordingFault) → IsRefusedAt (bytes ++ take i piece) e → IsRefusedAt (bytes ++ piece) e
-refused_rest bytes piece i e refused other more =
-    subst (λ (t : List ℕ). Says t (Err e)) (regrouped more) (refused other (drop i piece ++ more))
+pub refused_on : (bytes done line more : List ℕ) (e : RecordingFault) → IsRefusedAt (bytes ++ done ++ line ++ 10 ∷ []) e
+    → IsRefusedAt (bytes ++ (done ++ (line ++ 10 ∷ more))) e
+refused_on bytes done line more e refused other rest =
+    subst (λ (t : List ℕ). Says t (Err e)) regrouped (refused other (more ++ rest))
   where
-    regrouped : (more : List ℕ) → (bytes ++ take i piece) ++ (drop i piece ++ more) ≡ (bytes ++ piece) ++ more
-    regrouped more = sym (append_assoc (bytes ++ take i piece) (drop i piece) more)
-        ∙ ap (λ t. t ++ more) (append_assoc bytes (take i piece) (drop i piece))
-        ∙ ap (λ t. (bytes ++ t) ++ more) (take-append-drop i piece)
+    regrouped : (bytes ++ done ++ line ++ 10 ∷ []) ++ (more ++ rest) ≡ (bytes ++ (done ++ (line ++ 10 ∷ more))) ++ rest
+    regrouped = simp append_assoc
 
 -- ---- after a fault
 

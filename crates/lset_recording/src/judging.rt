@@ -1,6 +1,6 @@
 //! What is kept of the lines so far: the judge of their calls, and their keys.
 
-ghost use Rattle.std.specs.Prelude.{◌≡◌, ◌≢◌, ◌+◌, ◌++◌, ◌∷◌, [], true, false, Ok, Err, Some, IfOk, IfErr, OnOk, OnErr, List};
+ghost use Rattle.std.specs.Prelude.{◌≡◌, ◌≢◌, ◌+◌, ◌++◌, ◌∷◌, [], true, false, Ok, Err, Some, IfOk, IfErr, OnOk, OnErr, List, ℕ, is_some};
 ghost use Rattle.std.specs.List.Sorted.{IsStrictlyIncreasing};
 ghost use Rattle.lset_words.specs.declared.history.CallRecord.{CallRecord as RecordedCall};
 ghost use Rattle.lset_words.specs.History.{MayFollow};
@@ -59,23 +59,17 @@ fn cause_of_fault(fault: StreamFault) -> RecordingCause
     }
 }
 
-/// The judge of the calls so far and one more.
-fn with_call(
-    alloc: Global,
-    judge: Option<Judge>,
-    opening: &[u32],
-    call: StreamCall,
-) -> Result<Judge, RecordingCause>
-    requires rising { IsStrictlyIncreasing opening.now }
-    requires formed { IsFormed (Line.Call call) }
-    ensures added { IfOk result (λ j. (calls : List RecordedCall) → IsJudgeKept opening.now calls judge
-        → MayFollow all_threads calls (record_of call) × IsJudgeKept opening.now (calls ++ record_of call ∷ []) (Some j)) }
+/// Gives the judge one more call.
+fn add_call(judge: &mut Judge, call: StreamCall) -> Result<(), RecordingCause>
+    requires { IsFormed (Line.Call call) }
+    ensures added { OnOk result ((opening : List ℕ) (calls : List RecordedCall) → IsJudgeKept opening calls (Some judge.old)
+        → MayFollow all_threads calls (record_of call) × IsJudgeKept opening (calls ++ record_of call ∷ []) (Some judge.new)) }
     ensures refused { IfErr result (λ cause. cause ≢ RecordingCause.Memory → (cause ≡ RecordingCause.History)
-        × ((calls : List RecordedCall) → IsJudgeKept opening.now calls judge → MayFollow all_threads calls (record_of call) → ⊥)) }
+        × ((opening : List ℕ) (calls : List RecordedCall) → IsJudgeKept opening calls (Some judge.old)
+        → MayFollow all_threads calls (record_of call) → ⊥)) }
 {
-    let mut judge = or_opened(alloc, judge, opening)?;
     match judge.add(call) {
-        Ok(()) => Ok(judge),
+        Ok(()) => Ok(()),
         Err(fault) => Err(cause_of_fault(fault)),
     }
 }
@@ -114,6 +108,22 @@ impl Judging {
         }
     }
 
+    /// Has a judge stand ready: the first call opens it, with the opening keys.
+    fn open(&mut self) -> Result<(), AllocError>
+        ensures kept { OnOk result ((c : Recording) → IsKept c self.old → IsKept c self.new) }
+        ensures ready { OnOk result (is_some self.new.judge ≡ true) }
+        ensures same { (self.new.section ≡ self.old.section) × (self.new.number ≡ self.old.number) }
+    {
+        match self.judge {
+            Some(_) => Ok(()),
+            None => {
+                let judge = Judge::new(self.alloc, &self.opening)?;
+                self.judge = Some(judge);
+                Ok(())
+            }
+        }
+    }
+
     fn keep_call(&mut self, call: StreamCall) -> Result<(), RecordingCause>
         requires { IsFormed (Line.Call call) }
         ensures kept { OnOk result ((c : Recording) → IsKept c self.old
@@ -122,10 +132,16 @@ impl Judging {
         ensures refused { IfErr result (λ cause. cause ≢ RecordingCause.Memory → (cause ≡ RecordingCause.History)
             × ((c : Recording) → IsKept c self.old → GoesOn c (Line.Call call) → ⊥)) }
     {
-        let judge = self.judge.take();
-        let judge = with_call(self.alloc, judge, &self.opening, call)?;
+        self.open()?;
+        match &mut self.judge {
+            Some(judge) => {
+                if let Err(cause) = add_call(judge, call) {
+                    return Err(cause);
+                }
+            }
+            None => unreachable!(),
+        }
         self.overlaps.add(call)?;
-        self.judge = Some(judge);
         self.calls = self.calls.saturating_add(1);
         Ok(())
     }

@@ -7,6 +7,7 @@ mod judging;
 mod kept;
 mod lines;
 mod moments;
+mod quick;
 mod reader;
 
 pub use fault::{RecordingCause, RecordingFault};

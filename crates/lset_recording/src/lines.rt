@@ -21,6 +21,7 @@ ghost use Rattle.lset_recording.specs.Reading.{
 
 use crate::fault::RecordingCause;
 use crate::moments::moment;
+use crate::quick::quick_call;
 use lset_judge::StreamCall;
 use lset_text::{Version, cut, number, read_call};
 use lset_words::{Key, Reply};
@@ -283,6 +284,11 @@ pub fn line_told(section: Section, line: &[u8]) -> Result<Line, RecordingCause>
     }
     if line.len() > LONGEST_LINE {
         return Err(RecordingCause::Line);
+    }
+    if section.takes_calls() {
+        if let Some(call) = quick_call(line) {
+            return Ok(Line::Call(call));
+        }
     }
     line_in(section, line)
 }

@@ -1,4 +1,5 @@
-ghost use Rattle.std.specs.Prelude.{◌≡◌, ◌≢◌, ◌+◌, ◌++◌, ◌∷◌, [], Ok, Err, IfOk, IfErr, OnOk, List, ℕ};
+ghost use Rattle.std.specs.Prelude.{◌≡◌, ◌≢◌, ◌+◌, ◌++◌, ◌∷◌, [], Ok, Err, IfOk, IfErr, OnOk, List, ℕ, IsTrue, MatchOption, false};
+ghost use Rattle.lset_text.specs.Parts.{Lacks};
 ghost use Rattle.lset_recording.specs.Reading.{RecordingsAreRead, Says, fault, first_line};
 ghost use Rattle.lset_recording.specs.Texts.{Recording};
 ghost use Rattle.lset_recording.specs.Kept.{HasFailed, IsAnswered, IsLineOf, IsRead, IsRefusedAt, newlines};
@@ -8,7 +9,16 @@ use crate::judging::RecordingAnswer;
 use crate::kept::Judging;
 use crate::lines::LONGEST_LINE;
 use arrayvec::ArrayVec;
+use memchr::memchr;
 use std::alloc::Global;
+
+/// The bytes before the first newline, and those behind it. `None` if there is no newline.
+fn next_line(bytes: &[u8]) -> Option<(&[u8], &[u8])>
+    ensures { MatchOption result (Lacks 10 bytes.now) (λ p. (bytes.now ≡ p.0.now ++ 10 ∷ p.1.now) × Lacks 10 p.0.now) }
+{
+    let at = memchr(b'\n', bytes)?;
+    Some((&bytes[..at], &bytes[at + 1..]))
+}
 
 /// A reader of a recording. It takes the bytes of the text, of which the first line is `listset-calls 1`, in pieces of any length, and judges
 /// the calls as they come. It keeps the keys, the calls that are pending, of each key the calls that began since no change of it was pending,
@@ -42,8 +52,27 @@ impl RecordingReader {
         RecordingFault::at(self.judging.number(), cause)
     }
 
-    /// Takes the newline of a line.
-    fn line_in(&mut self) -> Result<(), RecordingFault>
+    /// Whether no byte is held.
+    fn holds_none(&self) -> bool
+        ensures { IsTrue result → (self.now.line.items ≡ []) × (self.now.is_long ≡ false) }
+    {
+        !self.is_long && self.line.as_slice().is_empty()
+    }
+
+    /// Holds bytes of a line that has not ended.
+    fn hold(&mut self, bytes: &[u8])
+        requires { Lacks 10 bytes.now }
+        ensures read { (before : List ℕ) → IsRead before self.old → IsRead (before ++ bytes.now) self.new }
+        ensures same { self.new.judging ≡ self.old.judging }
+    {
+        match self.line.try_extend_from_slice(bytes) {
+            Ok(()) => {}
+            Err(_) => self.is_long = true,
+        }
+    }
+
+    /// Takes the newline of the line that is held.
+    fn newline_in(&mut self) -> Result<(), RecordingFault>
         ensures taken { OnOk result ((bytes : List ℕ) → IsRead bytes self.old → IsRead (bytes ++ 10 ∷ []) self.new) }
         ensures refused { IfErr result (λ fault. (bytes : List ℕ) → IsRead bytes self.old → IsRefusedAt (bytes ++ 10 ∷ []) fault) }
         ensures line { IfErr result (λ fault. fault.line ≡ self.old.judging.number) }
@@ -60,22 +89,35 @@ impl RecordingReader {
         }
     }
 
-    /// Takes one byte.
-    fn byte_in(&mut self, byte: u8) -> Result<(), RecordingFault>
-        ensures taken { OnOk result ((bytes : List ℕ) → IsRead bytes self.old → IsRead (bytes ++ byte ∷ []) self.new) }
-        ensures refused { IfErr result (λ fault. (bytes : List ℕ) → IsRead bytes self.old → IsRefusedAt (bytes ++ byte ∷ []) fault) }
-        ensures line { IfErr result (λ fault. (byte ≡ 10) × (fault.line ≡ self.old.judging.number)) }
+    /// Takes a line of which no byte is held, and its newline. It is read where it lies.
+    fn whole_line_in(&mut self, line: &[u8]) -> Result<(), RecordingFault>
+        requires lacks { Lacks 10 line.now }
+        requires none { self.old.line.items ≡ [] }
+        requires short { self.old.is_long ≡ false }
+        ensures taken { OnOk result ((bytes : List ℕ) → IsRead bytes self.old → IsRead (bytes ++ line.now ++ 10 ∷ []) self.new) }
+        ensures refused { IfErr result (λ fault. (bytes : List ℕ) → IsRead bytes self.old
+            → IsRefusedAt (bytes ++ line.now ++ 10 ∷ []) fault) }
+        ensures line { IfErr result (λ fault. fault.line ≡ self.old.judging.number) }
     {
-        if byte == b'\n' {
-            return self.line_in();
-        }
-        match self.line.try_push(byte) {
+        match self.judging.read_line(line) {
             Ok(()) => Ok(()),
-            Err(_) => {
-                self.is_long = true;
-                Ok(())
-            }
+            Err(cause) => Err(self.fault(cause)),
         }
+    }
+
+    /// Takes what comes of a line, and its newline.
+    fn line_in(&mut self, line: &[u8]) -> Result<(), RecordingFault>
+        requires { Lacks 10 line.now }
+        ensures taken { OnOk result ((bytes : List ℕ) → IsRead bytes self.old → IsRead (bytes ++ line.now ++ 10 ∷ []) self.new) }
+        ensures refused { IfErr result (λ fault. (bytes : List ℕ) → IsRead bytes self.old
+            → IsRefusedAt (bytes ++ line.now ++ 10 ∷ []) fault) }
+        ensures line { IfErr result (λ fault. fault.line ≡ self.old.judging.number) }
+    {
+        if self.holds_none() {
+            return self.whole_line_in(line);
+        }
+        self.hold(line);
+        self.newline_in()
     }
 
     /// Takes the next bytes, if those before had no fault.
@@ -84,11 +126,14 @@ impl RecordingReader {
         ensures refused { IfErr result (λ fault. (bytes : List ℕ) → IsRead bytes self.old → IsRefusedAt (bytes ++ piece.now) fault) }
         ensures line { IfErr result (λ fault. (bytes : List ℕ) → IsRead bytes self.old → IsLineOf bytes piece.now fault.line) }
     {
-        for byte in piece {
-            if let Err(fault) = self.byte_in(*byte) {
+        let mut rest = piece;
+        while let Some((line, more)) = next_line(rest) {
+            if let Err(fault) = self.line_in(line) {
                 return Err(fault);
             }
+            rest = more;
         }
+        self.hold(rest);
         Ok(())
     }
 

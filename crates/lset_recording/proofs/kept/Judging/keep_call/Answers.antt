@@ -1,25 +1,30 @@
-use Rattle.std.proofs.Common.{◌≡◌, ◌∷◌, [], ◌++◌, Some, sym, subst, ◌∙◌}
+use Rattle.std.proofs.Common.{Some, subst}
 use Rattle.lset_judge.specs.Stream.{record_of}
 use Rattle.lset_recording.specs.Kept.{IsJudgeKept}
 use Rattle.lset_recording.proofs.Judged.{one_call_more}
 use Rattle.lset_recording.proofs.kept.Judging.keep_call.Goals as goal
 
+pub returns-in-Err-clause-refused : goal.returns-in-Err-clause-refused
+returns-in-Err-clause-refused c = λ other.
+    let refused = c.in-Err.ensures.refused other in (
+      refused.0,
+      λ v was_kept follows.
+          let kept = c.in_ok-open.ensures.kept v was_kept in
+          refused.1 v.opening v.calls (subst (IsJudgeKept v.opening v.calls) c.in-Some.is kept.judge) follows,
+    )
+
 pub returns-clause-kept : goal.returns-clause-kept
-returns-clause-kept c = λ v kept.
+returns-clause-kept c = λ v was_kept.
     let x = record_of c.args.call in
-    let s = c.in_ok-judge.judge in
-    let opening : c.deref.result.now ≡ v.opening = c.deref.ensures.value ∙ kept.opening in
-    let before : IsJudgeKept c.deref.result.now v.calls c.take-judge.result =
-    subst (λ o. IsJudgeKept o v.calls c.take-judge.result) (sym opening)
-    (subst (IsJudgeKept v.opening v.calls) (sym c.take-judge.ensures.value) kept.judge) in
-    let more = c.in_ok-judge.ensures.added v.calls before in
-    let after : IsJudgeKept v.opening (v.calls ++ x ∷ []) (Some s) = subst (λ o. IsJudgeKept o (v.calls ++ x ∷ []) (Some s)) opening more.1 in (
+    let kept = c.in_ok-open.ensures.kept v was_kept in
+    let before : IsJudgeKept v.opening v.calls (Some c.in-Some.judge) = subst (IsJudgeKept v.opening v.calls) c.in-Some.is kept.judge in
+    let more = c.in_default.ensures.added v.opening v.calls before in (
       more.0,
       record {
         opening = kept.opening;
         opens = kept.opens;
-        judge = after;
-        calls = one_call_more v.opening v.calls x s c.args.self.now.calls c.saturating_add-self.result after kept.calls
+        judge = more.1;
+        calls = one_call_more v.opening v.calls x c.add_call.new.judge c.open.new.self.calls c.saturating_add-self.result more.1 kept.calls
             c.saturating_add-self.ensures;
         keys = kept.keys;
         left = kept.left;

@@ -1,34 +1,29 @@
-use Rattle.std.proofs.Common.{◌+◌, ◌++◌, ◌∙◌, sym, subst, append-nil}
-use Rattle.std.proofs.lemmas.List.{take_all}
-use Rattle.lset_recording.specs.Kept.{IsRead, IsRefusedAt}
-use Rattle.lset_recording.proofs.ReadLaws.{piece_more, refused_rest, line_of_piece}
+use Rattle.std.proofs.Common.{◌∷◌, [], ◌++◌, ◌∙◌, sym, ap, subst, append_assoc}
+use Rattle.lset_recording.specs.Kept.{IsRead, IsRefusedAt, IsLineOf}
+use Rattle.lset_recording.proofs.ReadLaws.{refused_on, line_of_piece}
 use Rattle.lset_recording.proofs.reader.RecordingReader.bytes_in.Goals as goal
-
-pub loop-byte-init : goal.loop-byte-init
-loop-byte-init c = λ bytes is. subst (λ t. IsRead t c.args.self.now) (sym (append-nil bytes)) is
 
 pub returns-in-Err-clause-refused : goal.returns-in-Err-clause-refused
 returns-in-Err-clause-refused c = λ bytes is.
-    let i = c.loop-byte.byte-index in
-    let piece = c.args.piece.now in
+    let so_far = c.loop-line.invariant in
     let e = c.in-Err.fault in
-    refused_rest bytes piece (i + 1) e
-    (subst (λ t. IsRefusedAt t e) (piece_more bytes piece i c.loop-byte-test.true)
-    (c.in-Err.ensures.refused _ (c.loop-byte.invariant bytes is)))
+    subst (λ p. IsRefusedAt (bytes ++ p) e) (sym (so_far.1 ∙ ap (λ r. so_far.0 ++ r) c.in-Some.ensures.0))
+    (refused_on bytes so_far.0 c.in-Some.line.now c.in-Some.more.now e (c.in-Err.ensures.refused (bytes ++ so_far.0) (so_far.2 bytes is)))
 
 pub returns-in-Err-clause-line : goal.returns-in-Err-clause-line
 returns-in-Err-clause-line c = λ bytes is.
-    let at = c.in-Err.ensures.line in
-    line_of_piece bytes c.args.piece.now c.loop-byte.byte-index c.in-Err.fault.line c.loop-byte-test.true at.0
-    (at.1 ∙ (c.loop-byte.invariant bytes is).counted)
+    let so_far = c.loop-line.invariant in
+    subst (λ p. IsLineOf bytes p c.in-Err.fault.line) (sym (so_far.1 ∙ ap (λ r. so_far.0 ++ r) c.in-Some.ensures.0))
+    (line_of_piece bytes so_far.0 c.in-Some.line.now c.in-Some.more.now c.in-Err.fault.line
+    (c.in-Err.ensures.line ∙ (so_far.2 bytes is).counted))
 
-pub loop-byte-preserved : goal.loop-byte-preserved
-loop-byte-preserved c = λ bytes is.
-    let i = c.loop-byte.byte-index in
-    subst (λ t. IsRead t c.byte_in.new.self) (piece_more bytes c.args.piece.now i c.loop-byte-test.true)
-    (c.in_default.ensures.taken _ (c.loop-byte.invariant bytes is))
-
-pub returns-clause-taken : goal.returns-clause-taken
-returns-clause-taken c = λ bytes is.
-    subst (λ t. IsRead (bytes ++ t) c.loop-byte.self) (take_all c.loop-byte.byte-index c.args.piece.now c.loop-byte-test.false)
-    (c.loop-byte.invariant bytes is)
+pub loop-line-preserved : goal.loop-line-preserved
+loop-line-preserved c =
+    let so_far = c.loop-line.invariant in
+    let line = c.in-Some.line.now in (
+      so_far.0 ++ line ++ 10 ∷ [],
+      so_far.1 ∙ ap (λ r. so_far.0 ++ r) c.in-Some.ensures.0 ∙ sym (simp append_assoc),
+      λ bytes is.
+          subst (λ t. IsRead t c.line_in.new.self) (simp append_assoc)
+          (c.in_default-line_in.ensures.taken (bytes ++ so_far.0) (so_far.2 bytes is)),
+    )

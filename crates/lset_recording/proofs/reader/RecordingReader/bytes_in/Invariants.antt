@@ -1,6 +1,11 @@
-use Rattle.std.proofs.Common.{ℕ, List, ◌++◌, take}
+use Rattle.std.proofs.Common.{◌≡◌, ℕ, List, ◌++◌, length}
 use Rattle.lset_recording.specs.Kept.{IsRead}
 use Rattle.lset_recording.proofs.reader.RecordingReader.bytes_in.Given as goal
 
-abbrev pub invariant-loop-byte : goal.invariant-loop-byte
-invariant-loop-byte l = (bytes : List ℕ) → IsRead bytes l.initial.self → IsRead (bytes ++ take l.byte-index l.piece) l.self
+-- some bytes of the piece are read
+abbrev pub invariant-loop-line : goal.invariant-loop-line
+invariant-loop-line l =
+    (done : List ℕ) × (l.piece ≡ done ++ l.rest) × ((bytes : List ℕ) → IsRead bytes l.initial.self → IsRead (bytes ++ done) l.self)
+
+abbrev pub decreases-loop-line : goal.decreases-loop-line
+decreases-loop-line l = length l.rest

@@ -5,7 +5,7 @@ use Rattle.lset_recording.specs.declared.fault.RecordingFault.{RecordingFault}
 use Rattle.lset_recording.specs.declared.fault.RecordingCause.TheVariants as wrong
 use Rattle.lset_recording.specs.Reading.{Says, fault}
 use Rattle.lset_recording.specs.Kept.{IsHeld}
-use Rattle.lset_recording.proofs.ReadLaws.{at_end, some_left, above_zero, finished, not_finished, line_of_end}
+use Rattle.lset_recording.proofs.ReadLaws.{stands, at_end, some_left, above_zero, finished, not_finished, line_of_end}
 use Rattle.lset_recording.proofs.reader.RecordingReader.end.Goals as goal
 use Rattle.lset_recording.proofs.reader.RecordingReader.end.Goals.{then-self-via-then-self, then-self-via-else-self+then-not-is_empty}
 
@@ -21,7 +21,8 @@ returns-then-self-clause-refused c = λ other bytes is.
           omega (arith, long, not_none))
     ] in
     subst (λ (e : RecordingFault). Says bytes (Err e)) (sym c.fault.ensures)
-    (at_end bytes r is (Err (fault r.judging.number wrong.NotEnded)) (some_left r.judging.number is.told is.held some))
+    (at_end bytes is.held r.judging.number is.told (stands bytes r is) (Err (fault r.judging.number wrong.NotEnded))
+    (some_left r.judging.number is.told is.held some))
 
 pub returns-clause-said : goal.returns-clause-said
 returns-clause-said c =

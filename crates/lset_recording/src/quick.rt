@@ -1,0 +1,133 @@
+//! The line of a call that has ended, read in one pass, as long recordings have one beside another. Any other line is left to the kinds of
+//! lines: `None` says nothing of it.
+
+ghost use Rattle.std.specs.Prelude.{◌≡◌, ◌≤◌, ◌++◌, ◌∷◌, ℕ, IfSome, Ok, true, codes};
+ghost use Rattle.std.specs.Fmt.{decimal};
+ghost use Rattle.lset_text.specs.declared.words.Version.TheVariants.{One};
+ghost use Rattle.lset_text.specs.Kinds.{line_in};
+ghost use Rattle.lset_text.specs.Numbers.{max_number};
+ghost use Rattle.lset_text.specs.Spellings.{call_word_text, reply_text, HasWord};
+ghost use Rattle.lset_judge.specs.Verdict.{is_truth};
+ghost use Rattle.lset_recording.specs.declared.lines.Section.{Section};
+ghost use Rattle.lset_recording.specs.declared.lines.Line.TheVariants.{Call};
+ghost use Rattle.lset_recording.specs.Reading.{causes, kinds, takes_calls};
+
+use lset_judge::{LAST_MOMENT, StreamCall};
+use lset_text::CallWord;
+use lset_words::{Key, Reply};
+
+/// The last value that a further digit can follow here: ten times it and nine is a moment.
+const LAST_WITH_A_DIGIT: u64 = 922_337_203_685_477_579;
+
+/// The digits before a space, as a number, and what is behind that space. `None` also for the last ten moments or so.
+fn digits_before(text: &[u8]) -> Option<(u64, &[u8])>
+    ensures { IfSome result (λ p. (text.now ≡ decimal p.0 ++ 32 ∷ p.1.now) × (p.0 ≤ LAST_MOMENT)) }
+{
+    let [first, rest @ ..] = text else {
+        return None;
+    };
+    if !first.is_ascii_digit() {
+        return None;
+    }
+    let mut value = u64::from(*first - b'0');
+    for (i, byte) in rest.iter().enumerate() {
+        if !byte.is_ascii_digit() {
+            return if *byte == b' ' {
+                Some((value, &rest[i + 1..]))
+            } else {
+                None
+            };
+        }
+        if value == 0 || value > LAST_WITH_A_DIGIT {
+            return None;
+        }
+        value = value * 10 + u64::from(*byte - b'0');
+    }
+    None
+}
+
+/// A thread or a key before a space, and what is behind that space.
+fn number_before(text: &[u8]) -> Option<(u32, &[u8])>
+    ensures { IfSome result (λ p. (text.now ≡ decimal p.0 ++ 32 ∷ p.1.now) × (p.0 ≤ max_number)) }
+{
+    let (value, rest) = digits_before(text)?;
+    if value > u64::from(u32::MAX) {
+        return None;
+    }
+    Some((value as u32, rest))
+}
+
+/// A moment before a space, and what is behind that space.
+fn moment_before(text: &[u8]) -> Option<(u64, &[u8])>
+    ensures { IfSome result (λ p. (text.now ≡ decimal p.0 ++ 32 ∷ p.1.now) × (1 ≤ p.0) × (p.0 ≤ LAST_MOMENT)) }
+{
+    let (value, rest) = digits_before(text)?;
+    if value == 0 {
+        return None;
+    }
+    Some((value, rest))
+}
+
+/// The word of a call before a space, and what is behind that space.
+fn word_before(text: &[u8]) -> Option<(CallWord, &[u8])>
+    ensures { IfSome result (λ p. (text.now ≡ call_word_text p.0 ++ 32 ∷ p.1.now) × HasWord One p.0) }
+{
+    match text {
+        [b'a', b'd', b'd', b' ', rest @ ..] => Some((CallWord::Add, rest)),
+        [b'r', b'e', b'm', b'o', b'v', b'e', b' ', rest @ ..] => Some((CallWord::Remove, rest)),
+        [
+            b'c',
+            b'o',
+            b'n',
+            b't',
+            b'a',
+            b'i',
+            b'n',
+            b's',
+            b' ',
+            rest @ ..,
+        ] => { Some((CallWord::Contains, rest)) }
+        _ => None,
+    }
+}
+
+/// The reply that is spelled so, if it is true or false.
+fn reply_in(text: &[u8]) -> Option<Reply>
+    ensures { IfSome result (λ reply. (text.now ≡ reply_text reply) × (is_truth reply ≡ true)) }
+{
+    match text {
+        b"true" => Some(Reply::True),
+        b"false" => Some(Reply::False),
+        _ => None,
+    }
+}
+
+/// What is behind the first word of the line of a call.
+fn behind_call(line: &[u8]) -> Option<&[u8]>
+    ensures { IfSome result (λ rest. line.now ≡ codes "call " ++ rest.now) }
+{
+    match line {
+        [b'c', b'a', b'l', b'l', b' ', rest @ ..] => Some(rest),
+        _ => None,
+    }
+}
+
+/// The call that a line tells where calls may come, if it is one that has ended.
+pub(crate) fn quick_call(line: &[u8]) -> Option<StreamCall>
+    ensures { IfSome result (λ call. (section : Section) → takes_calls section ≡ true
+        → line_in One causes (kinds section) line.now ≡ Ok (Call call)) }
+{
+    let rest = behind_call(line)?;
+    let (thread, rest) = number_before(rest)?;
+    let (word, rest) = word_before(rest)?;
+    let (key, rest) = number_before(rest)?;
+    let (begun, rest) = moment_before(rest)?;
+    let (end, rest) = moment_before(rest)?;
+    let reply = reply_in(rest)?;
+    Some(StreamCall {
+        thread,
+        call: word.with_key(Key(key)),
+        begun,
+        ended: Some((end, reply)),
+    })
+}
