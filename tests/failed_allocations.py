@@ -44,7 +44,7 @@ ASKED = """
 1 replay refused.schedule
 1 replay version-1-opening.schedule
 1 judge ../../tests/transcripts/data/recorded/seen.calls
-1 judge ../../tests/transcripts/data/recorded/lost.calls
+7 judge ../../tests/transcripts/data/recorded/lost.calls
 2 check one-add.report
 2 check opens-with-keys.report
 1 check ceiling-left-in-chain.broken.report
@@ -56,8 +56,8 @@ ASKED = """
 1 show refused.schedule
 1 show version-1-opening.schedule
 3 show opens-with-keys.report
-4 show two-removers.broken.report
-4 show snip.broken.report
+15 show two-removers.broken.report
+3 show snip.broken.report
 1 show --svg open-call.schedule
 3 show --svg stale-pred.broken.report
 1 trace one-add.schedule
@@ -67,9 +67,9 @@ ASKED = """
 1 trace OPENING
 2 trace --chain OPENING
 1 show --svg --from 2 OPENING
-2 trace --lacks lock OPENING
-3 replay --lacks lock ENDED
-5 show --lacks lock ENDED
+1 trace --lacks lock OPENING
+2 replay --lacks lock ENDED
+4 show --lacks lock ENDED
 1 trace --chain TRIES
 4 trace --chain CHAIN
 1 draft ../../tests/transcripts/data/drafts/ceiling-meets-mark.draft
@@ -160,8 +160,10 @@ def told_and_over(program, words, refuse):
     told = over = passed = 0
     for number in range(1, 10 * REFUSED):
         found = ran_where(refuse, number, program, *words, **how)
-        assert found in met or found == due, f"with growth {number} refused"
-        told, over, passed = (told + 1, over + passed, 0) if found in met else (told, over, passed + 1)
+        # (a trace is printed as it is made)
+        is_told = found in met or words[0] == "trace" and found[::2] == OUT_OF_MEMORY[::2] and due[1].startswith(found[1])
+        assert is_told or found == due, f"with growth {number} refused"
+        told, over, passed = (told + 1, over + passed, 0) if is_told else (told, over, passed + 1)
         if passed == LAST:
             return told, over
     raise AssertionError("there are more growths")
