@@ -1,4 +1,0 @@
-pub mod Stepped
-pub mod Made
-pub mod Whole
-pub mod TextLaws

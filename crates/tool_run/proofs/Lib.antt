@@ -1,4 +1,0 @@
-mod CountLaws
-mod LifeLaws
-mod LivesLaws
-mod RisingKeys
