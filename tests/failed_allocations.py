@@ -33,9 +33,8 @@ EXAMPLES = TOP / "examples" / "schedules"
 CALLS = "crates/memory_calls/out/memory_calls", "crates/memory_calls/out/unproved/memory_calls"
 
 # What PROGRAM is asked of files in examples/, of a drawn one (DRAWN) and of one with many opening keys, which goes past the end of its
-# call (OPENING) or not (ENDED); of one with many tries at a lock (TRIES), of one with long chains (CHAIN), and of recorded calls whose order
-# has a key put in first and a call that has not ended (ORDERED). The number tells how many growths are passed over: one as the words are
-# read, and where std asks for less room than it guessed.
+# call (OPENING) or not (ENDED); of one with many tries at a lock (TRIES), and of one with long chains (CHAIN). The number tells how many
+# growths are passed over: one as the words are read, and where std asks for less room than it guessed.
 ASKED = """
 1 replay one-add.schedule
 1 replay opens-with-keys.schedule
@@ -44,10 +43,8 @@ ASKED = """
 1 replay OPENING
 1 replay refused.schedule
 1 replay version-1-opening.schedule
-1 report ../../tests/transcripts/data/recorded/seen.calls
-3 report ../../tests/transcripts/data/recorded/found.calls
-1 judge ../../tests/transcripts/data/recorded/found.calls
-5 show ../../tests/transcripts/data/recorded/found.calls
+1 judge ../../tests/transcripts/data/recorded/seen.calls
+1 judge ../../tests/transcripts/data/recorded/lost.calls
 2 check one-add.report
 2 check opens-with-keys.report
 1 check ceiling-left-in-chain.broken.report
@@ -59,7 +56,7 @@ ASKED = """
 1 show refused.schedule
 1 show version-1-opening.schedule
 3 show opens-with-keys.report
-2 show two-removers.broken.report
+4 show two-removers.broken.report
 4 show snip.broken.report
 1 show --svg open-call.schedule
 3 show --svg stale-pred.broken.report
@@ -73,10 +70,8 @@ ASKED = """
 1 trace --lacks lock OPENING
 2 replay --lacks lock ENDED
 4 show --lacks lock ENDED
-2 show ../recorders/both-true.calls
 1 trace --chain TRIES
 4 trace --chain CHAIN
-3 report ORDERED
 1 draft ../../tests/transcripts/data/drafts/ceiling-meets-mark.draft
 1 draft one-add.schedule
 1 example
@@ -90,20 +85,6 @@ ASKED = """
 1 run skip
 1 faults
 1 --version
-"""
-
-ORDERED = """listset-calls 2
-list lazy
-threads 2
-quota 4
-call 0 add 5 1 - 2 true
-call 0 contains 5 3 - 4 true
-call 0 contains 5 5 - 6 true
-call 0 contains 5 7 - 8 true
-call 1 add 7 9 - - -
-key 5
-key 7
-end
 """
 
 PASSED_OVER = "no call"
@@ -191,14 +172,13 @@ def told_and_over(program, words, refuse):
 
 def texts(program, room):
     """Texts in the room, by their names: most of them schedules for one thread."""
-    files = {name: room / f"{name.lower()}.text" for name in ("OPENING", "ENDED", "TRIES", "CHAIN", "ORDERED", "DRAWN")}
+    files = {name: room / f"{name.lower()}.text" for name in ("OPENING", "ENDED", "TRIES", "CHAIN", "DRAWN")}
     few, many = ("".join(f"opening {key}\n" for key in range(1, most)) for most in (13, 6_001))
     one, two = ("listset-schedule 2\nlist coarse\nthreads {}\nquota 5\n".format(threads) for threads in (1, 2))
     files["OPENING"].write_text(f"{one}{few}begin 0 remove 4\ngo 0 14\n")
     files["ENDED"].write_text(f"{one}{few}begin 0 remove 4\ngo 0 12\n")
     files["TRIES"].write_text(f"{two}begin 0 add 5\ngo 0 1\nbegin 1 add 7\ngo 1 400\n")
     files["CHAIN"].write_text(f"{one}{many}" + "begin 0 add 0\ngo 0 7\nbegin 0 remove 0\ngo 0 6\n" * 2)
-    files["ORDERED"].write_text(ORDERED)
     with open(files["DRAWN"], "w") as drawn:
         subprocess.run([program, *"gen coarse 1 40 60 2 1".split()], stdout=drawn, check=True)
     return {name: str(file) for name, file in files.items()}

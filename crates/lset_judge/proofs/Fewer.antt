@@ -10,7 +10,7 @@ use Rattle.lset_judge.specs.declared.stream.Stream.{Stream}
 use Rattle.lset_judge.specs.Rest.{key_if, alone, may_turn}
 use Rattle.lset_judge.specs.Stream.{record_of, stream_history, IsStreamOf, IsStreamVerdict, IsStreamVerdictCutOff}
 use Rattle.lset_judge.specs.Verdict.{IsUnexplained}
-use Rattle.lset_judge.specs.Window.{records, stays, IsLess, HaveNone}
+use Rattle.lset_judge.specs.Window.{records, HaveNone}
 
 -- ---- no order
 
@@ -24,29 +24,6 @@ pub none_left : (threads key : ℕ) (there l : Bool) (calls : List StreamCall) (
     → HaveNone threads key there (Some l) (records calls)
 none_left threads key there l calls r v quota keys is =
     subst (λ (ks : List ℕ). IsUnexplained (alone threads quota there key (records calls)) ks) (sym is) (v.0 quota)
-
--- ---- fewer
-
-both : (p q : StreamCall → Bool) (xs : List StreamCall) → filter q (filter p xs) ≡ filter (λ x. p x && q x) xs
-both p q [] = refl
-both p q (x ∷ xs) = elim (cases_Bool (p x)) [
-  | inl t ↦ elim (cases_Bool (q x)) [ inl u ↦ rw (t, u) (ap (λ ys. x ∷ ys) (both p q xs)) | inr u ↦ rw (t, u) (both p q xs) ]
-  | inr t ↦ rw t (both p q xs)
-]
-
-all_of : (xs : List StreamCall) → xs ≡ filter (λ x. true) xs
-all_of [] = refl
-all_of (x ∷ xs) = ap (λ ys. x ∷ ys) (all_of xs)
-
-pub less_itself : (xs : List StreamCall) → IsLess xs xs
-less_itself xs = record { test = λ x. true; changes = λ x t. refl; is = all_of xs }
-
-pub less_still : (all some fewer : List StreamCall) (first last : ℕ) → IsLess all some → fewer ≡ filter (stays first last) some → IsLess all fewer
-less_still all some fewer first last l is = record {
-  test = λ x. l.test x && stays first last x;
-  changes = λ x t. rw (l.changes x t, t) refl;
-  is = is ∙ ap (filter (stays first last)) l.is ∙ both l.test (stays first last) all;
-}
 
 -- a stream that took all calls, if there is one
 abbrev pub TookAll : ℕ → Bool → List StreamCall → Option Stream → Type 0

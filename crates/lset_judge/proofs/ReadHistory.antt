@@ -1,6 +1,6 @@
 -- The calls of a history as read are a history, and plain.
 use Rattle.std.proofs.Common.{◌≡◌, ◌≢◌, ℕ, ◌<◌, true, List, [], ◌∷◌, ◌++◌, refl, sym, ap, ◌∙◌, arith, subst, length, get_or, map, take, drop, ◌+◌}
-use Rattle.std.specs.Prelude.{All, AllPairs, Option, Some, None, IfSome, IsSomeAnd}
+use Rattle.std.specs.Prelude.{Option, Some, None, IfSome, IsSomeAnd}
 use Rattle.std.proofs.lemmas.List.{get_or-map, get_or_default, length-map, map-append, take_more, take-append-drop}
 use Rattle.std.proofs.lemmas.List.Elements.{All-map}
 use Rattle.lset_words.specs.declared.Call.{Call}
@@ -99,7 +99,7 @@ read_plain x = of x.call x.ended
 
 pub next_may : (threads : ℕ) (opening : List ℕ) (xs : List CallRecord) (i : ℕ) (d : CallRecord) (s : Stream) (x : CallRecord) → IsHistory threads xs
     → i < length xs → x ≡ read_as (get_or xs i d) → IsStreamOf threads opening (map read_as (take i xs)) s
-    → s.moment < (get_or xs i no_call).begun → IsBefore x → MayCome s.pending.items s.moment x
+    → s.moment < (get_or xs i no_call).begun → IsBefore x → MayCome s.pending s.moment x
 next_may threads opening xs i d s x history low so is early before =
     let more : take (i + 1) xs ≡ take i xs ++ get_or xs i d ∷ [] = take_more xs i d low in
     let one : map read_as (take (i + 1) xs) ≡ map read_as (take i xs) ++ x ∷ [] =

@@ -26,8 +26,8 @@ use Rattle.lset_judge.specs.declared.stream.Stream.{Stream}
 use Rattle.lset_judge.specs.Rule.{State, idle, leaves, same, opened, options, ruled, state_after}
 use Rattle.lset_judge.specs.Events.{Kind, changes, sees, nothing, kind_if, until_if, ends_at, begin_event, end_event, event_at, rule_explains, RulePasses}
 use Rattle.lset_judge.specs.Leaving.{has_any, may_be_left}
-use Rattle.lset_judge.specs.Rest.{turns, may_turn, has_ended, ended_by, key_if, alone, ends_change, IsAtRest}
-use Rattle.lset_judge.specs.Stream.{behind_all, state_for, pending_of, IsOver, IsJudgedTo, IsStreamOf}
+use Rattle.lset_judge.specs.Rest.{turns, may_turn, has_ended, ended_by, key_if, alone, IsAtRest}
+use Rattle.lset_judge.specs.Stream.{behind_all, state_for, pending_of, key_in, event_of, IsOver, IsJudgedTo, IsStreamOf}
 use Rattle.lset_judge.specs.Verdict.{IsExplained, may_add, is_plain}
 use Rattle.lset_judge.proofs.After.{same_after, judged_after}
 use Rattle.lset_judge.proofs.Closed.{leaves_so, latest_upto}
@@ -237,43 +237,3 @@ module _ (threads : ℕ) (opening : List ℕ) (calls : List CallRecord) (s : Str
     forced = λ quota order keys e.
         alike (has_key k keys) state.there (sym (left_as quota keys) ∙ rule_refutes (h quota) keys order told e k);
   }
-
--- ---- no change of it is pending
-
-ends_so : (kind : Kind) (begun : ℕ) → turns kind ≡ true → ends_change (end_event kind begun) ≡ true
-ends_so (changes w) begun e = refl
-ends_so (sees w) begun e = absurd (true≢false (sym e))
-ends_so nothing begun e = absurd (true≢false (sym e))
-
-pub changes_over : (threads : ℕ) (opening : List ℕ) (calls : List CallRecord) (s : Stream) (k : ℕ) → IsStreamOf threads opening calls s
-    → All (λ (p : Pending). (p.key == k && ends_change p.event) ≡ false) s.pending.items → All (Over k s.moment) calls
-changes_over threads opening calls s k is none n d low =
-    subst (Over k s.moment) (sym (get_or_default calls n d no_call low)) (λ own turn begun. elim (is.pending.kept n low) [
-      | inl o ↦ is_ended s.moment (call_numbered calls n).ended o.0 o.1 o.2
-      | inr c ↦ (let p : Pending = pending_of (call_numbered calls n) in
-          let f : (p.key == k && ends_change p.event) ≡ false = subst (λ (q : Pending). (q.key == k && ends_change q.event) ≡ false) c.2 (none c.0 p c.1) in
-          let t : (p.key == k && ends_change p.event) ≡ true =
-          rw (equal_test p.key k own) (ends_so (kind_if (call_numbered calls n).call (call_numbered calls n).ended) (call_numbered calls n).begun turn) in
-          absurd (true≢false (sym t ∙ f)))
-    ])
-
-pub rests : (threads : ℕ) (opening : List ℕ) (calls : List CallRecord) (s : Stream) (k : ℕ) → s.failed ≡ None
-    → All (λ (p : Pending). (p.key == k && ends_change p.event) ≡ false) s.pending.items
-    → (state_for s.states k).puts ≡ [] → (state_for s.states k).takes ≡ [] → IsStreamOf threads opening calls s
-    → IsAtRest threads opening calls k s.moment (state_for s.states k).there
-rests threads opening calls s k goes none puts takes is =
-    at_rest threads opening calls s is (subst (IsJudgedTo opening calls s.moment s.states) goes is.judged) k
-    (changes_over threads opening calls s k is none) puts takes
-
-none_of : (o : Option Failed) → is_some o ≡ false → o ≡ None
-none_of None e = refl
-none_of (Some f) e = absurd (true≢false e)
-
-pub rest_told : (s : Stream) (k : ℕ) (o : Option Bool) → is_some s.failed ≡ false
-    → All (λ (p : Pending). (p.key == k && ends_change p.event) ≡ false) s.pending.items
-    → IfSome o (λ there. ((state_for s.states k).there ≡ there) × ((state_for s.states k).puts ≡ []) × ((state_for s.states k).takes ≡ []))
-    → IfSome o (λ there. (threads : ℕ) (opening : List ℕ) (calls : List CallRecord) → IsStreamOf threads opening calls s
-    → IsAtRest threads opening calls k s.moment there)
-rest_told s k None goes none q = tt
-rest_told s k (Some there) goes none q = λ threads opening calls is.
-    subst (IsAtRest threads opening calls k s.moment) q.0 (rests threads opening calls s k (none_of s.failed goes) none q.1 q.2 is)

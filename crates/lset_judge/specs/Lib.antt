@@ -5,8 +5,9 @@ pub mod Code
 pub mod Locality
 pub mod Window
 pub mod Leaving
+pub mod Pending
 pub mod Stream
 pub mod Rest
-pub mod Kept
 pub mod Judge
 pub mod Reading
+pub mod Log

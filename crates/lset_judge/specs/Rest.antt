@@ -47,12 +47,3 @@ pub record IsAtRest (threads : ℕ) (opening : List ℕ) (calls : List CallRecor
   pub explained : IsExplained (alone threads (length (ended_by key moment calls)) (has_key key opening) key (ended_by key moment calls)) (key_if there key)
   pub forced : (quota : ℕ) (order : List Placed) (keys : List ℕ)
       → Explains (alone threads quota (has_key key opening) key (ended_by key moment calls)) order keys → has_key key keys ≡ there
-
--- ---- what the functions on the way say
-
-abbrev pub ends_change : Event → Bool
-ends_change (begins w end) = false
-ends_change (ends w) = true
-ends_change (looks w since) = false
-ends_change (leaves w) = false
-ends_change idle = false

@@ -1,6 +1,6 @@
 -- A STREAM OF CALLS, judged as they come: what is kept of the calls so far, and what the verdict says of them.
 use Rattle.std.specs.Prelude.{◌≡◌, ◌≢◌, ℕ, ◌<◌, ◌≤◌, ◌^◌, ◌⊎◌, true, false, List, length, Option, Some, None, All}
-use Rattle.std.specs.Prelude.{AllPairs, Contains, IfSome, ◌-◌, slice_index_or}
+use Rattle.std.specs.Prelude.{AllPairs, Contains, IfSome, ◌-◌}
 use Rattle.std.specs.List.Sorted.{IsStrictlyIncreasing}
 use Rattle.std.specs.Ordering.{nat_cmp}
 use Rattle.std.specs.BTreeMap.{BTreeMap, get}
@@ -8,7 +8,7 @@ use Rattle.lset_words.specs.declared.Reply.{Reply}
 use Rattle.lset_words.specs.declared.history.CallRecord.{CallRecord}
 use Rattle.lset_words.specs.Words.{key_of}
 use Rattle.lset_words.specs.SequentialSet.{has_key}
-use Rattle.lset_words.specs.History.{IsHistory, call_numbered}
+use Rattle.lset_words.specs.History.{IsHistory, call_numbered, no_call}
 use Rattle.lset_history.specs.History.{HistoryValue}
 use Rattle.lset_judge.specs.declared.rule.KeyState.{KeyState}
 use Rattle.lset_judge.specs.declared.stream.StreamCall.{StreamCall}
@@ -17,7 +17,7 @@ use Rattle.lset_judge.specs.declared.stream.StreamVerdict.TheVariants.{Lineariza
 use Rattle.lset_judge.specs.declared.stream.Failed.{Failed}
 use Rattle.lset_judge.specs.declared.stream.Pending.{Pending}
 use Rattle.lset_judge.specs.declared.stream.Stream.{Stream}
-use Rattle.lset_judge.specs.Rule.{Event, State, idle, opened, found, entered, state_after}
+use Rattle.lset_judge.specs.Rule.{Event, State, opened, found, entered, state_after}
 use Rattle.lset_judge.specs.Code.{state_of}
 use Rattle.lset_judge.specs.Events.{kind_if, until_if, end_event, event_at}
 use Rattle.lset_judge.specs.Verdict.{IsPlain, IsExplained, IsUnexplained, IsRefusedBy, is_plain, with_quota}
@@ -25,6 +25,10 @@ use Rattle.lset_judge.specs.Verdict.{IsPlain, IsExplained, IsUnexplained, IsRefu
 -- a call of a stream as one of a history
 abbrev pub record_of : StreamCall → CallRecord
 record_of x = record { thread = x.thread; call = x.call; begun = x.begun; ended = x.ended }
+
+-- and back
+abbrev pub call_of : CallRecord → StreamCall
+call_of x = record { thread = x.thread; call = x.call; begun = x.begun; ended = x.ended }
 
 -- the calls of a stream, of a set without a quota
 abbrev pub stream_history : ℕ → List ℕ → List CallRecord → HistoryValue
@@ -51,10 +55,15 @@ state_for states k = state_or (get nat_cmp states k)
 abbrev pub pending_of : CallRecord → Pending
 pending_of x = record {
   end = until_if behind_all x.begun x.ended;
-  thread = x.thread;
-  key = (key_of x.call).0;
-  event = end_event (kind_if x.call x.ended) x.begun;
+  call = call_of x;
 }
+
+abbrev pub key_in : Pending → ℕ
+key_in p = (key_of p.call.call).0
+
+-- what its end is to its key
+abbrev pub event_of : Pending → Event
+event_of p = end_event (kind_if p.call.call p.call.ended) p.call.begun
 
 -- the call has ended by a moment
 abbrev pub IsOver : ℕ → CallRecord → Type 0
@@ -87,7 +96,7 @@ pub record IsStreamOf (threads : ℕ) (opening : List ℕ) (calls : List CallRec
   pub before : All IsBefore calls
   pub begun : All (λ (x : CallRecord). x.begun ≤ s.moment) calls
   pub moment : s.moment < behind_all
-  pub pending : ArePending calls s.moment s.pending.items
+  pub pending : ArePending calls s.moment s.pending
   pub judged : IsJudgedTo opening calls s.moment s.states s.failed
 
 -- what a stream keeps, by words that other crates may say
@@ -95,7 +104,7 @@ abbrev pub moment_of : Stream → ℕ
 moment_of s = s.moment
 
 abbrev pub pending_in : Stream → List Pending
-pending_in s = s.pending.items
+pending_in s = s.pending
 
 -- ---- WHAT A CALL HAS TO BE to come next
 
@@ -107,7 +116,7 @@ pub record MayCome (pending : List Pending) (moment : ℕ) (x : CallRecord) : Ty
   -- no pending call ends at its begin or its end,
   pub apart : All (λ (p : Pending). (p.end ≢ x.begun) × IfSome x.ended (λ (end : ℕ × Reply). p.end ≢ end.0)) pending
   -- and none of its thread is pending then
-  pub free : All (λ (p : Pending). p.thread ≡ x.thread → p.end ≤ x.begun) pending
+  pub free : All (λ (p : Pending). p.call.thread ≡ x.thread → p.end ≤ x.begun) pending
 
 -- ---- WHAT THE VERDICT SAYS
 
@@ -125,12 +134,7 @@ IsStreamVerdictCutOff h (NotLinearizable refusal) = (keys : List ℕ) → IsStre
 -- ---- what the functions on the way say
 
 abbrev pub no_pending : Pending
-no_pending = record { end = 0; thread = 0; key = 0; event = idle }
-
--- the place has the nearest of the ends, and it is before a moment
-abbrev pub IsNearest : ℕ → List Pending → ℕ → Type 0
-IsNearest moment pending place = ((slice_index_or pending place no_pending).end < moment)
-    × All (λ (p : Pending). (slice_index_or pending place no_pending).end ≤ p.end) pending
+no_pending = record { end = 0; call = call_of no_call }
 
 -- what happens of a key at a moment has happened
 abbrev pub IsMetBy : BTreeMap ℕ KeyState → ℕ → ℕ → Event → BTreeMap ℕ KeyState → Option Failed → Option Failed → Type 0
@@ -142,7 +146,7 @@ IsMetBy before key moment event after None (Some f) = (f.key.0 ≡ key) × (f.mo
     × (entered event (found (moment - 1) event (state_for before key)) ≡ None)
 
 pub record IsMet (old : Stream) (key moment : ℕ) (event : Event) (new : Stream) : Type 0 where
-  pub pending : new.pending.items ≡ old.pending.items
+  pub pending : new.pending ≡ old.pending
   pub at_moment : new.moment ≡ moment
   pub by : IsMetBy old.states key moment event new.states old.failed new.failed
 
@@ -152,3 +156,9 @@ failed_verdict f = NotLinearizable (record { key = f.key; moment = Some f.moment
 abbrev pub verdict_of_key : Option ℕ → StreamVerdict
 verdict_of_key None = Linearizable
 verdict_of_key (Some k) = NotLinearizable (record { key = record { 0 = k }; moment = None })
+
+-- a refusal is that of the rule, if it has failed, and else has no moment
+abbrev pub IsToldBy : Option Failed → StreamVerdict → Type 0
+IsToldBy None Linearizable = Unit {0}
+IsToldBy None (NotLinearizable refusal) = refusal.moment ≡ None
+IsToldBy (Some f) verdict = verdict ≡ failed_verdict f

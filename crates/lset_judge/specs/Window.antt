@@ -1,28 +1,21 @@
 -- A WINDOW: the few calls of a key, from a moment at which it is at rest, that show why no order explains a recording.
-use Rattle.std.specs.Prelude.{◌≡◌, ℕ, ◌<◌, ◌≤◌, ◌==◌, ◌&&◌, ◌||◌, nat_lt, nat_le, Bool, true, List, map, filter, All, Option, Some, None, IfSome, false, not, Contains as Has}
+use Rattle.std.specs.Prelude.{◌≡◌, ℕ, ◌<◌, ◌≤◌, ◌==◌, ◌&&◌, ◌||◌, ◌⊎◌, nat_lt, if◌then◌else◌, Bool, true, List, map, filter, All, Option, Some, None, IfSome, false, not, Contains as Has}
 use Rattle.lset_words.specs.declared.Call.{Call}
 use Rattle.lset_words.specs.declared.Call.TheVariants.{Add, Remove, Contains, Ceiling}
 use Rattle.lset_words.specs.declared.history.CallRecord.{CallRecord}
 use Rattle.lset_words.specs.Words.{key_of}
+use Rattle.lset_words.specs.History.{IsHistory}
 use Rattle.lset_words.specs.SequentialSet.{has_key}
 use Rattle.lset_judge.specs.declared.stream.StreamCall.{StreamCall}
 use Rattle.lset_judge.specs.Rest.{alone, has_ended, key_if, may_turn, IsAtRest}
 use Rattle.lset_judge.specs.Stream.{record_of}
 use Rattle.lset_judge.specs.Verdict.{IsUnexplained}
+use Rattle.lset_judge.specs.declared.asked.Part.{Part}
+use Rattle.lset_judge.specs.declared.log.Rest.{Rest}
 use Rattle.lset_judge.specs.declared.window.Window.{Window}
 
 abbrev pub records : List StreamCall → List CallRecord
 records calls = map record_of calls
-
--- the calls of a key that begin after one moment and by another
-abbrev pub begun_between : ℕ → ℕ → ℕ → List CallRecord → List CallRecord
-begun_between key since upto calls = filter (λ (x : CallRecord). (key_of x.call).0 == key && (nat_lt since x.begun && nat_le x.begun upto)) calls
-
--- the calls of a list that pass some test, which each call passes that changes its key
-pub record IsLess (all some : List StreamCall) : Type 0 where
-  pub test : StreamCall → Bool
-  pub changes : (x : StreamCall) → may_turn (record_of x) ≡ true → test x ≡ true
-  pub is : some ≡ filter test all
 
 -- no order explains these calls of a key, of a set that opens with it or without it: whatever keys they leave, or if they leave the key so
 abbrev pub HaveNone : ℕ → ℕ → Bool → Option Bool → List CallRecord → Type 0
@@ -36,13 +29,33 @@ left_by keys key None = Some (has_key key keys)
 
 -- ---- what the functions on the way say
 
--- they have none if their threads are below a number
+-- they are a history that has none, if their threads are below a number
 abbrev pub HaveNoneOf : ℕ → ℕ → Bool → Option Bool → List StreamCall → Type 0
-HaveNoneOf threads key there left calls = All (λ (x : StreamCall). x.thread < threads) calls → HaveNone threads key there left (records calls)
+HaveNoneOf threads key there left calls = All (λ (x : StreamCall). x.thread < threads) calls
+    → IsHistory threads (records calls) × HaveNone threads key there left (records calls)
 
--- the call changes its key, or begins before one moment or after another
-abbrev pub stays : ℕ → ℕ → StreamCall → Bool
-stays first last x = may_turn (record_of x) || (nat_lt x.begun first || nat_lt last x.begun)
+-- a call of a window is asked if it is shown or is a change, and it is asked as pending if it is not shown
+abbrev pub is_asked : Part → Bool
+is_asked p = p.is_shown || may_turn (record_of p.call)
+
+abbrev pub asked_as : Part → StreamCall
+asked_as p = record { thread = p.place; call = p.call.call; begun = p.call.begun; ended = if p.is_shown then p.call.ended else None }
+
+abbrev pub asked_of : List Part → List StreamCall
+asked_of parts = map asked_as (filter is_asked parts)
+
+abbrev pub calls_of : List Part → List StreamCall
+calls_of parts = map (λ (p : Part). p.call) parts
+
+abbrev pub shown_of : List Part → List StreamCall
+shown_of parts = map (λ (p : Part). p.call) (filter (λ (p : Part). p.is_shown) parts)
+
+abbrev pub hidden_between : ℕ → ℕ → Part → Part
+hidden_between first last p = record {
+  call = p.call;
+  place = p.place;
+  is_shown = p.is_shown && (nat_lt p.call.begun first || nat_lt last p.call.begun);
+}
 
 -- an add or a remove that turned its key so
 abbrev pub turns_to : Bool → Call → Bool
@@ -60,13 +73,50 @@ pub record IsMaker (calls : List CallRecord) (key since : ℕ) (there : Bool) (x
   pub known : Has calls (record_of x)
   pub makes : makes_so key since there x ≡ true
 
--- THE WINDOW: at its moment the key is at rest, and there or not; and of the calls of the key that begin after that moment and by another,
--- some, with each that changes the key, have no order from there
-pub record IsWindow (threads : ℕ) (opening : List ℕ) (calls : List CallRecord) (left : Option Bool) (w : Window) : Type 0 where
+-- a call of the recording and of a key that begins after a moment
+pub record IsAfter (calls : List CallRecord) (key since : ℕ) (x : CallRecord) : Type 0 where
+  pub known : Has calls x
+  pub own : (key_of x.call).0 ≡ key
+  pub begins : since < x.begun
+
+-- a call but for its thread
+pub record IsSame (x y : CallRecord) : Type 0 where
+  pub call : y.call ≡ x.call
+  pub begun : y.begun ≡ x.begun
+  pub ended : y.ended ≡ x.ended
+
+-- a call but for its thread, as pending
+pub record IsOpened (x y : CallRecord) : Type 0 where
+  pub call : y.call ≡ x.call
+  pub begun : y.begun ≡ x.begun
+  pub ended : y.ended ≡ None
+
+-- up to the moment of a refusal, or up to one by which all calls began
+abbrev pub IsReached : Option ℕ → List CallRecord → ℕ → Type 0
+IsReached None calls upto = All (λ (x : CallRecord). x.begun ≤ upto) calls
+IsReached (Some moment) calls upto = moment ≡ upto
+
+-- THE WINDOW: at its moment the key is at rest, and there or not; and from there calls have no order that are the shown ones, and of the other
+-- changes of the key that begin after that moment, up to the refusal's, each as pending: whatever became of them
+pub record IsWindow (threads : ℕ) (opening : List ℕ) (calls : List CallRecord) (left : Option Bool) (moment : Option ℕ) (w : Window) : Type 0 where
   pub rest : IsAtRest threads opening calls w.key.0 w.since w.there
-  pub upto : ℕ
-  pub all : List StreamCall
-  pub are : records all ≡ begun_between w.key.0 w.since upto calls
-  pub some : IsLess all w.calls.items
   pub made : IfSome w.before (IsMaker calls w.key.0 w.since w.there)
-  pub none : HaveNone threads w.key.0 w.there left (records w.calls.items)
+  pub upto : ℕ
+  pub reached : IsReached moment calls upto
+  -- the calls that are asked are a history by itself, and have no order from there
+  pub bound : ℕ
+  pub asked : List CallRecord
+  pub history : IsHistory bound asked
+  pub none : HaveNone bound w.key.0 w.there left asked
+  -- each call that is shown is one of the recording, and is asked;
+  pub shown : All (λ (c : StreamCall). IsAfter calls w.key.0 w.since (record_of c) × ((y : CallRecord) × Has asked y × IsSame (record_of c) y)) w.calls.items
+  -- each call that is asked is one that is shown, or a change of the recording, as pending;
+  pub others : All (λ (y : CallRecord). ((c : StreamCall) × Has w.calls.items c × IsSame (record_of c) y)
+      ⊎ ((x : CallRecord) × IsAfter calls w.key.0 w.since x × (may_turn x ≡ true) × IsOpened x y)) asked
+  -- and each change of the key is asked
+  pub changes : All (λ (x : CallRecord). (key_of x.call).0 ≡ w.key.0 → may_turn x ≡ true → w.since < x.begun → x.begun ≤ upto
+      → (y : CallRecord) × Has asked y × (IsSame x y ⊎ IsOpened x y)) calls
+
+-- a key at rest at a moment no earlier than another
+abbrev pub IsRestOf : ℕ → List ℕ → List CallRecord → ℕ → ℕ → Rest → Type 0
+IsRestOf threads opening calls key since r = (since ≤ r.since) × IsAtRest threads opening calls key r.since r.there

@@ -1,17 +1,61 @@
-//! A fresh stream is asked whether some calls of a key have an order.
+//! A fresh stream is asked whether some calls of a key have an order, and which of them need not be shown.
 
-ghost use Rattle.std.specs.Prelude.{◌≡◌, ◌<◌, ◌||◌, ℕ, All, IfOk, OnOk, IfSome, IsTrue, filter};
+ghost use Rattle.std.specs.Prelude.{◌≡◌, ◌<◌, ℕ, All, IfOk, OnOk, IfSome, IsTrue, filter, map};
 ghost use Rattle.std.specs.List.Sorted.{IsStrictlyIncreasing};
-ghost use Rattle.lset_judge.specs.Rest.{key_if, may_turn};
-ghost use Rattle.lset_judge.specs.Stream.{record_of, IsStreamOf};
-ghost use Rattle.lset_judge.specs.Window.{records, stays, HaveNoneOf, IsLess};
+ghost use Rattle.lset_judge.specs.Rest.{key_if};
+ghost use Rattle.lset_judge.specs.Stream.{IsStreamOf};
+ghost use Rattle.lset_judge.specs.Window.{records, asked_as, asked_of, calls_of, hidden_between, is_asked, HaveNoneOf};
 
+use crate::log::may_turn;
 use crate::stream::{Stream, StreamCall, StreamFault, StreamVerdict};
-use lset_words::{Call, Key, Reply};
 use std::alloc::{AllocError, Global};
 
-/// How many calls are looked at, at most, to find superfluous ones.
-const MOST_TRIED: u64 = 1 << 22;
+/// How many calls are looked at, at most, to find those that need not be shown.
+const MOST_TRIED: u64 = 1 << 20;
+
+/// A call of a window, its place among the calls of the window, and whether it is shown.
+#[derive(Clone, Copy)]
+pub(crate) struct Part {
+    pub(crate) call: StreamCall,
+    pub(crate) place: u32,
+    pub(crate) is_shown: bool,
+}
+
+impl Part {
+    /// Whether the call is asked: it is shown, or is a change.
+    fn is_asked(self) -> bool
+        ensures { result ≡ is_asked self }
+    {
+        self.is_shown || may_turn(self.call)
+    }
+
+    /// The call as it is asked: of a thread of its own, and pending unless it is shown. Whatever becomes of a pending change is asked so.
+    fn asked(self) -> StreamCall
+        ensures { result ≡ asked_as self }
+    {
+        StreamCall {
+            thread: self.place,
+            call: self.call.call,
+            begun: self.call.begun,
+            ended: if self.is_shown { self.call.ended } else { None },
+        }
+    }
+
+    /// The call as not shown, if it begins at one moment or another, or between them.
+    fn hidden_between(self, first: u64, last: u64) -> Part
+        ensures { result ≡ hidden_between first last self }
+    {
+        Part {
+            call: self.call,
+            place: self.place,
+            is_shown: self.is_shown && (self.call.begun < first || last < self.call.begun),
+        }
+    }
+
+    fn is_shown_between(self, block: (u64, u64)) -> bool {
+        self.is_shown && block.0 <= self.call.begun && self.call.begun <= block.1
+    }
+}
 
 /// The key, if it is there.
 fn key_if(alloc: Global, there: bool, key: u32) -> Result<Vec<u32>, AllocError>
@@ -25,7 +69,7 @@ fn key_if(alloc: Global, there: bool, key: u32) -> Result<Vec<u32>, AllocError>
     Ok(keys)
 }
 
-/// The stream of these calls, of a set that opens with the key, or without it.
+/// The stream of these calls, of a set that opens with the key, or without it, which has come to its end; if they are one.
 fn stream_of(
     alloc: Global,
     key: u32,
@@ -53,8 +97,8 @@ fn stream_of(
     Ok(Some(stream))
 }
 
-/// Whether no order explains these calls of a key alone.
-pub(crate) fn have_none(
+/// Whether these calls of a key alone are a history that no order explains.
+fn have_none(
     alloc: Global,
     key: u32,
     there: bool,
@@ -63,17 +107,18 @@ pub(crate) fn have_none(
 ) -> Result<bool, AllocError>
     ensures { IfOk result (λ none. IsTrue none → (threads : ℕ) → HaveNoneOf threads key there left calls.now) }
 {
-    let Some(stream) = stream_of(alloc, key, there, calls)? else {
+    let Some(mut stream) = stream_of(alloc, key, there, calls)? else {
         return Ok(false);
     };
+    stream.come_to_end()?;
     match left {
-        None => match stream.close_cut_off()? {
+        None => match stream.verdict_cut_off() {
             StreamVerdict::NotLinearizable(_) => Ok(true),
             StreamVerdict::Linearizable => Ok(false),
         },
         Some(left) => {
             let keys = key_if(alloc, left, key)?;
-            match stream.close(&keys)? {
+            match stream.verdict(&keys) {
                 StreamVerdict::NotLinearizable(_) => Ok(true),
                 StreamVerdict::Linearizable => Ok(false),
             }
@@ -81,68 +126,90 @@ pub(crate) fn have_none(
     }
 }
 
-/// Whether a call changes its key, or may.
-pub(crate) fn may_turn(call: StreamCall) -> bool
-    ensures { result ≡ may_turn (record_of call) }
+fn asked_of(alloc: Global, parts: &[Part]) -> Result<Vec<StreamCall>, AllocError>
+    ensures { IfOk result (λ calls. calls.items ≡ asked_of parts.now) }
 {
-    match (call.call, call.ended) {
-        (Call::Add(_) | Call::Remove(_), None | Some((_, Reply::True))) => true,
-        (
-            Call::Add(_) | Call::Remove(_),
-            Some((_, Reply::False | Reply::Full | Reply::At(_) | Reply::Nothing)),
-        )
-        | (Call::Contains(_) | Call::Ceiling(_), _) => false,
-    }
-}
-
-/// Whether a call changes its key, or begins before one moment or after another.
-fn stays(call: StreamCall, first: u64, last: u64) -> bool
-    ensures { result ≡ stays first last call }
-{
-    may_turn(call) || call.begun < first || last < call.begun
-}
-
-/// The calls without those that change nothing and begin at one moment or another, or between them.
-fn without_looks(
-    alloc: Global,
-    calls: &[StreamCall],
-    first: u64,
-    last: u64,
-) -> Result<Vec<StreamCall>, AllocError>
-    ensures { IfOk result (λ fewer. fewer.items ≡ filter (stays first last) calls.now) }
-{
-    calls
+    let asked: Vec<Part> = parts
         .iter()
         .copied()
-        .filter(|call| stays(*call, first, last))
+        .filter(|part| part.is_asked())
+        .collect(alloc)?;
+    asked.iter().map(|part| part.asked()).collect(alloc)
+}
+
+/// Whether these calls of a key have no order, whatever became of those that are not shown.
+pub(crate) fn parts_have_none(
+    alloc: Global,
+    key: u32,
+    there: bool,
+    left: Option<bool>,
+    parts: &[Part],
+) -> Result<bool, AllocError>
+    ensures { IfOk result (λ none. IsTrue none → (threads : ℕ) → HaveNoneOf threads key there left (asked_of parts.now)) }
+{
+    let calls = asked_of(alloc, parts)?;
+    let none = have_none(alloc, key, there, left, &calls)?;
+    Ok(none)
+}
+
+/// The calls, without showing those that begin at one moment or another, or between them.
+fn without(alloc: Global, parts: &[Part], first: u64, last: u64) -> Result<Vec<Part>, AllocError>
+    ensures { IfOk result (λ fewer. fewer.items ≡ map (hidden_between first last) parts.now) }
+{
+    parts
+        .iter()
+        .copied()
+        .map(|part| part.hidden_between(first, last))
         .collect(alloc)
 }
 
-/// Leaves out calls that change nothing, where the others still have no order.
+/// Shows no call that begins at one moment or another, or between them, if there is still no order; and how many calls that took.
+fn leave_out(
+    alloc: Global,
+    key: u32,
+    there: bool,
+    left: Option<bool>,
+    parts: &mut Vec<Part>,
+    block: (u64, u64),
+) -> Result<u64, AllocError>
+    ensures same { OnOk result (calls_of parts.new.items ≡ calls_of parts.old.items) }
+    ensures none { OnOk result ((threads : ℕ) → HaveNoneOf threads key there left (asked_of parts.old.items)
+        → HaveNoneOf threads key there left (asked_of parts.new.items)) }
+{
+    if !parts.iter().any(|part| part.is_shown_between(block)) {
+        return Ok(0);
+    }
+    let (first, last) = block;
+    let fewer = without(alloc, parts, first, last)?;
+    let tried = fewer.len() as u64;
+    if parts_have_none(alloc, key, there, left, &fewer)? {
+        *parts = fewer;
+        return Ok(tried);
+    }
+    Ok(tried)
+}
+
+/// Shows no call that need not be shown: blocks of calls are left out, from all of them down to single ones, where there is still no order.
 pub(crate) fn shorten(
     alloc: Global,
     key: u32,
     there: bool,
     left: Option<bool>,
-    calls: &mut Vec<StreamCall>,
+    parts: &mut Vec<Part>,
 ) -> Result<(), AllocError>
-    ensures less { OnOk result (IsLess calls.old.items calls.new.items) }
-    ensures none { OnOk result ((threads : ℕ) → HaveNoneOf threads key there left calls.old.items
-        → HaveNoneOf threads key there left calls.new.items) }
+    ensures same { OnOk result (calls_of parts.new.items ≡ calls_of parts.old.items) }
+    ensures none { OnOk result ((threads : ℕ) → HaveNoneOf threads key there left (asked_of parts.old.items)
+        → HaveNoneOf threads key there left (asked_of parts.new.items)) }
 {
     let mut budget = MOST_TRIED;
-    let mut size = calls.len();
+    let mut size = parts.len();
     while size > 0 {
         let mut at = 0;
-        while at < calls.len() && budget > 0 {
-            budget = budget.saturating_sub(calls.len() as u64);
-            let last = at.saturating_add(size - 1).min(calls.len() - 1);
-            let fewer = without_looks(alloc, calls, calls[at].begun, calls[last].begun)?;
-            if fewer.len() < calls.len() && have_none(alloc, key, there, left, &fewer)? {
-                *calls = fewer;
-            } else {
-                at = at.saturating_add(size);
-            }
+        while at < parts.len() && budget > 0 {
+            let end = at.saturating_add(size - 1).min(parts.len() - 1);
+            let block = (parts[at].call.begun, parts[end].call.begun);
+            budget = budget.saturating_sub(leave_out(alloc, key, there, left, parts, block)?);
+            at = at.saturating_add(size);
         }
         size /= 2;
     }

@@ -14,9 +14,10 @@ mod event;
 mod history;
 mod judged;
 mod judging;
-mod kept;
 mod keys;
+mod log;
 mod overlaps;
+mod pending;
 mod rule;
 mod stream;
 mod window;
@@ -26,7 +27,7 @@ pub use judged::{is_judged, is_plain};
 pub use judging::{Judge, Verdict};
 pub use overlaps::Overlaps;
 pub use stream::{LAST_MOMENT, Refusal, StreamCall, StreamFault};
-pub use window::Window;
+pub use window::{Hidden, Window};
 
 /// Locality: put each key of a recording into one of several parts, and into each part the calls, the opening keys and the keys left
 /// of its keys. Some order explains the recording exactly if some order explains each part. So if `judge` says of each part that it

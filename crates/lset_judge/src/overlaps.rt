@@ -1,7 +1,7 @@
 //! How many calls overlap a change of their key, counted as the calls pass: where these are few, that some order explains the calls says
 //! little.
 
-use crate::asked::may_turn;
+use crate::log::may_turn;
 use crate::stream::StreamCall;
 use std::alloc::{AllocError, Global};
 use std::collections::BTreeMap;

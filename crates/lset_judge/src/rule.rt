@@ -1,12 +1,15 @@
 //! The rule: which pending change of a key takes effect, and when it has to.
 
-ghost use Rattle.std.specs.Prelude.{◌≡◌, ◌↔◌, [], IsTrue, ℕ, suc, ◌<◌, ◌≤◌, ◌==◌, length, true, false, IfOk, Some, None, slice_index};
+ghost use Rattle.std.specs.Prelude.{◌≡◌, ◌↔◌, [], IsTrue, ℕ, suc, ◌<◌, ◌≤◌, ◌==◌, length, true, false, IfOk, IfSome, OnOk, Option, Bool, Some, None, slice_index};
 ghost use Rattle.std.specs.Prelude.{if◌then◌else◌};
 ghost use Rattle.lset_judge.specs.Rule.{not_before, options, turned_if, fits, found, entered, opened};
 ghost use Rattle.lset_judge.specs.Leaving.{may_be_left};
 ghost use Rattle.lset_judge.specs.Code.{state_of};
+ghost use Rattle.lset_judge.specs.Log.{log_of, log_opened, pushed, IsQuiet};
 
 use crate::event::Event;
+use crate::log::Log;
+use crate::stream::StreamCall;
 use std::alloc::{AllocError, Global};
 
 /// The state of a key: whether it is there, and since when; and the pending changes that have not taken effect, by their ends.
@@ -16,6 +19,7 @@ pub(crate) struct KeyState {
     turned: u64,
     puts: Vec<u64>,
     takes: Vec<u64>,
+    pub(crate) log: Log,
 }
 
 fn none_due(ends: &[u64], before: u64) -> bool
@@ -48,28 +52,30 @@ fn nearest_place(ends: &[u64]) -> usize
 impl KeyState {
     /// A key that is there at first, or not.
     pub(crate) fn opened(alloc: Global, there: bool) -> KeyState
-        ensures { state_of result ≡ opened there }
+        ensures state { state_of result ≡ opened there }
+        ensures log { log_of result.log ≡ log_opened there }
     {
         KeyState {
             there,
             turned: 0,
             puts: Vec::new(alloc),
             takes: Vec::new(alloc),
+            log: Log::opened(alloc, there),
         }
     }
 
-    /// Whether the key is there now.
-    pub(crate) fn is_there(&self) -> bool
-        ensures { result ≡ (state_of self.now).there }
+    /// What is kept of the calls of the key.
+    pub(crate) fn into_log(self) -> Log
+        ensures { result ≡ self.log }
     {
-        self.there
-    }
-
-    /// Whether each change that has begun has taken effect.
-    pub(crate) fn is_quiet(&self) -> bool
-        ensures { IsTrue result ↔ (((state_of self.now).puts ≡ []) × ((state_of self.now).takes ≡ [])) }
-    {
-        self.puts.is_empty() && self.takes.is_empty()
+        let KeyState {
+            there: _,
+            turned: _,
+            puts: _,
+            takes: _,
+            log,
+        } = self;
+        log
     }
 
     /// Whether the key may be left there, or not there: it is so, or turns once more.
@@ -86,7 +92,8 @@ impl KeyState {
 
     fn put(&mut self, before: u64) -> bool
         requires { self.old.there ≡ false }
-        ensures { turned_if before (state_of self.old) (options (state_of self.old)) ≡ (if result then Some (state_of self.new) else None) }
+        ensures turned { turned_if before (state_of self.old) (options (state_of self.old)) ≡ (if result then Some (state_of self.new) else None) }
+        ensures log { self.new.log ≡ self.old.log }
     {
         if self.puts.is_empty() {
             return false;
@@ -100,7 +107,8 @@ impl KeyState {
 
     fn take(&mut self, before: u64) -> bool
         requires { self.old.there ≡ true }
-        ensures { turned_if before (state_of self.old) (options (state_of self.old)) ≡ (if result then Some (state_of self.new) else None) }
+        ensures turned { turned_if before (state_of self.old) (options (state_of self.old)) ≡ (if result then Some (state_of self.new) else None) }
+        ensures log { self.new.log ≡ self.old.log }
     {
         if self.takes.is_empty() {
             return false;
@@ -113,7 +121,8 @@ impl KeyState {
     }
 
     fn flip(&mut self, before: u64) -> bool
-        ensures { turned_if before (state_of self.old) (options (state_of self.old)) ≡ (if result then Some (state_of self.new) else None) }
+        ensures turned { turned_if before (state_of self.old) (options (state_of self.old)) ≡ (if result then Some (state_of self.new) else None) }
+        ensures log { self.new.log ≡ self.old.log }
     {
         if self.there {
             self.take(before)
@@ -136,7 +145,8 @@ impl KeyState {
 
     /// Lets changes take effect after a moment until the next one's event finds what it asks; whether it does.
     pub(crate) fn settle(&mut self, before: u64, event: Event) -> bool
-        ensures { found before event (state_of self.old) ≡ (if result then Some (state_of self.new) else None) }
+        ensures found { found before event (state_of self.old) ≡ (if result then Some (state_of self.new) else None) }
+        ensures log { self.new.log ≡ self.old.log }
     {
         while !self.fits(before, event) {
             if !self.flip(before) {
@@ -148,8 +158,9 @@ impl KeyState {
 
     /// The event of the moment after `before`: whether the rule goes on.
     pub(crate) fn meet(&mut self, before: u64, event: Event) -> Result<bool, AllocError>
-        ensures { IfOk result (λ goes_on. entered event (found before event (state_of self.old))
+        ensures met { IfOk result (λ goes_on. entered event (found before event (state_of self.old))
             ≡ (if goes_on then Some (state_of self.new) else None)) }
+        ensures log { OnOk result (self.new.log ≡ self.old.log) }
     {
         if !self.settle(before, event) {
             return Ok(false);
@@ -160,5 +171,35 @@ impl KeyState {
             Event::Ends(_) | Event::Looks(_, _) | Event::Leaves(_) | Event::Idle => {}
         }
         Ok(true)
+    }
+
+    /// Whether the key is there, if the rule went on and each change that has begun has taken effect.
+    fn quiet_after(&self, goes_on: bool) -> Option<bool>
+        ensures quiet { IsQuiet (state_of self.now) result }
+        ensures only { IfSome result (λ _. goes_on ≡ true) }
+    {
+        if goes_on && self.puts.is_empty() && self.takes.is_empty() {
+            Some(self.there)
+        } else {
+            None
+        }
+    }
+
+    /// The end of a call at the moment after `before`, which is kept: whether the rule goes on.
+    pub(crate) fn meet_end(
+        &mut self,
+        before: u64,
+        event: Event,
+        call: StreamCall,
+    ) -> Result<bool, AllocError>
+        ensures met { IfOk result (λ goes_on. entered event (found before event (state_of self.old))
+            ≡ (if goes_on then Some (state_of self.new) else None)) }
+        ensures kept { IfOk result (λ goes_on. (quiet : Option Bool) × IsQuiet (state_of self.new) quiet × IfSome quiet (λ _. goes_on ≡ true)
+            × (log_of self.new.log ≡ pushed (record { call = call; quiet = quiet }) (log_of self.old.log))) }
+    {
+        let goes_on = self.meet(before, event)?;
+        let quiet = self.quiet_after(goes_on);
+        self.log.push(call, quiet)?;
+        Ok(goes_on)
     }
 }

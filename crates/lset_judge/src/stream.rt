@@ -2,23 +2,25 @@
 
 ghost use Rattle.std.specs.Prelude.{◌≡◌, ◌≢◌, ◌↔◌, ◌<◌, ◌≤◌, ◌+◌, ◌++◌, ◌∷◌, [], ℕ, IsTrue, All, List, length, false, true, None, Some, IfOk, OnOk, IfErr, IfSome, MatchOption, if◌then◌else◌};
 ghost use Rattle.std.specs.Prelude.{Contains, IsSome, slice_index_or, ◌==◌, ◌&&◌};
-ghost use Rattle.std.specs.List.{remove};
 ghost use Rattle.std.specs.List.Sorted.{IsStrictlyIncreasing};
 ghost use Rattle.std.specs.Ordering.{nat_cmp};
 ghost use Rattle.std.specs.BTreeMap.{get};
 ghost use Rattle.lset_words.specs.declared.history.CallRecord.{CallRecord as RecordedCall};
 ghost use Rattle.lset_words.specs.SequentialSet.{has_key};
+ghost use Rattle.lset_words.specs.Words.{key_of};
 ghost use Rattle.lset_judge.specs.Rule.{entered, found, opened};
 ghost use Rattle.lset_judge.specs.Events.{kind_if, until_if, begin_event, end_event};
 ghost use Rattle.lset_judge.specs.Leaving.{may_be_left};
-ghost use Rattle.lset_judge.specs.Rest.{ends_change, IsAtRest};
-ghost use Rattle.lset_judge.specs.Stream.{record_of, stream_history, behind_all, state_for, pending_of, no_pending, IsBefore, IsNearest, IsMet, IsStreamOf, MayCome, failed_verdict, verdict_of_key, moment_of, pending_in, IsStreamVerdict, IsStreamVerdictCutOff};
+ghost use Rattle.lset_judge.specs.Log.{log_of, log_for, log_opened, log_upto, waiting_of, with_pending, IsKept, LogsEnd, StaysLog, AreLogged};
+ghost use Rattle.lset_judge.specs.Stream.{record_of, stream_history, behind_all, state_for, pending_of, key_in, event_of, IsBefore, IsMet, IsStreamOf, MayCome, failed_verdict, verdict_of_key, moment_of, pending_in, IsStreamVerdict, IsStreamVerdictCutOff, IsMetBy, IsToldBy};
 ghost use Rattle.lset_judge.specs.Verdict.{is_plain};
 ghost use Rattle.lset_judge.specs.declared.stream.StreamFault.TheVariants.{Memory};
 
 use crate::event::{Event, Kind, begin_event, end_event, ended_kind, open_kind};
 use crate::judged::is_answer;
 use crate::keys::is_among;
+use crate::log::Log;
+use crate::pending::PendingCalls;
 use crate::rule::KeyState;
 use lset_words::{Call, Key, Reply};
 use std::alloc::{AllocError, Global};
@@ -98,16 +100,20 @@ pub(crate) struct Failed {
     pub(crate) moment: u64,
 }
 
-/// A call that has not ended yet: before which moment it takes effect, its thread, and what its end is to its key.
+/// A call that has not ended yet, and before which moment it takes effect.
 #[derive(Clone, Copy)]
 pub(crate) struct Pending {
     pub(crate) end: u64,
-    pub(crate) thread: u32,
-    pub(crate) key: u32,
-    pub(crate) event: Event,
+    pub(crate) call: StreamCall,
 }
 
 impl StreamCall {
+    pub(crate) fn is_of(self, key: u32) -> bool
+        ensures { result ≡ ((key_of self.call).0 == key) }
+    {
+        self.call.key().0 == key
+    }
+
     fn kind(self) -> Kind
         ensures { result ≡ kind_if self.call self.ended }
     {
@@ -133,9 +139,7 @@ impl StreamCall {
     {
         Pending {
             end: self.until(),
-            thread: self.thread,
-            key: self.call.key().0,
-            event: end_event(self.kind(), self.begun),
+            call: self,
         }
     }
 
@@ -168,25 +172,17 @@ impl StreamCall {
 }
 
 impl Pending {
-    fn is_apart(self, call: StreamCall) -> bool
-        ensures { IsTrue result ↔ ((self.end ≢ call.begun) × IfSome call.ended (λ end. self.end ≢ end.0)) }
+    pub(crate) fn key(self) -> u32
+        ensures { result ≡ key_in self }
     {
-        match call.ended {
-            Some((end, _)) => self.end != call.begun && self.end != end,
-            None => self.end != call.begun,
-        }
+        self.call.call.key().0
     }
 
-    fn is_free(self, call: StreamCall) -> bool
-        ensures { IsTrue result ↔ (self.thread ≡ call.thread → self.end ≤ call.begun) }
+    /// What the end of the call is to its key.
+    pub(crate) fn event(self) -> Event
+        ensures { result ≡ event_of self }
     {
-        self.thread != call.thread || self.end <= call.begun
-    }
-
-    fn changes(self, key: u32) -> bool
-        ensures { result ≡ (self.key == key && ends_change self.event) }
-    {
-        self.key == key && matches!(self.event, Event::Ends(_))
+        end_event(self.call.kind(), self.call.begun)
     }
 }
 
@@ -201,6 +197,7 @@ fn meet_key(
     ensures met { IfOk result (λ goes_on. entered event (found before event (state_for states.old key))
         ≡ (if goes_on then Some (state_for states.new key) else None)) }
     ensures others { IfOk result (λ goes_on. (k : ℕ) → k ≢ key → state_for states.new k ≡ state_for states.old k) }
+    ensures logs { OnOk result ((k : ℕ) → log_for states.new k ≡ log_for states.old k) }
 {
     if let Some(state) = states.get_mut(&key) {
         let goes_on = state.meet(before, event)?;
@@ -212,53 +209,88 @@ fn meet_key(
     Ok(goes_on)
 }
 
-/// Whether a pending call has a moment of the call, or else is of its thread.
-fn clash(pending: &[Pending], call: StreamCall) -> Option<StreamFault>
-    ensures { MatchOption result
-        (All (λ p. (p.end ≢ call.begun) × IfSome call.ended (λ end. p.end ≢ end.0)) pending.now
-        × All (λ p. p.thread ≡ call.thread → p.end ≤ call.begun) pending.now)
-        (λ fault. All (λ p. (p.end ≢ call.begun) × IfSome call.ended (λ end. p.end ≢ end.0)) pending.now
-        → All (λ p. p.thread ≡ call.thread → p.end ≤ call.begun) pending.now → ⊥) }
-{
-    let mut is_free = true;
-    for it in pending {
-        if !it.is_apart(call) {
-            return Some(StreamFault::Taken);
-        }
-        is_free = is_free && it.is_free(call);
-    }
-    if is_free {
-        None
-    } else {
-        Some(StreamFault::Busy)
-    }
+/// Whether the rule goes on where a call ends, and whether it is time to look which of the calls of its key are needed.
+#[derive(Clone, Copy)]
+struct EndMet {
+    goes_on: bool,
+    is_due: bool,
 }
 
-/// The pending call whose end is nearest, if it is before a moment.
-fn nearest_end(pending: &[Pending], before: u64) -> Option<usize>
-    ensures inside { IfSome result (λ place. place < length pending.now) }
-    ensures nearest { MatchOption result (All (λ p. before ≤ p.end) pending.now)
-        (λ place. IsNearest before pending.now place) }
+/// Lets a call end at the moment after `before`, which is kept.
+fn meet_key_end(
+    states: &mut BTreeMap<u32, KeyState>,
+    alloc: Global,
+    before: u64,
+    event: Event,
+    call: StreamCall,
+) -> Result<EndMet, AllocError>
+    ensures met { IfOk result (λ m. entered event (found before event (state_for states.old (key_of call.call).0))
+        ≡ (if m.goes_on then Some (state_for states.new (key_of call.call).0) else None)) }
+    ensures others { OnOk result ((k : ℕ) → k ≢ (key_of call.call).0 → state_for states.new k ≡ state_for states.old k) }
+    ensures logs { OnOk result ((k : ℕ) → k ≢ (key_of call.call).0 → log_for states.new k ≡ log_for states.old k) }
+    ensures kept { IfOk result (λ m. IsKept states.old call m.goes_on states.new) }
 {
-    if pending.is_empty() {
-        return None;
+    let key = call.call.key().0;
+    if let Some(state) = states.get_mut(&key) {
+        let goes_on = state.meet_end(before, event, call)?;
+        return Ok(EndMet {
+            goes_on,
+            is_due: state.log.is_due(),
+        });
     }
-    let mut place = 0;
-    for i in 1..pending.len() {
-        if pending[i].end < pending[place].end {
-            place = i;
-        }
+    let mut state = KeyState::opened(alloc, false);
+    let goes_on = state.meet_end(before, event, call)?;
+    states.insert(key, state)?;
+    Ok(EndMet {
+        goes_on,
+        is_due: false,
+    })
+}
+
+/// Leaves out the calls of a key that are not needed any more.
+fn settle(
+    states: &mut BTreeMap<u32, KeyState>,
+    alloc: Global,
+    pending: &PendingCalls,
+    key: u32,
+) -> Result<(), AllocError>
+    ensures states { OnOk result ((k : ℕ) → state_for states.new k ≡ state_for states.old k) }
+    ensures others { OnOk result ((k : ℕ) → k ≢ key → log_for states.new k ≡ log_for states.old k) }
+    ensures own { OnOk result (StaysLog key (waiting_of key pending.now) (log_for states.old key) (log_for states.new key)) }
+{
+    let waiting = pending.of_key(alloc, key)?;
+    if let Some(state) = states.get_mut(&key) {
+        state.log.settle(key, &waiting);
+        return Ok(());
     }
-    if pending[place].end < before {
-        Some(place)
-    } else {
-        None
+    Ok(())
+}
+
+/// Keeps the pending calls of a key, of which no more are kept.
+fn keep_pending(
+    states: &mut BTreeMap<u32, KeyState>,
+    alloc: Global,
+    pending: &PendingCalls,
+    key: u32,
+) -> Result<(), AllocError>
+    ensures states { OnOk result ((k : ℕ) → state_for states.new k ≡ state_for states.old k) }
+    ensures own { OnOk result (log_for states.new key ≡ with_pending (waiting_of key pending.now) (log_for states.old key)) }
+{
+    let waiting = pending.of_key(alloc, key)?;
+    if let Some(state) = states.get_mut(&key) {
+        state.log.add_pending(&waiting)?;
+        return Ok(());
     }
+    let mut state = KeyState::opened(alloc, false);
+    state.log.add_pending(&waiting)?;
+    states.insert(key, state)?;
+    Ok(())
 }
 
 /// The states of a set that opens with these keys.
 fn opening_states(alloc: Global, opening: &[u32]) -> Result<BTreeMap<u32, KeyState>, AllocError>
-    ensures { IfOk result (λ states. (k : ℕ) → state_for states k ≡ opened (has_key k opening.now)) }
+    ensures states { IfOk result (λ states. (k : ℕ) → state_for states k ≡ opened (has_key k opening.now)) }
+    ensures logs { IfOk result (λ states. (k : ℕ) → log_for states k ≡ log_opened (has_key k opening.now)) }
 {
     let mut states = BTreeMap::new(alloc);
     for key in opening {
@@ -300,7 +332,7 @@ fn verdict_of_key(key: Option<u32>) -> StreamVerdict
 pub struct Stream {
     alloc: Global,
     states: BTreeMap<u32, KeyState>,
-    pending: Vec<Pending>,
+    pending: PendingCalls,
     moment: u64,
     failed: Option<Failed>,
 }
@@ -310,12 +342,13 @@ impl Stream {
     pub fn new(alloc: Global, opening: &[u32]) -> Result<Stream, AllocError>
         requires { IsStrictlyIncreasing opening.now }
         ensures opened { IfOk result (λ s. (threads : ℕ) → IsStreamOf threads opening.now [] s) }
+        ensures logged { IfOk result (λ s. (threads : ℕ) → AreLogged threads opening.now [] s) }
         ensures moment { IfOk result (λ s. moment_of s ≡ 0) }
     {
         Ok(Stream {
             alloc,
             states: opening_states(alloc, opening)?,
-            pending: Vec::new(alloc),
+            pending: PendingCalls::new(alloc),
             moment: 0,
             failed: None,
         })
@@ -323,8 +356,8 @@ impl Stream {
 
     /// Why a call cannot come next, if it cannot.
     fn find_fault(&self, call: StreamCall) -> Option<StreamFault>
-        ensures { MatchOption result (MayCome self.now.pending.items self.now.moment (record_of call))
-            (λ fault. MayCome self.now.pending.items self.now.moment (record_of call) → ⊥) }
+        ensures { MatchOption result (MayCome self.now.pending self.now.moment (record_of call))
+            (λ fault. MayCome self.now.pending self.now.moment (record_of call) → ⊥) }
     {
         if call.begun <= self.moment || !call.is_before() {
             Some(StreamFault::Early)
@@ -333,13 +366,14 @@ impl Stream {
         } else if !call.is_plain() {
             Some(StreamFault::NotPlain)
         } else {
-            clash(&self.pending, call)
+            self.pending.clash(call)
         }
     }
 
     /// Lets happen what happens of a key at a moment, and goes on to it.
     fn meet(&mut self, key: u32, moment: u64, event: Event) -> Result<(), AllocError>
-        ensures { OnOk result (IsMet self.old key moment event self.new) }
+        ensures met { OnOk result (IsMet self.old key moment event self.new) }
+        ensures logs { OnOk result ((k : ℕ) → log_for self.new.states k ≡ log_for self.old.states k) }
     {
         if matches!(event, Event::Idle) {
             self.moment = moment;
@@ -364,17 +398,47 @@ impl Stream {
         Ok(())
     }
 
-    /// Lets the pending call at a place end, the next one to end.
-    fn meet_end(&mut self, place: usize) -> Result<(), AllocError>
-        requires inside { place < length self.old.pending.items }
-        requires nearest { IsNearest behind_all self.old.pending.items place }
-        ensures kept { OnOk result ((threads : ℕ) (opening : List ℕ) (calls : List RecordedCall) → IsStreamOf threads opening calls self.old
-            → IsStreamOf threads opening calls self.new) }
-        ensures moment { OnOk result (self.new.moment ≡ (slice_index_or self.old.pending.items place no_pending).end) }
-        ensures pending { OnOk result (self.new.pending.items ≡ remove self.old.pending.items place) }
+    /// Lets a call end where the rule has not failed.
+    fn meet_end_going(&mut self, next: Pending) -> Result<(), AllocError>
+        requires { self.old.failed ≡ None }
+        ensures pending { OnOk result (self.new.pending ≡ self.old.pending) }
+        ensures by { OnOk result (IsMetBy self.old.states (key_in next) next.end (event_of next) self.new.states None self.new.failed) }
+        ensures logs { OnOk result (LogsEnd self.old.states self.old.pending next.call self.new.states None self.new.failed) }
     {
-        let next = self.pending.remove(place);
-        self.meet(next.key, next.end, next.event)?;
+        let met = meet_key_end(
+            &mut self.states,
+            self.alloc,
+            next.end.saturating_sub(1),
+            next.event(),
+            next.call,
+        )?;
+        let key = next.key();
+        if !met.goes_on {
+            keep_pending(&mut self.states, self.alloc, &self.pending, key)?;
+            self.failed = Some(Failed {
+                key: Key(key),
+                moment: next.end,
+            });
+            return Ok(());
+        }
+        if met.is_due {
+            settle(&mut self.states, self.alloc, &self.pending, key)?;
+            return Ok(());
+        }
+        Ok(())
+    }
+
+    /// Lets a call end that was pending, and goes on to its end.
+    fn end(&mut self, next: Pending) -> Result<(), AllocError>
+        ensures met { OnOk result (IsMet self.old (key_in next) next.end (event_of next) self.new) }
+        ensures logs { OnOk result (LogsEnd self.old.states self.old.pending next.call self.new.states self.old.failed self.new.failed) }
+    {
+        if self.failed.is_some() {
+            self.moment = next.end;
+            return Ok(());
+        }
+        self.meet_end_going(next)?;
+        self.moment = next.end;
         Ok(())
     }
 
@@ -383,28 +447,32 @@ impl Stream {
         requires { moment ≤ behind_all }
         ensures kept { OnOk result ((threads : ℕ) (opening : List ℕ) (calls : List RecordedCall) → IsStreamOf threads opening calls self.old
             → IsStreamOf threads opening calls self.new) }
+        ensures logged { OnOk result ((threads : ℕ) (opening : List ℕ) (calls : List RecordedCall) → IsStreamOf threads opening calls self.old
+            → AreLogged threads opening calls self.old → AreLogged threads opening calls self.new) }
         ensures before { OnOk result (self.old.moment < moment → self.new.moment < moment) }
-        ensures met { OnOk result (All (λ p. moment ≤ p.end) self.new.pending.items) }
-        ensures some { OnOk result (All (Contains self.old.pending.items) self.new.pending.items) }
+        ensures met { OnOk result (All (λ p. moment ≤ p.end) self.new.pending) }
+        ensures some { OnOk result (All (Contains self.old.pending) self.new.pending) }
     {
-        while let Some(place) = nearest_end(&self.pending, moment) {
-            self.meet_end(place)?;
+        while let Some(next) = self.pending.next_before(moment) {
+            self.end(next)?;
         }
         Ok(())
     }
 
     /// Goes on to the begin of a call, when all has happened that happens before.
     fn begin(&mut self, call: StreamCall) -> Result<(), AllocError>
-        requires may { MayCome self.old.pending.items self.old.moment (record_of call) }
-        requires met { All (λ p. call.begun ≤ p.end) self.old.pending.items }
+        requires may { MayCome self.old.pending self.old.moment (record_of call) }
+        requires met { All (λ p. call.begun ≤ p.end) self.old.pending }
         ensures moment { OnOk result (self.new.moment ≡ call.begun) }
         ensures begun { OnOk result ((threads : ℕ) (opening : List ℕ) (calls : List RecordedCall) → call.thread < threads
             → IsStreamOf threads opening calls self.old → IsStreamOf threads opening (calls ++ record_of call ∷ []) self.new) }
+        ensures logged { OnOk result ((threads : ℕ) (opening : List ℕ) (calls : List RecordedCall) → IsStreamOf threads opening calls self.old
+            → AreLogged threads opening calls self.old → AreLogged threads opening (calls ++ record_of call ∷ []) self.new) }
     {
         let pending = call.pending();
-        self.pending.push(pending)?;
+        self.pending.insert(pending)?;
         self.meet(
-            pending.key,
+            pending.key(),
             call.begun,
             begin_event(call.kind(), pending.end),
         )?;
@@ -412,10 +480,12 @@ impl Stream {
     }
 
     fn take(&mut self, call: StreamCall) -> Result<(), AllocError>
-        requires { MayCome self.old.pending.items self.old.moment (record_of call) }
+        requires { MayCome self.old.pending self.old.moment (record_of call) }
         ensures moment { OnOk result (self.new.moment ≡ call.begun) }
         ensures taken { OnOk result ((threads : ℕ) (opening : List ℕ) (calls : List RecordedCall) → call.thread < threads
             → IsStreamOf threads opening calls self.old → IsStreamOf threads opening (calls ++ record_of call ∷ []) self.new) }
+        ensures logged { OnOk result ((threads : ℕ) (opening : List ℕ) (calls : List RecordedCall) → IsStreamOf threads opening calls self.old
+            → AreLogged threads opening calls self.old → AreLogged threads opening (calls ++ record_of call ∷ []) self.new) }
     {
         self.meet_before(call.begun)?;
         self.begin(call)?;
@@ -428,6 +498,8 @@ impl Stream {
     pub fn add(&mut self, call: StreamCall) -> Result<(), StreamFault>
         ensures added { OnOk result ((threads : ℕ) (opening : List ℕ) (calls : List RecordedCall) → call.thread < threads
             → IsStreamOf threads opening calls self.old → IsStreamOf threads opening (calls ++ record_of call ∷ []) self.new) }
+        ensures logged { OnOk result ((threads : ℕ) (opening : List ℕ) (calls : List RecordedCall) → IsStreamOf threads opening calls self.old
+            → AreLogged threads opening calls self.old → AreLogged threads opening (calls ++ record_of call ∷ []) self.new) }
         // It has come to the begin of the call.
         ensures moment { OnOk result (moment_of self.new ≡ call.begun) }
         ensures refused { IfErr result (λ fault. fault ≢ StreamFault.Memory
@@ -438,87 +510,6 @@ impl Stream {
         }
         self.take(call)?;
         Ok(())
-    }
-
-    /// Whether a key is there, if each change of it has taken effect.
-    fn quiet_state(&self, key: u32) -> Option<bool>
-        ensures { IfSome result (λ there. ((state_for self.now.states key).there ≡ there)
-            × ((state_for self.now.states key).puts ≡ []) × ((state_for self.now.states key).takes ≡ [])) }
-    {
-        match self.states.get(&key) {
-            None => Some(false),
-            Some(state) => {
-                if state.is_quiet() {
-                    Some(state.is_there())
-                } else {
-                    None
-                }
-            }
-        }
-    }
-
-    /// Whether no change of a key is pending.
-    fn none_changes(&self, key: u32) -> bool
-        ensures { IsTrue result ↔ All (λ p. (p.key == key && ends_change p.event) ≡ false) self.now.pending.items }
-    {
-        self.pending.iter().all(|pending| !pending.changes(key))
-    }
-
-    /// Whether a key is there, if no change of it is pending and the rule has not failed.
-    pub fn rest_of(&self, key: u32) -> Option<bool>
-        ensures { IfSome result (λ there. (threads : ℕ) (opening : List ℕ) (calls : List RecordedCall) → IsStreamOf threads opening calls self.now
-            → IsAtRest threads opening calls key (moment_of self.now) there) }
-    {
-        if self.failed.is_some() || !self.none_changes(key) {
-            return None;
-        }
-        self.quiet_state(key)
-    }
-
-    /// When the earliest of the pending calls of a key began that saw it there, or not there.
-    pub fn earliest_look(&self, key: u32) -> Option<u64> {
-        let mut earliest = None;
-        for pending in &self.pending {
-            if pending.key == key {
-                if let Event::Looks(_, begun) = pending.event {
-                    earliest = match earliest {
-                        None => Some(begun),
-                        Some(before) => Some(begun.min(before)),
-                    };
-                }
-            }
-        }
-        earliest
-    }
-
-    /// The moment to which the stream has come.
-    pub fn moment(&self) -> u64
-        ensures { result ≡ moment_of self.now }
-    {
-        self.moment
-    }
-
-    /// Whether the rule has failed on a key.
-    pub fn has_failed(&self) -> bool {
-        self.failed.is_some()
-    }
-
-    /// Why a call cannot come next, if it cannot.
-    pub fn fault_of(&self, call: StreamCall) -> Option<StreamFault>
-        ensures { MatchOption result (MayCome (pending_in self.now) (moment_of self.now) (record_of call))
-            (λ fault. MayCome (pending_in self.now) (moment_of self.now) (record_of call) → ⊥) }
-    {
-        self.find_fault(call)
-    }
-
-    /// Lets all happen that happens before the begin of a call that may come next.
-    pub fn come_to(&mut self, call: StreamCall) -> Result<(), AllocError>
-        requires { MayCome (pending_in self.old) (moment_of self.old) (record_of call) }
-        ensures kept { OnOk result ((threads : ℕ) (opening : List ℕ) (calls : List RecordedCall) → IsStreamOf threads opening calls self.old
-            → IsStreamOf threads opening calls self.new) }
-        ensures before { OnOk result (moment_of self.new < call.begun) }
-    {
-        self.meet_before(call.begun)
     }
 
     /// A key with a state that is not left as its calls may leave it.
@@ -561,32 +552,60 @@ impl Stream {
         }
     }
 
-    /// Whether some order linearizes all calls of the stream, from the opening keys, and leaves these keys: the answer is `Linearizable`
-    /// exactly if one does, and `NotLinearizable` exactly if none does. The set has no quota.
-    ///
-    /// `keys` are the keys left; they rise. It fails only if memory is refused.
-    pub fn close(mut self, keys: &[u32]) -> Result<StreamVerdict, AllocError>
-        requires { IsStrictlyIncreasing keys.now }
-        ensures { IfOk result (λ verdict. (threads : ℕ) (opening : List ℕ) (calls : List RecordedCall) → IsStreamOf threads opening calls self
-            → IsStreamVerdict (stream_history threads opening calls) keys.now verdict) }
+    /// Lets all happen that is left to happen.
+    pub(crate) fn come_to_end(&mut self) -> Result<(), AllocError>
+        ensures kept { OnOk result ((threads : ℕ) (opening : List ℕ) (calls : List RecordedCall) → IsStreamOf threads opening calls self.old
+            → IsStreamOf threads opening calls self.new) }
+        ensures logged { OnOk result ((threads : ℕ) (opening : List ℕ) (calls : List RecordedCall) → IsStreamOf threads opening calls self.old
+            → AreLogged threads opening calls self.old → AreLogged threads opening calls self.new) }
+        ensures met { OnOk result (All (λ p. behind_all ≤ p.end) (pending_in self.new)) }
     {
-        self.meet_before(BEHIND_ALL)?;
+        self.meet_before(BEHIND_ALL)
+    }
+
+    /// Whether some order linearizes all calls of a stream that has come to its end, from the opening keys, and leaves these keys: the
+    /// answer is `Linearizable` exactly if one does, and `NotLinearizable` exactly if none does. The set has no quota.
+    pub(crate) fn verdict(&self, keys: &[u32]) -> StreamVerdict
+        requires rise { IsStrictlyIncreasing keys.now }
+        requires met { All (λ p. behind_all ≤ p.end) (pending_in self.now) }
+        ensures said { (threads : ℕ) (opening : List ℕ) (calls : List RecordedCall) → IsStreamOf threads opening calls self.now
+            → IsStreamVerdict (stream_history threads opening calls) keys.now result }
+        ensures told { IsToldBy self.now.failed result }
+    {
         match self.failed {
-            Some(failed) => Ok(failed.verdict()),
-            None => Ok(verdict_of_key(self.first_left(keys))),
+            Some(failed) => failed.verdict(),
+            None => verdict_of_key(self.first_left(keys)),
         }
     }
 
-    /// As `close`, of a recording that was cut off, so that the keys left are not known: the answer is `Linearizable` exactly if there are
+    /// As `verdict`, of a recording that was cut off, so that the keys left are not known: the answer is `Linearizable` exactly if there are
     /// keys left with which some order explains the calls, and `NotLinearizable` exactly if none does whatever keys are left.
-    pub fn close_cut_off(mut self) -> Result<StreamVerdict, AllocError>
-        ensures { IfOk result (λ verdict. (threads : ℕ) (opening : List ℕ) (calls : List RecordedCall) → IsStreamOf threads opening calls self
-            → IsStreamVerdictCutOff (stream_history threads opening calls) verdict) }
+    pub(crate) fn verdict_cut_off(&self) -> StreamVerdict
+        requires { All (λ p. behind_all ≤ p.end) (pending_in self.now) }
+        ensures said { (threads : ℕ) (opening : List ℕ) (calls : List RecordedCall) → IsStreamOf threads opening calls self.now
+            → IsStreamVerdictCutOff (stream_history threads opening calls) result }
+        ensures told { IsToldBy self.now.failed result }
     {
-        self.meet_before(BEHIND_ALL)?;
         match self.failed {
-            Some(failed) => Ok(failed.verdict()),
-            None => Ok(StreamVerdict::Linearizable),
+            Some(failed) => failed.verdict(),
+            None => StreamVerdict::Linearizable,
         }
+    }
+
+    /// What is kept of a key: of the one on which the rule has failed up to where it failed, with the calls that were pending then; of
+    /// another one up to the end, with the calls that are pending now.
+    pub(crate) fn into_log(mut self, key: u32) -> Result<Log, AllocError>
+        ensures { IfOk result (λ log. log_of log ≡ log_upto self.failed key self.pending (log_for self.states key)) }
+    {
+        let mut log = match self.states.remove(&key) {
+            Some(state) => state.into_log(),
+            None => Log::opened(self.alloc, false),
+        };
+        if self.failed.is_some() {
+            return Ok(log);
+        }
+        let waiting = self.pending.of_key(self.alloc, key)?;
+        log.add_pending(&waiting)?;
+        Ok(log)
     }
 }

@@ -1,14 +1,9 @@
-use Rattle.std.proofs.Common.{◌≡◌, List, subst, sym, ◌∙◌, rules}
-use Rattle.lset_judge.specs.declared.kept.Kept.{Kept}
-use Rattle.lset_judge.specs.Judge.{kept_for}
-use Rattle.lset_judge.specs.Kept.{AreKept}
-use Rattle.lset_judge.proofs.Shown.{tells_on}
+use Rattle.std.proofs.Common.{sym, subst}
+use Rattle.std.specs.Prelude.{IfSome}
+use Rattle.lset_judge.specs.Log.{log_of}
+use Rattle.lset_judge.specs.declared.log.Log.{Log}
+use Rattle.lset_judge.proofs.Windows.{TellsOf, tells_stream}
 use Rattle.lset_judge.proofs.judging.window_for.Goals as goal
 
-pub returns-in_ok-found-in-Some : goal.returns-in_ok-found-in-Some
-returns-in_ok-found-in-Some c =
-    let key = c.args.key in
-    let own : kept_for c.args.kept.now key.0 ≡ c.in-Some.calls.now.items = search rules in
-    tells_on key c.args.left (λ threads upto opening calls. AreKept threads opening calls key.0 upto c.deref.result.now)
-    (λ threads upto opening calls. AreKept threads opening calls key.0 upto (kept_for c.args.kept.now key.0)) c.in_ok-found-in-Some.found
-    (λ threads upto opening calls a. subst (AreKept threads opening calls key.0 upto) (own ∙ sym c.deref.ensures.value) a) c.in_ok-found-in-Some.ensures
+pub returns : goal.returns
+returns c = tells_stream c.args.stream c.args.refusal c.args.left (log_of c.in_ok-log.log) c.requires c.in_ok-log.ensures c.in_ok-window.window c.in_ok-window.ensures

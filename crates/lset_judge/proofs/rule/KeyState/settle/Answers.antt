@@ -7,11 +7,14 @@ use Rattle.lset_judge.proofs.rule.KeyState.settle.Goals as goal
 pub loop-event-smaller : goal.loop-event-smaller
 loop-event-smaller c =
     let s = state_of c.loop-event.self in
-    let fewer = one_fewer c.args.before s.there s.turned s.puts s.takes (state_of c.flip.new.self) c.if-not-flip.ensures in
+    let fewer = one_fewer c.args.before s.there s.turned s.puts s.takes (state_of c.flip.new.self) c.if-not-flip.ensures.turned in
     let less : open_changes (state_of c.flip.new.self) < open_changes s = omega (arith, fewer) in less
 
 pub loop-event-preserved : goal.loop-event-preserved
 loop-event-preserved c =
     let s = state_of c.loop-event.self in
     let not_found : fits (suc c.args.before) c.args.event s ≡ false = sym c.loop-event-test.ensures in
-    sym (settles_on c.args.before c.args.event s (state_of c.flip.new.self) not_found c.if-not-flip.ensures) ∙ c.loop-event.invariant
+    record {
+      found = sym (settles_on c.args.before c.args.event s (state_of c.flip.new.self) not_found c.if-not-flip.ensures.turned) ∙ c.loop-event.invariant.found;
+      log = c.if-not-flip.ensures.log ∙ c.loop-event.invariant.log;
+    }

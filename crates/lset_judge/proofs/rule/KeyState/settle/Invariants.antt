@@ -4,7 +4,10 @@ use Rattle.lset_judge.specs.Code.{state_of}
 use Rattle.lset_judge.proofs.rule.KeyState.settle.Given as goal
 
 abbrev pub invariant-loop-event : goal.invariant-loop-event
-invariant-loop-event l = found l.before l.event (state_of l.self) ≡ found l.initial.before l.initial.event (state_of l.initial.self)
+invariant-loop-event l = record {
+  found : found l.before l.event (state_of l.self) ≡ found l.initial.before l.initial.event (state_of l.initial.self);
+  log : l.self.log ≡ l.initial.self.log;
+}
 
 abbrev pub decreases-loop-event : goal.decreases-loop-event
 decreases-loop-event l = open_changes (state_of l.self)

@@ -1,8 +1,8 @@
 use Rattle.lset_judge.proofs.Ends.{take_turned}
 use Rattle.lset_judge.proofs.rule.KeyState.take.Goals as goal
 
-pub returns : goal.returns
-returns c =
+pub returns-clause-turned : goal.returns-clause-turned
+returns-clause-turned c =
     let s = c.args.self.now in
     let near = c.nearest_place-place in
     take_turned c.args.before s.turned near.result s.there s.puts.items s.takes.items c.deref.result.now c.remove-end.new.self.items
