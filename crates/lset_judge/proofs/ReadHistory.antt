@@ -1,6 +1,6 @@
 -- The calls of a history as read are a history, and plain.
 use Rattle.std.proofs.Common.{◌≡◌, ◌≢◌, ℕ, ◌<◌, true, List, [], ◌∷◌, ◌++◌, refl, sym, ap, ◌∙◌, arith, subst, length, get_or, map, take, drop, ◌+◌}
-use Rattle.std.specs.Prelude.{All, AllPairs, Option, Some, None, IfSome, IsSomeAnd}
+use Rattle.std.specs.Prelude.{Option, Some, None, IfSome, IsSomeAnd}
 use Rattle.std.proofs.lemmas.List.{get_or-map, get_or_default, length-map, map-append, take_more, take-append-drop}
 use Rattle.std.proofs.lemmas.List.Elements.{All-map}
 use Rattle.lset_words.specs.declared.Call.{Call}

@@ -17,7 +17,7 @@ use Rattle.lset_judge.specs.declared.stream.StreamVerdict.TheVariants.{Lineariza
 use Rattle.lset_judge.specs.declared.stream.Failed.{Failed}
 use Rattle.lset_judge.specs.declared.stream.Pending.{Pending}
 use Rattle.lset_judge.specs.declared.stream.Stream.{Stream}
-use Rattle.lset_judge.specs.Rule.{Event, State, idle, opened, found, entered, state_after}
+use Rattle.lset_judge.specs.Rule.{Event, State, opened, found, entered, state_after}
 use Rattle.lset_judge.specs.Code.{state_of}
 use Rattle.lset_judge.specs.Events.{kind_if, until_if, end_event, event_at}
 use Rattle.lset_judge.specs.Verdict.{IsPlain, IsExplained, IsUnexplained, IsRefusedBy, is_plain, with_quota}
