@@ -1,5 +1,5 @@
 -- What is kept of the calls of a key: what it tells of rest, and how it goes on.
-use Rattle.std.proofs.Common.{inl, inr, ◌≡◌, ◌≢◌, ◌⊎◌, ℕ, zero, suc, ◌+◌, ◌<◌, ◌≤◌, Bool, true, false, List, [], ◌∷◌, ◌++◌, refl, sym, ap, ◌∙◌, arith, subst, length, get_or, take, append_assoc, append-nil, length-append}
+use Rattle.std.proofs.Common.{inl, inr, ◌≡◌, ◌⊎◌, ℕ, zero, suc, ◌+◌, ◌<◌, ◌≤◌, Bool, true, false, List, [], ◌∷◌, ◌++◌, refl, sym, ap, ◌∙◌, arith, subst, length, get_or, take, append_assoc, append-nil, length-append}
 use Rattle.std.specs.Prelude.{◌==◌, ◌||◌, not, nat_lt, nat_le, All, Option, Some, None, IfSome, filter, Contains, map}
 use Rattle.std.proofs.lemmas.Bool.{cases_Bool, true≢false}
 use Rattle.std.proofs.lemmas.Bool.Decides.{nat_tests}
@@ -197,11 +197,11 @@ stays_on key pending old mid new a b threads upto opening calls waiting e is = b
 
 pub pending_more : (l : Logged) (xs : List StreamCall) (i : ℕ) (d : StreamCall) → i < length xs
     → pushed (unquiet (get_or xs i d)) (with_pending (take i xs) l) ≡ with_pending (take (i + 1) xs) l
-pending_more l xs i d low = ap (λ (ys : List Ended). with_ended ys) (append_assoc l.ended (map unquiet (take i xs)) (unquiet (get_or xs i d) ∷ [])
+pending_more l xs i d low = ap (λ (ys : List Ended). ended_as ys) (append_assoc l.ended (map unquiet (take i xs)) (unquiet (get_or xs i d) ∷ [])
     ∙ ap (λ (ys : List Ended). l.ended ++ ys) (sym (ap (map unquiet) (take_more xs i d low) ∙ map-append unquiet (take i xs) (get_or xs i d ∷ []))))
   where
-    with_ended : List Ended → Logged
-    with_ended ys = record { since = l.since; there = l.there; before = l.before; ended = ys }
+    ended_as : List Ended → Logged
+    ended_as ys = record { since = l.since; there = l.there; before = l.before; ended = ys }
 
 pub with_more : (l : Logged) (ys : List Ended) (x : Ended) → ys ≡ l.ended ++ x ∷ []
     → record { since = l.since; there = l.there; before = l.before; ended = ys } ≡ pushed x l
@@ -383,3 +383,10 @@ module _ (threads : ℕ) (opening : List ℕ) (calls : List CallRecord) (x : Cal
           | inl e ↦ inl e
           | inr h ↦ elim h [ inl c ↦ inr (inl c) | inr c ↦ inr (inr (still (call_numbered calls i) c)) ]
         ]
+
+abbrev pub with_calls : ℕ → Option Bool → Option StreamCall → List Ended → Logged
+with_calls since there before xs = record { since = since; there = there; before = before; ended = xs }
+
+pub with_ended : (since : ℕ) (there : Option Bool) (before : Option StreamCall) (xs ys : List Ended) → ys ≡ xs
+    → with_calls since there before ys ≡ with_calls since there before xs
+with_ended since there before xs ys e = ap (with_calls since there before) e

@@ -260,46 +260,27 @@ impl Log {
     }
 
     /// Leaves out the calls that ended by a moment.
-    fn cut_to(
-        &mut self,
-        alloc: Global,
-        since: u64,
-        there: Option<bool>,
-        before: Option<StreamCall>,
-    ) -> Result<(), AllocError>
-        ensures { OnOk result (log_of self.new ≡ cut_to since there before (log_of self.old)) }
+    fn cut_to(&mut self, since: u64, there: Option<bool>, before: Option<StreamCall>)
+        ensures { log_of self.new ≡ cut_to since there before (log_of self.old) }
     {
-        let ended = self
-            .ended
-            .iter()
-            .copied()
-            .filter(|entry| !has_ended(entry.call, since))
-            .collect(alloc)?;
+        self.ended.retain(|entry| !has_ended(entry.call, since));
         self.since = since;
         self.there = there;
         self.before = before;
-        self.ended = ended;
-        Ok(())
     }
 
-    fn cut_to_rest(&mut self, alloc: Global, key: u32, rest: Rest) -> Result<(), AllocError>
-        ensures { (pending : List StreamCall) → OnOk result (IsRestIn (log_of self.old) pending rest
-            → StaysLog key pending (log_of self.old) (log_of self.new)) }
+    fn cut_to_rest(&mut self, key: u32, rest: Rest)
+        ensures { (pending : List StreamCall) → IsRestIn (log_of self.old) pending rest → StaysLog key pending (log_of self.old) (log_of self.new) }
     {
         let before = self.made_by(key, rest);
-        self.cut_to(alloc, rest.since, Some(rest.there), before)?;
-        Ok(())
+        self.cut_to(rest.since, Some(rest.there), before);
     }
 
-    fn trim(&mut self, alloc: Global, key: u32, pending: &[StreamCall]) -> Result<(), AllocError>
-        ensures { OnOk result (StaysLog key pending.now (log_of self.old) (log_of self.new)) }
+    fn trim(&mut self, key: u32, pending: &[StreamCall])
+        ensures { StaysLog key pending.now (log_of self.old) (log_of self.new) }
     {
-        match self.last_rest(pending) {
-            Some(rest) => {
-                self.cut_to_rest(alloc, key, rest)?;
-                Ok(())
-            }
-            None => Ok(()),
+        if let Some(rest) = self.last_rest(pending) {
+            self.cut_to_rest(key, rest);
         }
     }
 
@@ -322,15 +303,13 @@ impl Log {
     }
 
     /// If there are too many calls the first half of them is left out, and how the key was at rest is not known any more.
-    fn forget(&mut self, alloc: Global) -> Result<(), AllocError>
-        ensures { (key : ℕ) (pending : List StreamCall) → OnOk result (StaysLog key pending (log_of self.old) (log_of self.new)) }
+    fn forget(&mut self)
+        ensures { (key : ℕ) (pending : List StreamCall) → StaysLog key pending (log_of self.old) (log_of self.new) }
     {
-        if self.ended.len() <= MOST_KEPT / 2 {
-            return Ok(());
+        if self.ended.len() > MOST_KEPT / 2 {
+            let since = self.middle();
+            self.cut_to(since, None, None);
         }
-        let since = self.middle();
-        self.cut_to(alloc, since, None, None)?;
-        Ok(())
     }
 
     fn look_later(&mut self)
@@ -341,17 +320,11 @@ impl Log {
 
     /// Leaves out the calls that are not needed any more: those up to the last moment at which the key was at rest and none of these calls
     /// had begun, which are its pending ones. If too many are left, the first half of them goes too.
-    pub(crate) fn settle(
-        &mut self,
-        alloc: Global,
-        key: u32,
-        pending: &[StreamCall],
-    ) -> Result<(), AllocError>
-        ensures { OnOk result (StaysLog key pending.now (log_of self.old) (log_of self.new)) }
+    pub(crate) fn settle(&mut self, key: u32, pending: &[StreamCall])
+        ensures { StaysLog key pending.now (log_of self.old) (log_of self.new) }
     {
-        self.trim(alloc, key, pending)?;
-        self.forget(alloc)?;
+        self.trim(key, pending);
+        self.forget();
         self.look_later();
-        Ok(())
     }
 }

@@ -260,7 +260,7 @@ fn settle(
 {
     let waiting = pending.of_key(alloc, key)?;
     if let Some(state) = states.get_mut(&key) {
-        state.log.settle(alloc, key, &waiting)?;
+        state.log.settle(key, &waiting);
         return Ok(());
     }
     Ok(())

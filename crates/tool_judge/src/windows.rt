@@ -1,4 +1,4 @@
-use lset_judge::{StreamCall, Window};
+use lset_judge::{Hidden, StreamCall, Window};
 use lset_text::{call_word, reply_word};
 use std::alloc::{AllocError, Global};
 
@@ -73,10 +73,30 @@ fn put_calls(out: &mut String, window: &Window) -> Result<(), AllocError> {
     Ok(())
 }
 
+/// How many calls are not shown, if there are such.
+fn put_hidden(out: &mut String, hidden: Option<Hidden>) -> Result<(), AllocError> {
+    let Some(Hidden { count, first, last }) = hidden else {
+        return Ok(());
+    };
+    if count == 1 {
+        writeln!(
+            out,
+            "1 more call of the key that began at moment {first} is not shown: whatever it did, these have no order"
+        )?;
+    } else {
+        writeln!(
+            out,
+            "{count} more calls of the key that began at moments {first} to {last} are not shown: whatever they did, these have no order"
+        )?;
+    }
+    Ok(())
+}
+
 /// The lines about the few calls that show why no order explains a recording.
 pub(crate) fn window_text(alloc: Global, window: &Window) -> Result<Vec<u8>, AllocError> {
     let mut text = String::new(alloc);
     put_state(&mut text, window)?;
     put_calls(&mut text, window)?;
+    put_hidden(&mut text, window.hidden)?;
     Ok(text.into_bytes())
 }

@@ -8,5 +8,5 @@ returns-in-Some-clause-own c = λ threads upto opening calls waiting e is.
     let l : log_for (c.get_mut.follows.lender (record c.in-Some.state.now { log = c.settle.new.self })) k ≡ log_of c.settle.new.self = search rules in
     let o : log_for c.args.states.now k ≡ log_of c.in-Some.state.now.log = search rules in
     subst (IsLog threads opening calls k upto waiting) (sym l)
-    (c.in_ok-settle.ensures threads upto opening calls waiting (c.deref.ensures.value ∙ c.in_ok-waiting.ensures ∙ e)
+    (c.settle.ensures threads upto opening calls waiting (c.deref.ensures.value ∙ c.in_ok-waiting.ensures ∙ e)
     (subst (IsLog threads opening calls k upto waiting) o is))

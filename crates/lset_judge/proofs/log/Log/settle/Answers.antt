@@ -7,4 +7,4 @@ pub returns : goal.returns
 returns c =
     let key = c.args.key in let pending = c.args.pending.now in let old = log_of c.args.self.now in let mid = log_of c.trim.new.self in
     subst (StaysLog key pending old) (sym c.look_later.ensures)
-    (stays_on key pending old mid (log_of c.forget.new.self) c.in_ok-trim.ensures (c.in_ok-forget.ensures key pending))
+    (stays_on key pending old mid (log_of c.forget.new.self) c.trim.ensures (c.forget.ensures key pending))
