@@ -53,53 +53,42 @@ def draws(asked, *words, text, heading, places, size):
     assert f"<title>{heading}</title>" in picture if "--svg" in words else (picture.split("\n")[0], drawn_places) == (heading, places)
 
 
-# ---- recorded calls
+# ---- recordings and reports
 
 
 @of([*SHAPES, shapes.few_of_many_keys])
-def test_recorded_calls(asked, few, shape):
-    """`judge` of both versions, `report`, `check` of the report, and `show` of both."""
+def test_recordings(asked, few, shape):
     most = OPENING if shape is shapes.few_of_many_keys else CALLS
     for size, draw in drawn(shape.__name__, few, 3 if most == CALLS else 1, most):
         it = Recording(draw, shape, size)
-        for text in [it.text(), it.long_text()][:1 + it.is_plain]:
-            assert asked.says("judge", text=text, size=size).startswith(f"ok {len(it.lines)} calls\n")
-        report = asked.says("report", text=it.text(keys_rise=it.has_points or not it.has_changes), size=size)
-        assert lines_of(report, "opening", "call", "place", "key") == [*map(len, (it.opening, it.lines, it.calls, it.left))]
-        assert asked.says("check", text=report, size=size) == "ok\n"
-        heading = f"{it.heading('lazy')}{len(it.lines)} calls"
-        for text, form in zip((it.text(), report), draw.choice([([], ["--svg"]), (["--svg"], [])])):
-            draws(asked, "--from", it.laid[-1][1], *form, text=text, heading=heading, places=len(it.calls), size=size)
+        assert asked.says("judge", text=it.text(), size=size).startswith(f"ok {len(it.lines)} calls\n")
     asked.grows(most // TIMES, most)
 
 
 @of([shapes.one_key, shapes.rising, shapes.shuffled_keys, shapes.looks, shapes.removed_from_the_greatest, shapes.lost, shapes.never_there])
-def test_recorded_calls_that_are_refused(asked, few, shape):
+def test_recordings_that_are_refused(asked, few, shape):
     """By the last reply, by the keys that are left, or by each reply."""
     for size, draw in drawn(shape.__name__, few, 2, CALLS):
         at = 0 if shape in (shapes.lost, shapes.never_there) else -1
-        it = Recording(draw, shape, size, may_have_points=False, is_last_wrong=at < 0, layouts=(shapes.in_turn, shapes.beside_a_call))
+        it = Recording(draw, shape, size, is_last_wrong=at < 0, layouts=(shapes.in_turn, shapes.beside_a_call))
         reason = "and leaves it as it was left" if shape is shapes.lost else f"up to moment {it.laid[at][3]}"
         said = f"not linearizable\nno order explains the calls of key {it.calls[at][1]} {reason}\n"
         assert asked.says("judge", text=it.text(), status=1, size=size).startswith(said)
-        assert asked.says("judge", text=it.long_text(), status=1, size=size) == said
-        assert said in asked.says("show", text=it.text(), status=1, size=size)
-        if it.has_changes:  # (else it is ordered by points)
-            assert asked.says("report", text=it.text(), status=1, size=size) == "no order explains these calls: judge shows why\n"
     asked.grows(CALLS // TIMES, CALLS)
 
 
-def test_odd_recordings(asked, few):
-    for text, error, said, shown in shapes.odd_recordings(CALLS // 8 if few else CALLS):
-        answer = asked.says("judge", text=text, status=1, error=error)
-        assert answer.startswith(said) and lines_of(answer, "call") == [shown]
+def test_a_key_that_is_never_at_rest(asked, few):
+    """Few of its calls are shown, or none."""
+    answer = asked.says("judge", text=shapes.never_at_rest(1_000 if few else 10_000), status=1)
+    assert answer.startswith("not linearizable\nno order explains the calls of key 5 up to moment ") and lines_of(answer, "call")[0] <= 17
 
 
 @of([shapes.looks, shapes.rising])
 def test_reports_that_are_refused(asked, few, shape):
     """A call has no place; it stands before all others; the keys are others."""
     many = CALLS // 8 if few else CALLS
-    report = asked.says("report", text=Recording(random.Random(3), shape, many, layouts=[shapes.in_turn]).text(keys_rise=True))
+    report = Recording(random.Random(3), shape, many, layouts=[shapes.in_turn]).report()
+    assert asked.says("check", text=report) == "ok\n"
     first, last, keys = (report.index(f"\n{it}") + 1 for it in ("place ", f"place {many - 1} ", "key "))
     begin, places, place = report[:first], report[first:last], report[last:keys]
     for text, said in ((begin + places + report[keys:], f"Missing {many - 1}"), (begin + places + place + "end\n", "WrongSet"),
@@ -231,14 +220,13 @@ def test_sets_of_c(few, lacking):
 
 # ---- limits
 
-FORMATS = {"schedule 2": ["replay", "trace", "show"], "draft 2": ["draft"], "report 2": ["check", "show"], "calls 2": ["judge", "report", "show"]}
+FORMATS = {"schedule 2": ["replay", "trace", "show"], "draft 2": ["draft"], "report 2": ["check", "show"]}
 LIMITS = [(commands, most, lambda it, made=made, title=title: made(title, it), error) for title, commands in FORMATS.items() for most, made, error in [
     (64, shapes.text_of, "line 3: Threads"), (MOST_QUOTA, lambda title, it: shapes.text_of(title, 1, it), "line 4: Quota"),
     (OPENING, lambda title, it: shapes.text_of(title, 64, MOST_QUOTA, it), f"line {5 + OPENING}: TooMany"),
-    *([(1_000_000, shapes.tries_of, "line 107: TooMany")] if "report" not in title and "calls" not in title else []),
-    *([(1_000_000, shapes.calls_that_look, "line 1000005: TooMany")] if "report" in title or "calls" in title else [])]]
-LIMITS += [(FORMATS["calls 2"], 2_097_152, lambda it: shapes.text_of("calls 2", opening=1, keys=[0] * it), "line 2097158: TooMany"),
-           (["serve lazy 1 0 0 0 -"], OPENING, lambda it: "".join(f"key {key}\n" for key in range(it)), f"line {OPENING + 1}: TooMany")]
+    *([(1_000_000, shapes.tries_of, "line 107: TooMany")] if "report" not in title else []),
+    *([(1_000_000, shapes.calls_that_look, "line 1000005: TooMany")] if "report" in title else [])]]
+LIMITS += [(["serve lazy 1 0 0 0 -"], OPENING, lambda it: "".join(f"key {key}\n" for key in range(it)), f"line {OPENING + 1}: TooMany")]
 
 
 @pytest.mark.parametrize("commands, most, made, error", LIMITS, ids=[f"{it[0][0].split()[0]} {it[1]}" for it in LIMITS])

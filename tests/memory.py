@@ -1,6 +1,6 @@
 """What the program holds in memory does not grow with what it has done with, of which no contract speaks. A command is given an address
-space of which it leaves a third, and that it would need twice if it kept what it need not: of `judge` the calls of a long recording, or the
-parts before the one that it reads; of `trace` its text; of `draft`, `replay` and `show` each event; of `run` the replies of each round. A
+space of which it leaves a third, and that it would need twice if it kept what it need not: of `judge` the calls of a recording; of `trace`
+its text; of `draft`, `replay` and `show` each event; of `run` the replies of each round. A
 server that has served thousands of sessions, and millions of calls, has at no time had more memory than after some hundred.
 """
 
@@ -45,39 +45,16 @@ def round_of(number):
                    for of, word, second, begin, end, reply in CALLS_OF_ROUND)
 
 
-def test_long_recordings(program, room):
+def test_recordings(program, room):
     """`judge` keeps nothing of a call that has ended but the state of its key, nor of its thread, be it read from a file or from the input."""
     file = room / "long.calls"
     with open(file, "w", encoding="ascii") as out:
-        out.write("listset-calls 3\nopening 4294967295\ncall 9 remove 4294967295 1 - -\n")
+        out.write("listset-calls 1\nopening 4294967295\ncall 9 remove 4294967295 1 - -\n")
         out.writelines(map(round_of, range(ROUNDS)))
         out.write("end\n")
     for words, given in (((file,), b""), ((), file.read_bytes())):
         said = printed_within(LITTLE, program, "judge", *words, text=given)
-        assert said == b"ok %d calls\n" % (1 + ROUNDS * len(CALLS_OF_ROUND))
-
-
-# ---- parts
-
-PARTS, CALLS_OF_PART, KEYS_OF_PART = 150, 4_000, 6_000
-
-
-def part_of(number):
-    """Calls of version 2: a thread puts keys in and takes them out, beside keys that are there from the first part on and stay. Each part has its
-    own keys besides, so that no two texts are one."""
-    first = 1_000_000 * (number + 1)
-    calls = "".join(f"call {at % 4} {('add', 'remove')[at % 2]} {first + at // 2} {2 * at + 1} - {2 * at + 2} true\n" for at in range(CALLS_OF_PART))
-    opening, left = ("".join(f"{word} {key}\n" for key in range(KEYS_OF_PART)) for word in ("opening", "key"))
-    return f"listset-calls 2\nlist lazy\nthreads 4\nquota 16384\n{opening}{calls}{left}end\n"
-
-
-def test_parts(program, room):
-    """`judge` holds one part in memory at a time, and of those before only what the last one left."""
-    files = [room / f"{number}.calls" for number in range(PARTS)]
-    for number, file in enumerate(files):
-        file.write_text(part_of(number))
-    said = printed_within(LITTLE, program, "judge", *files)
-    assert said.split(b"\n")[0] == b"ok %d parts, %d calls" % (PARTS, PARTS * CALLS_OF_PART)
+        assert said.startswith(b"ok %d calls\n" % (1 + ROUNDS * len(CALLS_OF_ROUND)))
 
 
 # ---- events

@@ -19,7 +19,7 @@ OF_BOTH = ["show", "show --svg", "show --from 2 --to 9 --width 60"]
 OF_TEXTS = {
     "examples/schedules/**/*.schedule": ["replay", "trace", "trace --chain", *OF_BOTH],
     "examples/schedules/**/*.report": ["check", *OF_BOTH],
-    "tests/transcripts/data/recorded/*.calls": ["report", "judge"],
+    "tests/transcripts/data/recorded/*.calls": ["judge"],
     "tests/transcripts/data/drafts/*.draft": ["draft"],
 }
 WORDS = [f"{words} {file.relative_to(TOP)}" for pattern, all_words in OF_TEXTS.items() for file in sorted(TOP.glob(pattern)) for words in all_words]

@@ -6,18 +6,16 @@ events that are refused and up to 64 threads: the trace with chains and without,
 SVG of both, are those of the model, to the byte (of the SVG all but its style sheet, which has no model). 40 of the pictures are
 drawn at each width from 20 to 200 (--few: every 20th).
 
-So are pictures and SVGs of 200 reports (--few: 20) of calls made at random, most of them damaged, so that each fault of an order is met; of
-100 recordings (10), by an order that `report` finds, by their points, or of the calls alone that `judge` shows, with its lines below; and of
+So are pictures and SVGs of 200 reports (--few: 20) of calls made at random, most of them damaged, so that each fault of an order is met, and of
 what each broken list makes of 5 schedules (1), with its traces. Windows and widths are drawn too, and which of these options are given.
 """
 
 import random
-import re
 
 from harness.lists_model import LACKING
 from harness.pictures_model import Drawn, fitted, picture_of_run
 from harness.programs import KINDS, TOP, ran
-from harness.reports_model import RandomCalls, call_text, calls_text, picture_of_report, read_report, window_of, with_looks
+from harness.reports_model import RandomCalls, calls_text, picture_of_report, read_report
 from harness.traces_model import enabled, read_schedule, run_of
 
 EXAMPLES = {file.stem: file for file in sorted((TOP / "examples" / "schedules").glob("*.schedule"))}
@@ -122,7 +120,7 @@ def pytest_generate_tests(metafunc):
     """The names and the seeds of what is drawn; with --few a tenth."""
     part = 10 if metafunc.config.option.few else 1
     named = {"schedule": [*EXAMPLES, *(f"{kind} {seed}" for kind in KINDS for seed in range(40 // part))], "report": range(200 // part),
-             "recording": range(100 // part), "broken": [f"{name} {seed}" for name in LACKING for seed in range(max(1, 5 // part))]}
+             "broken": [f"{name} {seed}" for name in LACKING for seed in range(max(1, 5 // part))]}
     for it in named.keys() & {*metafunc.fixturenames}:
         metafunc.parametrize(it, named[it])
 
@@ -144,25 +142,21 @@ def test_trace_and_pictures_are_those_of_the_model(program, few, schedule):
             looked.picture(picture, (None, None, width))
 
 
-# ---- pictures of reports, of recorded calls, and of what broken lists make of schedules
+# ---- pictures of reports, and of what broken lists make of schedules
 
 
 def endings_of(program, report):
     """What may stand below the picture of a refused report: what is known of other orders, as `judge` says it of its calls."""
     if report.keys != sorted({*report.keys}):
         return [["", "not linearizable", "no order leaves these keys, which do not rise"]]
-    looks = with_looks(report)
-    said = ran(program, "judge", text=calls_text(looks)).stdout.splitlines()
+    said = ran(program, "judge", text=calls_text(report)).stdout.splitlines()
     if said[:1] == ["not linearizable"]:
-        calls = {call_text(looks, look): call_text(report, call) for look, call in zip(looks.calls, report.calls)}
-        return [["", *(calls.get(it, it) for it in said)]]
+        return [["", *said]]
     is_plain = all(report.calls[number].word != "ceiling" and reply in ("true", "false") for number, (_, reply) in report.ends.items())
     adds = [it.thread for it in report.calls if it.word == "add" and report.ends.get(it.number, (0, "true"))[1] == "true"]
     if is_plain and all(adds.count(it) <= report.quota for it in adds):
         return [["", "another order explains this report"]]
-    full = (number for number, (_, reply) in sorted(report.ends.items()) if reply == "full")
-    too_soon = [["", "not linearizable", f"call {it} answers full, and its thread has not used its quota up"] for it in full]
-    return [["", "it is not known whether another order explains this report"], *too_soon]
+    return [["", "it is not known whether another order explains this report"]]
 
 
 def compare_report(looked, report):
@@ -174,45 +168,9 @@ def compare_report(looked, report):
     looked.pictures(picture, below)
 
 
-CHANGE = re.compile("^call [0-9]+ (add|remove) .* true$", re.M)  # (without one `report` looks for no order)
-
-
 def test_pictures_of_reports_are_those_of_the_model(program, report):
     text = RandomCalls(random.Random(f"reports {report}")).report(faults=[0, 1, 1, 2][report % 4])
     compare_report(Compared(program, f"reports {report}", text), read_report(text))
-
-
-def test_pictures_of_recorded_calls_are_those_of_the_model(program, recording):
-    """Of the report of the order that `report` finds; if none explains the calls, of those alone that `judge` shows; and if begins and ends do
-    not decide, by their points, with each key once, or with an error."""
-    draw = random.Random(f"recordings {recording}")
-    drawn_texts = iter(lambda: RandomCalls(draw).recorded(has_points=recording % 4 > 0, faults=recording % 2), None)
-    text = next(it for it in drawn_texts if CHANGE.search(it))
-    looked, plain = Compared(program, f"recordings {recording}", text), without_points(text)
-    found, by_points = (ran(program, "report", text=it) for it in (plain, text))
-    if by_points.stderr and "Point" not in by_points.stderr:  # (with points the quota may be used up)
-        looked.fault(by_points)
-    elif found.returncode == 0:
-        compare_report(looked, read_report(found.stdout))
-    elif found.stdout:
-        said = ran(program, "judge", text=plain).stdout.splitlines()
-        looked.pictures(picture_of_report(window_of(read_calls(text), said)), ["", *said])
-    elif by_points.returncode == 0:
-        report = read_report(by_points.stdout)
-        compare_report(looked, report._replace(keys=sorted({*report.keys})))
-    else:
-        looked.fault(by_points)
-
-
-def without_points(text):
-    """Recorded calls without their points."""
-    lines = (it.split() for it in text.splitlines())
-    return "".join(" ".join([*it[:5], "-", *it[6:]] if it[0] == "call" else it) + "\n" for it in lines)
-
-
-def read_calls(text):
-    """What a recording and a report have in common: all but the calls."""
-    return read_report("".join(it for it in text.splitlines(keepends=True) if not it.startswith("call")))
 
 
 def test_traces_and_pictures_of_a_broken_list_are_those_of_the_model(program, broken):

@@ -35,7 +35,7 @@ def part(top, name):
     return "\n".join(lines)
 
 
-NAMES = "replay judge report check show trace draft example gen run serve faults".split()
+NAMES = "replay judge check show trace draft example gen run serve faults".split()
 MADE = {f"command {name}": lambda top, name=name: part(top, name) for name in NAMES}
 
 

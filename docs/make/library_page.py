@@ -11,10 +11,8 @@ from texts_page import first_sentence
 SHOWN = {
     "functions-histories": {
         "lset_history": ["check_order", "Oracle::opened", "Oracle::apply", "History::opened", "History::begin", "History::end"],
-        "lset_judge": ["judge", "judge_cut_off", "window_of_refusal", "Stream::new", "Stream::add", "Stream::close"],
-        "lset_claims": ["claim_of"],
-        "lset_order": ["find_order"],
-        "lset_parts": ["Parts::new", "Parts::judge", "Parts::add"],
+        "lset_judge": ["judge", "Judge::new", "Judge::add", "Judge::close", "Judge::close_cut_off"],
+        "lset_recording": ["RecordingReader::new", "RecordingReader::feed", "RecordingReader::finish"],
     },
     "functions-steps": {
         "lset_words": ["layout"],
@@ -24,10 +22,7 @@ SHOWN = {
     "functions-texts": {
         "lset_schedule": ["read_schedule", "write_schedule", "generate"],
         "lset_report": ["read_report", "write_report"],
-        "lset_calls": ["read_calls", "report_of"],
-        "lset_long": ["LongReader::new", "LongReader::feed", "LongReader::finish"],
-        "lset_points": ["judge_by_points"],
-        "lset_replay": ["replay", "trace"],
+        "lset_replay": ["replay", "run_of", "Run::make"],
         "tool_draft": ["read_draft", "schedule_of"],
     },
     "functions-running": {

@@ -169,14 +169,16 @@ def side_by_side():
         while not is_over.wait(0.001):
             counted[0] += 1
 
-    calls = "".join(f"call 0 contains 5 {at} - {at + 1} false\n" for at in range(1, 200_000, 2))
+    calls = "".join(f"call 0 contains 5 {at} {at + 1} false\n" for at in range(1, 1_000_000, 2))
     thread = threading.Thread(target=count)
     thread.start()
-    before = counted[0]
-    listset.judge_text(f"listset-calls 2\nlist lazy\nthreads 1\nquota 0\n{calls}end\n")
-    after = counted[0]
-    is_over.set()
-    thread.join()
+    try:
+        before = counted[0]
+        listset.judge_text(f"listset-calls 1\n{calls}end\n")
+        after = counted[0]
+    finally:
+        is_over.set()
+        thread.join()
     assert after - before > 5, after - before
 
 

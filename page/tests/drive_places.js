@@ -21,7 +21,7 @@ const FORMS = {
   "#watch": () => isSeen("map-watch") && !isSeen("stage"),
   "#learn": () => isSeen("map-learn") && part("map-learn").querySelectorAll(".cards a").length === 12,
   "#judge": () => isSeen("map-judge"),
-  "#break": () => isSeen("map-break") && part("map-break").querySelectorAll(".cards a").length === 14,
+  "#break": () => isSeen("map-break") && part("map-break").querySelectorAll(".cards a").length === 13,
   "#compare": () => isSeen("sides-box") && part("sides-pictures").querySelectorAll("section").length === 2,
   "#read": () => isSeen("map-read") && part("map-read").querySelectorAll("dt").length === 12,
   "#learn=one-lock": () => isSeen("lessons") && textOf("lesson-title").startsWith("The one lock"),
@@ -111,7 +111,7 @@ async function driveMovesOfPlaces() {
 
 // The maps tell how far one has come.
 async function driveProgress() {
-  check("so many lessons", /^\d+\/12$/.test(textOf("nav-learn")) && /^\d+\/13$/.test(textOf("nav-break")));
+  check("so many lessons", /^\d+\/12$/.test(textOf("nav-learn")) && /^\d+\/12$/.test(textOf("nav-break")));
   for (const activity of ["watch", "learn", "judge", "break", "compare", "read"]) {
     const link = frame.contentDocument.querySelector(`nav [data-to=${activity}]`);
     link.click();
@@ -129,7 +129,7 @@ async function driveKeptWork() {
   await reloadWithKept(kept);
   check("works", inPage("works.byName.size") === JSON.parse(kept["listset-page-2"]).length);
   check(`lessons: ${textOf("nav-learn")}`, textOf("nav-learn") === `${solvedLessons()}/12` && solvedLessons() === 2);
-  check(`broken lists: ${textOf("nav-break")}`, textOf("nav-break") === "2/13");
+  check(`broken lists: ${textOf("nav-break")}`, textOf("nav-break") === "2/12");
   for (const [name, { text, count, lacks }] of JSON.parse(kept["listset-page-2"])) {
     pick(`work: ${name}`);
     const isThere = inPage("page.text") === text && textOf("where").startsWith(`event ${count} of `);

@@ -220,7 +220,7 @@ function checkRefusals(ask) {
   const isPending = open.calls.some(({ ended }) => ended === null) && open.reasons.join().includes("add(5) of t0, begun at 1, is pending");
   check(`a pending call: ${open.reasons}`, open.kind === "none" && isPending);
   const left = saidOf(ask, `${TITLE}call 0 contains 5 1 2 false\nkey 5\nend`).reasons;
-  const unchanged = ["No order explains the calls of key 5 and leaves it as it was left.", "At first the key is not there.", "No later call changes it."];
+  const unchanged = ["No order explains the calls of key 5 and leaves it as it was left.", "At first the key is not there.", "No later call changes it.", "At the end the set has it."];
   check(`left otherwise: ${left}`, left.join() === unchanged.join());
 }
 
@@ -231,8 +231,8 @@ function checkAnswers() {
   const from = ["after the calls that ended by moment 40 the key is not there", "from there these calls have no order that leaves the key as it was left:"];
   const more = "12 more calls of the key that began at moments 45 to 79 are not shown: whatever they did, these have no order";
   const { kind, reasons, calls } = said([...why, ...from, "call 2 add 7 50 60 true", "call 3 remove 7 55 - -", more]);
-  check(`more calls: ${reasons}`, kind === "none" && reasons.length === 4 && calls.length === 2 && reasons[3].startsWith("12 more calls"));
-  check(`one reason: ${said(why).reasons}`, said(why).reasons.length === 1 && said(why).calls.length === 0);
+  check(`more calls: ${reasons}`, kind === "none" && reasons.length === 5 && calls.length === 2 && reasons[3].startsWith("12 more calls"));
+  check(`no calls: ${said(why).reasons}`, said(why).reasons[1] === "At the end the set does not have it." && said(why).calls.length === 0);
   for (const line of ["listset: out of memory", "the engine stopped: unreachable", inPage("NO_ENGINE"), "not linearizable"]) {
     const trouble = said([line]);
     check(`no answer: ${trouble.says}`, trouble.kind === "fault" && trouble.says === line && trouble.reasons.length === 0);

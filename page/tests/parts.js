@@ -300,8 +300,8 @@ function checkLacking(readAddress) {
     "#example=snip&lacks=mark": "lacks=mark is a broken LockFreeList, and the address has example=snip",
     "#break=3&lacks=1": "lacks=1 is a broken CoarseList, and the address has no list",
   };
-  for (const which of ["0", "15", "luck", "Mark", "constructor"]) {
-    const expected = `there is no broken list "${which}": expected 1 to 14, or a name that "listset show --help" prints`;
+  for (const which of ["0", "14", "luck", "Mark", "constructor"]) {
+    const expected = `there is no broken list "${which}": expected 1 to 13, or a name that "listset show --help" prints`;
     faults[`#list=lazy&threads=2&quota=4&lacks=${which}`] = expected;
   }
   for (const [hash, fault] of Object.entries(faults)) check(`${hash}: ${refusalOf(hash)}`, refusalOf(hash) === fault);

@@ -1,6 +1,6 @@
-"""A model of the pictures that `show` draws of a report and of recorded calls, by docs/TEXTS.md alone: the first fault of an order with the
-words for it, and else the first moments at which its calls can take effect. Besides calls of a set made at random, as a report, right or
-damaged, its keys now and then in another order, and as recorded calls."""
+"""A model of the pictures that `show` draws of a report, by docs/TEXTS.md alone: the first fault of an order with the words for it, and else
+the first moments at which its calls can take effect. Besides calls of a set made at random, as a report, right or damaged, its keys now and
+then in another order."""
 
 import collections
 import itertools
@@ -33,34 +33,20 @@ def read_report(text):
 
 
 def call_text(report, call):
-    """A call as a recorded one, without a point."""
-    end, reply = report.ends.get(call.number, "--")
-    return f"call {call.thread} {call.word} {call.key} {call.begun} - {end} {reply}"
+    """A call as the judge reads it: a `ceiling` that has found a key as a `contains` of it, an `add` that answered `full` as one that has not
+    found its key; any other reply than true is false."""
+    word, key, (end, reply) = call.word, call.key, report.ends.get(call.number, "--")
+    if word == "ceiling" and reply.startswith("at-"):
+        key, reply = int(reply[3:]), "true"
+    if word == "ceiling" or (word, reply) == ("add", "full"):
+        word = "contains"
+    return f"call {call.thread} {word} {key} {call.begun} {end} {reply if reply in ('true', '-') else 'false'}"
 
 
 def calls_text(report):
-    """The calls of a report as recorded calls."""
-    lines = [f"list {report.kind}", f"threads {report.threads}", f"quota {report.quota}", *(f"opening {it}" for it in report.opening)]
-    lines += [*(call_text(report, it) for it in report.calls), *(f"key {it}" for it in report.keys)]
-    return "\n".join(["listset-calls 2", *lines, "end", ""])
-
-
-def with_looks(report):
-    """The report with a `contains` that has found its key in place of each `ceiling` that has found one."""
-    found = {number: (end, reply) for number, (end, reply) in report.ends.items()
-             if report.calls[number].word == "ceiling" and reply.startswith("at-")}
-    calls = [it._replace(word="contains", key=int(found[it.number][1][3:])) if it.number in found else it for it in report.calls]
-    return report._replace(calls=calls, ends=report.ends | {number: (end, "true") for number, (end, _) in found.items()})
-
-
-def window_of(report, said):
-    """The report of the calls alone that `judge` shows in its lines, of the keys that are left in a report, which it refuses."""
-    key, is_there, is_left = int(said[1].split()[7].rstrip()), " is there " in said[2], said[1].endswith("and leaves it as it was left")
-    shown = sorted((it.split() for it in said if it.startswith("call ")), key=lambda it: int(it[4]))
-    calls = [Call(number, int(it[1]), it[2], int(it[3]), int(it[4])) for number, it in enumerate(shown)]
-    ends = {number: (int(it[6]), it[7]) for number, it in enumerate(shown) if it[6] != "-"}
-    order = [(number, reply) for number, (_, reply) in ends.items()]
-    return report._replace(opening=[key] * is_there, calls=calls, ends=ends, order=order, keys=[key] * (is_left and key in report.keys))
+    """The calls of a report as a recording."""
+    lines = [*(f"opening {it}" for it in report.opening), *(call_text(report, it) for it in report.calls), *(f"key {it}" for it in report.keys)]
+    return "\n".join(["listset-calls 1", *lines, "end", ""])
 
 
 # ---- the faults of an order, in the order in which they are looked for
@@ -190,11 +176,11 @@ class RandomCalls:
         if it is None:
             key = self.draw.choice([*range(6), *range(12), GREATEST])
             it = types.SimpleNamespace(number=len(self.calls), thread=thread, word=self.draw.choice(self.words), key=key, begun=moment)
-            it.point = it.reply = it.end = None
+            it.reply = it.end = None
             self.pending[thread] = it
             self.calls.append(it)
-        elif it.point is None:
-            it.point, it.reply = moment, self.held.reply(thread, it.word, it.key)
+        elif it.reply is None:
+            it.reply = self.held.reply(thread, it.word, it.key)
             self.order.append(it)
         else:
             it.end = moment
@@ -239,18 +225,3 @@ class RandomCalls:
             del keys[at:at + draw.randrange(2)]
             keys += draw.sample([*range(12), GREATEST], draw.randrange(3))
             keys.sort(reverse=draw.random() < 0.2)
-
-    def recorded(self, has_points, faults):
-        """The calls as somebody recorded them: with their points if they have any, so often with another reply, and with the keys that are
-        left, or not, in any order and one of them twice."""
-        for it in self.draw.sample(self.calls, min(faults, len(self.calls))):
-            it.reply = self.reply()
-        keys = sorted(self.held.keys)[faults:] if self.draw.random() < 0.3 else sorted(self.held.keys)
-        lines = []
-        for it in self.calls:
-            point = it.point if has_points and it.point else "-"
-            lines.append(f"call {it.thread} {it.word} {it.key} {it.begun} {point} " + (f"{it.end} {it.reply}" if it.end else "- -"))
-        keys += keys[:self.draw.randrange(2)]
-        self.draw.shuffle(lines)
-        self.draw.shuffle(keys)
-        return self.text("listset-calls 2", lines, (f"key {it}" for it in keys))

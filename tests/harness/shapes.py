@@ -1,4 +1,4 @@
-"""Calls of many shapes, whose replies are known, at any size; and the texts in which they stand: recorded calls of both versions, and a draft.
+"""Calls of many shapes, whose replies are known, at any size; and the texts in which they stand: a recording, a report, and a draft.
 A layout says of which thread a call is, and at which moments it begins, takes effect and ends."""
 
 import collections
@@ -33,10 +33,6 @@ def shuffled(things):
     found = list(things)
     random.Random(1).shuffle(found)
     return found
-
-
-def reversed_lines(things):
-    return things[::-1]
 
 
 def rising(many):
@@ -159,17 +155,6 @@ def beside_a_call(number, threads):
     return number % (threads - 1), *(moment + 1 for moment in in_turn(number, 1)[1:])
 
 
-def two_at_one_moment(number, _threads):
-    begin = number // 2 * 4 + 1
-    return number % 2, begin, begin + 1, begin + 2 + number % 2
-
-
-def two_of_one_thread(number, _threads):
-    """A thread begins a call, and another one before that ends."""
-    begin = number // 2 * 4 + 1 + number % 2
-    return 0, begin, begin + 1, begin + 2
-
-
 # ---- texts
 
 
@@ -183,12 +168,17 @@ def spread(draw, made):
     return Calls([first + step * key for key in made.opening], calls, [first + step * key for key in made.left])
 
 
+def without_others(made):
+    """The calls without those that no recording has."""
+    return made._replace(calls=[it for it in made.calls if it[0] != "ceiling" and it[2] != "full"])
+
+
 def head(title, kind, threads, quota, opening=()):
     return "".join([f"listset-{title}\nlist {kind}\nthreads {threads}\nquota {quota}\n", *(f"opening {key}\n" for key in opening)])
 
 
 def text_of(title, threads=1, quota=0, opening=0, lines=(), keys=None):
-    left = [*(f"key {key}\n" for key in keys or range(opening)), "end\n"] if title in ("report 2", "calls 2") else []
+    left = [*(f"key {key}\n" for key in keys or range(opening)), "end\n"] if title == "report 2" else []
     return "".join([head(title, "coarse", threads, quota, range(opening)), *lines, *left])
 
 
@@ -199,9 +189,8 @@ def tries_of(title, many):
 
 
 def calls_that_look(title, many):
-    number, point = ("{} ", "") if title == "report 2" else ("", " -")
-    lines = [f"call {number.format(at)}0 contains 5 {2 * at + 1}{point} {2 * at + 2} false\n" for at in range(many)]
-    return text_of(title, lines=lines + [f"place {at} false\n" for at in range(many)] * (bool(number) and many <= 1_000_000))
+    lines = [f"call {at} 0 contains 5 {2 * at + 1} {2 * at + 2} false\n" for at in range(many)]
+    return text_of(title, lines=lines + [f"place {at} false\n" for at in range(many)] * (many <= 1_000_000))
 
 
 class Shaped:
@@ -210,8 +199,6 @@ class Shaped:
     def __init__(self, draw, shape, size, layouts=(in_turn, side_by_side, beside_a_call, of_one_thread)):
         self.draw, (self.opening, self.calls, self.left) = draw, spread(draw, shape(size))
         replies = {reply for _, _, reply in self.calls}
-        self.has_changes = any(reply == "true" and word in ("add", "remove") for word, _, reply in self.calls)
-        self.is_plain = replies <= {"true", "false"}
         self.layout = of_one_thread if "full" in replies else draw.choice(layouts)
         self.threads = log_uniform(draw, MOST_THREADS, 2)
         needed = self.needed()
@@ -230,29 +217,25 @@ class Shaped:
 
 
 class Recording(Shaped):
-    """As recorded calls: in some the lines are in another order, in some calls have points."""
+    """As a recording, of the calls that the judge takes."""
 
-    def __init__(self, draw, shape, size, may_have_points=True, is_last_wrong=False, **how):
-        super().__init__(draw, shape, size, **how)
-        self.has_points = not self.is_plain or may_have_points and draw.random() < 0.4
+    def __init__(self, draw, shape, size, is_last_wrong=False, **how):
+        super().__init__(draw, lambda size: without_others(shape(size)), size, **how)
         if is_last_wrong:
             word, key, reply = self.calls[-1]
             self.calls[-1] = word, key, {"true": "false", "false": "true"}[reply]
-        self.lines = [f"call {self.threads - 1} add {GREATEST} 1 - - -\n"] * (self.layout is beside_a_call)
-        for (word, key, reply), (thread, begin, point, end) in zip(self.calls, self.laid):
-            self.lines.append(f"call {thread} {word} {key} {begin} {point if self.has_points else '-'} {end} {reply}\n")
+        self.lines = [f"call {self.threads - 1} add {GREATEST} 1 - -\n"] * (self.layout is beside_a_call)
+        self.lines += (f"call {at[0]} {word} {key} {at[1]} {at[3]} {reply}\n" for (word, key, reply), at in zip(self.calls, self.laid))
 
-    def text(self, keys_rise=False, arranged=None):
-        """Version 2; the keys that are left stand in any order, and some twice, unless they have to rise."""
-        lines = (arranged or self.draw.choice([list, shuffled, reversed_lines]))(self.lines)
-        left = self.left if keys_rise else self.draw.choice([list, shuffled, reversed_lines])([*self.left, *self.left[:self.draw.randrange(3)]])
-        return "".join([head("calls 2", "lazy", self.threads, self.quota, self.opening), *lines, *(f"key {key}\n" for key in left), "end\n"])
+    def text(self):
+        opening, left = ([f"{word} {key}\n" for key in keys] for word, keys in (("opening", self.opening), ("key", self.left)))
+        return "".join(["listset-calls 1\n", *opening, *self.lines, *left, "end\n"])
 
-    def long_text(self):
-        """Version 3, if no call is a ceiling or answers full."""
-        lines = [f"opening {key}\n" for key in self.opening] + [f"call {self.threads - 1} add {GREATEST} 1 - -\n"] * (self.layout is beside_a_call)
-        lines += (f"call {at[0]} {word} {key} {at[1]} {at[3]} {reply}\n" for (word, key, reply), at in zip(self.calls, self.laid))
-        return "".join(["listset-calls 3\n", *lines, *(f"key {key}\n" for key in self.left), "end\n"])
+    def report(self):
+        """The report of calls in turn."""
+        calls = [f"call {number} {at[0]} {word} {key} {at[1]} {at[3]} {reply}\n" for number, ((word, key, reply), at) in enumerate(zip(self.calls, self.laid))]
+        places = [f"place {number} {reply}\n" for number, (*_, reply) in enumerate(self.calls)]
+        return "".join([head("report 2", "lazy", self.threads, self.quota, self.opening), *calls, *places, *(f"key {key}\n" for key in self.left), "end\n"])
 
 
 class Draft(Shaped):
@@ -269,18 +252,11 @@ class Draft(Shaped):
 # ---- others
 
 
-def odd_recordings(many):
-    """Each second line clashes with the one above it; each ceiling is wrong; and there are always two changes pending, each of which takes effect for
-    one of two looks, until the last look finds the key: then `judge` shows all calls."""
-    for layout in (two_at_one_moment, two_of_one_thread):
-        clashing = Recording(random.Random(1), looks_in_vain, many, may_have_points=False, layouts=[layout])
-        yield clashing.text(arranged=reversed_lines), "line 6: History", "", 0
-    opening = "".join(f"opening {key}\n" for key in range(many))
-    ceilings = "".join(f"call 0 ceiling 0 {2 * at + 1} - {2 * at + 2} nothing\n" for at in range(many))
-    yield f"{head('calls 2', 'lazy', 1, 0)}{opening}{ceilings}{opening.replace('opening', 'key')}end\n", "", "refused WrongReply 0\n", 0
-    looks = "".join(f"call {at % 2} add 5 {8 * at + 1} - {8 * at + 15} true\ncall {2 + at % 2} remove 5 {8 * at + 2} - {8 * at + 16} true\n"
-                    f"call 4 contains 5 {8 * at + 3} - {8 * at + 4} true\ncall 4 contains 5 {8 * at + 5} - {8 * at + 6} false\n" for at in range(10_000))
-    yield f"{head('calls 2', 'lazy', 5, 0)}{looks}call 4 contains 5 80001 - 80002 true\nend\n", "", "not linearizable\n", 40_001
+def never_at_rest(turns):
+    """There are always two changes pending, each of which takes effect for one of two looks, until the last look finds the key."""
+    looks = "".join(f"call {at % 2} add 5 {8 * at + 1} {8 * at + 15} true\ncall {2 + at % 2} remove 5 {8 * at + 2} {8 * at + 16} true\n"
+                    f"call 4 contains 5 {8 * at + 3} {8 * at + 4} true\ncall 4 contains 5 {8 * at + 5} {8 * at + 6} false\n" for at in range(turns))
+    return f"listset-calls 1\n{looks}call 4 contains 5 {8 * turns + 1} {8 * turns + 2} true\nend\n"
 
 
 def with_far_keys(draw, lines, keys):

@@ -1,17 +1,12 @@
 //! FineList with calls that hold one lock.
-
-ghost use Rattle.std.specs.Prelude.{◌≡◌};
-ghost use Rattle.broken_tables.specs.BrokenFine.{fed_pred_first, fed_with_one_lock, row_of_remove, through_row_14, with_one_lock};
-ghost use Rattle.broken_lists.specs.BrokenSteps.{IsRunnable};
+ghost use Rattle.lset_steps.specs.Rows.{IsSmall};
 
 use lset_fine::fed_by;
 use lset_steps::reads::continued;
 use lset_steps::{Fed, Local};
 use lset_words::Call;
 
-fn row_of_remove(pc: u8) -> u8
-    ensures { result ≡ row_of_remove pc }
-{
+fn row_of_remove(pc: u8) -> u8 {
     match pc {
         3 => 4,
         4 => 5,
@@ -21,9 +16,7 @@ fn row_of_remove(pc: u8) -> u8
     }
 }
 
-fn with_one_lock(call: Call, local: Local) -> Local
-    ensures { result ≡ with_one_lock call local }
-{
+fn with_one_lock(call: Call, local: Local) -> Local {
     match call {
         Call::Remove(_) => Local {
             pc: row_of_remove(local.pc),
@@ -35,8 +28,7 @@ fn with_one_lock(call: Call, local: Local) -> Local
 
 /// Without the second lock of `remove`: it holds only the lock of `pred`.
 pub fn fed_with_one_lock(local: &Local, seen: u64) -> Fed
-    requires { IsRunnable local.now }
-    ensures { result ≡ fed_with_one_lock local.now seen }
+    requires { IsSmall local.now }
 {
     let fed = fed_by(local, seen);
     Fed {
@@ -45,9 +37,7 @@ pub fn fed_with_one_lock(local: &Local, seen: u64) -> Fed
     }
 }
 
-fn through_row_14(local: Local) -> Local
-    ensures { result ≡ through_row_14 local }
-{
+fn through_row_14(local: Local) -> Local {
     if local.pc == 3 {
         Local { pc: 14, ..local }
     } else {
@@ -57,8 +47,7 @@ fn through_row_14(local: Local) -> Local
 
 /// Without hand-over-hand locking: a walk releases the lock of `pred` before it takes that of `curr`.
 pub fn fed_pred_first(local: &Local, seen: u64) -> Fed
-    requires { IsRunnable local.now }
-    ensures { result ≡ fed_pred_first local.now seen }
+    requires { IsSmall local.now }
 {
     if local.pc == 14 {
         return continued(Local { pc: 3, ..*local });

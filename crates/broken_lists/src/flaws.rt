@@ -1,9 +1,7 @@
-//! The steps of the broken lists: each arm that does not name a function of the right list says what the broken one lacks.
-//! `PLACE` gives each list a copy of a function, in which the compiler knows `broken`, so that one arm is left.
-ghost use Rattle.std.specs.Prelude.{◌≡◌};
-ghost use Rattle.broken_tables.specs.Marks.{seen_without_mark};
-ghost use Rattle.broken_lists.specs.BrokenLists.{table_of};
-ghost use Rattle.broken_lists.specs.BrokenSteps.{IsRunnable};
+//! The steps of the broken lists: each arm that does not name a function of the right list says what the broken one lacks. A step can be
+//! made whatever run a thread's numbers come from, while they are small. `seen` is the value that was loaded or stored, or that the word
+//! held before an exchange.
+ghost use Rattle.lset_steps.specs.Rows.{IsSmall};
 
 use crate::lists::BrokenList;
 use crate::lists::BrokenList::{
@@ -17,10 +15,7 @@ use lset_steps::{Action, Fed, Local};
 use lset_words::{Call, Key};
 
 /// What a thread sees that overlooks the mark at one row.
-#[inline(always)]
-fn without_mark(row: u8, local: &Local, seen: u64) -> u64
-    ensures { result ≡ seen_without_mark row local.now seen }
-{
+fn without_mark(row: u8, local: &Local, seen: u64) -> u64 {
     if local.pc == row {
         2 * (seen / 2)
     } else {
@@ -29,10 +24,7 @@ fn without_mark(row: u8, local: &Local, seen: u64) -> u64
 }
 
 /// Every broken list begins a call as the right one.
-#[inline(always)]
-pub fn begun(broken: BrokenList, call: Call, local: &Local) -> Local
-    ensures { result ≡ (table_of broken).begin call local.now }
-{
+pub fn begun(broken: BrokenList, call: Call, local: &Local) -> Local {
     match broken {
         Lock | SecondLock | HandOverHand | SecondWalk | SameNode => begun_at(1, call, local),
         MarksInValidation
@@ -46,10 +38,8 @@ pub fn begun(broken: BrokenList, call: Call, local: &Local) -> Local
     }
 }
 
-#[inline(always)]
-pub fn next_action<const PLACE: u8>(broken: BrokenList, local: &Local) -> Action
-    requires { IsRunnable local.now }
-    ensures { result ≡ (table_of broken).next local.now }
+pub fn next_action(broken: BrokenList, local: &Local) -> Action
+    requires { IsSmall local.now }
 {
     match broken {
         Lock => lset_coarse::next_action(local),
@@ -63,10 +53,8 @@ pub fn next_action<const PLACE: u8>(broken: BrokenList, local: &Local) -> Action
     }
 }
 
-#[inline(always)]
-pub fn fed_by<const PLACE: u8>(broken: BrokenList, local: &Local, seen: u64) -> Fed
-    requires { IsRunnable local.now }
-    ensures { result ≡ (table_of broken).feed local.now seen }
+pub fn fed_by(broken: BrokenList, local: &Local, seen: u64) -> Fed
+    requires { IsSmall local.now }
 {
     match broken {
         Lock if local.pc == 1 => lset_coarse::fed_by(local, 0),
@@ -89,14 +77,8 @@ pub fn fed_by<const PLACE: u8>(broken: BrokenList, local: &Local, seen: u64) -> 
     }
 }
 
-#[inline(always)]
-pub fn effect_of<const PLACE: u8>(
-    broken: BrokenList,
-    local: &Local,
-    seen: u64,
-) -> Option<(Key, bool)>
-    requires { IsRunnable local.now }
-    ensures { result ≡ (table_of broken).effect local.now seen }
+pub fn effect_of(broken: BrokenList, local: &Local, seen: u64) -> Option<(Key, bool)>
+    requires { IsSmall local.now }
 {
     match broken {
         Lock => lset_coarse::effect_of(local, seen),

@@ -1,9 +1,3 @@
-ghost use Rattle.std.specs.Prelude.{◌≡◌, IfSome, Some};
-ghost use Rattle.lset_words.specs.declared.Kind.{Kind};
-ghost use Rattle.lset_steps.specs.Steps.{Table};
-ghost use Rattle.broken_lists.specs.BrokenLists.{kind_of, name_of, table_of};
-
-use crate::machine::{Broken, BrokenMachine};
 use lset_words::Kind;
 
 /// A broken list, by the check that was removed from it.
@@ -56,9 +50,7 @@ pub const ALL: [BrokenList; 13] = [
 
 impl BrokenList {
     /// Returns the name that `--lacks` takes for it.
-    pub fn name(self) -> &'static str
-        ensures { result.now ≡ name_of self }
-    {
+    pub fn name(self) -> &'static str {
         match self {
             BrokenList::Lock => "lock",
             BrokenList::SecondLock => "second-lock",
@@ -77,9 +69,7 @@ impl BrokenList {
     }
 
     /// Returns the list from which the check was removed.
-    pub fn kind(self) -> Kind
-        ensures { result ≡ kind_of self }
-    {
+    pub fn kind(self) -> Kind {
         match self {
             BrokenList::Lock => Kind::Coarse,
             BrokenList::SecondLock | BrokenList::HandOverHand => Kind::Fine,
@@ -97,52 +87,11 @@ impl BrokenList {
 }
 
 /// Returns the broken list whose name the bytes are; `None` if none has it.
-pub fn named(name: &[u8]) -> Option<BrokenList>
-    ensures found { IfSome result (λ broken. name.now ≡ name_of broken) }
-    ensures only { (broken : BrokenList) → name.now ≡ name_of broken → result ≡ Some broken }
-{
+pub fn named(name: &[u8]) -> Option<BrokenList> {
     for broken in &ALL {
         if broken.name().as_bytes() == name {
             return Some(*broken);
         }
     }
     None
-}
-
-/// Something that can be done on any broken list: the argument of `on_broken`.
-pub trait Task {
-    type Out;
-
-    /// When it can be done.
-    ghost may: { Self → Type 0 };
-
-    /// What is done on a machine with this table.
-    ghost done: { Self → Table → Self.Out → Type 0 };
-
-    /// Does it on the list `M`.
-    fn run<M: BrokenMachine>(self) -> Self::Out
-        requires { may self }
-        ensures { done self M.table result };
-}
-
-/// Does a task on this broken list, and returns its result.
-pub fn on_broken<T: Task + Drop>(broken: BrokenList, task: T) -> T::Out
-    requires { T.may task }
-    ensures { T.done task (table_of broken) result }
-{
-    match broken {
-        BrokenList::Lock => task.run::<Broken<0>>(),
-        BrokenList::SecondLock => task.run::<Broken<1>>(),
-        BrokenList::HandOverHand => task.run::<Broken<2>>(),
-        BrokenList::SecondWalk => task.run::<Broken<3>>(),
-        BrokenList::SameNode => task.run::<Broken<4>>(),
-        BrokenList::MarksInValidation => task.run::<Broken<5>>(),
-        BrokenList::MarkInContains => task.run::<Broken<6>>(),
-        BrokenList::MarkInCeiling => task.run::<Broken<7>>(),
-        BrokenList::Mark => task.run::<Broken<8>>(),
-        BrokenList::MarkInAdd => task.run::<Broken<9>>(),
-        BrokenList::MarkInRemove => task.run::<Broken<10>>(),
-        BrokenList::MarkAtKey => task.run::<Broken<11>>(),
-        BrokenList::NewSlot => task.run::<Broken<12>>(),
-    }
 }

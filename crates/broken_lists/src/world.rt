@@ -1,19 +1,14 @@
-ghost use Rattle.std.specs.Prelude.{◌≡◌, ◌<◌, ◌≤◌, ◌↔◌, IfErr, IfOk, IsTrue, MatchOption, length, map};
-ghost use Rattle.std.specs.List.{range_with_len};
-ghost use Rattle.lset_steps.specs.Steps.{Enabled, idle, opening, opening_of, local_of, seen_by, seen_next, left_by};
-ghost use Rattle.lset_steps.specs.Laws.{word_named};
-ghost use Rattle.lset_steps.specs.Worlds.{WorldState};
-ghost use Rattle.broken_lists.specs.BrokenSteps.{BrokenStep, CanGo, CanMake, IsRefusedFor, IsRunnable};
+ghost use Rattle.std.specs.Prelude.{◌≡◌, IfOk, IsTrue, length};
+ghost use Rattle.lset_steps.specs.Rows.{IsSmall};
 
-use crate::machine::BrokenMachine;
-use lset_steps::{Action, Event, Local, Told, opening_words};
-use lset_words::{Layout, MOST_NODES, MOST_QUOTA, MOST_THREADS};
+use crate::flaws;
+use crate::lists::BrokenList;
+use crate::meeting::chain_met;
+use lset_replay::Steps;
+use lset_steps::{Action, ChainKey, Event, Local, Told, opening_words};
+use lset_words::{Call, Layout, MOST_NODES, MOST_QUOTA, MOST_THREADS};
 use std::alloc::{AllocError, Global};
-use std::marker::{Model, PhantomData};
 use thiserror::Error;
-
-/// Numbers below this one can be added to twice a node's.
-const MOST_PKEY: u64 = 1 << 62;
 
 /// Why an event of a broken list is refused.
 #[derive(Clone, Copy, Debug, PartialEq, Eq, Error)]
@@ -31,32 +26,16 @@ pub enum BrokenStepError {
 
 /// The words of a broken list and the state of each thread.
 #[derive(Drop)]
-pub struct BrokenWorld<M: BrokenMachine> {
-    layout: Layout,
+pub struct BrokenWorld {
+    alloc: Global,
+    broken: BrokenList,
     words: Vec<u64>,
     locals: Vec<Local>,
-    machine: PhantomData<M>,
-}
-
-impl<M: BrokenMachine> Model for BrokenWorld<M> {
-    ghost Value = { WorldState };
-
-    ghost view = { λ w. record { sizes = w.layout; state = record { words = w.words.items; locals = w.locals.items } } };
-
-    ghost invariant = { λ w. length w.locals.items ≡ w.layout.threads };
-}
-
-fn idle_locals(alloc: Global, layout: &Layout) -> Result<Vec<Local>, AllocError>
-    ensures { IfOk result (λ v. v.items ≡ map (idle layout.now.quota) (range_with_len 0 layout.now.threads)) }
-{
-    (0..layout.threads())
-        .map(|t| Local::idle(layout, t))
-        .collect(alloc)
 }
 
 /// Whether every number is small enough to compute with.
-fn is_runnable(local: &Local) -> bool
-    ensures { IsTrue result ↔ IsRunnable local.now }
+fn is_small(local: &Local) -> bool
+    ensures { IsTrue result → IsSmall local.now }
 {
     local.thread < MOST_THREADS
         && local.quota <= MOST_QUOTA
@@ -65,147 +44,123 @@ fn is_runnable(local: &Local) -> bool
         && local.curr < MOST_NODES
         && local.succ < MOST_NODES
         && local.node < MOST_NODES
-        && local.pkey < MOST_PKEY
 }
 
-fn word_of(action: Action) -> u64
-    ensures { result ≡ word_named action }
-{
+/// What an access will see; `None` if it names no word of the table.
+fn sight(words: &[u64], action: Action) -> Option<u64> {
+    let (Action::Load(word) | Action::Exchange(word, _, _) | Action::Store(word, _)) = action;
+    let held = *words.get(word as usize)?;
     match action {
-        Action::Load(w) | Action::Store(w, _) | Action::Exchange(w, _, _) => w,
+        Action::Store(_, value) => Some(value),
+        Action::Load(_) | Action::Exchange(_, _, _) => Some(held),
     }
 }
 
-/// What an access will see.
-#[inline(always)]
-fn sight(words: &[u64], action: Action) -> u64
-    requires { word_named action < length words.now }
-    ensures { result ≡ seen_by words.now action }
-{
-    match action {
-        Action::Load(w) | Action::Exchange(w, _, _) => words[w as usize],
-        Action::Store(_, v) => v,
+/// Writes what an access writes that has seen a value.
+fn write(words: &mut Vec<u64>, action: Action, seen: u64) {
+    let (word, value) = match action {
+        Action::Store(word, value) => (word, value),
+        Action::Exchange(word, old, new) if seen == old => (word, new),
+        Action::Load(_) | Action::Exchange(_, _, _) => return,
+    };
+    if let Some(held) = words.get_mut(word as usize) {
+        *held = value;
     }
 }
 
-/// Makes one access, and returns the value that it saw.
-#[inline(always)]
-fn access(words: &mut Vec<u64>, action: Action) -> u64
-    requires { word_named action < length words.old.items }
-    ensures seen { result ≡ seen_by words.old.items action }
-    ensures left { words.new.items ≡ left_by words.old.items action }
-{
-    let seen = sight(words, action);
-    match action {
-        Action::Store(w, v) => words[w as usize] = v,
-        Action::Exchange(w, old, new) if seen == old => words[w as usize] = new,
-        Action::Load(_) | Action::Exchange(_, _, _) => {}
-    }
-    seen
-}
-
-impl<M: BrokenMachine> BrokenWorld<M> {
+impl BrokenWorld {
     /// Returns the world of a list that opens with these keys, before any event. Allocates; `AllocError` if that fails.
     pub fn opened(
         alloc: Global,
+        broken: BrokenList,
         layout: &Layout,
         keys: &[u32],
-    ) -> Result<BrokenWorld<M>, AllocError>
+    ) -> Result<BrokenWorld, AllocError>
         requires { length keys.now ≡ layout.now.opening }
-        ensures { IfOk result (λ w. w ≡ record { sizes = layout.now; state = opening (opening_of layout.now keys.now) }) }
     {
-        let words = opening_words(alloc, layout, keys)?;
-        let locals = idle_locals(alloc, layout)?;
+        let mut locals = Vec::new(alloc);
+        for thread in 0..layout.threads() {
+            locals.push(Local::idle(layout, thread))?;
+        }
         Ok(BrokenWorld {
-            layout: *layout,
-            words,
+            alloc,
+            broken,
+            words: opening_words(alloc, layout, keys)?,
             locals,
-            machine: PhantomData,
         })
     }
 
-    /// Returns the words of the table.
-    pub fn words(&self) -> &[u64]
-        ensures { result.now ≡ self.now.state.words }
-    {
-        &self.words
+    /// Begins a call of a thread that has none pending.
+    fn begin(&mut self, thread: u32, call: Call) -> Result<Told, BrokenStepError> {
+        let broken = self.broken;
+        let local = self
+            .locals
+            .get_mut(thread as usize)
+            .ok_or(BrokenStepError::NoThread)?;
+        if local.pc != 0 {
+            return Err(BrokenStepError::Busy);
+        }
+        *local = flaws::begun(broken, call, local);
+        Ok(Told {
+            answer: None,
+            change: None,
+        })
     }
 
-    /// Returns the state of thread `t`; `None` if there is no such thread.
-    pub fn holds(&self, t: u32) -> Option<Local>
-        ensures { MatchOption result (self.now.sizes.threads ≤ t) (λ l.
-            (t < self.now.sizes.threads) × (l ≡ local_of self.now.state t)) }
-    {
-        if t < self.layout.threads() {
-            Some(self.locals[t as usize])
-        } else {
-            None
-        }
-    }
-
-    /// Returns the next access of thread `t` and the value that it will see; `None` if `step` refuses it.
-    pub fn next(&self, t: u32) -> Option<(Action, u64)>
-        ensures { MatchOption result (Enabled self.now.state (Event.Go t) → CanGo M.table self.now t → ⊥) (λ s.
-            (s.0 ≡ M.table.next (local_of self.now.state t)) × (s.1 ≡ seen_next M.table self.now.state t)) }
-    {
-        match self.going(t) {
-            Ok((_, action)) => Some((action, sight(&self.words, action))),
-            Err(_) => None,
-        }
-    }
-
-    /// What thread `t` holds, and its next access; or why it makes no step.
-    #[inline(always)]
-    fn going(&self, t: u32) -> Result<(Local, Action), BrokenStepError>
-        ensures can { IfOk result (λ _. CanMake M.table self.now (Event.Go t)) }
-        ensures held { IfOk result (λ g. (g.0 ≡ local_of self.now.state t) × (g.1 ≡ M.table.next (local_of self.now.state t))) }
-        ensures refused { IfErr result (λ cause. IsRefusedFor M.table self.now (Event.Go t) cause) }
-        ensures cannot { IfErr result (λ _. Enabled self.now.state (Event.Go t) → CanGo M.table self.now t → ⊥) }
-    {
-        if t >= self.layout.threads() {
-            return Err(BrokenStepError::NoThread);
-        }
-        let local = self.locals[t as usize];
+    /// Makes the next step of a thread.
+    fn go(&mut self, thread: u32) -> Result<Told, BrokenStepError> {
+        let broken = self.broken;
+        let local = self
+            .locals
+            .get_mut(thread as usize)
+            .ok_or(BrokenStepError::NoThread)?;
         if local.pc == 0 {
             return Err(BrokenStepError::Idle);
         }
-        if !is_runnable(&local) {
+        if !is_small(local) {
             return Err(BrokenStepError::Lost);
         }
-        let action = M::next(&local);
-        if word_of(action) >= self.words.len() as u64 {
-            return Err(BrokenStepError::Lost);
-        }
-        Ok((local, action))
+        let action = flaws::next_action(broken, local);
+        let seen = sight(&self.words, action).ok_or(BrokenStepError::Lost)?;
+        write(&mut self.words, action, seen);
+        let change = flaws::effect_of(broken, local, seen);
+        let fed = flaws::fed_by(broken, local, seen);
+        *local = fed.local;
+        Ok(Told {
+            answer: fed.answer,
+            change,
+        })
+    }
+}
+
+impl Steps for BrokenWorld {
+    type Fault = BrokenStepError;
+
+    fn held(&self, t: u32) -> Option<Local> {
+        self.locals.get(t as usize).copied()
     }
 
-    /// Executes one event by the table, and returns the reply and the change that it made. A refused event changes nothing.
-    pub fn step(&mut self, event: Event) -> Result<Told, BrokenStepError>
-        ensures { BrokenStep M.table self.old event result self.new }
-    {
-        match event {
-            Event::Begin(t, call) => {
-                let local = self.holds(t).ok_or(BrokenStepError::NoThread)?;
-                if local.pc != 0 {
-                    return Err(BrokenStepError::Busy);
-                }
-                self.locals[t as usize] = M::begin(call, &local);
-                Ok(Told {
-                    answer: None,
-                    change: None,
-                })
-            }
-            Event::Go(t) => {
-                let (local, action) = self.going(t)?;
-                let seen = access(&mut self.words, action);
-                let fed = M::feed(&local, seen);
-                let change = M::effect(&local, seen);
-                self.locals[t as usize] = fed.local;
-                Ok(Told {
-                    answer: fed.answer,
-                    change,
-                })
-            }
+    fn ahead(&self, t: u32) -> Option<(Action, u64)> {
+        let local = self.locals.get(t as usize)?;
+        if local.pc == 0 || !is_small(local) {
+            return None;
         }
+        let action = flaws::next_action(self.broken, local);
+        Some((action, sight(&self.words, action)?))
+    }
+
+    fn make(&mut self, event: Event) -> Result<Told, BrokenStepError> {
+        match event {
+            Event::Begin(thread, call) => self.begin(thread, call),
+            Event::Go(thread) => self.go(thread),
+        }
+    }
+
+    fn met(&self) -> Result<Vec<ChainKey>, AllocError> {
+        chain_met(self.alloc, &self.words)
+    }
+
+    fn lost() -> BrokenStepError {
+        BrokenStepError::Lost
     }
 }

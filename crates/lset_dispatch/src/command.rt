@@ -1,8 +1,7 @@
 ghost use Rattle.std.specs.Prelude.{◌≡◌, option_map, string_bytes};
 ghost use Rattle.std.specs.Option.{option_copied};
 ghost use Rattle.lset_command.specs.CommandLine.{choice_in, options_of};
-ghost use Rattle.tool_base.specs.Tools.{Ends};
-ghost use Rattle.lset_dispatch.specs.Dispatch.{CommandEnds, Does, ReplaysFor, ShowsBy, TracesFor};
+ghost use Rattle.lset_dispatch.specs.Dispatch.{CommandEnds, ReplayEnds};
 
 use lset_command::{Command, Options, Words};
 use std::alloc::Global;
@@ -34,10 +33,7 @@ fn show<R: Read, W: Write, F: Write>(
     input: &mut R,
     output: &mut W,
     faults: &mut F,
-) -> u8
-    ensures { Ends (ShowsBy (options_of options.now) (R.remaining input.old))
-        (W.contents output.old) (W.contents output.new) (F.contents faults.old) (F.contents faults.new) result }
-{
+) -> u8 {
     let from = text_of(&options.from);
     let to = text_of(&options.to);
     let width = text_of(&options.width);
@@ -58,7 +54,7 @@ fn replay<R: Read, W: Write, F: Write>(
     output: &mut W,
     faults: &mut F,
 ) -> u8
-    ensures { Ends (ReplaysFor (options_of options.now).lacks (R.remaining input.old))
+    ensures { ReplayEnds (options_of options.now).lacks (R.remaining input.old)
         (W.contents output.old) (W.contents output.new) (F.contents faults.old) (F.contents faults.new) result }
 {
     match text_of(&options.lacks) {
@@ -74,10 +70,7 @@ fn trace<R: Read, W: Write, F: Write>(
     input: &mut R,
     output: &mut W,
     faults: &mut F,
-) -> u8
-    ensures { Ends (TracesFor (options_of options.now).lacks (R.remaining input.old))
-        (W.contents output.old) (W.contents output.new) (F.contents faults.old) (F.contents faults.new) result }
-{
+) -> u8 {
     match text_of(&options.lacks) {
         None => tool_trace(alloc, options.chain, input, output, faults),
         Some(name) => tool_trace_broken(alloc, name, options.chain, input, output, faults),
@@ -95,7 +88,7 @@ pub fn run_command<
     W: Write,
     F: Write,
 >(rt: &H, alloc: Global, words: &Words, input: &mut R, output: &mut W, faults: &mut F) -> u8
-    ensures { CommandEnds (Does (choice_in words.now) (R.remaining input.old))
+    ensures { CommandEnds (choice_in words.now) (R.remaining input.old)
         (W.contents output.old) (W.contents output.new) (F.contents faults.old) (F.contents faults.new) result }
 {
     let options = &words.options;

@@ -2,7 +2,7 @@ ghost use Rattle.std.specs.Prelude.{◌≡◌, IfOk};
 ghost use Rattle.clap.specs.Words.{FailsBy, fault_of, kind_of, subcommand_of};
 ghost use Rattle.clap.specs.Walk.{texts};
 ghost use Rattle.lset_command.specs.CommandLine.{choice_in, choice_of, listset};
-ghost use Rattle.lset_dispatch.specs.Dispatch.{CommandEnds, Declines, DoesOnInput, Runs};
+ghost use Rattle.lset_dispatch.specs.Dispatch.{Declines, EndsOnInput, Runs};
 
 use crate::command::run_command;
 use clap::Error;
@@ -51,7 +51,7 @@ fn run_on_file<
     W: Write,
     F: Write,
 >(rt: &H, alloc: Global, words: &Words, input: &mut R, output: &mut W, faults: &mut F) -> u8
-    ensures { CommandEnds (DoesOnInput (choice_in words.now) (λ bytes. (file : H.File) × (bytes ≡ H.File.remaining file)) (R.remaining input.old))
+    ensures { EndsOnInput (choice_in words.now) (λ bytes. (file : H.File) × (bytes ≡ H.File.remaining file)) (R.remaining input.old)
         (W.contents output.old) (W.contents output.new) (F.contents faults.old) (F.contents faults.new) result }
 {
     let Some(path) = words.path() else {

@@ -2,10 +2,10 @@
 use Rattle.std.proofs.Common.{◌≡◌, ◌≢◌, ℕ, suc, ◌+◌, ◌-◌, ◌<◌, ◌≤◌, true, List, [], ◌∷◌, ◌++◌, refl, sym, ap, ◌∙◌, arith, subst, inl, inr}
 use Rattle.std.proofs.Common.{length, get_or, length-append}
 use Rattle.std.specs.Prelude.{Option, Some, None, IfSome, IsSomeAnd, All, Contains}
-use Rattle.std.specs.List.{remove}
+use Rattle.std.specs.List.Sorted.{IsPermutation}
 use Rattle.std.proofs.lemmas.List.{get_or_default, get_or_append_left, get_or_push}
-use Rattle.std.proofs.lemmas.List.Elements.{recursion_from_All, All-push}
-use Rattle.std.proofs.lemmas.List.Quantifiers.{all_pairs_push}
+use Rattle.std.proofs.lemmas.List.Elements.{recursion_from_All, All-push, All-cons}
+use Rattle.std.proofs.lemmas.List.Sorted.{All-permutation, Contains-permutation, IsPermutation-sym}
 use Rattle.lset_words.specs.declared.Reply.{Reply}
 use Rattle.lset_words.specs.declared.history.CallRecord.{CallRecord}
 use Rattle.lset_words.specs.SequentialSet.{has_key}
@@ -13,32 +13,38 @@ use Rattle.lset_words.specs.Words.{key_of}
 use Rattle.lset_words.specs.History.{call_numbered, no_call}
 use Rattle.lset_words.proofs.Numbers.{below_or_not}
 use Rattle.lset_history.proofs.Histories.{Follows, history_begun}
+use Rattle.lset_history.proofs.Pairs.{pairs_cons}
 use Rattle.lset_judge.specs.declared.stream.Failed.{Failed}
 use Rattle.lset_judge.specs.declared.stream.Pending.{Pending}
 use Rattle.lset_judge.specs.declared.stream.Stream.{Stream}
 use Rattle.lset_judge.specs.Events.{kind_if, until_if, begin_event, event_at}
-use Rattle.lset_judge.specs.Stream.{behind_all, pending_of, key_in, event_of, no_pending, IsOver, IsBefore, ArePending, IsJudgedTo, IsMetBy, IsNearest}
+use Rattle.lset_judge.specs.Stream.{behind_all, pending_of, key_in, event_of, no_pending, IsOver, IsBefore, ArePending, IsJudgedTo, IsMetBy}
+use Rattle.lset_judge.specs.Pending.{IsNext}
 use Rattle.lset_judge.specs.Stream.{IsStreamOf, MayCome}
 use Rattle.lset_judge.specs.Verdict.{is_plain}
 use Rattle.lset_judge.proofs.After.{same_after}
 use Rattle.lset_judge.proofs.Streamed.{same_some, until_end, event_before, event_begun, goes_to}
 use Rattle.lset_judge.proofs.EventLemmas.{if_some, for_some, none_or_some}
-use Rattle.lset_judge.proofs.Streamed.{quiet_before, ends_next, without_next}
+use Rattle.lset_judge.proofs.Streamed.{quiet_before, ends_next, without_next, ends_moved, later_too}
 
 some_and : (P : ℕ × Reply → Type 0) (o : Option (ℕ × Reply)) (e : ℕ × Reply) → o ≡ Some e → P e → IsSomeAnd o P
 some_and P o e s h = subst (λ q. IsSomeAnd q P) (sym s) h
 
 -- ---- the next pending call ends
 
-pub end_met : (threads : ℕ) (opening : List ℕ) (calls : List CallRecord) (s t : Stream) (i : ℕ) (p : Pending) → i < length s.pending.items
-    → IsNearest behind_all s.pending.items i → p ≡ get_or s.pending.items i no_pending → t.pending.items ≡ remove s.pending.items i
-    → t.moment ≡ p.end → IsMetBy s.states (key_in p) p.end (event_of p) t.states s.failed t.failed
-    → IsStreamOf threads opening calls s → IsStreamOf threads opening calls t
-end_met threads opening calls s t i p low near next pending moment met is =
-    let at_end : p.end ≡ (get_or s.pending.items i no_pending).end = ap (λ (q : Pending). q.end) next in
-    let early = near.0 in let least = near.1 in
+pub end_met : (threads : ℕ) (opening : List ℕ) (calls : List CallRecord) (s t : Stream) (moment : ℕ) (p : Pending) (rest : List Pending)
+    → moment ≤ behind_all → IsNext moment s.pending p rest → t.pending ≡ rest → t.moment ≡ p.end
+    → IsMetBy s.states (key_in p) p.end (event_of p) t.states s.failed t.failed → IsStreamOf threads opening calls s → IsStreamOf threads opening calls t
+end_met threads opening calls s t moment p rest upto next pending at met is =
+    let here = Contains-permutation (p ∷ rest) s.pending p (IsPermutation-sym s.pending (p ∷ rest) next.is) (0, omega arith, refl) in
+    let i : ℕ = here.0 in let low = here.1 in
+    let own : get_or s.pending i no_pending ≡ p = sym (get_or_default s.pending i p no_pending low) ∙ here.2 in
+    let at_end : p.end ≡ (get_or s.pending i no_pending).end = ap (λ (q : Pending). q.end) (sym own) in
+    let soon = next.early in
+    let early : (get_or s.pending i no_pending).end < behind_all = omega (arith, at_end, soon, upto) in
+    let least = subst (λ (q : Pending). All (λ (r : Pending). q.end ≤ r.end) s.pending) (sym own) next.least in
     let now = is.pending.later i no_pending low in
-    let e : t.moment ≡ (get_or s.pending.items i no_pending).end = moment ∙ at_end in
+    let e : t.moment ≡ (get_or s.pending i no_pending).end = at ∙ at_end in
     record {
       opens = is.opens;
       history = is.history;
@@ -47,35 +53,29 @@ end_met threads opening calls s t i p low near next pending moment met is =
       begun = λ n d inside. let up = is.begun n d inside in omega (arith, up, now, e);
       moment = omega (arith, e, early);
       pending = subst (λ ps. ArePending calls t.moment ps) (sym pending)
-          (subst (λ m. ArePending calls m (remove s.pending.items i)) (sym e)
-          (without_next threads calls is.history is.before s.moment is.begun s.pending.items is.pending i low early least));
+          (subst (λ m. ArePending calls m rest) (sym e)
+          (without_next threads calls is.history is.before s.moment is.begun s.pending is.pending i low early least rest
+          (subst (λ (q : Pending). IsPermutation s.pending (q ∷ rest)) (sym own) next.is)));
       judged = subst (λ m. IsJudgedTo opening calls m t.states t.failed) (sym e)
-          (goes_to opening calls s.moment ((get_or s.pending.items i no_pending).end - 1) (key_in (get_or s.pending.items i no_pending))
-          (event_of (get_or s.pending.items i no_pending)) (omega (arith, now))
-          (λ j from upto k. quiet_before threads calls is.history is.before s.moment is.begun s.pending.items is.pending j from
+          (goes_to opening calls s.moment ((get_or s.pending i no_pending).end - 1) (key_in (get_or s.pending i no_pending))
+          (event_of (get_or s.pending i no_pending)) (omega (arith, now))
+          (λ j from upto k. quiet_before threads calls is.history is.before s.moment is.begun s.pending is.pending j from
           (λ n d inside. let up = least n d inside in omega (arith, up, upto, now)) k)
-          (λ k. ap (event_at behind_all k calls) (let z : suc ((get_or s.pending.items i no_pending).end - 1) ≡ (get_or s.pending.items i no_pending).end = omega (arith, now) in z)
-          ∙ ends_next threads calls is.history is.before s.moment is.begun s.pending.items is.pending i low early k)
-          (get_or s.pending.items i no_pending).end (let z : (get_or s.pending.items i no_pending).end ≡ suc ((get_or s.pending.items i no_pending).end - 1) = omega (arith, now) in z)
+          (λ k. ap (event_at behind_all k calls) (let z : suc ((get_or s.pending i no_pending).end - 1) ≡ (get_or s.pending i no_pending).end = omega (arith, now) in z)
+          ∙ ends_next threads calls is.history is.before s.moment is.begun s.pending is.pending i low early k)
+          (get_or s.pending i no_pending).end (let z : (get_or s.pending i no_pending).end ≡ suc ((get_or s.pending i no_pending).end - 1) = omega (arith, now) in z)
           s.states t.states s.failed t.failed
-          (subst (λ (q : Pending). IsMetBy s.states (key_in q) q.end (event_of q) t.states s.failed t.failed) next met) is.judged);
+          (subst (λ (q : Pending). IsMetBy s.states (key_in q) q.end (event_of q) t.states s.failed t.failed) (sym own) met) is.judged);
     }
 
 -- ---- THE NEXT CALL BEGINS
 
-contains_left : {X : Type 0} (xs : List X) (y z : X) → Contains xs y → Contains (xs ++ z ∷ []) y
-contains_left xs y z c = let low = c.1 in
-    (c.0, omega (arith, low, length-append xs (z ∷ [])), get_or_append_left xs (z ∷ []) y c.0 c.1 ∙ c.2)
-
-contains_last : {X : Type 0} (xs : List X) (z : X) → Contains (xs ++ z ∷ []) z
-contains_last xs z = (length xs, omega (arith, length-append xs (z ∷ [])), get_or_push xs z z (length xs) refl)
-
 module _ (threads : ℕ) (opening : List ℕ) (calls : List CallRecord) (s : Stream) (is : IsStreamOf threads opening calls s) (x : CallRecord)
-    (of_thread : x.thread < threads) (may : MayCome s.pending.items s.moment x) (met : All (λ (p : Pending). x.begun ≤ p.end) s.pending.items) where
+    (may : MayCome s.pending s.moment x) (met : All (λ (p : Pending). x.begun ≤ p.end) s.pending) where
   abbrev call : ℕ → CallRecord
   call n = get_or calls n no_call
 
-  far : All (λ (p : Pending). x.begun < p.end) s.pending.items
+  far : All (λ (p : Pending). x.begun < p.end) s.pending
   far i d low = let up = met i d low in let ne = (may.apart i d low).0 in omega (arith, up, ne)
 
   later_end : (e : ℕ × Reply) → x.ended ≡ Some e → x.begun < e.0
@@ -97,7 +97,7 @@ module _ (threads : ℕ) (opening : List ℕ) (calls : List CallRecord) (s : Str
         none_open = λ same. some_and (λ (e : ℕ × Reply). e.0 < x.begun) (call n).ended over.0 over.1 (omega (arith, u, b));
       }
 
-  follow_pending : (n : ℕ) → n < length calls → Contains s.pending.items (pending_of (call n)) → Follows (call n) x
+  follow_pending : (n : ℕ) → n < length calls → Contains s.pending (pending_of (call n)) → Follows (call n) x
   follow_pending n low c =
       let up = is.begun n no_call low in let b = may.begins in
       let d : Pending = pending_of (call n) in
@@ -111,7 +111,7 @@ module _ (threads : ℕ) (opening : List ℕ) (calls : List CallRecord) (s : Str
               (λ z. omega (arith, z, l, up, b)),
               for_some (λ (d : ℕ × Reply). e.0 ≢ d.0) (call n).ended (λ g r z.
                   let m = ends g r in
-                  let ne = if_some (λ (e : ℕ × Reply). (get_or s.pending.items c.0 d).end ≢ e.0) x.ended e q (may.apart c.0 d c.1).1 in
+                  let ne = if_some (λ (e : ℕ × Reply). (get_or s.pending c.0 d).end ≢ e.0) x.ended e q (may.apart c.0 d c.1).1 in
                   let k = ap (λ (p : Pending). p.end) c.2 in omega (arith, m, ne, k, z)),
             ));
         none_open = λ same. absurd (
@@ -138,10 +138,10 @@ module _ (threads : ℕ) (opening : List ℕ) (calls : List CallRecord) (s : Str
   long = length-append calls (x ∷ [])
 
   -- an open call that began before does not end where this one does
-  ends_apart : (k : ℕ) (d : Pending) → k < length s.pending.items → (get_or s.pending.items k d).end ≢ (pending_of x).end
+  ends_apart : (k : ℕ) (d : Pending) → k < length s.pending → (get_or s.pending k d).end ≢ (pending_of x).end
   ends_apart k d low z = elim (none_or_some x.ended) [
     | inr e ↦ (
-        let ne = if_some (λ (e : ℕ × Reply). (get_or s.pending.items k d).end ≢ e.0) x.ended e.0 e.1 (may.apart k d low).1 in
+        let ne = if_some (λ (e : ℕ × Reply). (get_or s.pending k d).end ≢ e.0) x.ended e.0 e.1 (may.apart k d low).1 in
         ne (z ∙ until_end behind_all x.begun x.ended e.0 e.1))
     | inl none ↦ (
         let own : (pending_of x).end ≡ behind_all + x.begun = ap (until_if behind_all x.begun) none in
@@ -166,26 +166,35 @@ module _ (threads : ℕ) (opening : List ℕ) (calls : List CallRecord) (s : Str
     | inl none ↦ (let v : (pending_of x).end ≡ behind_all + x.begun = ap (until_if behind_all x.begun) none in omega (arith, v))
   ]
 
-  pub with_begun : ArePending more x.begun (s.pending.items ++ pending_of x ∷ [])
-  with_begun = record {
-    known = All-push (λ (p : Pending). (n : ℕ) × (n < length more) × (p ≡ pending_of (call_numbered more n))) s.pending.items (pending_of x)
-        (λ i d low. let k = is.pending.known i d low in let l = k.1 in
-        (k.0, omega (arith, l, long), k.2 ∙ ap pending_of (sym (old_call k.0 k.1))))
-        (length calls, omega (arith, long), ap pending_of (sym new_call));
-    kept = λ n low. elim (below_or_not n (length calls)) [
-      | inl old ↦ elim (is.pending.kept n old) [
-        | inl over ↦ inl (over.0, ap (λ (y : CallRecord). y.ended) (old_call n old) ∙ over.1, let u = over.2 in let b = may.begins in omega (arith, u, b))
-        | inr c ↦ inr (subst (Contains (s.pending.items ++ pending_of x ∷ [])) (ap pending_of (sym (old_call n old)))
-            (contains_left s.pending.items (pending_of (call n)) (pending_of x) c))
-      ]
-      | inr last ↦ inr (
-          let e : length calls ≡ n = omega (arith, last, low, long) in
-          subst (λ j. Contains (s.pending.items ++ pending_of x ∷ []) (pending_of (call_numbered more j))) e
-          (subst (Contains (s.pending.items ++ pending_of x ∷ [])) (ap pending_of (sym new_call)) (contains_last s.pending.items (pending_of x))))
-    ];
-    apart = all_pairs_push (λ (p q : Pending). p.end ≢ q.end) s.pending.items (pending_of x) is.pending.apart ends_apart;
-    later = All-push (λ (p : Pending). x.begun < p.end) s.pending.items (pending_of x) far own_later;
-  }
+  -- nor does a call that is pending
+  pub begins_apart : All (λ (p : Pending). p.end ≢ (pending_of x).end) s.pending
+  begins_apart k d low = ends_apart k d low
+
+  module _ (now : List Pending) (moved : IsPermutation (pending_of x ∷ s.pending) now) where
+    pub with_begun : ArePending more x.begun now
+    with_begun = record {
+      known = All-permutation (λ (p : Pending). (n : ℕ) × (n < length more) × (p ≡ pending_of (call_numbered more n))) (pending_of x ∷ s.pending) now moved
+          (All-cons (λ (p : Pending). (n : ℕ) × (n < length more) × (p ≡ pending_of (call_numbered more n))) (pending_of x) s.pending
+          (length calls, omega (arith, long), ap pending_of (sym new_call))
+          (λ i d low. let k = is.pending.known i d low in let l = k.1 in
+          (k.0, omega (arith, l, long), k.2 ∙ ap pending_of (sym (old_call k.0 k.1)))));
+      kept = λ n low. elim (below_or_not n (length calls)) [
+        | inl old ↦ elim (is.pending.kept n old) [
+          | inl over ↦ inl (over.0, ap (λ (y : CallRecord). y.ended) (old_call n old) ∙ over.1, let u = over.2 in let b = may.begins in omega (arith, u, b))
+          | inr c ↦ inr (subst (Contains now) (ap pending_of (sym (old_call n old)))
+              (Contains-permutation (pending_of x ∷ s.pending) now (pending_of (call n)) moved (later_too (pending_of x) s.pending (pending_of (call n)) c)))
+        ]
+        | inr last ↦ inr (
+            let e : length calls ≡ n = omega (arith, last, low, long) in
+            subst (λ j. Contains now (pending_of (call_numbered more j))) e
+            (subst (Contains now) (ap pending_of (sym new_call))
+            (Contains-permutation (pending_of x ∷ s.pending) now (pending_of x) moved (0, omega arith, refl))))
+      ];
+      apart = ends_moved (pending_of x ∷ s.pending) now moved (pairs_cons (λ (p q : Pending). p.end ≢ q.end) (pending_of x) s.pending
+          (λ k d low z. ends_apart k d low (sym z)) is.pending.apart);
+      later = All-permutation (λ (p : Pending). x.begun < p.end) (pending_of x ∷ s.pending) now moved
+          (All-cons (λ (p : Pending). x.begun < p.end) (pending_of x) s.pending own_later far);
+    }
 
   still_judged : (failed : Option Failed) → IsJudgedTo opening calls s.moment s.states failed → IsJudgedTo opening more s.moment s.states failed
   still_judged None so = λ k. same_after (event_at behind_all k more) (event_at behind_all k calls) (has_key k opening) s.moment
@@ -196,10 +205,10 @@ module _ (threads : ℕ) (opening : List ℕ) (calls : List CallRecord) (s : Str
         (λ j l. event_before behind_all f.key.0 j calls x (let b = may.begins in let u = so.0 in omega (arith, l, u, b)) may.ends) ∙ so.1,
   )
 
-  pub call_begun : (t : Stream) → t.pending.items ≡ s.pending.items ++ pending_of x ∷ [] → t.moment ≡ x.begun
+  pub call_begun : x.thread < threads → (t : Stream) → IsPermutation (pending_of x ∷ s.pending) t.pending → t.moment ≡ x.begun
       → IsMetBy s.states (key_of x.call).0 x.begun (begin_event (kind_if x.call x.ended) (until_if behind_all x.begun x.ended)) t.states s.failed t.failed
       → IsStreamOf threads opening more t
-  call_begun t pending moment by =
+  call_begun of_thread t moved moment by =
       let b = may.begins in record {
         opens = is.opens;
         history = history_begun threads calls x is.history (record { of_a_thread = of_thread; counted = omega (arith, b); ends_later = may.ends }) follows;
@@ -207,12 +216,12 @@ module _ (threads : ℕ) (opening : List ℕ) (calls : List CallRecord) (s : Str
         before = All-push IsBefore calls x is.before may.before;
         begun = All-push (λ (y : CallRecord). y.begun ≤ t.moment) calls x (λ n d low. let up = is.begun n d low in omega (arith, up, b, moment)) (omega (arith, moment));
         moment = (let u = may.before.0 in omega (arith, u, moment));
-        pending = subst (ArePending more t.moment) (sym pending) (subst (λ m. ArePending more m (s.pending.items ++ pending_of x ∷ [])) (sym moment) with_begun);
+        pending = subst (λ m. ArePending more m t.pending) (sym moment) (with_begun t.pending moved);
         judged = subst (λ m. IsJudgedTo opening more m t.states t.failed) (sym moment)
             (goes_to opening more s.moment (x.begun - 1) (key_of x.call).0 (begin_event (kind_if x.call x.ended) (until_if behind_all x.begun x.ended))
             (omega (arith, b))
             (λ j from upto k. event_before behind_all k j calls x (omega (arith, upto, b)) may.ends
-            ∙ quiet_before threads calls is.history is.before s.moment is.begun s.pending.items is.pending j from
+            ∙ quiet_before threads calls is.history is.before s.moment is.begun s.pending is.pending j from
             (λ n d inside. let f = far n d inside in omega (arith, f, upto)) k)
             (λ k. ap (event_at behind_all k more) (let z : suc (x.begun - 1) ≡ x.begun = omega (arith, b) in z)
             ∙ event_begun behind_all k calls x (recursion_from_All (λ (y : CallRecord). (y.begun ≢ x.begun) × IfSome y.ended (λ (e : ℕ × Reply). e.0 ≢ x.begun)) calls

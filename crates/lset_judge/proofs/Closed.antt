@@ -1,5 +1,5 @@
 -- The verdict on a stream, when all has happened that its calls tell.
-use Rattle.std.proofs.Common.{◌≡◌, ◌≢◌, ℕ, zero, suc, ◌<◌, ◌≤◌, ◌⊎◌, Bool, true, false, List, [], ◌∷◌, refl, sym, ap, ◌∙◌, arith, subst}
+use Rattle.std.proofs.Common.{◌≡◌, ℕ, zero, suc, ◌<◌, ◌≤◌, ◌⊎◌, Bool, true, false, List, [], ◌∷◌, refl, sym, ap, ◌∙◌, arith, subst}
 use Rattle.std.proofs.Common.{inl, inr, length, get_or}
 use Rattle.std.specs.Prelude.{◌==◌, ◌&&◌, ◌||◌, not, Option, Some, None, is_some, IfSome, MatchOption, All}
 use Rattle.std.specs.List.Sorted.{IsStrictlyIncreasing}
@@ -92,7 +92,7 @@ latest_upto G (x ∷ xs) a =
 -- ---- THE VERDICT
 
 module _ (threads : ℕ) (opening : List ℕ) (calls : List CallRecord) (s : Stream) (is : IsStreamOf threads opening calls s)
-    (met : All (λ (p : Pending). behind_all ≤ p.end) s.pending.items) where
+    (met : All (λ (p : Pending). behind_all ≤ p.end) s.pending) where
   abbrev h : HistoryValue
   h = stream_history threads opening calls
 

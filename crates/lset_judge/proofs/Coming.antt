@@ -1,6 +1,6 @@
 -- The next call of a history may come next in a stream of the calls before it.
-use Rattle.std.proofs.Common.{◌≡◌, ◌≢◌, ℕ, ◌+◌, ◌<◌, ◌≤◌, true, List, [], ◌∷◌, ◌++◌, refl, sym, ap, ◌∙◌, arith, subst, inl, inr, length, get_or, length-append}
-use Rattle.std.specs.Prelude.{Option, Some, None, IfSome, IsSomeAnd, All}
+use Rattle.std.proofs.Common.{◌≡◌, ◌≢◌, ℕ, ◌<◌, ◌≤◌, true, List, [], ◌∷◌, ◌++◌, refl, sym, arith, subst, length, get_or, length-append}
+use Rattle.std.specs.Prelude.{Option, Some, None, IfSome, IsSomeAnd}
 use Rattle.std.proofs.lemmas.List.{get_or_append_left, get_or_push}
 use Rattle.lset_words.specs.declared.Reply.{Reply}
 use Rattle.lset_words.specs.declared.history.CallRecord.{CallRecord}
@@ -9,7 +9,7 @@ use Rattle.lset_history.proofs.Histories.{Follows, calls_of, pairs_of}
 use Rattle.lset_judge.specs.declared.stream.Pending.{Pending}
 use Rattle.lset_judge.specs.declared.stream.Stream.{Stream}
 use Rattle.lset_judge.specs.Events.{until_if}
-use Rattle.lset_judge.specs.Stream.{behind_all, pending_of, IsBefore, IsStreamOf, MayCome}
+use Rattle.lset_judge.specs.Stream.{behind_all, IsBefore, IsStreamOf, MayCome}
 use Rattle.lset_judge.specs.Verdict.{is_plain}
 use Rattle.lset_judge.proofs.EventLemmas.{if_some, for_some}
 
@@ -30,7 +30,7 @@ free_of y x (Some d) is h = let l : d.0 < x.begun = subst (λ o. IsSomeAnd o (λ
 
 pub may_come : (threads : ℕ) (opening : List ℕ) (calls : List CallRecord) (s : Stream) (x : CallRecord) → IsStreamOf threads opening calls s
     → IsHistory threads (calls ++ x ∷ []) → s.moment < x.begun → IsBefore x → IfSome x.ended (λ (e : ℕ × Reply). is_plain x.call e.1 ≡ true)
-    → MayCome s.pending.items s.moment x
+    → MayCome s.pending s.moment x
 may_come threads opening calls s x is history begins before plain = record {
   begins = begins;
   ends = subst (λ (y : CallRecord). IfSome y.ended (λ (e : ℕ × Reply). y.begun < e.0)) here (calls_of threads more history (length calls) x last).ends_later;

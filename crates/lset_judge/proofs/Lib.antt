@@ -23,6 +23,7 @@ pub mod Refused
 pub mod After
 pub mod Streamed
 pub mod Begun
+pub mod Pendings
 pub mod Closed
 pub mod States
 pub mod Resting

@@ -1,27 +1,28 @@
 -- What a stream keeps of the calls of its keys goes on: at first, where a call ends, and where one begins.
-use Rattle.std.proofs.Common.{inl, inr, ◌≡◌, ◌≢◌, ◌⊎◌, ℕ, zero, suc, ◌+◌, ◌-◌, ◌<◌, ◌≤◌, Bool, true, List, [], ◌∷◌, ◌++◌, refl, sym, ap, ◌∙◌, arith, subst, length, get_or}
+use Rattle.std.proofs.Common.{inl, inr, ◌≡◌, ◌⊎◌, ℕ, zero, suc, ◌-◌, ◌<◌, ◌≤◌, Bool, true, List, [], ◌∷◌, ◌++◌, refl, sym, ap, ◌∙◌, arith, subst, length}
 use Rattle.std.specs.Prelude.{Option, Some, None, IfSome, Contains, is_some}
-use Rattle.std.specs.List.{remove}
+use Rattle.std.specs.List.Sorted.{IsPermutation}
 use Rattle.std.proofs.lemmas.Bool.{true≢false}
-use Rattle.std.proofs.lemmas.List.{get_or_default}
-use Rattle.std.proofs.lemmas.List.Elements.{Contains-append_left, Contains-push, Contains-get_or}
-use Rattle.std.proofs.lemmas.List.Edits.{get_or-remove_below, get_or-remove_above, length-remove}
+use Rattle.std.proofs.lemmas.List.Elements.{All-contains, Contains-get_or}
+use Rattle.std.proofs.lemmas.List.Sorted.{Contains-permutation, IsPermutation-sym}
 use Rattle.lset_words.specs.declared.Reply.{Reply}
 use Rattle.lset_words.specs.declared.history.CallRecord.{CallRecord}
 use Rattle.lset_words.specs.SequentialSet.{has_key}
 use Rattle.lset_words.specs.Words.{key_of}
 use Rattle.lset_words.specs.History.{call_numbered, no_call}
-use Rattle.lset_words.proofs.Numbers.{same_or_not, below_or_not}
+use Rattle.lset_words.proofs.Numbers.{same_or_not}
 use Rattle.lset_judge.specs.declared.stream.Pending.{Pending}
 use Rattle.lset_judge.specs.declared.stream.Failed.{Failed}
 use Rattle.lset_judge.specs.declared.stream.Stream.{Stream}
 use Rattle.lset_judge.specs.Rule.{Event, State, fits, settled, found, entered, opened, open_changes}
 use Rattle.lset_judge.specs.Events.{Kind, changes, sees, nothing, kind_if, until_if, begin_event}
 use Rattle.lset_judge.specs.Rest.{IsAtRest}
-use Rattle.lset_judge.specs.Stream.{behind_all, record_of, pending_of, key_in, event_of, no_pending, state_for, IsMetBy, IsJudgedTo, IsStreamOf, MayCome}
+use Rattle.lset_judge.specs.Stream.{behind_all, record_of, pending_of, key_in, event_of, state_for, IsMetBy, IsJudgedTo, IsStreamOf, MayCome}
 use Rattle.lset_judge.specs.Log.{log_for, log_opened, pushed, unquiet, IsEntry, IsOverBy, IsLog, LoggedBy, IsQuiet, LogsEnd}
+use Rattle.lset_judge.specs.Pending.{IsNext}
 use Rattle.lset_judge.proofs.EventLemmas.{for_some}
 use Rattle.lset_judge.proofs.Resting.{at_rest}
+use Rattle.lset_judge.proofs.Streamed.{first_or_later, later_too}
 use Rattle.lset_judge.proofs.Logging.{log_same, log_pushed, log_frozen, log_more}
 
 -- ---- at first
@@ -44,37 +45,26 @@ new_logged threads opening s is goes at states logs k = subst (IsLog threads ope
 
 -- ---- where the next call ends
 
-contains_remove : (xs : List Pending) (i : ℕ) (x : Pending) → i < length xs → (c : Contains xs x) → c.0 ≢ i → Contains (remove xs i) x
-contains_remove xs i x low c ne =
-    let long = length-remove xs i low in let inside = c.1 in
-    elim (below_or_not c.0 i) [
-      | inl b ↦ (c.0, omega (arith, b, low, long), get_or-remove_below xs i x c.0 b low ∙ c.2)
-      | inr a ↦ (
-        c.0 - 1,
-        omega (arith, a, ne, inside, long),
-        get_or-remove_above xs i x (c.0 - 1) (omega (arith, a, ne)) low
-            ∙ ap (λ (n : ℕ). get_or xs n x) (let q : c.0 - 1 + 1 ≡ c.0 = omega (arith, a, ne) in q) ∙ c.2,
-      )
-    ]
-
-module _ (threads : ℕ) (opening : List ℕ) (calls : List CallRecord) (s t : Stream) (i : ℕ) (p : Pending) (low : i < length s.pending.items)
-    (next : p ≡ get_or s.pending.items i no_pending) (pending : t.pending.items ≡ remove s.pending.items i) (moment : t.moment ≡ p.end)
+module _ (threads : ℕ) (opening : List ℕ) (calls : List CallRecord) (s t : Stream) (upto : ℕ) (p : Pending) (rest : List Pending)
+    (next : IsNext upto s.pending p rest) (pending : t.pending ≡ rest) (moment : t.moment ≡ p.end)
     (is : IsStreamOf threads opening calls s) (so : IsStreamOf threads opening calls t) where
   abbrev key : ℕ
   key = key_in p
 
-  later : s.moment ≤ t.moment
-  later = let now = is.pending.later i no_pending low in let at = ap (λ (q : Pending). q.end) next in omega (arith, now, at, moment)
+  has_next : Contains s.pending p
+  has_next = Contains-permutation (p ∷ rest) s.pending p (IsPermutation-sym s.pending (p ∷ rest) next.is) (0, omega arith, refl)
 
-  is_left : (y : CallRecord) → Contains s.pending.items (pending_of y) → (p ≡ pending_of y) ⊎ Contains t.pending.items (pending_of y)
-  is_left y c = elim (same_or_not c.0 i) [
-    | inl q ↦ inl (next ∙ ap (λ (n : ℕ). get_or s.pending.items n no_pending) (sym q)
-        ∙ sym (get_or_default s.pending.items c.0 (pending_of y) no_pending c.1) ∙ c.2)
-    | inr ne ↦ inr (subst (λ ps. Contains ps (pending_of y)) (sym pending) (contains_remove s.pending.items i (pending_of y) low c ne))
+  later : s.moment ≤ t.moment
+  later = let now : s.moment < p.end = All-contains (λ (q : Pending). s.moment < q.end) s.pending p is.pending.later has_next in omega (arith, now, moment)
+
+  is_left : (y : CallRecord) → Contains s.pending (pending_of y) → (p ≡ pending_of y) ⊎ Contains t.pending (pending_of y)
+  is_left y c = elim (first_or_later p rest (pending_of y) (Contains-permutation s.pending (p ∷ rest) (pending_of y) next.is c)) [
+    | inl q ↦ inl (sym q)
+    | inr d ↦ inr (subst (λ ps. Contains ps (pending_of y)) (sym pending) d)
   ]
 
   numbered : (n : ℕ) × (n < length calls) × (p ≡ pending_of (call_numbered calls n))
-  numbered = let k = is.pending.known i no_pending low in (k.0, k.1, next ∙ k.2)
+  numbered = All-contains (λ (q : Pending). (n : ℕ) × (n < length calls) × (q ≡ pending_of (call_numbered calls n))) s.pending p is.pending.known has_next
 
   is_known : Contains calls (record_of p.call)
   is_known = subst (λ (q : Pending). Contains calls (record_of q.call)) (sym numbered.2) (Contains-get_or calls numbered.0 no_call numbered.1)
@@ -97,9 +87,9 @@ module _ (threads : ℕ) (opening : List ℕ) (calls : List CallRecord) (s t : S
           ))
 
   now_pushed : (quiet : Option Bool) → IfSome quiet (λ (there : Bool). IsOverBy key t.moment calls → IsAtRest threads opening calls key t.moment there)
-      → IsLog threads opening calls key s.moment s.pending.items (log_for s.states key)
-      → IsLog threads opening calls key t.moment t.pending.items (pushed (record { call = p.call; quiet = quiet }) (log_for s.states key))
-  now_pushed quiet told l = log_pushed threads opening calls key s.moment t.moment later is.begun s.pending.items t.pending.items (log_for s.states key) l
+      → IsLog threads opening calls key s.moment s.pending (log_for s.states key)
+      → IsLog threads opening calls key t.moment t.pending (pushed (record { call = p.call; quiet = quiet }) (log_for s.states key))
+  now_pushed quiet told l = log_pushed threads opening calls key s.moment t.moment later is.begun s.pending t.pending (log_for s.states key) l
       (record { call = p.call; quiet = quiet }) (entry quiet told)
       (λ y own c. elim (is_left y c) [ inl e ↦ inl (ap (λ (q : Pending). q.call) e) | inr d ↦ inr d ])
 
@@ -109,19 +99,19 @@ module _ (threads : ℕ) (opening : List ℕ) (calls : List CallRecord) (s t : S
   rests (Some there) q judged = λ over. subst (IsAtRest threads opening calls key t.moment) q.0 (at_rest threads opening calls t so judged key over q.1 q.2)
 
   pub end_logged : (was failed : Option Failed) → IsMetBy s.states key p.end (event_of p) t.states was failed
-      → LogsEnd s.states t.pending.items p.call t.states was failed → IsJudgedTo opening calls t.moment t.states failed
-      → LoggedBy threads opening calls s.moment s.pending.items s.states was → LoggedBy threads opening calls t.moment t.pending.items t.states failed
-  end_logged (Some f) failed met logs judged l = subst (LoggedBy threads opening calls t.moment t.pending.items t.states) (sym met)
+      → LogsEnd s.states t.pending p.call t.states was failed → IsJudgedTo opening calls t.moment t.states failed
+      → LoggedBy threads opening calls s.moment s.pending s.states was → LoggedBy threads opening calls t.moment t.pending t.states failed
+  end_logged (Some f) failed met logs judged l = subst (LoggedBy threads opening calls t.moment t.pending t.states) (sym met)
       (subst (IsLog threads opening calls f.key.0 f.moment []) (sym (logs f.key.0)) l)
   end_logged None None met logs judged l = λ k. elim (same_or_not k key) [
-    | inr ne ↦ subst (IsLog threads opening calls k t.moment t.pending.items) (sym (logs.0 k ne))
-        (log_same threads opening calls k s.moment t.moment later is.begun s.pending.items t.pending.items (log_for s.states k) (l k)
+    | inr ne ↦ subst (IsLog threads opening calls k t.moment t.pending) (sym (logs.0 k ne))
+        (log_same threads opening calls k s.moment t.moment later is.begun s.pending t.pending (log_for s.states k) (l k)
         (λ x own c. elim (is_left x c) [ inl e ↦ absurd (ne (sym own ∙ sym (ap key_in e))) | inr d ↦ d ]))
-    | inl e ↦ subst (λ j. IsLog threads opening calls j t.moment t.pending.items (log_for t.states j)) (sym e)
-        (logs.1.2 threads t.moment opening calls t.pending.items refl (now_pushed logs.1.0 (rests logs.1.0 logs.1.1 judged) (l key)))
+    | inl e ↦ subst (λ j. IsLog threads opening calls j t.moment t.pending (log_for t.states j)) (sym e)
+        (logs.1.2 threads t.moment opening calls t.pending refl (now_pushed logs.1.0 (rests logs.1.0 logs.1.1 judged) (l key)))
   ]
   end_logged None (Some f) met logs judged l =
-      let frozen = log_frozen threads opening calls key t.moment t.pending.items (pushed (unquiet p.call) (log_for s.states key)) so.pending (now_pushed None tt (l key)) in
+      let frozen = log_frozen threads opening calls key t.moment t.pending (pushed (unquiet p.call) (log_for s.states key)) so.pending (now_pushed None tt (l key)) in
       subst (λ m. IsLog threads opening calls f.key.0 m [] (log_for t.states f.key.0)) (moment ∙ sym met.1)
       (subst (λ k. IsLog threads opening calls k t.moment [] (log_for t.states k)) (sym met.0)
       (subst (IsLog threads opening calls key t.moment []) (sym logs) frozen))
@@ -141,7 +131,7 @@ never_fails kind u m s e = true≢false (ap is_some (sym (ap (entered (begin_eve
     fit nothing = refl
 
 module _ (threads : ℕ) (opening : List ℕ) (calls : List CallRecord) (s t : Stream) (is : IsStreamOf threads opening calls s) (x : CallRecord)
-    (may : MayCome s.pending.items s.moment x) (pending : t.pending.items ≡ s.pending.items ++ pending_of x ∷ []) (moment : t.moment ≡ x.begun)
+    (may : MayCome s.pending s.moment x) (moved : IsPermutation (pending_of x ∷ s.pending) t.pending) (moment : t.moment ≡ x.begun)
     (logs : (k : ℕ) → log_for t.states k ≡ log_for s.states k) where
   abbrev more : List CallRecord
   more = calls ++ x ∷ []
@@ -149,20 +139,20 @@ module _ (threads : ℕ) (opening : List ℕ) (calls : List CallRecord) (s t : S
   pub begin_logged : (was failed : Option Failed)
       → IsMetBy s.states (key_of x.call).0 x.begun (begin_event (kind_if x.call x.ended) (until_if behind_all x.begun x.ended)) t.states was failed
       → IsJudgedTo opening calls s.moment s.states was
-      → LoggedBy threads opening calls s.moment s.pending.items s.states was → LoggedBy threads opening more t.moment t.pending.items t.states failed
+      → LoggedBy threads opening calls s.moment s.pending s.states was → LoggedBy threads opening more t.moment t.pending t.states failed
   begin_logged (Some f) failed met judged l =
       let b = may.begins in let u = judged.0 in
       let early : f.moment < x.begun = omega (arith, b, u) in
-      subst (LoggedBy threads opening more t.moment t.pending.items t.states) (sym met)
+      subst (LoggedBy threads opening more t.moment t.pending t.states) (sym met)
       (subst (IsLog threads opening more f.key.0 f.moment []) (sym (logs f.key.0))
       (log_more threads opening calls x may.ends f.key.0 f.moment f.moment [] [] (log_for s.states f.key.0) l early (omega arith) (λ y c. c) (λ i low by. by)
       (λ by. absurd (omega (arith, by, early)))))
   begin_logged None None met judged l = λ k.
       let b = may.begins in
-      subst (IsLog threads opening more k t.moment t.pending.items) (sym (logs k))
-      (log_more threads opening calls x may.ends k s.moment t.moment s.pending.items t.pending.items (log_for s.states k) (l k) b (omega (arith, b, moment))
-      (λ y c. subst (λ ps. Contains ps (pending_of y)) (sym pending) (Contains-append_left s.pending.items (pending_of x ∷ []) (pending_of y) c))
+      subst (IsLog threads opening more k t.moment t.pending) (sym (logs k))
+      (log_more threads opening calls x may.ends k s.moment t.moment s.pending t.pending (log_for s.states k) (l k) b (omega (arith, b, moment))
+      (λ y c. Contains-permutation (pending_of x ∷ s.pending) t.pending (pending_of y) moved (later_too (pending_of x) s.pending (pending_of y) c))
       (λ i low by. is.begun i no_call low)
-      (λ by. subst (λ ps. Contains ps (pending_of x)) (sym pending) (Contains-push s.pending.items (pending_of x))))
+      (λ by. Contains-permutation (pending_of x ∷ s.pending) t.pending (pending_of x) moved (0, omega arith, refl)))
   begin_logged None (Some f) met judged l =
       absurd (never_fails (kind_if x.call x.ended) (until_if behind_all x.begun x.ended) (x.begun - 1) (state_for s.states (key_of x.call).0) met.2)

@@ -99,7 +99,7 @@ read_plain x = of x.call x.ended
 
 pub next_may : (threads : ℕ) (opening : List ℕ) (xs : List CallRecord) (i : ℕ) (d : CallRecord) (s : Stream) (x : CallRecord) → IsHistory threads xs
     → i < length xs → x ≡ read_as (get_or xs i d) → IsStreamOf threads opening (map read_as (take i xs)) s
-    → s.moment < (get_or xs i no_call).begun → IsBefore x → MayCome s.pending.items s.moment x
+    → s.moment < (get_or xs i no_call).begun → IsBefore x → MayCome s.pending s.moment x
 next_may threads opening xs i d s x history low so is early before =
     let more : take (i + 1) xs ≡ take i xs ++ get_or xs i d ∷ [] = take_more xs i d low in
     let one : map read_as (take (i + 1) xs) ≡ map read_as (take i xs) ++ x ∷ [] =

@@ -1,13 +1,15 @@
 -- The calls of a stream: what happens up to the next pending end, at it, and at the next begin.
 use Rattle.std.proofs.Common.{◌≡◌, ◌≢◌, ℕ, suc, ◌+◌, ◌-◌, ◌<◌, ◌≤◌, false, List, [], ◌∷◌, ◌++◌, refl, sym, ap, ◌∙◌, arith, subst}
-use Rattle.std.proofs.Common.{inl, inr, length, get_or}
-use Rattle.std.specs.Prelude.{◌==◌, if◌then◌else◌, Option, Some, None, IfSome, All, Contains}
-use Rattle.std.specs.List.{AllByRecursion, remove}
+use Rattle.std.proofs.Common.{◌⊎◌, Bool, zero, inl, inr, length, get_or}
+use Rattle.std.specs.Prelude.{◌==◌, if◌then◌else◌, Option, Some, None, IfSome, All, AllPairs, Contains}
+use Rattle.std.specs.List.{AllByRecursion}
+use Rattle.std.specs.List.Sorted.{IsPermutation}
 use Rattle.std.specs.BTreeMap.{BTreeMap}
 use Rattle.std.proofs.lemmas.Bool.{cases_Bool}
 use Rattle.std.proofs.lemmas.List.{get_or_default}
-use Rattle.std.proofs.lemmas.List.Edits.{length-remove, get_or-remove_below, get_or-remove_above}
-use Rattle.std.proofs.lemmas.List.Quantifiers.{all_pairs_remove}
+use Rattle.std.proofs.lemmas.List.Elements.{All-tail}
+use Rattle.std.proofs.lemmas.List.Sorted.{All-permutation, Contains-permutation}
+use Rattle.std.proofs.lemmas.Map.Keys.{apart_from_distinct, IsDistinct-from_apart, IsDistinct-IsPermutation}
 use Rattle.lset_words.specs.declared.Reply.{Reply}
 use Rattle.lset_words.specs.declared.history.CallRecord.{CallRecord}
 use Rattle.lset_words.specs.SequentialSet.{has_key}
@@ -15,6 +17,7 @@ use Rattle.lset_words.specs.Words.{key_of}
 use Rattle.lset_words.specs.History.{IsHistory, call_numbered, no_call}
 use Rattle.lset_words.proofs.Numbers.{below_or_not, same_or_not, equal_test, unequal_test, same_number, other_number}
 use Rattle.lset_history.proofs.Histories.{calls_of, pairs_of}
+use Rattle.lset_history.proofs.Pairs.{pairs_head, pairs_tail}
 use Rattle.lset_judge.specs.declared.rule.KeyState.{KeyState}
 use Rattle.lset_judge.specs.declared.stream.Failed.{Failed}
 use Rattle.lset_judge.specs.declared.stream.Pending.{Pending}
@@ -114,6 +117,33 @@ module _ (opening : List ℕ) (calls : List CallRecord) where
     goes_to j e before after was failed met so = subst (λ (i : ℕ). IsJudgedTo opening calls i after failed) (sym e)
         (goes before after was failed (subst (λ (i : ℕ). IsMetBy before key i v after was failed) e met) so)
 
+-- ---- the ends of pending calls in another order, and of one more
+
+abbrev same : Pending → Pending → Bool
+same p q = p.end == q.end
+
+pub ends_moved : (xs ys : List Pending) → IsPermutation xs ys → AllPairs (λ (p q : Pending). p.end ≢ q.end) xs
+    → AllPairs (λ (p q : Pending). p.end ≢ q.end) ys
+ends_moved xs ys is apart i j d low inside = other_number (get_or ys i d).end (get_or ys j d).end
+    (apart_from_distinct same ys i j d (IsDistinct-IsPermutation same flips xs ys is
+    (IsDistinct-from_apart same xs (λ i j d low inside. unequal_test (get_or xs i d).end (get_or xs j d).end (apart i j d low inside)))) low inside)
+  where
+    flips : (p q : Pending) → (p.end == q.end) ≡ (q.end == p.end)
+    flips p q = elim (same_or_not p.end q.end) [
+      | inl e ↦ equal_test p.end q.end e ∙ sym (equal_test q.end p.end (sym e))
+      | inr n ↦ unequal_test p.end q.end n ∙ sym (unequal_test q.end p.end (λ e. n (sym e)))
+    ]
+
+pub first_or_later : {X : Type 0} (x : X) (xs : List X) (y : X) → Contains (x ∷ xs) y → (y ≡ x) ⊎ Contains xs y
+first_or_later x xs y c = at c.0 c.1 c.2
+  where
+    at : (k : ℕ) → k < length (x ∷ xs) → get_or (x ∷ xs) k y ≡ y → (y ≡ x) ⊎ Contains xs y
+    at zero low is = inl (sym is)
+    at (suc k) low is = inr (k, omega (arith, low), is)
+
+pub later_too : {X : Type 0} (x : X) (xs : List X) (y : X) → Contains xs y → Contains (x ∷ xs) y
+later_too x xs y c = let low = c.1 in (suc c.0, omega (arith, low), c.2)
+
 -- ---- THE PENDING CALLS
 
 module _ (threads : ℕ) (calls : List CallRecord) (history : IsHistory threads calls) (before : All IsBefore calls) (m : ℕ)
@@ -207,64 +237,33 @@ module _ (threads : ℕ) (calls : List CallRecord) (history : IsHistory threads 
             let is : get_or pending c.0 d ≡ next = same_place c.0 d c.1 (ap (λ (p : Pending). p.end) c.2 ∙ u ∙ a) in
             ne (ap (λ (p : Pending). key_in p) (sym is ∙ c.2) ∙ e.own))
 
-    module _ (least : All (λ (p : Pending). next.end ≤ p.end) pending) where
-      rest_at : (P : Pending → Type 0) → ((j : ℕ) (d : Pending) → j < length pending → j ≢ i → P (get_or pending j d)) → All P (remove pending i)
-      rest_at P all j d inside =
-          let long = length-remove pending i low in
-          elim (below_or_not j i) [
-            | inl b ↦ subst P (sym (get_or-remove_below pending i d j b low)) (all j d (omega (arith, b, low)) (omega (arith, b)))
-            | inr a ↦ subst P (sym (get_or-remove_above pending i d j a low)) (all (j + 1) d (omega (arith, inside, long)) (omega (arith, a)))
-          ]
+    module _ (least : All (λ (p : Pending). next.end ≤ p.end) pending) (rest : List Pending) (is : IsPermutation pending (next ∷ rest)) where
+      rest_of : (P : Pending → Type 0) → All P pending → All P rest
+      rest_of P all = All-tail P next rest (All-permutation P pending (next ∷ rest) is all)
 
-      stays : (j : ℕ) (x : Pending) → j < length pending → j ≢ i → get_or pending j x ≡ x → Contains (remove pending i) x
-      stays j x inside ne is =
-          let long = length-remove pending i low in
-          elim (below_or_not j i) [
-            | inl b ↦ (j, omega (arith, b, low, long), get_or-remove_below pending i x j b low ∙ is)
-            | inr a ↦ (
-              j - 1,
-              omega (arith, a, ne, inside, long),
-              get_or-remove_above pending i x (j - 1) (omega (arith, a, ne)) low
-                  ∙ ap (λ (n : ℕ). get_or pending n x) (let q : j - 1 + 1 ≡ j = omega (arith, a, ne) in q) ∙ is,
-            )
-          ]
+      all_apart : AllPairs (λ (p q : Pending). p.end ≢ q.end) (next ∷ rest)
+      all_apart = ends_moved pending (next ∷ rest) is are.apart
 
       -- without the next one they are those after its end
-      pub without_next : ArePending calls next.end (remove pending i)
+      pub without_next : ArePending calls next.end rest
       without_next = record {
-        known = rest_at (λ (p : Pending). (n : ℕ) × (n < length calls) × (p ≡ pending_of (call_numbered calls n)))
-            (λ j d inside ne. are.known j d inside);
+        known = rest_of (λ (p : Pending). (n : ℕ) × (n < length calls) × (p ≡ pending_of (call_numbered calls n))) are.known;
         kept = λ n inside. elim (are.kept n inside) [
           | inl over ↦ inl (over.0, over.1, let u = over.2 in let w = are.later i no_pending low in omega (arith, u, w))
-          | inr c ↦ elim (same_or_not c.0 i) [
+          | inr c ↦ elim (first_or_later next rest (pending_of (call n)) (Contains-permutation pending (next ∷ rest) (pending_of (call n)) is c)) [
             | inl q ↦ inl (
-                let d : Pending = pending_of (call n) in
-                let is : d ≡ next = sym c.2 ∙ get_or_default pending c.0 d no_pending c.1 ∙ ap (λ (j : ℕ). get_or pending j no_pending) q in
-                let u = ap (λ (p : Pending). p.end) is in
+                let u = ap (λ (p : Pending). p.end) q in
                 let e = ended_at n inside (omega (arith, u, early)) in
                 (e.0, e.1, let f = e.2 in omega (arith, f, u)))
-            | inr ne ↦ inr (stays c.0 (pending_of (call n)) c.1 ne c.2)
+            | inr d ↦ inr d
           ]
         ];
-        apart = all_pairs_remove (λ (p q : Pending). p.end ≢ q.end) pending i low are.apart;
-        later = rest_at (λ (p : Pending). next.end < p.end) (λ j d inside ne.
-            let up = least j d inside in
-            let f = ap (λ (p : Pending). p.end) (get_or_default pending j d no_pending inside) in
-            let differs : (get_or pending j d).end ≢ next.end = λ e. elim (below_or_not j i) [
-              | inl b ↦ are.apart j i no_pending b low (sym f ∙ e)
-              | inr a ↦ are.apart i j no_pending (omega (arith, a, ne)) inside (sym e ∙ f)
-            ] in
-            omega (arith, up, differs));
+        apart = pairs_tail (λ (p q : Pending). p.end ≢ q.end) next rest all_apart;
+        later = λ j d inside.
+            let up = rest_of (λ (p : Pending). next.end ≤ p.end) least j d inside in
+            let differs : next.end ≢ (get_or rest j d).end = pairs_head (λ (p q : Pending). p.end ≢ q.end) next rest all_apart j d inside in
+            omega (arith, up, differs);
       }
-
--- what holds of each element holds of those that are left without one
-pub all_remove : {X : Type 0} (P : X → Type 0) (xs : List X) (i : ℕ) → i < length xs → All P xs → All P (remove xs i)
-all_remove P xs i low all j d inside =
-    let long = length-remove xs i low in
-    elim (below_or_not j i) [
-      | inl b ↦ subst P (sym (get_or-remove_below xs i d j b low)) (all j d (omega (arith, b, low)))
-      | inr a ↦ subst P (sym (get_or-remove_above xs i d j a low)) (all (j + 1) d (omega (arith, inside, long)))
-    ]
 
 -- a call that may come still may, when some of the pending calls have ended
 pub may_still : (old new : List Pending) (m n : ℕ) (x : CallRecord) → MayCome old m x → All (Contains old) new → n < x.begun → MayCome new n x

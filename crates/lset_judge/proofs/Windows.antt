@@ -239,18 +239,18 @@ tells_of key left l r (Some w) h rest = (
 
 -- by what the stream keeps
 module _ (s : Stream) (refusal : Refusal) (left : Option Bool) (l : Logged) (told : IsToldBy s.failed (NotLinearizable refusal))
-    (kept : l ≡ log_upto s.failed refusal.key.0 s.pending.items (log_for s.states refusal.key.0)) where
+    (kept : l ≡ log_upto s.failed refusal.key.0 s.pending (log_for s.states refusal.key.0)) where
   abbrev TellsStream : Window → Type 0
   TellsStream w = (w.key ≡ refusal.key) × (w.left ≡ left) × ((threads : ℕ) (opening : List ℕ) (calls : List CallRecord) → IsStreamOf threads opening calls s
       → AreLogged threads opening calls s → IsWindow threads opening calls left refusal.moment w)
 
   module _ (w : Window) (h : TellsOf refusal.key left l w) (threads : ℕ) (opening : List ℕ) (calls : List CallRecord) (is : IsStreamOf threads opening calls s) where
     window_by : (failed : Option Failed) → IsToldBy failed (NotLinearizable refusal)
-        → l ≡ log_upto failed refusal.key.0 s.pending.items (log_for s.states refusal.key.0)
-        → LoggedBy threads opening calls s.moment s.pending.items s.states failed → IsWindow threads opening calls left refusal.moment w
+        → l ≡ log_upto failed refusal.key.0 s.pending (log_for s.states refusal.key.0)
+        → LoggedBy threads opening calls s.moment s.pending s.states failed → IsWindow threads opening calls left refusal.moment w
     window_by None t k logged = h.2 threads s.moment opening calls refusal.moment is.history
         (subst (IsLog threads opening calls refusal.key.0 s.moment []) (sym k)
-        (log_frozen threads opening calls refusal.key.0 s.moment s.pending.items (log_for s.states refusal.key.0) is.pending (logged refusal.key.0)))
+        (log_frozen threads opening calls refusal.key.0 s.moment s.pending (log_for s.states refusal.key.0) is.pending (logged refusal.key.0)))
         (subst (λ m. IsReached m calls s.moment) (sym t) is.begun)
     window_by (Some f) t k logged =
         let key : f.key ≡ refusal.key = cc t in

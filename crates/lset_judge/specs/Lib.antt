@@ -5,6 +5,7 @@ pub mod Code
 pub mod Locality
 pub mod Window
 pub mod Leaving
+pub mod Pending
 pub mod Stream
 pub mod Rest
 pub mod Judge

@@ -96,7 +96,7 @@ LoggedBy threads opening calls moment pending states None = (k : ℕ) → IsLog 
 LoggedBy threads opening calls moment pending states (Some f) = IsLog threads opening calls f.key.0 f.moment [] (log_for states f.key.0)
 
 abbrev pub AreLogged : ℕ → List ℕ → List CallRecord → Stream → Type 0
-AreLogged threads opening calls s = LoggedBy threads opening calls s.moment s.pending.items s.states s.failed
+AreLogged threads opening calls s = LoggedBy threads opening calls s.moment s.pending s.states s.failed
 
 -- ---- what the functions on the way say
 

@@ -1,6 +1,6 @@
 -- A STREAM OF CALLS, judged as they come: what is kept of the calls so far, and what the verdict says of them.
 use Rattle.std.specs.Prelude.{◌≡◌, ◌≢◌, ℕ, ◌<◌, ◌≤◌, ◌^◌, ◌⊎◌, true, false, List, length, Option, Some, None, All}
-use Rattle.std.specs.Prelude.{AllPairs, Contains, IfSome, ◌-◌, slice_index_or}
+use Rattle.std.specs.Prelude.{AllPairs, Contains, IfSome, ◌-◌}
 use Rattle.std.specs.List.Sorted.{IsStrictlyIncreasing}
 use Rattle.std.specs.Ordering.{nat_cmp}
 use Rattle.std.specs.BTreeMap.{BTreeMap, get}
@@ -96,7 +96,7 @@ pub record IsStreamOf (threads : ℕ) (opening : List ℕ) (calls : List CallRec
   pub before : All IsBefore calls
   pub begun : All (λ (x : CallRecord). x.begun ≤ s.moment) calls
   pub moment : s.moment < behind_all
-  pub pending : ArePending calls s.moment s.pending.items
+  pub pending : ArePending calls s.moment s.pending
   pub judged : IsJudgedTo opening calls s.moment s.states s.failed
 
 -- what a stream keeps, by words that other crates may say
@@ -104,7 +104,7 @@ abbrev pub moment_of : Stream → ℕ
 moment_of s = s.moment
 
 abbrev pub pending_in : Stream → List Pending
-pending_in s = s.pending.items
+pending_in s = s.pending
 
 -- ---- WHAT A CALL HAS TO BE to come next
 
@@ -136,11 +136,6 @@ IsStreamVerdictCutOff h (NotLinearizable refusal) = (keys : List ℕ) → IsStre
 abbrev pub no_pending : Pending
 no_pending = record { end = 0; call = call_of no_call }
 
--- the place has the nearest of the ends, and it is before a moment
-abbrev pub IsNearest : ℕ → List Pending → ℕ → Type 0
-IsNearest moment pending place = ((slice_index_or pending place no_pending).end < moment)
-    × All (λ (p : Pending). (slice_index_or pending place no_pending).end ≤ p.end) pending
-
 -- what happens of a key at a moment has happened
 abbrev pub IsMetBy : BTreeMap ℕ KeyState → ℕ → ℕ → Event → BTreeMap ℕ KeyState → Option Failed → Option Failed → Type 0
 IsMetBy before key moment event after (Some f) failed = failed ≡ Some f
@@ -151,7 +146,7 @@ IsMetBy before key moment event after None (Some f) = (f.key.0 ≡ key) × (f.mo
     × (entered event (found (moment - 1) event (state_for before key)) ≡ None)
 
 pub record IsMet (old : Stream) (key moment : ℕ) (event : Event) (new : Stream) : Type 0 where
-  pub pending : new.pending.items ≡ old.pending.items
+  pub pending : new.pending ≡ old.pending
   pub at_moment : new.moment ≡ moment
   pub by : IsMetBy old.states key moment event new.states old.failed new.failed
 

@@ -17,6 +17,7 @@ mod judging;
 mod keys;
 mod log;
 mod overlaps;
+mod pending;
 mod rule;
 mod stream;
 mod window;

@@ -2,7 +2,6 @@
 
 ghost use Rattle.std.specs.Prelude.{◌≡◌, ◌≢◌, ◌↔◌, ◌<◌, ◌≤◌, ◌+◌, ◌++◌, ◌∷◌, [], ℕ, IsTrue, All, List, length, false, true, None, Some, IfOk, OnOk, IfErr, IfSome, MatchOption, if◌then◌else◌};
 ghost use Rattle.std.specs.Prelude.{Contains, IsSome, slice_index_or, ◌==◌, ◌&&◌};
-ghost use Rattle.std.specs.List.{remove};
 ghost use Rattle.std.specs.List.Sorted.{IsStrictlyIncreasing};
 ghost use Rattle.std.specs.Ordering.{nat_cmp};
 ghost use Rattle.std.specs.BTreeMap.{get};
@@ -13,7 +12,7 @@ ghost use Rattle.lset_judge.specs.Rule.{entered, found, opened};
 ghost use Rattle.lset_judge.specs.Events.{kind_if, until_if, begin_event, end_event};
 ghost use Rattle.lset_judge.specs.Leaving.{may_be_left};
 ghost use Rattle.lset_judge.specs.Log.{log_of, log_for, log_opened, log_upto, waiting_of, with_pending, IsKept, LogsEnd, StaysLog, AreLogged};
-ghost use Rattle.lset_judge.specs.Stream.{record_of, stream_history, behind_all, state_for, pending_of, key_in, event_of, no_pending, IsBefore, IsNearest, IsMet, IsStreamOf, MayCome, failed_verdict, verdict_of_key, moment_of, pending_in, IsStreamVerdict, IsStreamVerdictCutOff, IsMetBy, IsToldBy};
+ghost use Rattle.lset_judge.specs.Stream.{record_of, stream_history, behind_all, state_for, pending_of, key_in, event_of, IsBefore, IsMet, IsStreamOf, MayCome, failed_verdict, verdict_of_key, moment_of, pending_in, IsStreamVerdict, IsStreamVerdictCutOff, IsMetBy, IsToldBy};
 ghost use Rattle.lset_judge.specs.Verdict.{is_plain};
 ghost use Rattle.lset_judge.specs.declared.stream.StreamFault.TheVariants.{Memory};
 
@@ -21,6 +20,7 @@ use crate::event::{Event, Kind, begin_event, end_event, ended_kind, open_kind};
 use crate::judged::is_answer;
 use crate::keys::is_among;
 use crate::log::Log;
+use crate::pending::PendingCalls;
 use crate::rule::KeyState;
 use lset_words::{Call, Key, Reply};
 use std::alloc::{AllocError, Global};
@@ -108,7 +108,7 @@ pub(crate) struct Pending {
 }
 
 impl StreamCall {
-    fn is_of(self, key: u32) -> bool
+    pub(crate) fn is_of(self, key: u32) -> bool
         ensures { result ≡ ((key_of self.call).0 == key) }
     {
         self.call.key().0 == key
@@ -172,32 +172,17 @@ impl StreamCall {
 }
 
 impl Pending {
-    fn key(self) -> u32
+    pub(crate) fn key(self) -> u32
         ensures { result ≡ key_in self }
     {
         self.call.call.key().0
     }
 
     /// What the end of the call is to its key.
-    fn event(self) -> Event
+    pub(crate) fn event(self) -> Event
         ensures { result ≡ event_of self }
     {
         end_event(self.call.kind(), self.call.begun)
-    }
-
-    fn is_apart(self, call: StreamCall) -> bool
-        ensures { IsTrue result ↔ ((self.end ≢ call.begun) × IfSome call.ended (λ end. self.end ≢ end.0)) }
-    {
-        match call.ended {
-            Some((end, _)) => self.end != call.begun && self.end != end,
-            None => self.end != call.begun,
-        }
-    }
-
-    fn is_free(self, call: StreamCall) -> bool
-        ensures { IsTrue result ↔ (self.call.thread ≡ call.thread → self.end ≤ call.begun) }
-    {
-        self.call.thread != call.thread || self.end <= call.begun
     }
 }
 
@@ -262,31 +247,18 @@ fn meet_key_end(
     })
 }
 
-/// The pending calls of a key.
-fn waiting_of(alloc: Global, pending: &[Pending], key: u32) -> Result<Vec<StreamCall>, AllocError>
-    ensures { IfOk result (λ calls. calls.items ≡ waiting_of key pending.now) }
-{
-    let mut own = Vec::new(alloc);
-    for it in pending {
-        if it.call.is_of(key) {
-            own.push(it.call)?;
-        }
-    }
-    Ok(own)
-}
-
 /// Leaves out the calls of a key that are not needed any more.
 fn settle(
     states: &mut BTreeMap<u32, KeyState>,
     alloc: Global,
-    pending: &[Pending],
+    pending: &PendingCalls,
     key: u32,
 ) -> Result<(), AllocError>
     ensures states { OnOk result ((k : ℕ) → state_for states.new k ≡ state_for states.old k) }
     ensures others { OnOk result ((k : ℕ) → k ≢ key → log_for states.new k ≡ log_for states.old k) }
     ensures own { OnOk result (StaysLog key (waiting_of key pending.now) (log_for states.old key) (log_for states.new key)) }
 {
-    let waiting = waiting_of(alloc, pending, key)?;
+    let waiting = pending.of_key(alloc, key)?;
     if let Some(state) = states.get_mut(&key) {
         state.log.settle(key, &waiting);
         return Ok(());
@@ -298,13 +270,13 @@ fn settle(
 fn keep_pending(
     states: &mut BTreeMap<u32, KeyState>,
     alloc: Global,
-    pending: &[Pending],
+    pending: &PendingCalls,
     key: u32,
 ) -> Result<(), AllocError>
     ensures states { OnOk result ((k : ℕ) → state_for states.new k ≡ state_for states.old k) }
     ensures own { OnOk result (log_for states.new key ≡ with_pending (waiting_of key pending.now) (log_for states.old key)) }
 {
-    let waiting = waiting_of(alloc, pending, key)?;
+    let waiting = pending.of_key(alloc, key)?;
     if let Some(state) = states.get_mut(&key) {
         state.log.add_pending(&waiting)?;
         return Ok(());
@@ -313,50 +285,6 @@ fn keep_pending(
     state.log.add_pending(&waiting)?;
     states.insert(key, state)?;
     Ok(())
-}
-
-/// Whether a pending call has a moment of the call, or else is of its thread.
-fn clash(pending: &[Pending], call: StreamCall) -> Option<StreamFault>
-    ensures { MatchOption result
-        (All (λ p. (p.end ≢ call.begun) × IfSome call.ended (λ end. p.end ≢ end.0)) pending.now
-        × All (λ p. p.call.thread ≡ call.thread → p.end ≤ call.begun) pending.now)
-        (λ fault. All (λ p. (p.end ≢ call.begun) × IfSome call.ended (λ end. p.end ≢ end.0)) pending.now
-        → All (λ p. p.call.thread ≡ call.thread → p.end ≤ call.begun) pending.now → ⊥) }
-{
-    let mut is_free = true;
-    for it in pending {
-        if !it.is_apart(call) {
-            return Some(StreamFault::Taken);
-        }
-        is_free = is_free && it.is_free(call);
-    }
-    if is_free {
-        None
-    } else {
-        Some(StreamFault::Busy)
-    }
-}
-
-/// The pending call whose end is nearest, if it is before a moment.
-fn nearest_end(pending: &[Pending], before: u64) -> Option<usize>
-    ensures inside { IfSome result (λ place. place < length pending.now) }
-    ensures nearest { MatchOption result (All (λ p. before ≤ p.end) pending.now)
-        (λ place. IsNearest before pending.now place) }
-{
-    if pending.is_empty() {
-        return None;
-    }
-    let mut place = 0;
-    for i in 1..pending.len() {
-        if pending[i].end < pending[place].end {
-            place = i;
-        }
-    }
-    if pending[place].end < before {
-        Some(place)
-    } else {
-        None
-    }
 }
 
 /// The states of a set that opens with these keys.
@@ -404,7 +332,7 @@ fn verdict_of_key(key: Option<u32>) -> StreamVerdict
 pub struct Stream {
     alloc: Global,
     states: BTreeMap<u32, KeyState>,
-    pending: Vec<Pending>,
+    pending: PendingCalls,
     moment: u64,
     failed: Option<Failed>,
 }
@@ -420,7 +348,7 @@ impl Stream {
         Ok(Stream {
             alloc,
             states: opening_states(alloc, opening)?,
-            pending: Vec::new(alloc),
+            pending: PendingCalls::new(alloc),
             moment: 0,
             failed: None,
         })
@@ -428,8 +356,8 @@ impl Stream {
 
     /// Why a call cannot come next, if it cannot.
     fn find_fault(&self, call: StreamCall) -> Option<StreamFault>
-        ensures { MatchOption result (MayCome self.now.pending.items self.now.moment (record_of call))
-            (λ fault. MayCome self.now.pending.items self.now.moment (record_of call) → ⊥) }
+        ensures { MatchOption result (MayCome self.now.pending self.now.moment (record_of call))
+            (λ fault. MayCome self.now.pending self.now.moment (record_of call) → ⊥) }
     {
         if call.begun <= self.moment || !call.is_before() {
             Some(StreamFault::Early)
@@ -438,7 +366,7 @@ impl Stream {
         } else if !call.is_plain() {
             Some(StreamFault::NotPlain)
         } else {
-            clash(&self.pending, call)
+            self.pending.clash(call)
         }
     }
 
@@ -473,9 +401,9 @@ impl Stream {
     /// Lets a call end where the rule has not failed.
     fn meet_end_going(&mut self, next: Pending) -> Result<(), AllocError>
         requires { self.old.failed ≡ None }
-        ensures pending { OnOk result (self.new.pending.items ≡ self.old.pending.items) }
+        ensures pending { OnOk result (self.new.pending ≡ self.old.pending) }
         ensures by { OnOk result (IsMetBy self.old.states (key_in next) next.end (event_of next) self.new.states None self.new.failed) }
-        ensures logs { OnOk result (LogsEnd self.old.states self.old.pending.items next.call self.new.states None self.new.failed) }
+        ensures logs { OnOk result (LogsEnd self.old.states self.old.pending next.call self.new.states None self.new.failed) }
     {
         let met = meet_key_end(
             &mut self.states,
@@ -503,7 +431,7 @@ impl Stream {
     /// Lets a call end that was pending, and goes on to its end.
     fn end(&mut self, next: Pending) -> Result<(), AllocError>
         ensures met { OnOk result (IsMet self.old (key_in next) next.end (event_of next) self.new) }
-        ensures logs { OnOk result (LogsEnd self.old.states self.old.pending.items next.call self.new.states self.old.failed self.new.failed) }
+        ensures logs { OnOk result (LogsEnd self.old.states self.old.pending next.call self.new.states self.old.failed self.new.failed) }
     {
         if self.failed.is_some() {
             self.moment = next.end;
@@ -511,22 +439,6 @@ impl Stream {
         }
         self.meet_end_going(next)?;
         self.moment = next.end;
-        Ok(())
-    }
-
-    /// Lets the pending call at a place end, the next one to end.
-    fn meet_end(&mut self, place: usize) -> Result<(), AllocError>
-        requires inside { place < length self.old.pending.items }
-        requires nearest { IsNearest behind_all self.old.pending.items place }
-        ensures kept { OnOk result ((threads : ℕ) (opening : List ℕ) (calls : List RecordedCall) → IsStreamOf threads opening calls self.old
-            → IsStreamOf threads opening calls self.new) }
-        ensures logged { OnOk result ((threads : ℕ) (opening : List ℕ) (calls : List RecordedCall) → IsStreamOf threads opening calls self.old
-            → AreLogged threads opening calls self.old → AreLogged threads opening calls self.new) }
-        ensures moment { OnOk result (self.new.moment ≡ (slice_index_or self.old.pending.items place no_pending).end) }
-        ensures pending { OnOk result (self.new.pending.items ≡ remove self.old.pending.items place) }
-    {
-        let next = self.pending.remove(place);
-        self.end(next)?;
         Ok(())
     }
 
@@ -538,19 +450,19 @@ impl Stream {
         ensures logged { OnOk result ((threads : ℕ) (opening : List ℕ) (calls : List RecordedCall) → IsStreamOf threads opening calls self.old
             → AreLogged threads opening calls self.old → AreLogged threads opening calls self.new) }
         ensures before { OnOk result (self.old.moment < moment → self.new.moment < moment) }
-        ensures met { OnOk result (All (λ p. moment ≤ p.end) self.new.pending.items) }
-        ensures some { OnOk result (All (Contains self.old.pending.items) self.new.pending.items) }
+        ensures met { OnOk result (All (λ p. moment ≤ p.end) self.new.pending) }
+        ensures some { OnOk result (All (Contains self.old.pending) self.new.pending) }
     {
-        while let Some(place) = nearest_end(&self.pending, moment) {
-            self.meet_end(place)?;
+        while let Some(next) = self.pending.next_before(moment) {
+            self.end(next)?;
         }
         Ok(())
     }
 
     /// Goes on to the begin of a call, when all has happened that happens before.
     fn begin(&mut self, call: StreamCall) -> Result<(), AllocError>
-        requires may { MayCome self.old.pending.items self.old.moment (record_of call) }
-        requires met { All (λ p. call.begun ≤ p.end) self.old.pending.items }
+        requires may { MayCome self.old.pending self.old.moment (record_of call) }
+        requires met { All (λ p. call.begun ≤ p.end) self.old.pending }
         ensures moment { OnOk result (self.new.moment ≡ call.begun) }
         ensures begun { OnOk result ((threads : ℕ) (opening : List ℕ) (calls : List RecordedCall) → call.thread < threads
             → IsStreamOf threads opening calls self.old → IsStreamOf threads opening (calls ++ record_of call ∷ []) self.new) }
@@ -558,7 +470,7 @@ impl Stream {
             → AreLogged threads opening calls self.old → AreLogged threads opening (calls ++ record_of call ∷ []) self.new) }
     {
         let pending = call.pending();
-        self.pending.push(pending)?;
+        self.pending.insert(pending)?;
         self.meet(
             pending.key(),
             call.begun,
@@ -568,7 +480,7 @@ impl Stream {
     }
 
     fn take(&mut self, call: StreamCall) -> Result<(), AllocError>
-        requires { MayCome self.old.pending.items self.old.moment (record_of call) }
+        requires { MayCome self.old.pending self.old.moment (record_of call) }
         ensures moment { OnOk result (self.new.moment ≡ call.begun) }
         ensures taken { OnOk result ((threads : ℕ) (opening : List ℕ) (calls : List RecordedCall) → call.thread < threads
             → IsStreamOf threads opening calls self.old → IsStreamOf threads opening (calls ++ record_of call ∷ []) self.new) }
@@ -683,7 +595,7 @@ impl Stream {
     /// What is kept of a key: of the one on which the rule has failed up to where it failed, with the calls that were pending then; of
     /// another one up to the end, with the calls that are pending now.
     pub(crate) fn into_log(mut self, key: u32) -> Result<Log, AllocError>
-        ensures { IfOk result (λ log. log_of log ≡ log_upto self.failed key self.pending.items (log_for self.states key)) }
+        ensures { IfOk result (λ log. log_of log ≡ log_upto self.failed key self.pending (log_for self.states key)) }
     {
         let mut log = match self.states.remove(&key) {
             Some(state) => state.into_log(),
@@ -692,7 +604,7 @@ impl Stream {
         if self.failed.is_some() {
             return Ok(log);
         }
-        let waiting = waiting_of(self.alloc, &self.pending, key)?;
+        let waiting = self.pending.of_key(self.alloc, key)?;
         log.add_pending(&waiting)?;
         Ok(log)
     }

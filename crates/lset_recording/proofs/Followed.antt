@@ -83,7 +83,7 @@ module _ (calls : List CallRecord) (moment : ℕ) (pending : List Pending) (are 
           end_apart x y.begun y.ended before (follows.begins_alone n no_call low),
           ends_apart x y.begun y.ended x.ended before.1 (end_beside x.ended calls n low follows.ends_alone),
         ));
-    free = of_call (λ (p : Pending). p.thread ≡ x.thread → p.end ≤ x.begun) (λ n low same.
+    free = of_call (λ (p : Pending). p.call.thread ≡ x.thread → p.end ≤ x.begun) (λ n low same.
         let y = call_numbered calls n in has_ended y.begun x.begun y.ended (follows.none_open n no_call low same));
   }
 

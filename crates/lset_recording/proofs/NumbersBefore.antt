@@ -11,7 +11,7 @@ use Rattle.lset_text.proofs.NumberLaws.{value_more, digit_more, is_spelled, numb
 
 -- the largest number that is read so
 abbrev pub largest : ℕ
-largest = 999999999999999999
+largest = 9223372036854775799
 
 -- digits so far: what they spell, and that no other digit follows a zero at their head
 pub record AreDigits (text : List ℕ) (count value : ℕ) : Type 0 where
@@ -52,7 +52,7 @@ one_digit text value some digit is =
 pub one_more_digit : (text : List ℕ) (i value digit next : ℕ) → i < length (take (length text - 1) (drop 1 text))
     → is_ascii_digit (get_or (take (length text - 1) (drop 1 text)) i 0) ≡ true
     → digit ≡ get_or (take (length text - 1) (drop 1 text)) i 0 - 48
-    → (value ≡ 0 → ⊥) → value ≤ 99999999999999999 → next ≡ value * 10 + digit → AreDigits text (i + 1) value
+    → (value ≡ 0 → ⊥) → value ≤ 922337203685477579 → next ≡ value * 10 + digit → AreDigits text (i + 1) value
     → AreDigits text (i + 1 + 1) next
 one_more_digit text i value digit next low is_digit is some small sum are =
     let at = behind_first text i in

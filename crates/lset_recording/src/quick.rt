@@ -17,9 +17,9 @@ use lset_text::CallWord;
 use lset_words::{Key, Reply};
 
 /// The last value that a further digit can follow here: ten times it and nine is a moment.
-const LAST_WITH_A_DIGIT: u64 = 99_999_999_999_999_999;
+const LAST_WITH_A_DIGIT: u64 = 922_337_203_685_477_579;
 
-/// The digits before a space, as a number, and what is behind that space. `None` also for some numbers of more than seventeen digits.
+/// The digits before a space, as a number, and what is behind that space. `None` also for the last ten moments or so.
 fn digits_before(text: &[u8]) -> Option<(u64, &[u8])>
     ensures { IfSome result (λ p. (text.now ≡ decimal p.0 ++ 32 ∷ p.1.now) × (p.0 ≤ LAST_MOMENT)) }
 {

@@ -13,9 +13,8 @@ use Rattle.lset_words.specs.declared.Call.TheVariants as call
 use Rattle.lset_steps.specs.declared.Event.TheVariants as event
 use Rattle.lset_steps.specs.Steps.{event_at}
 use Rattle.lset_replay.specs.declared.events.LineEvent.{LineEvent}
-use Rattle.lset_replay.specs.declared.traced.TracedEvent.{TracedEvent}
 use Rattle.lset_replay.specs.Events.{events_of_line, events_from, only_events, event_in, line_at}
-use Rattle.lset_replay.specs.Lines.{ComesNext, IsHeard}
+use Rattle.lset_replay.specs.Follows.{ComesNext}
 
 length_of_line : (n : ℕ) (l : Line) → length (events_of_line n l) ≡ event_count l
 length_of_line n (line.Begin t call) = refl
@@ -159,24 +158,3 @@ line_done n ls i j k times next below line past end behind =
     one_line_more n i ls l below is in
     let e : k ≡ length (events_from n (take (suc i) ls)) = omega arith in
     e ∙ ap (λ z. length (events_from n (take z ls))) (let f : suc i ≡ i + 1 = omega arith in f)
-
--- ---- WHO HEARS OF THEM
--- one more
-pub heard_more : (P Q : List TracedEvent → Type 0) (Tells : ℕ → TracedEvent → Type 0) (k : ℕ) (h : IsHeard P Tells k)
-    (x : TracedEvent) → Q (h.traced ++ x ∷ []) → Tells k x → IsHeard Q Tells (k + 1)
-heard_more P Q Tells k h x now told =
-    let count : length h.traced ≡ k = h.count in
-    let long : length (h.traced ++ x ∷ []) ≡ length h.traced + 1 = length_push h.traced x in
-    record {
-      traced = h.traced ++ x ∷ [];
-      heard = now;
-      count = omega arith;
-      each = λ i d l. elim (before_or_last i (length h.traced) (omega arith)) [
-        | inl below ↦ subst (λ z. Tells i z) (sym (get_or_append_left h.traced (x ∷ []) d i below)) (h.each i d below)
-        | inr e ↦ subst (λ z. Tells i z) (sym (get_or_push h.traced x d i (sym e)))
-            (subst (λ j. Tells j x) (sym (e ∙ count)) told)
-      ];
-    }
-  where
-    before_or_last : (i k : ℕ) → i < suc k → (i < k) ⊎ (i ≡ k)
-    before_or_last i k l = grind arith

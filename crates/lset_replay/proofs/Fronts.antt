@@ -18,9 +18,8 @@ use Rattle.lset_replay.specs.Events.{events_of, only_events}
 use Rattle.lset_replay.specs.Reports.{IsReplayOf}
 use Rattle.lset_replay.specs.PlacedReports.{ArePointsOf}
 use Rattle.lset_replay.specs.Trace.{trace_after, trace_at}
-use Rattle.lset_replay.specs.Tracing.{EndsTrace}
 use Rattle.lset_replay.specs.Blocks.{ArePointsAt, blocks_upto}
-use Rattle.lset_replay.specs.Follows.{HasFollowed, FollowsUpto}
+use Rattle.lset_replay.specs.Follows.{HasFollowed, FollowsUpto, EndsTrace}
 use Rattle.lset_replay.specs.Fronts.{IsReplayUpto}
 use Rattle.lset_replay.proofs.Followed.{TellsKeys}
 use Rattle.lset_replay.proofs.Reported.{replay_is}

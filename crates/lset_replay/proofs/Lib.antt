@@ -1,8 +1,7 @@
+pub mod Kept
 pub mod EventLists
 pub mod Ranks
 pub mod Pointed
-pub mod ChainsKept
-pub mod Telling
 pub mod KeyChanges
 pub mod LeastFits
 pub mod OpenCalls

@@ -10,7 +10,7 @@ use Rattle.lset_replay.specs.declared.upto.FrontReport.{FrontReport}
 use Rattle.lset_replay.specs.Events.{events_of, only_events}
 use Rattle.lset_replay.specs.Reports.{IsReplayOf}
 use Rattle.lset_replay.specs.PlacedReports.{ArePointsOf}
-use Rattle.lset_replay.specs.Tracing.{EndsTrace}
+use Rattle.lset_replay.specs.Follows.{EndsTrace}
 
 -- the first k events of a schedule
 abbrev pub first_events : Plan → ℕ → List Event

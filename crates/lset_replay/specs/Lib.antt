@@ -1,10 +1,7 @@
 pub mod Events
-pub mod Lines
 pub mod Reports
 pub mod PlacedReports
 pub mod Trace
 pub mod Blocks
 pub mod Follows
-pub mod Tracing
-pub mod Tracer
 pub mod Fronts

@@ -4,8 +4,7 @@
 
 mod events;
 mod fault;
-mod lines;
-mod listener;
+mod moments;
 mod order;
 mod placed_report;
 mod places;
@@ -18,13 +17,9 @@ mod upto;
 
 pub use events::{LineEvent, event_of};
 pub use fault::ReplayFault;
-pub use lines::{Runner, run_lines};
-pub use listener::Listener;
-pub use order::in_order;
 pub use placed_report::PlacedReport;
-pub use places::{Linearized, OpenCall};
-pub use recorder::Recorder;
 pub use replaying::{replay, replay_with_points};
-pub use traced::{CallEnd, Deed, Trace, TracedEvent};
-pub use tracing::{call_end, is_same_chain, open_number, thread_of, trace, trace_to, writes_node};
+pub use start::run_of;
+pub use traced::{CallEnd, Deed, TracedEvent};
+pub use tracing::{Run, Steps};
 pub use upto::{FrontReport, replay_upto};

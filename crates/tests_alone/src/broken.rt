@@ -1,10 +1,8 @@
 //! Random runs of each broken list: the order of some run is refused.
 
-ghost use Rattle.std.specs.Prelude.{⊤};
-
 use crate::prelude::*;
-use broken_lists::{ALL, BrokenList, BrokenMachine, BrokenWorld, Task, on_broken, run_broken};
-use lset_replay::{Listener, TracedEvent};
+use broken_lists::{ALL, BrokenList, BrokenWorld, Listener, run_broken};
+use lset_replay::{Steps, TracedEvent};
 use lset_schedule::read_schedule;
 use lset_text::{call_word, kind_word};
 
@@ -21,9 +19,7 @@ const OPENING: [u32; 1] = [5];
 struct Silent {}
 
 impl Listener for Silent {
-    ghost has_heard = { λ _ _ _. ⊤ };
-
-    fn hear(&mut self, _number: u32, _event: TracedEvent) -> Result<(), AllocError> {
+    fn hear(&mut self, _event: &TracedEvent) -> Result<(), AllocError> {
         Ok(())
     }
 }
@@ -39,56 +35,36 @@ fn drawn_call(rng: &mut Pcg32) -> Call {
 }
 
 /// Writes a random schedule of two threads, each of which goes on for some steps.
-#[derive(Clone, Copy)]
-struct Drawing {
-    alloc: Global,
-    broken: BrokenList,
-    seed: u64,
-}
-
-impl Task for Drawing {
-    type Out = Result<String, Fail>;
-
-    ghost may = { λ _. ⊤ };
-
-    ghost done = { λ _ _ _. ⊤ };
-
-    fn run<M: BrokenMachine>(self) -> Result<String, Fail> {
-        let mut rng = Pcg32::seed_from_u64(self.seed);
-        let layout = layout_opening(2, 2, 1)?;
-        let mut world = BrokenWorld::<M>::opened(self.alloc, &layout, &OPENING)?;
-        let list = kind_word(self.broken.kind());
-        let mut text = format!(in self.alloc;
-            "listset-schedule 2\nlist {list}\nthreads 2\nquota 2\nopening 5\n"
-        )?;
-        let mut thread = 0u32;
-        for _event in 0..EVENTS {
-            if rng.next_u32() % 4 == 0 {
-                thread = 1 - thread % 2;
-            }
-            let call = drawn_call(&mut rng);
-            if world.step(Event::Go(thread)).is_ok() {
-                writeln!(&mut text, "go {thread} 1")?;
-            } else if world.step(Event::Begin(thread, call)).is_ok() {
-                let word = call_word(call);
-                let key = call.key().0;
-                writeln!(&mut text, "begin {thread} {word} {key}")?;
-            }
+fn drawn_schedule(alloc: Global, broken: BrokenList, seed: u64) -> Result<String, Fail> {
+    let mut rng = Pcg32::seed_from_u64(seed);
+    let layout = layout_opening(2, 2, 1)?;
+    let mut world = BrokenWorld::opened(alloc, broken, &layout, &OPENING)?;
+    let list = kind_word(broken.kind());
+    let mut text = format!(in alloc;
+        "listset-schedule 2\nlist {list}\nthreads 2\nquota 2\nopening 5\n"
+    )?;
+    let mut thread = 0u32;
+    for _event in 0..EVENTS {
+        if rng.next_u32() % 4 == 0 {
+            thread = 1 - thread % 2;
         }
-        Ok(text)
+        let call = drawn_call(&mut rng);
+        if world.make(Event::Go(thread)).is_ok() {
+            writeln!(&mut text, "go {thread} 1")?;
+        } else if world.make(Event::Begin(thread, call)).is_ok() {
+            let word = call_word(call);
+            let key = call.key().0;
+            writeln!(&mut text, "begin {thread} {word} {key}")?;
+        }
     }
+    Ok(text)
 }
 
 /// Whether the order of a random run is refused.
 fn is_run_refused(alloc: Global, broken: BrokenList, seed: u64) -> Result<bool, Fail> {
-    let drawing = Drawing {
-        alloc,
-        broken,
-        seed,
-    };
-    let text = on_broken(broken, drawing)?;
+    let text = drawn_schedule(alloc, broken, seed)?;
     let schedule = read_schedule(alloc, text.as_bytes())?;
-    let (_silent, run) = run_broken(alloc, broken, &schedule, false, Silent {})?;
+    let run = run_broken(alloc, broken, &schedule, false, &mut Silent {})?;
     match run {
         Ok(report) => {
             Ok(check_order(alloc, &report.history, &report.order, &report.keys).is_err())

@@ -1,23 +1,8 @@
-ghost use Rattle.std.specs.Prelude.{◌≢◌, IfErr, IfSome};
-ghost use Rattle.tool_base.specs.Tools.{Ends, view};
-ghost use Rattle.tool_base.specs.declared.trouble.Trouble.TheVariants.{CannotRead};
-ghost use Rattle.tool_broken.specs.BrokenTools.{ByName, Replays};
-
-use crate::asking::{broken_of, report_of};
-use broken_lists::BrokenList;
+use crate::asking::{input_for, report_of};
 use lset_report::write_report;
 use std::alloc::Global;
 use std::io::{Read, Write};
-use tool_base::{Answer, Trouble, deliver, input_of};
-
-fn replayed_by(alloc: Global, broken: BrokenList, bytes: &[u8]) -> Result<Answer, Trouble>
-    ensures replays { Replays broken bytes.now (view result) }
-    ensures read { IfErr result (λ t. t ≢ CannotRead) }
-{
-    let report = report_of(alloc, broken, bytes)?;
-    let text = write_report(alloc, &report)?;
-    Ok(Answer { text, status: 0 })
-}
+use tool_base::{Answer, Trouble, deliver};
 
 /// Runs a schedule, given as the bytes of its text, on the broken list of this name. The answer is the text of the report,
 /// of version 2, with status 0. The report's order is that of the steps that the list's table names as its linearization
@@ -28,20 +13,10 @@ fn replayed_by(alloc: Global, broken: BrokenList, bytes: &[u8]) -> Result<Answer
 /// `Bad(Lacks)` if no list has this name; `TooLong`; `Line` with the first error of the text, with `Kind` in line 2 if the
 /// schedule names another list, or with the event at which the run ends: it is not enabled, or, `Lost`, it would access a
 /// word outside the table; `Memory` if an allocation fails.
-pub fn replayed_broken(alloc: Global, name: &[u8], bytes: &[u8]) -> Result<Answer, Trouble>
-    ensures replays { ByName (λ l made. Replays l bytes.now made) name.now (view result) }
-    ensures read { IfErr result (λ t. t ≢ CannotRead) }
-{
-    let broken = broken_of(name)?;
-    replayed_by(alloc, broken, bytes)
-}
-
-fn replayed_input<R: Read>(alloc: Global, name: &[u8], input: &mut R) -> Result<Answer, Trouble>
-    ensures { ByName (λ l made. IfSome (R.remaining input.old) (λ bytes. Replays l bytes made)) name.now (view result) }
-{
-    let broken = broken_of(name)?;
-    let bytes = input_of(alloc, input)?;
-    replayed_by(alloc, broken, &bytes)
+pub fn replayed_broken(alloc: Global, name: &[u8], bytes: &[u8]) -> Result<Answer, Trouble> {
+    let report = report_of(alloc, name, bytes)?;
+    let text = write_report(alloc, &report)?;
+    Ok(Answer { text, status: 0 })
 }
 
 /// Does what `replay --lacks NAME` does: runs the schedule on `input` on the broken list of this name, writes only the
@@ -54,10 +29,11 @@ pub fn tool_replay_broken<R: Read, W: Write, F: Write>(
     input: &mut R,
     output: &mut W,
     faults: &mut F,
-) -> u8
-    ensures { Ends (ByName (λ l made. IfSome (R.remaining input.old) (λ bytes. Replays l bytes made)) name.now)
-        (W.contents output.old) (W.contents output.new) (F.contents faults.old) (F.contents faults.new) result }
-{
-    let made = replayed_input(alloc, name.as_bytes(), input);
+) -> u8 {
+    let made = input_for(alloc, name, input).and_then(|bytes| replayed_broken(
+        alloc,
+        name.as_bytes(),
+        &bytes,
+    ));
     deliver(alloc, made, output, faults)
 }

@@ -1,16 +1,24 @@
-ghost use Rattle.std.specs.Prelude.{◌≢◌, IfErr, IfSome};
-ghost use Rattle.tool_base.specs.Tools.{Ends, view};
-ghost use Rattle.tool_base.specs.declared.trouble.Trouble.TheVariants.{CannotRead};
-ghost use Rattle.tool_broken.specs.BrokenTools.{ByName, Traces};
-
-use crate::asking::{broken_of, cause_of, schedule_of};
-use broken_lists::{BrokenList, run_broken};
+use crate::asking::{broken_of, cause_of, input_for, schedule_of};
+use broken_lists::{BrokenList, Listener, run_broken};
+use lset_replay::TracedEvent;
 use lset_schedule::Schedule;
 use lset_text::{kind_word, put_openings};
 use std::alloc::{AllocError, Global};
 use std::io::{Read, Write};
-use tool_base::{Answer, Trouble, deliver, input_of};
+use tool_base::{Answer, Trouble, deliver};
 use tool_trace::{EventLines, TITLE};
+
+/// Hears of events, and writes them into memory.
+#[derive(Drop)]
+struct Traced {
+    lines: EventLines,
+}
+
+impl Listener for Traced {
+    fn hear(&mut self, event: &TracedEvent) -> Result<(), AllocError> {
+        self.lines.add(event)
+    }
+}
 
 /// What the trace has before its first event: its header, in which the removed check comes after the list.
 fn head_of(alloc: Global, broken: BrokenList, schedule: &Schedule) -> Result<String, AllocError> {
@@ -25,30 +33,6 @@ fn head_of(alloc: Global, broken: BrokenList, schedule: &Schedule) -> Result<Str
     Ok(head)
 }
 
-fn traced_by(
-    alloc: Global,
-    broken: BrokenList,
-    bytes: &[u8],
-    chains: bool,
-) -> Result<Answer, Trouble>
-    ensures traces { Traces broken bytes.now (view result) }
-    ensures read { IfErr result (λ t. t ≢ CannotRead) }
-{
-    let schedule = schedule_of(alloc, broken, bytes)?;
-    let silent = EventLines::after(head_of(alloc, broken, &schedule)?);
-    let (lines, run) = run_broken(alloc, broken, &schedule, chains, silent)?;
-    match run {
-        Ok(_) => Ok(Answer {
-            text: lines.ended(None)?,
-            status: 0,
-        }),
-        Err((line, fault)) => Ok(Answer {
-            text: lines.ended(Some((line, cause_of(fault).name())))?,
-            status: 1,
-        }),
-    }
-}
-
 /// Traces the run of a schedule, given as the bytes of its text, on the broken list of this name. The answer is a trace, as
 /// of `trace`, with a line `lacks NAME` below its list and, with `chains`, the chain after each event that changed it. Its
 /// status is 1 if the run ends before the last event, else 0. Allocates. The errors are those of `replayed_broken`, except
@@ -58,25 +42,21 @@ pub fn traced_broken(
     name: &[u8],
     bytes: &[u8],
     chains: bool,
-) -> Result<Answer, Trouble>
-    ensures traces { ByName (λ l made. Traces l bytes.now made) name.now (view result) }
-    ensures read { IfErr result (λ t. t ≢ CannotRead) }
-{
+) -> Result<Answer, Trouble> {
     let broken = broken_of(name)?;
-    traced_by(alloc, broken, bytes, chains)
-}
-
-fn traced_input<R: Read>(
-    alloc: Global,
-    name: &[u8],
-    chains: bool,
-    input: &mut R,
-) -> Result<Answer, Trouble>
-    ensures { ByName (λ l made. IfSome (R.remaining input.old) (λ bytes. Traces l bytes made)) name.now (view result) }
-{
-    let broken = broken_of(name)?;
-    let bytes = input_of(alloc, input)?;
-    traced_by(alloc, broken, &bytes, chains)
+    let schedule = schedule_of(alloc, broken, bytes)?;
+    let mut traced = Traced {
+        lines: EventLines::after(head_of(alloc, broken, &schedule)?),
+    };
+    let run = run_broken(alloc, broken, &schedule, chains, &mut traced)?;
+    let (end, status) = match run {
+        Ok(_) => (None, 0),
+        Err((line, fault)) => (Some((line, cause_of(fault).name())), 1),
+    };
+    Ok(Answer {
+        text: traced.lines.ended(end)?,
+        status,
+    })
 }
 
 /// Does what `trace --lacks NAME` does: traces the run of the schedule on `input` on the broken list of this name, to
@@ -90,10 +70,12 @@ pub fn tool_trace_broken<R: Read, W: Write, F: Write>(
     input: &mut R,
     output: &mut W,
     faults: &mut F,
-) -> u8
-    ensures { Ends (ByName (λ l made. IfSome (R.remaining input.old) (λ bytes. Traces l bytes made)) name.now)
-        (W.contents output.old) (W.contents output.new) (F.contents faults.old) (F.contents faults.new) result }
-{
-    let made = traced_input(alloc, name.as_bytes(), chains, input);
+) -> u8 {
+    let made = input_for(alloc, name, input).and_then(|bytes| traced_broken(
+        alloc,
+        name.as_bytes(),
+        &bytes,
+        chains,
+    ));
     deliver(alloc, made, output, faults)
 }

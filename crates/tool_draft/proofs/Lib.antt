@@ -1,4 +1,1 @@
-pub mod Stepped
-pub mod Made
-pub mod Whole
-pub mod TextLaws
+pub mod Versions

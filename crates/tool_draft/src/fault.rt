@@ -1,9 +1,5 @@
-ghost use Rattle.std.specs.Prelude.{◌≡◌};
-ghost use Rattle.tool_draft.specs.declared.fault.DraftCause.TheVariants.{Refused};
-ghost use Rattle.tool_draft.specs.declared.fault.DraftFault.TheVariants.{Memory};
-
 use lset_steps::StepFault;
-use std::alloc::AllocError;
+use std::alloc::{AllocError, AllocFailed};
 use thiserror::Error;
 
 /// Why a line of a draft does not become a line of a schedule.
@@ -19,8 +15,6 @@ pub enum DraftCause {
 }
 
 impl From<StepFault> for DraftCause {
-    ghost from_gives = { λ cause d. d ≡ Refused cause };
-
     fn from(cause: StepFault) -> DraftCause {
         DraftCause::Refused(cause)
     }
@@ -37,9 +31,13 @@ pub enum DraftFault {
 }
 
 impl From<AllocError> for DraftFault {
-    ghost from_gives = { λ _ fault. fault ≡ Memory };
-
     fn from(_refused: AllocError) -> DraftFault {
+        DraftFault::Memory
+    }
+}
+
+impl<T: Drop> From<AllocFailed<T>> for DraftFault {
+    fn from(_refused: AllocFailed<T>) -> DraftFault {
         DraftFault::Memory
     }
 }

@@ -1,103 +1,92 @@
-ghost use Rattle.std.specs.Prelude.{◌≡◌, ◌∷◌, [], codes, false, IfOk, IfErr, MatchOption, MatchResult};
-ghost use Rattle.lset_text.specs.Parts.{cut_at};
-ghost use Rattle.lset_text.specs.Forms.{have_form};
-ghost use Rattle.lset_text.specs.Kinds.{first_of, line_in};
-ghost use Rattle.lset_schedule.specs.ScheduleReading.{causes, Gives, IsGoodAfterHeader};
-ghost use Rattle.tool_draft.specs.Drafts.{DraftValue, IsDraft, draft_text, view};
-ghost use Rattle.tool_draft.specs.DraftReading.{out_kind, to_kind, events, reading};
+ghost use Rattle.std.specs.Prelude.{◌≤◌, length};
+ghost use Rattle.std.specs.List.Sorted.{IsStrictlyIncreasing};
+ghost use Rattle.lset_words.specs.declared.TheConstants.{MOST_OPENING};
 
 use crate::value::{Draft, DraftLine};
 use crate::{MOST_ROW, TITLE};
-use lset_schedule::{Cause, EventLine, Line, ScheduleFault, Version, read_text};
-use lset_text::{cut, number};
+use lset_schedule::{Cause, EventLine, FIRST_LINE, Line, MOST_EVENTS, ScheduleFault, Version};
+use lset_text::{cut, is_above, number, read_header};
+use lset_words::MOST_OPENING;
 use std::alloc::Global;
 
-fn out(thread: &[u8]) -> Result<DraftLine, Cause>
-    ensures { result ≡ first_of Version.Two causes events.kinds (codes "go" ∷ thread.now ∷ codes "out" ∷ []) }
-{
+/// Reads a line `go T out` or `go T to ROW`; `None` for any other line.
+fn stop(line: &[u8]) -> Option<Result<DraftLine, Cause>> {
+    let (b"go", rest) = cut(line, b' ')? else {
+        return None;
+    };
+    let (thread, place) = cut(rest, b' ')?;
+    if place == b"out".as_slice() {
+        return Some(out(thread));
+    }
+    match cut(place, b' ')? {
+        (b"to", row) if !row.contains(&b' ') => Some(to(thread, row)),
+        _ => None,
+    }
+}
+
+fn out(thread: &[u8]) -> Result<DraftLine, Cause> {
     let thread = number(thread, 0, u32::MAX).ok_or(Cause::Number)?;
     Ok(DraftLine::Out(thread))
 }
 
-fn to(thread: &[u8], row: &[u8]) -> Result<DraftLine, Cause>
-    ensures { result ≡ first_of Version.Two causes events.kinds (codes "go" ∷ thread.now ∷ codes "to" ∷ row.now ∷ []) }
-{
+fn to(thread: &[u8], row: &[u8]) -> Result<DraftLine, Cause> {
     let thread = number(thread, 0, u32::MAX).ok_or(Cause::Number)?;
     let row = number(row, 1, MOST_ROW).ok_or(Cause::Number)?;
     Ok(DraftLine::To(thread, row))
 }
 
-/// Reads three fields that are `go`, a thread and `out`; `None` if they are others.
-fn out_in(word: &[u8], thread: &[u8], end: &[u8]) -> Option<Result<DraftLine, Cause>>
-    ensures { (version : Version) → MatchOption result
-        (have_form version out_kind.0 (word.now ∷ thread.now ∷ end.now ∷ []) ≡ false)
-        (λ told. told ≡ first_of version causes events.kinds (word.now ∷ thread.now ∷ end.now ∷ [])) }
-{
-    if word == b"go".as_slice() && end == b"out".as_slice() {
-        Some(out(thread))
-    } else {
-        None
+fn event(line: &[u8]) -> Result<DraftLine, Cause> {
+    match stop(line) {
+        Some(stop) => stop,
+        None => Ok(DraftLine::Plain(Line::read(Version::Two, line)?)),
     }
 }
 
-/// Reads four fields that are `go`, a thread, `to` and a row; `None` if they are others.
-fn to_in(word: &[u8], thread: &[u8], place: &[u8], row: &[u8]) -> Option<Result<DraftLine, Cause>>
-    ensures { (version : Version) → MatchOption result
-        (have_form version to_kind.0 (word.now ∷ thread.now ∷ place.now ∷ row.now ∷ []) ≡ false)
-        (λ told. told ≡ first_of version causes events.kinds (word.now ∷ thread.now ∷ place.now ∷ row.now ∷ [])) }
-{
-    if word == b"go".as_slice() && place == b"to".as_slice() {
-        Some(to(thread, row))
-    } else {
-        None
+/// The field of the key in a line `opening K`; `None` for any other line.
+fn opening_piece(line: &[u8]) -> Option<&[u8]> {
+    match cut(line, b' ')? {
+        (b"opening", key) if !key.contains(&b' ') => Some(key),
+        _ => None,
     }
 }
 
-/// Reads a line that has the fields of one without a count; `None` for any other line.
-fn stop(line: &[u8]) -> Option<Result<DraftLine, Cause>>
-    ensures { (version : Version) → MatchOption result
-        ((have_form version out_kind.0 (cut_at 32 line.now) ≡ false)
-        × (have_form version to_kind.0 (cut_at 32 line.now) ≡ false))
-        (λ told. told ≡ line_in version causes events.kinds line.now) }
+/// Puts an opening key behind the others.
+#[tactic(auto, using(lset_text::proofs::OpeningLaws::rises_more))]
+fn add_opening(opening: &mut Vec<u32>, key: u32) -> Result<(), Cause>
+    requires rising { IsStrictlyIncreasing opening.old.items }
+    requires few { length opening.old.items ≤ MOST_OPENING }
+    ensures rising { IsStrictlyIncreasing opening.new.items }
+    ensures few { length opening.new.items ≤ MOST_OPENING }
 {
-    let (first, rest) = cut(line, b' ')?;
-    let (second, rest) = cut(rest, b' ')?;
-    let Some((third, fourth)) = cut(rest, b' ') else {
-        return out_in(first, second, rest);
-    };
-    if let Some((_, _more)) = cut(fourth, b' ') {
-        return None;
+    if opening.len() >= MOST_OPENING as usize {
+        return Err(Cause::TooMany);
     }
-    to_in(first, second, third, fourth)
+    if !is_above(opening, key) {
+        return Err(Cause::Opening);
+    }
+    if opening.push(key).is_err() {
+        return Err(Cause::Memory);
+    }
+    Ok(())
 }
 
-impl EventLine for DraftLine {
-    ghost lines = { events };
-
-    fn read(version: Version, line: &[u8]) -> Result<DraftLine, Cause> {
-        if let Some(stop) = stop(line) {
-            return stop;
+impl Draft {
+    /// Adds a line, where so many events are left, and returns how many are left after it.
+    fn add_line(&mut self, line: &[u8], left: u32) -> Result<u32, Cause> {
+        if self.lines.is_empty()
+            && let Some(key) = opening_piece(line)
+        {
+            let key = number(key, 0, u32::MAX).ok_or(Cause::Number)?;
+            add_opening(&mut self.opening, key)?;
+            return Ok(left);
         }
-        Ok(DraftLine::Plain(Line::read(version, line)?))
+        let event = event(line)?;
+        let left = left.checked_sub(event.least_count()).ok_or(Cause::TooMany)?;
+        if self.lines.push(event).is_err() {
+            return Err(Cause::Memory);
+        }
+        Ok(left)
     }
-
-    fn count(self) -> u32 {
-        self.least_count()
-    }
-}
-
-fn draft(alloc: Global, bytes: &[u8]) -> Result<Draft, ScheduleFault>
-    ensures exact { Gives view result (reading bytes.now) }
-    ensures memory { IfErr result (λ e. e.cause ≡ Cause.Memory → IsGoodAfterHeader bytes.now (reading bytes.now) e.line) }
-{
-    let body = read_text(alloc, Version::Two, TITLE.as_bytes(), bytes)?;
-    Ok(Draft {
-        kind: body.header.kind,
-        threads: body.header.threads,
-        quota: body.header.quota,
-        opening: body.opening,
-        lines: body.lines,
-    })
 }
 
 /// Reads a draft from its bytes. A line without a count counts as one event. Allocates.
@@ -106,16 +95,27 @@ fn draft(alloc: Global, bytes: &[u8]) -> Result<Draft, ScheduleFault>
 ///
 /// The first line that is wrong, and the first check that it fails, in the order in which `read_schedule` makes them on a
 /// schedule of version 2. A thread or a row that is not a number is `Number`, and so is a row outside 1 to 255.
-pub fn read_draft(alloc: Global, bytes: &[u8]) -> Result<Draft, ScheduleFault>
-    // What is read is a draft, and the bytes are its text.
-    ensures found { IfOk result (λ d. IsDraft (view d) × (bytes.now ≡ draft_text (view d))) }
-    // The text of a draft is read, unless memory runs out.
-    ensures only { (d : DraftValue) → IsDraft d → bytes.now ≡ draft_text d
-        → MatchResult result (λ x. view x ≡ d) (λ e. e.cause ≡ Cause.Memory) }
-    // Which fault it is.
-    ensures exact { Gives view result (reading bytes.now) }
-    // `Memory` is returned with a line after the header, if neither it nor a line above has another error.
-    ensures memory { IfErr result (λ e. e.cause ≡ Cause.Memory → IsGoodAfterHeader bytes.now (reading bytes.now) e.line) }
-{
-    draft(alloc, bytes)
+pub fn read_draft(alloc: Global, bytes: &[u8]) -> Result<Draft, ScheduleFault> {
+    let (header, text) = read_header(TITLE.as_bytes(), bytes)?;
+    let mut draft = Draft {
+        kind: header.kind,
+        threads: header.threads,
+        quota: header.quota,
+        opening: Vec::new(alloc),
+        lines: Vec::new(alloc),
+    };
+    let mut left = MOST_EVENTS;
+    let mut number = FIRST_LINE;
+    let mut rest = text;
+    while !rest.is_empty() {
+        let fault = |cause| ScheduleFault {
+            line: number,
+            cause,
+        };
+        let (line, after) = cut(rest, b'\n').ok_or(fault(Cause::NotEnded))?;
+        left = draft.add_line(line, left).map_err(fault)?;
+        number = number.saturating_add(1);
+        rest = after;
+    }
+    Ok(draft)
 }

@@ -1,35 +1,21 @@
 //! A thread steps: a number of times, or until it is at a row.
-ghost use Rattle.std.specs.Prelude.{◌≡◌, ◌<◌, length, ◌==◌};
-ghost use Rattle.lset_steps.specs.Steps.{local_of};
-ghost use Rattle.tool_draft.specs.Counts.{StepsTo, TakesSteps};
 
 use crate::DraftCause;
 use lset_steps::{Event, Machine, StepFault, World};
 
-/// Whether a thread is at a row or, if the row is 0, has no call pending.
-fn stands_before<M: Machine>(world: &World<M>, thread: u32, row: u32) -> bool
-    requires { thread < world.now.sizes.threads }
-    ensures { result ≡ (local_of world.now.state thread).pc == row }
-{
-    match world.holds(thread) {
-        Some(local) => u32::from(local.pc) == row,
-        None => unreachable!(),
-    }
-}
-
-/// Steps a thread until it is at a row, at least once and at most `most` times; returns how many steps it made.
+/// Steps a thread until it is at a row (0: it has no call pending), at least once and at most `most` times; returns how many
+/// steps it made.
 pub fn steps_to<M: Machine>(
     world: &mut World<M>,
     thread: u32,
     row: u32,
     most: u32,
-) -> Result<u32, DraftCause>
-    requires { length world.old.state.locals ≡ world.old.sizes.threads }
-    ensures { StepsTo M.table world.old thread row most result world.new }
-{
+) -> Result<u32, DraftCause> {
     for taken in 0..most {
         world.step(Event::Go(thread))?;
-        if stands_before(world, thread, row) {
+        if let Some(local) = world.holds(thread)
+            && u32::from(local.pc) == row
+        {
             return Ok(taken + 1);
         }
     }
@@ -41,9 +27,7 @@ pub fn take_steps<M: Machine>(
     world: &mut World<M>,
     thread: u32,
     steps: u32,
-) -> Result<(), StepFault>
-    ensures { TakesSteps M.table world.old thread steps result world.new }
-{
+) -> Result<(), StepFault> {
     for _taken in 0..steps {
         world.step(Event::Go(thread))?;
     }

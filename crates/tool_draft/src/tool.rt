@@ -1,9 +1,3 @@
-ghost use Rattle.std.specs.Prelude.{◌≡◌, ◌≢◌, ◌⊎◌, IfErr, IfSome};
-ghost use Rattle.tool_base.specs.Tools.{Ends, IsTaken, view};
-ghost use Rattle.tool_base.specs.declared.trouble.Trouble.TheVariants.{CannotRead, Memory};
-ghost use Rattle.tool_draft.specs.DraftReading.{reading};
-ghost use Rattle.tool_draft.specs.Drafting.{Drafts, IsFirstFault, line_cause, of_draft};
-
 use crate::expanding::schedule_of;
 use crate::fault::{DraftCause, DraftFault};
 use crate::reading::read_draft;
@@ -13,9 +7,7 @@ use std::alloc::Global;
 use std::io::{Read, Write};
 use tool_base::{Answer, LONGEST, LineCause, Trouble, deliver, input_of};
 
-fn line_cause(cause: DraftCause) -> LineCause
-    ensures { result ≡ line_cause cause }
-{
+fn line_cause(cause: DraftCause) -> LineCause {
     match cause {
         DraftCause::TooMany => LineCause::Schedule(Cause::TooMany),
         DraftCause::Refused(StepFault::NoThread) => LineCause::NoThread,
@@ -26,8 +18,6 @@ fn line_cause(cause: DraftCause) -> LineCause
 }
 
 impl From<DraftFault> for Trouble {
-    ghost from_gives = { λ e t. t ≡ of_draft e };
-
     fn from(fault: DraftFault) -> Trouble {
         match fault {
             DraftFault::Line(number, cause) => Trouble::Line(number, line_cause(cause)),
@@ -36,11 +26,7 @@ impl From<DraftFault> for Trouble {
     }
 }
 
-fn schedule_text_of(alloc: Global, bytes: &[u8]) -> Result<Answer, Trouble>
-    requires { IsTaken bytes.now }
-    ensures drafts { Drafts bytes.now (view result) }
-    ensures trouble { IfErr result (λ t. (t ≡ Memory) ⊎ IsFirstFault (reading bytes.now) t) }
-{
+fn schedule_text_of(alloc: Global, bytes: &[u8]) -> Result<Answer, Trouble> {
     let draft = read_draft(alloc, bytes)?;
     let schedule = schedule_of(alloc, &draft)?;
     let text = write_schedule(alloc, &schedule)?;
@@ -54,20 +40,14 @@ fn schedule_text_of(alloc: Global, bytes: &[u8]) -> Result<Answer, Trouble>
 ///
 /// `TooLong` if there are more than `LONGEST` bytes; `Line` with the first error of the text, or with the first line that
 /// does not become a line of a schedule; `Memory` if an allocation fails.
-pub fn drafted(alloc: Global, bytes: &[u8]) -> Result<Answer, Trouble>
-    ensures drafts { Drafts bytes.now (view result) }
-    // Bytes that are here can be read.
-    ensures read { IfErr result (λ t. t ≢ CannotRead) }
-{
+pub fn drafted(alloc: Global, bytes: &[u8]) -> Result<Answer, Trouble> {
     if bytes.len() > LONGEST {
         return Err(Trouble::TooLong);
     }
     schedule_text_of(alloc, bytes)
 }
 
-fn drafted_input<R: Read>(alloc: Global, input: &mut R) -> Result<Answer, Trouble>
-    ensures { IfSome (R.remaining input.old) (λ bytes. Drafts bytes (view result)) }
-{
+fn drafted_input<R: Read>(alloc: Global, input: &mut R) -> Result<Answer, Trouble> {
     let bytes = input_of(alloc, input)?;
     drafted(alloc, &bytes)
 }
@@ -80,10 +60,7 @@ pub fn tool_draft<R: Read, W: Write, F: Write>(
     input: &mut R,
     output: &mut W,
     faults: &mut F,
-) -> u8
-    ensures { Ends (λ made. IfSome (R.remaining input.old) (λ bytes. Drafts bytes made))
-        (W.contents output.old) (W.contents output.new) (F.contents faults.old) (F.contents faults.new) result }
-{
+) -> u8 {
     let made = drafted_input(alloc, input);
     deliver(alloc, made, output, faults)
 }

@@ -1,5 +1,6 @@
-ghost use Rattle.std.specs.Prelude.{◌≡◌};
-ghost use Rattle.tool_draft.specs.Drafts.{first_event_line, least_count, view};
+ghost use Rattle.std.specs.Prelude.{◌<◌, ◌≤◌, length};
+ghost use Rattle.std.specs.List.Sorted.{IsStrictlyIncreasing};
+ghost use Rattle.lset_words.specs.declared.TheConstants.{MOST_OPENING, MOST_QUOTA, MOST_THREADS};
 
 use lset_schedule::{FIRST_LINE, Line};
 use lset_words::Kind;
@@ -15,9 +16,7 @@ pub enum DraftLine {
 
 impl DraftLine {
     /// The least number of events for which the line can come to stand.
-    pub(crate) fn least_count(self) -> u32
-        ensures { result ≡ least_count self }
-    {
+    pub(crate) fn least_count(self) -> u32 {
         match self {
             DraftLine::Plain(line) => line.event_count(),
             DraftLine::Out(_) | DraftLine::To(_, _) => 1,
@@ -35,14 +34,14 @@ pub struct Draft {
     pub quota: u32,
     pub opening: Vec<u32>,
     pub lines: Vec<DraftLine>,
+    ghost rising: { IsStrictlyIncreasing opening.items },
+    ghost within: { (0 < threads) × (threads ≤ MOST_THREADS) × (quota ≤ MOST_QUOTA) × (length opening.items ≤ MOST_OPENING) },
 }
 
 impl Draft {
     /// Returns the number of the line of the first event, counted from 1, in the text of this draft and in that of its
     /// schedule.
-    pub fn first_event_line(&self) -> u64
-        ensures { result ≡ first_event_line (view self.now) }
-    {
+    pub fn first_event_line(&self) -> u64 {
         FIRST_LINE + self.opening.len() as u64
     }
 }

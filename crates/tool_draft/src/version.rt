@@ -1,13 +1,13 @@
-ghost use Rattle.std.specs.Prelude.{◌≡◌, ◌↔◌, IsTrue};
+ghost use Rattle.std.specs.Prelude.{IsTrue};
+ghost use Rattle.std.specs.List.{AllByRecursion};
 ghost use Rattle.lset_text.specs.Openings.{HasOpening};
 ghost use Rattle.lset_schedule.specs.Plan.{HasCallOfLine};
-ghost use Rattle.std.specs.List.{AllByRecursion};
 
 use lset_schedule::{Line, Version};
 use lset_words::Call;
 
 fn is_of_first(line: &Line) -> bool
-    ensures { IsTrue result ↔ HasCallOfLine Version.One line.now }
+    ensures { IsTrue result → HasCallOfLine Version.One line.now }
 {
     match *line {
         Line::Begin(_, Call::Ceiling(_)) => false,
@@ -16,7 +16,7 @@ fn is_of_first(line: &Line) -> bool
 }
 
 fn are_of_first(lines: &[Line]) -> bool
-    ensures { IsTrue result ↔ AllByRecursion (HasCallOfLine Version.One) lines.now }
+    ensures { IsTrue result → AllByRecursion (HasCallOfLine Version.One) lines.now }
 {
     for line in lines {
         if !is_of_first(line) {
@@ -28,8 +28,8 @@ fn are_of_first(lines: &[Line]) -> bool
 
 /// Returns the smallest version of a schedule that has these opening keys and the calls of these lines.
 pub fn least_version(opening: &[u32], lines: &[Line]) -> Version
-    ensures first { result ≡ Version.One → HasOpening Version.One opening.now × AllByRecursion (HasCallOfLine Version.One) lines.now }
-    ensures least { HasOpening Version.One opening.now → AllByRecursion (HasCallOfLine Version.One) lines.now → result ≡ Version.One }
+    ensures opening { HasOpening result opening.now }
+    ensures calls { AllByRecursion (HasCallOfLine result) lines.now }
 {
     if opening.is_empty() && are_of_first(lines) {
         Version::One

@@ -1,7 +1,3 @@
-ghost use Rattle.std.specs.Prelude.{◌≡◌, Some, IfSome};
-ghost use Rattle.std.specs.Option.{option_copied};
-ghost use Rattle.tool_examples.specs.Examples.{name_of, text_of, broken_of};
-
 use crate::texts;
 use lset_words::Kind;
 
@@ -53,9 +49,7 @@ pub const ALL: [Example; 18] = [
 
 impl Example {
     /// Returns the name by which `example` prints it.
-    pub fn name(self) -> &'static str
-        ensures { result.now ≡ name_of self }
-    {
+    pub fn name(self) -> &'static str {
         match self {
             Example::FailedTries => "failed-tries",
             Example::Full => "full",
@@ -138,9 +132,7 @@ impl Example {
     }
 
     /// Returns the text of its schedule, on the list that it is about.
-    pub fn schedule_text(self) -> &'static str
-        ensures { result.now ≡ text_of self }
-    {
+    pub fn schedule_text(self) -> &'static str {
         match self {
             Example::FailedTries => texts::FAILED_TRIES,
             Example::Full => texts::FULL,
@@ -165,9 +157,7 @@ impl Example {
 
     /// Returns the text of the report that a list without the check in question would make of the schedule; only six
     /// examples have one. No order explains its calls and keys: neither the one in it, which `check` refuses, nor another.
-    pub fn broken_report_text(self) -> Option<&'static str>
-        ensures { option_copied result ≡ broken_of self }
-    {
+    pub fn broken_report_text(self) -> Option<&'static str> {
         match self {
             Example::SameGap => Some(texts::SAME_GAP_BROKEN),
             Example::StalePred => Some(texts::STALE_PRED_BROKEN),
@@ -181,10 +171,7 @@ impl Example {
 }
 
 /// Returns the example whose name these bytes are; `None` if no example has it.
-pub fn named(name: &[u8]) -> Option<Example>
-    ensures found { IfSome result (λ example. name.now ≡ name_of example) }
-    ensures only { (example : Example) → name.now ≡ name_of example → result ≡ Some example }
-{
+pub fn named(name: &[u8]) -> Option<Example> {
     for example in &ALL {
         if example.name().as_bytes() == name {
             return Some(*example);

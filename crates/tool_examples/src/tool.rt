@@ -1,8 +1,3 @@
-ghost use Rattle.std.specs.Prelude.{Some, IfSome, IfNone};
-ghost use Rattle.std.specs.Option.{option_copied};
-ghost use Rattle.tool_base.specs.Tools.{Ends, view};
-ghost use Rattle.tool_examples.specs.Exampling.{Exampled, IsShown, IsUnknown};
-
 use crate::example::{ALL, named};
 use lset_text::kind_word;
 use std::alloc::{AllocError, Global};
@@ -22,10 +17,7 @@ fn write_names(alloc: Global) -> Result<Vec<u8>, AllocError> {
 }
 
 /// What the example with this name has to show.
-fn shown(broken: bool, name: &[u8]) -> Option<&'static str>
-    ensures found { IfSome result (λ text. IsShown broken (Some name.now) text.now) }
-    ensures unknown { IfNone result (IsUnknown broken (Some name.now)) }
-{
+fn shown(broken: bool, name: &[u8]) -> Option<&'static str> {
     let example = named(name)?;
     if broken {
         example.broken_report_text()
@@ -35,9 +27,7 @@ fn shown(broken: bool, name: &[u8]) -> Option<&'static str>
 }
 
 /// Returns what `example` prints for a name, given as bytes; the answers and errors are those of `exampled`.
-pub fn exampled_by(alloc: Global, broken: bool, name: &[u8]) -> Result<Answer, Trouble>
-    ensures { Exampled broken (Some name.now) (view result) }
-{
+pub fn exampled_by(alloc: Global, broken: bool, name: &[u8]) -> Result<Answer, Trouble> {
     let text = shown(broken, name).ok_or(ValueName::Name)?;
     let text = Vec::from_slice(alloc, text.as_bytes())?;
     Ok(Answer { text, status: 0 })
@@ -46,9 +36,7 @@ pub fn exampled_by(alloc: Global, broken: bool, name: &[u8]) -> Result<Answer, T
 /// Returns what `example` prints: the list of names if no name is given, else the schedule of the example with this name, or
 /// with `broken` its broken report. Allocates. The error is `Trouble::Bad(ValueName::Name)` if no example has that under
 /// this name, `Trouble::Memory` if an allocation fails.
-pub fn exampled(alloc: Global, broken: bool, name: Option<&str>) -> Result<Answer, Trouble>
-    ensures { Exampled broken (option_copied name.entry) (view result) }
-{
+pub fn exampled(alloc: Global, broken: bool, name: Option<&str>) -> Result<Answer, Trouble> {
     match name {
         Some(name) => exampled_by(alloc, broken, name.as_bytes()),
         None => {
@@ -68,10 +56,7 @@ pub fn tool_example<W: Write, F: Write>(
     name: Option<&str>,
     output: &mut W,
     faults: &mut F,
-) -> u8
-    ensures { Ends (Exampled broken (option_copied name.entry))
-        (W.contents output.old) (W.contents output.new) (F.contents faults.old) (F.contents faults.new) result }
-{
+) -> u8 {
     let made = exampled(alloc, broken, name);
     deliver(alloc, made, output, faults)
 }

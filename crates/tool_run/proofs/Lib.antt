@@ -1,4 +1,1 @@
-mod CountLaws
-mod LifeLaws
-mod LivesLaws
-mod RisingKeys
+pub mod ShortPrograms

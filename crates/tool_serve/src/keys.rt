@@ -1,13 +1,8 @@
 //! The keys with which a set opens, as the lines of a text.
-ghost use Rattle.std.specs.Prelude.{◌≡◌, ◌<◌, ◌≤◌, ◌+◌, ◌^◌, ◌++◌, ◌∷◌, [], is_some, Ok, Err, IfOk, IfSome, MatchResult};
-ghost use Rattle.lset_text.specs.Parts.{cut_at};
-ghost use Rattle.lset_text.specs.Lines.{lines_from};
-ghost use Rattle.tool_serve.specs.Keys.{AreKeys, Gives, after_head, is_word_and_piece, key_grammar, key_in, keys_in, lines_of, of_keys, without};
-ghost use Rattle.tool_serve.specs.Printed.{PrintedKeysAreRead};
 
 use lset_text::{cut, is_above, number};
 use lset_words::MOST_OPENING;
-use std::alloc::Global;
+use std::alloc::{AllocFailed, Global};
 use tool_base::{KeyCause, LineCause, Trouble};
 
 /// Why a text has no keys with which a set can open.
@@ -19,9 +14,13 @@ pub enum KeysFault {
     Memory,
 }
 
-impl From<KeysFault> for Trouble {
-    ghost from_gives = { λ f t. t ≡ of_keys f };
+impl<T: Drop> From<AllocFailed<T>> for KeysFault {
+    fn from(_refused: AllocFailed<T>) -> KeysFault {
+        KeysFault::Memory
+    }
+}
 
+impl From<KeysFault> for Trouble {
     fn from(fault: KeysFault) -> Trouble {
         match fault {
             KeysFault::Line(line, cause) => Trouble::Line(line, LineCause::Keys(cause)),
@@ -38,10 +37,7 @@ struct Remaining<'a> {
 }
 
 /// What a line has after the word, if that is one further field.
-fn piece_after<'a>(line: &'a [u8], word: &[u8]) -> Option<&'a [u8]>
-    ensures form { is_some result ≡ is_word_and_piece word.now line.now }
-    ensures pieces { IfSome result (λ p. cut_at 32 line.now ≡ word.now ∷ p.now ∷ []) }
-{
+fn piece_after<'a>(line: &'a [u8], word: &[u8]) -> Option<&'a [u8]> {
     let (first, piece) = cut(line, b' ')?;
     if first != word {
         return None;
@@ -54,14 +50,10 @@ fn piece_after<'a>(line: &'a [u8], word: &[u8]) -> Option<&'a [u8]>
 
 impl<'a> Remaining<'a> {
     /// The text without its first line, if that is the word and one further field; else the text.
-    fn without(self, word: &[u8]) -> Remaining<'a>
-        requires { self.line < 2 ^ 32 }
-        ensures lines { lines_of result ≡ without word.now (lines_of self.entry) }
-        ensures next { result.line ≤ self.entry.line + 1 }
-    {
+    fn without(self, word: &[u8]) -> Remaining<'a> {
         match cut(self.text, b'\n') {
             Some((first, rest)) if piece_after(first, word).is_some() => Remaining {
-                line: self.line + 1,
+                line: self.line.saturating_add(1),
                 text: rest,
             },
             _ => self,
@@ -70,10 +62,7 @@ impl<'a> Remaining<'a> {
 }
 
 /// What comes after the lines that a server prints before its keys, as far as they are there.
-fn after_head(text: &[u8]) -> Remaining<'_>
-    ensures lines { lines_of result ≡ after_head text.now }
-    ensures first { result.line ≤ 4 }
-{
+fn after_head(text: &[u8]) -> Remaining<'_> {
     let whole = Remaining { line: 1, text };
     whole
         .without(b"listening")
@@ -82,18 +71,13 @@ fn after_head(text: &[u8]) -> Remaining<'_>
 }
 
 /// The key in a line.
-fn key_of_line(line: &[u8]) -> Result<u32, KeyCause>
-    ensures { result ≡ key_in line.now }
-{
+fn key_of_line(line: &[u8]) -> Result<u32, KeyCause> {
     let piece = piece_after(line, b"key").ok_or(KeyCause::Line)?;
     number(piece, 0, u32::MAX).ok_or(KeyCause::Number)
 }
 
 /// The key of a line that comes after these keys.
-fn next_key(line: &[u8], keys: &[u32]) -> Result<u32, KeyCause>
-    ensures { MatchResult result (λ k. key_grammar.step keys.now line.now ≡ Ok (keys.now ++ k ∷ []))
-        (λ because. key_grammar.step keys.now line.now ≡ Err because) }
-{
+fn next_key(line: &[u8], keys: &[u32]) -> Result<u32, KeyCause> {
     let key = key_of_line(line)?;
     if keys.len() >= MOST_OPENING as usize {
         return Err(KeyCause::TooMany);
@@ -105,10 +89,7 @@ fn next_key(line: &[u8], keys: &[u32]) -> Result<u32, KeyCause>
 }
 
 /// The keys of the lines that are left, all of them lines of keys.
-fn keys_of_lines(alloc: Global, left: Remaining<'_>) -> Result<Vec<u32>, KeysFault>
-    requires { left.line < 2 ^ 32 }
-    ensures { Gives (λ v. v.items) result (lines_from key_grammar left.entry.line [] (cut_at 10 left.entry.text.now)) }
-{
+fn keys_of_lines(alloc: Global, left: Remaining<'_>) -> Result<Vec<u32>, KeysFault> {
     let mut keys = Vec::new(alloc);
     let mut line = left.line;
     let mut rest = left.text;
@@ -116,14 +97,9 @@ fn keys_of_lines(alloc: Global, left: Remaining<'_>) -> Result<Vec<u32>, KeysFau
         let Some((first, after)) = cut(rest, b'\n') else {
             return Err(KeysFault::Line(line, KeyCause::NotEnded));
         };
-        let key = match next_key(first, &keys) {
-            Ok(key) => key,
-            Err(cause) => return Err(KeysFault::Line(line, cause)),
-        };
-        if keys.push(key).is_err() {
-            return Err(KeysFault::Memory);
-        }
-        line += 1;
+        let key = next_key(first, &keys).map_err(|cause| KeysFault::Line(line, cause))?;
+        keys.push(key)?;
+        line = line.saturating_add(1);
         rest = after;
     }
     Ok(keys)
@@ -144,17 +120,6 @@ fn keys_of_lines(alloc: Global, left: Remaining<'_>) -> Result<Vec<u32>, KeysFau
 /// - `Opening`: the key is not above the one before.
 ///
 /// `KeysFault::Memory`: an allocation failed.
-pub fn read_keys(alloc: Global, text: &[u8]) -> Result<Vec<u32>, KeysFault>
-    // Which keys, and which fault it is.
-    ensures exact { Gives (λ v. v.items) result (keys_in text.now) }
-    // A set opens with them.
-    ensures opens { IfOk result (λ v. AreKeys v.items) }
-{
+pub fn read_keys(alloc: Global, text: &[u8]) -> Result<Vec<u32>, KeysFault> {
     keys_of_lines(alloc, after_head(text))
 }
-
-/// Lemma: what a server prints is read as the keys that it leaves: all that it prints, what it prints at its end, and the
-/// lines of the keys alone.
-pub fn printed_keys_are_read()
-    ensures { PrintedKeysAreRead }
-{}

@@ -1,11 +1,4 @@
 //! The tool.
-ghost use Rattle.std.specs.Prelude.{◌≡◌, ◌≤◌, ℕ, [], IfErr, IfOk, OnOk, map, string_bytes};
-ghost use Rattle.std.specs.Io.KnownBytes.{Appends};
-ghost use Rattle.tool_base.specs.Tools as tools;
-ghost use Rattle.tool_serve.specs.declared.request.TheConstants.{MOST_PORT};
-ghost use Rattle.tool_serve.specs.Keys.{AreKeys};
-ghost use Rattle.tool_serve.specs.Serving.{AreKeysOf, IsTroubleOf, IsWithinLimits};
-ghost use Rattle.tool_serve.specs.Serving.{Announces, Answers, EndsServer, ServeEnds, ServeWithEnds, Serves, ServesFrom, ServesWith, first_line, of_server, serve_request_of};
 
 use crate::keys::read_keys;
 use crate::request::{ServeRequest, read_serve_request};
@@ -24,11 +17,9 @@ use std::net::{Ipv4Addr, Net, TcpListener, TcpStream};
 use std::sync::Wait;
 use std::thread::Threads;
 use std::time::Clock;
-use tool_base::{Answer, ServeName, Trouble, deliver, input_of, put};
+use tool_base::{Answer, ServeName, Trouble, ValueName, deliver, input_of, put};
 
-fn trouble_of(cause: ServeCause) -> Trouble
-    ensures { result ≡ of_server cause }
-{
+fn trouble_of(cause: ServeCause) -> Trouble {
     match cause {
         ServeCause::Seats => Trouble::Serve(ServeName::Seats),
         ServeCause::Accept => Trouble::Serve(ServeName::Accept),
@@ -39,11 +30,18 @@ fn trouble_of(cause: ServeCause) -> Trouble
     }
 }
 
+/// Of a request that `read_serve_request` made and keys that `read_keys` made, only memory can be refused.
+fn trouble_opening(fault: OpenFault) -> Trouble {
+    match fault {
+        OpenFault::Seats => Trouble::Bad(ValueName::Seats),
+        OpenFault::Quota => Trouble::Bad(ValueName::Quota),
+        OpenFault::Opening => Trouble::Bad(ValueName::Keys),
+        OpenFault::Memory => Trouble::Memory,
+    }
+}
+
 /// Writes the line that names the port, whole and at once.
-fn announce<W: Write>(alloc: Global, output: &mut W, port: u16) -> Result<(), Trouble>
-    ensures whole { OnOk result (Appends (W.contents output.old) (W.contents output.new) (first_line port)) }
-    ensures trouble { IfErr result (λ t. EndsServer t (first_line port) (W.contents output.old) (W.contents output.new)) }
-{
+fn announce<W: Write>(alloc: Global, output: &mut W, port: u16) -> Result<(), Trouble> {
     let line = first_line(alloc, port)?;
     if put(output, line.as_bytes()) && output.flush().is_ok() {
         Ok(())
@@ -56,14 +54,10 @@ fn announce<W: Write>(alloc: Global, output: &mut W, port: u16) -> Result<(), Tr
 fn listen<R: Net<Listener = TcpListener, Stream = TcpStream>, W: Write>(
     rt: &R,
     alloc: Global,
-    port: u32,
+    port: u16,
     output: &mut W,
-) -> Result<TcpListener, Trouble>
-    requires { port ≤ MOST_PORT }
-    ensures whole { OnOk result ((p : ℕ) × Appends (W.contents output.old) (W.contents output.new) (first_line p)) }
-    ensures trouble { IfErr result (λ t. (p : ℕ) × EndsServer t (first_line p) (W.contents output.old) (W.contents output.new)) }
-{
-    let Ok(listener) = TcpListener::bind(rt, (Ipv4Addr::LOCALHOST, port as u16)) else {
+) -> Result<TcpListener, Trouble> {
+    let Ok(listener) = TcpListener::bind(rt, (Ipv4Addr::LOCALHOST, port)) else {
         return Err(Trouble::CannotListen);
     };
     let Ok(address) = listener.local_addr() else {
@@ -84,24 +78,17 @@ fn serve_list<
     request: ServeRequest,
     keys: &[u32],
     output: &mut W,
-) -> Result<Answer, Trouble>
-    requires kind { M.KIND ≡ request.kind }
-    requires sizes { IsWithinLimits request }
-    requires keys { AreKeys keys.now }
-    ensures first { Announces (tools.view result) (W.contents output.old) (W.contents output.new) }
-    ensures made { IfOk (tools.view result) (Answers request keys.now) }
-{
+) -> Result<Answer, Trouble> {
     let (set, seats) = match open_with::<M>(alloc, request.seats, request.quota, keys) {
         Ok(opened) => opened,
-        Err(OpenFault::Memory) => return Err(Trouble::Memory),
-        Err(_) => unreachable!(),
+        Err(fault) => return Err(trouble_opening(fault)),
     };
     let listener = listen(rt, alloc, request.port, output)?;
     match serve(rt, alloc, listener, set, seats, request.sessions) {
-        Ok(served) => {
-            let text = served_text(alloc, &served)?;
-            Ok(Answer { text, status: 0 })
-        }
+        Ok(served) => Ok(Answer {
+            text: served_text(alloc, &served)?,
+            status: 0,
+        }),
         Err(fault) => Err(trouble_of(fault.cause)),
     }
 }
@@ -117,11 +104,7 @@ fn serve_request<
     request: ServeRequest,
     keys: &[u32],
     output: &mut W,
-) -> Result<Answer, Trouble>
-    requires sizes { IsWithinLimits request }
-    requires keys { AreKeys keys.now }
-    ensures { ServesFrom request keys.now (W.contents output.old) (W.contents output.new) (tools.view result) }
-{
+) -> Result<Answer, Trouble> {
     match request.kind {
         Kind::Coarse => serve_list::<CoarseList, R, W>(rt, alloc, request, keys, output),
         Kind::Fine => serve_list::<FineList, R, W>(rt, alloc, request, keys, output),
@@ -135,19 +118,13 @@ fn serve_request<
 fn serve_values<
     R: Net<Listener = TcpListener, Stream = TcpStream> + Threads + Wait + Clock + Sync,
     W: Write,
->(rt: &R, alloc: Global, values: &[String], output: &mut W) -> Result<Answer, Trouble>
-    ensures { Serves (serve_request_of (map string_bytes values.now))
-        (W.contents output.old) (W.contents output.new) (tools.view result) }
-{
+>(rt: &R, alloc: Global, values: &[String], output: &mut W) -> Result<Answer, Trouble> {
     let request = read_serve_request(values)?;
     serve_request(rt, alloc, request, &[], output)
 }
 
 /// The keys of the input.
-fn input_keys<I: Read>(alloc: Global, input: &mut I) -> Result<Vec<u32>, Trouble>
-    ensures keys { IfOk result (λ v. AreKeysOf (I.remaining input.old) v.items) }
-    ensures trouble { IfErr result (λ t. IsTroubleOf (I.remaining input.old) t) }
-{
+fn input_keys<I: Read>(alloc: Global, input: &mut I) -> Result<Vec<u32>, Trouble> {
     let bytes = input_of(alloc, input)?;
     Ok(read_keys(alloc, &bytes)?)
 }
@@ -163,10 +140,7 @@ fn serve_values_with<
     values: &[String],
     input: &mut I,
     output: &mut W,
-) -> Result<Answer, Trouble>
-    ensures { ServesWith (serve_request_of (map string_bytes values.now)) (I.remaining input.old)
-        (W.contents output.old) (W.contents output.new) (tools.view result) }
-{
+) -> Result<Answer, Trouble> {
     let request = read_serve_request(values)?;
     let keys = input_keys(alloc, input)?;
     serve_request(rt, alloc, request, &keys, output)
@@ -190,10 +164,7 @@ pub fn tool_serve<
     R: Net<Listener = TcpListener, Stream = TcpStream> + Threads + Wait + Clock + Sync,
     W: Write,
     F: Write,
->(rt: &R, alloc: Global, values: &[String], output: &mut W, faults: &mut F) -> u8
-    ensures { ServeEnds (map string_bytes values.now)
-        (W.contents output.old) (W.contents output.new) (F.contents faults.old) (F.contents faults.new) result }
-{
+>(rt: &R, alloc: Global, values: &[String], output: &mut W, faults: &mut F) -> u8 {
     let made = serve_values(rt, alloc, values, output);
     deliver(alloc, made, output, faults)
 }
@@ -211,10 +182,7 @@ pub fn tool_serve_with<
     I: Read,
     W: Write,
     F: Write,
->(rt: &R, alloc: Global, values: &[String], input: &mut I, output: &mut W, faults: &mut F) -> u8
-    ensures { ServeWithEnds (map string_bytes values.now) (I.remaining input.old)
-        (W.contents output.old) (W.contents output.new) (F.contents faults.old) (F.contents faults.new) result }
-{
+>(rt: &R, alloc: Global, values: &[String], input: &mut I, output: &mut W, faults: &mut F) -> u8 {
     let made = serve_values_with(rt, alloc, values, input, output);
     deliver(alloc, made, output, faults)
 }

@@ -1,6 +1,3 @@
-ghost use Rattle.std.specs.Prelude.{◌≡◌, option_map};
-ghost use Rattle.tool_show.specs.Asking.{form_of, asked_of};
-
 use tool_base::{ValueName, read_moments, read_width};
 use tool_drawing::Window;
 
@@ -13,25 +10,19 @@ pub enum Form {
     Svg,
 }
 
-fn form_of(svg: bool, width: u32) -> Form
-    ensures { result ≡ form_of svg width }
-{
+fn form_of(svg: bool, width: u32) -> Form {
     if svg { Form::Svg } else { Form::Text(width) }
 }
 
 /// Reads the options of `show`: whether `--svg` is on, and the values of `--from`, `--to` and `--width`, as `read_moments`
 /// and `read_width` read them. An SVG has no width, but a width that is given with it must be right too. The error names the
 /// first option that is wrong.
-#[tactic(auto, unfolding(crate::specs::Asking::asked_of))]
 pub fn read_asked(
     svg: bool,
     from: Option<&str>,
     to: Option<&str>,
     width: Option<&str>,
-) -> Result<(Form, Window), ValueName>
-    ensures { result ≡ asked_of svg (option_map (λ t. t.now) from.entry) (option_map (λ t. t.now) to.entry)
-        (option_map (λ t. t.now) width.entry) }
-{
+) -> Result<(Form, Window), ValueName> {
     let moments = read_moments(from, to)?;
     let width = read_width(width)?;
     let window = Window {

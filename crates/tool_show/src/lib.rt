@@ -3,7 +3,6 @@
 #![tactic(auto)]
 
 mod asking;
-mod bars;
 mod endings;
 mod reports;
 mod schedules;

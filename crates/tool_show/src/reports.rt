@@ -1,9 +1,3 @@
-ghost use Rattle.std.specs.Prelude.{◌≡◌, IfOk};
-ghost use Rattle.lset_report.specs.Report as reports;
-ghost use Rattle.tool_drawing.specs.Pictures.{view};
-ghost use Rattle.tool_show.specs.ReportPictures.{IsPictureOfReport, changes_set, point_at, first_marked, drawn_points};
-
-use crate::bars::{bars_are_apart, order_has_its_points};
 use lset_history::{CallRecord, History, Placed, Refusal, first_points, why_refused};
 use lset_report::Report;
 use lset_words::{Call, Point, Reply};
@@ -11,9 +5,7 @@ use std::alloc::{AllocError, Global};
 use tool_drawing::Picture;
 
 /// Whether a call with this reply changes the set.
-fn changes_set(call: Call, reply: Reply) -> bool
-    ensures { result ≡ changes_set call reply }
-{
+fn changes_set(call: Call, reply: Reply) -> bool {
     match call {
         Call::Add(_) | Call::Remove(_) => reply == Reply::True,
         Call::Contains(_) | Call::Ceiling(_) => false,
@@ -21,9 +13,7 @@ fn changes_set(call: Call, reply: Reply) -> bool
 }
 
 /// The point of a place at a moment.
-fn point_at(calls: &[CallRecord], place: Placed, moment: u32) -> Point
-    ensures { result ≡ point_at calls.now (place, moment) }
-{
+fn point_at(calls: &[CallRecord], place: Placed, moment: u32) -> Point {
     let change = match calls.get(place.call as usize) {
         Some(call_record) => changes_set(call_record.call, place.reply),
         None => false,
@@ -36,9 +26,7 @@ fn first_marked(
     alloc: Global,
     history: &History,
     order: &[Placed],
-) -> Result<Vec<Point>, AllocError>
-    ensures { IfOk result (λ v. v.items ≡ first_marked history.now.calls order.now) }
-{
+) -> Result<Vec<Point>, AllocError> {
     let calls = history.calls();
     let moments = first_points(alloc, history, order)?;
     order
@@ -54,9 +42,7 @@ fn drawn_points(
     history: &History,
     order: &[Placed],
     refusal: &Option<Refusal>,
-) -> Result<Vec<Point>, AllocError>
-    ensures { IfOk result (λ v. v.items ≡ drawn_points refusal.now history.now.calls order.now) }
-{
+) -> Result<Vec<Point>, AllocError> {
     match refusal {
         None => first_marked(alloc, history, order),
         Some(_) => Ok(Vec::new(alloc)),
@@ -67,15 +53,11 @@ fn drawn_points(
 /// points of the order (`first_points`) if the order explains the history and leaves exactly the keys, and else with the
 /// refusal (`why_refused`) and no points. It takes about as long as `check_order`. Allocates; `AllocError` if that fails.
 /// (The pictures of Herlihy and Wing's histories.)
-pub fn picture_of_report(alloc: Global, report: Report) -> Result<Picture, AllocError>
-    ensures { IfOk result (λ p. IsPictureOfReport (reports.view report) (view p)) }
-{
+pub fn picture_of_report(alloc: Global, report: Report) -> Result<Picture, AllocError> {
     let order = report.order.as_slice();
     let keys = report.keys.as_slice();
     let refusal = why_refused(alloc, &report.history, order, keys)?;
     let points = drawn_points(alloc, &report.history, order, &refusal)?;
-    bars_are_apart(&report.history);
-    order_has_its_points(&report.history, order);
     Ok(Picture {
         kind: report.kind,
         history: report.history,

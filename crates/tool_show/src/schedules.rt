@@ -1,10 +1,5 @@
-ghost use Rattle.std.specs.Prelude.{IfOk};
-ghost use Rattle.lset_schedule.specs.Plan.{IsSchedule};
-ghost use Rattle.lset_schedule.specs.Plan as plan;
-ghost use Rattle.tool_drawing.specs.Pictures.{view};
-ghost use Rattle.tool_show.specs.SchedulePictures.{IsPictureOfSchedule};
+ghost use Rattle.lset_schedule.specs.Plan.{IsSchedule, view};
 
-use crate::bars::bars_are_apart;
 use lset_replay::{FrontReport, PlacedReport, replay_upto};
 use lset_report::Report;
 use lset_schedule::Schedule;
@@ -17,8 +12,7 @@ use tool_drawing::Picture;
 /// number of its line and the cause (`NoThread`, `Busy` or `Idle`). Allocates; `AllocError` if that fails. (The pictures of
 /// Herlihy and Wing's histories, with their linearization points.)
 pub fn picture_of_replay(alloc: Global, schedule: &Schedule) -> Result<Picture, AllocError>
-    requires { IsSchedule (plan.view schedule.now) }
-    ensures { IfOk result (λ p. IsPictureOfSchedule (plan.view schedule.now) (view p)) }
+    requires { IsSchedule (view schedule.now) }
 {
     let FrontReport {
         placed,
@@ -33,7 +27,6 @@ pub fn picture_of_replay(alloc: Global, schedule: &Schedule) -> Result<Picture, 
         keys,
         ..
     } = report;
-    bars_are_apart(&history);
     Ok(Picture {
         kind,
         history,

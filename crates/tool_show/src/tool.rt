@@ -1,14 +1,3 @@
-ghost use Rattle.std.specs.Prelude.{◌≡◌, ◌≢◌, ◌⊎◌, IfOk, IfErr, IfSome};
-ghost use Rattle.lset_schedule.specs.ScheduleReading as schedules;
-ghost use Rattle.lset_report.specs.ReportReading as reports;
-ghost use Rattle.tool_drawing.specs.Pictures.{view};
-ghost use Rattle.tool_base.specs.Tools.{Ends, IsTaken};
-ghost use Rattle.tool_base.specs.Tools as tools;
-ghost use Rattle.tool_base.specs.Checking as checking;
-ghost use Rattle.tool_base.specs.declared.trouble.Trouble.TheVariants.{Memory};
-ghost use Rattle.tool_show.specs.Showing.{ShowsSchedule, ShowsReport, ShowsText, Shows, IsDrawn, IsFirstFault, IsScheduleFault, IsWrong};
-ghost use Rattle.tool_show.specs.Showing.{has_report_title, status_of};
-
 use crate::endings::ending;
 use crate::{Form, picture_of_replay, picture_of_report};
 use lset_report::read_report;
@@ -24,42 +13,19 @@ const TITLE_ONE: &[u8] = b"listset-report 1\n";
 /// The first line of a report's text of version 2.
 const TITLE_TWO: &[u8] = b"listset-report 2\n";
 
-fn has_report_title(bytes: &[u8]) -> bool
-    ensures { result ≡ has_report_title bytes.now }
-{
+/// Whether the bytes begin as the text of a report does, of either version.
+fn has_report_title(bytes: &[u8]) -> bool {
     bytes.starts_with(TITLE_ONE) || bytes.starts_with(TITLE_TWO)
 }
 
-/// The picture of the schedule whose text the bytes are.
-fn of_schedule(alloc: Global, bytes: &[u8]) -> Result<Picture, Trouble>
-    ensures shows { IfOk result (λ p. ShowsSchedule bytes.now (view p)) }
-    ensures trouble { IfErr result (λ t. (t ≡ Memory) ⊎ IsScheduleFault (schedules.reading bytes.now) t) }
-{
-    let schedule = read_schedule(alloc, bytes)?;
-    let picture = picture_of_replay(alloc, &schedule)?;
-    Ok(picture)
-}
-
-/// The picture of the report whose text the bytes are.
-fn of_report(alloc: Global, bytes: &[u8]) -> Result<Picture, Trouble>
-    ensures shows { IfOk result (λ p. ShowsReport bytes.now (view p)) }
-    ensures trouble { IfErr result (λ t. (t ≡ Memory) ⊎ checking.IsFirstFault (reports.reading bytes.now) t) }
-{
-    let report = read_report(alloc, bytes)?;
-    let picture = picture_of_report(alloc, report)?;
-    Ok(picture)
-}
-
 /// The picture of the schedule or the report whose text the bytes are.
-fn picture_of(alloc: Global, bytes: &[u8]) -> Result<Picture, Trouble>
-    requires { IsTaken bytes.now }
-    ensures shows { IfOk result (λ p. ShowsText bytes.now (view p)) }
-    ensures trouble { IfErr result (λ t. (t ≡ Memory) ⊎ IsFirstFault bytes.now t) }
-{
+fn picture_of(alloc: Global, bytes: &[u8]) -> Result<Picture, Trouble> {
     if has_report_title(bytes) {
-        of_report(alloc, bytes)
+        let report = read_report(alloc, bytes)?;
+        Ok(picture_of_report(alloc, report)?)
     } else {
-        of_schedule(alloc, bytes)
+        let schedule = read_schedule(alloc, bytes)?;
+        Ok(picture_of_replay(alloc, &schedule)?)
     }
 }
 
@@ -81,9 +47,7 @@ fn text_of(
 }
 
 /// 1 if the picture states a refusal, of an order or of an event, else 0.
-fn status_of(picture: &Picture) -> u8
-    ensures { result ≡ status_of (view picture.now) }
-{
+fn status_of(picture: &Picture) -> u8 {
     if picture.refusal.is_none() && picture.refused.is_none() {
         0
     } else {
@@ -99,9 +63,7 @@ pub fn drawn(
     picture: &Picture,
     form: Form,
     window: Window,
-) -> Result<Answer, Trouble>
-    ensures { IsDrawn window (view picture.now) (tools.view result) }
-{
+) -> Result<Answer, Trouble> {
     if is_past_the_last(picture, window.from) {
         return Err(Trouble::Bad(ValueName::From));
     }
@@ -110,17 +72,6 @@ pub fn drawn(
         text,
         status: status_of(picture),
     })
-}
-
-/// The picture of the schedule or the report whose text the bytes are, as text or as an SVG. A window that begins past the last moment at
-/// which something happens is refused.
-fn answer_of(alloc: Global, bytes: &[u8], form: Form, window: Window) -> Result<Answer, Trouble>
-    requires { IsTaken bytes.now }
-    ensures shows { Shows window bytes.now (tools.view result) }
-    ensures trouble { IfErr result (λ t. (t ≡ Memory) ⊎ IsWrong window bytes.now t) }
-{
-    let picture = picture_of(alloc, bytes)?;
-    drawn(alloc, &picture, form, window)
 }
 
 /// Draws a schedule or a report, given as the bytes of the text, in the moments of `window`. Allocates.
@@ -135,15 +86,12 @@ fn answer_of(alloc: Global, bytes: &[u8], form: Form, window: Window) -> Result<
 ///   `read_schedule` in any other.
 /// - `Bad(From)`: all that happens in the picture is before `window.from`.
 /// - `Memory`: an allocation failed.
-pub fn shown(alloc: Global, bytes: &[u8], form: Form, window: Window) -> Result<Answer, Trouble>
-    ensures shows { Shows window bytes.now (tools.view result) }
-    // Bytes that are here can be read.
-    ensures read { IfErr result (λ t. t ≢ Trouble.CannotRead) }
-{
+pub fn shown(alloc: Global, bytes: &[u8], form: Form, window: Window) -> Result<Answer, Trouble> {
     if bytes.len() > LONGEST {
         return Err(Trouble::TooLong);
     }
-    answer_of(alloc, bytes, form, window)
+    let picture = picture_of(alloc, bytes)?;
+    drawn(alloc, &picture, form, window)
 }
 
 fn drawn_of<R: Read>(
@@ -151,9 +99,7 @@ fn drawn_of<R: Read>(
     form: Form,
     window: Window,
     input: &mut R,
-) -> Result<Answer, Trouble>
-    ensures { IfSome (R.remaining input.old) (λ bytes. Shows window bytes (tools.view result)) }
-{
+) -> Result<Answer, Trouble> {
     let bytes = input_of(alloc, input)?;
     shown(alloc, &bytes, form, window)
 }
@@ -171,10 +117,7 @@ pub fn tool_show<R: Read, W: Write, F: Write>(
     input: &mut R,
     output: &mut W,
     faults: &mut F,
-) -> u8
-    ensures { Ends (λ made. IfSome (R.remaining input.old) (λ bytes. Shows window bytes made))
-        (W.contents output.old) (W.contents output.new) (F.contents faults.old) (F.contents faults.new) result }
-{
+) -> u8 {
     let answer = drawn_of(alloc, form, window, input);
     deliver(alloc, answer, output, faults)
 }

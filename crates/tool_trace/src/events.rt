@@ -130,10 +130,10 @@ fn put_end(out: &mut Chunk, end: Option<CallEnd>) {
     }
 }
 
-/// Appends the line of an event, which has this number, from 1.
-pub fn put_event(out: &mut Chunk, number: u32, event: &TracedEvent) {
+/// Appends the line of an event.
+pub fn put_event(out: &mut Chunk, event: &TracedEvent) {
     put(out, "event ");
-    put_number(out, u64::from(number));
+    put_number(out, u64::from(event.moment));
     put(out, " line ");
     put_number(out, event.line);
     put(out, " thread ");

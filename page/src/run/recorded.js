@@ -44,12 +44,13 @@ function verdictOfOk(count, lines, text) {
   };
 }
 
-function verdictOfRefusal({ isLeft, since, is, told }) {
-  const leaves = isLeft ? " and leaves the keys" : "";
+function verdictOfRefusal({ key, isLeft, since, is, told }, text) {
+  const reasons = told.map(({ line, calls }) => sentence([line, calls.map(recordedInWords).join("; ")].join(" ").trim()));
+  const has = new RegExp(`^key ${key}$`, "m").test(text) ? "has it" : "does not have it";
   return {
     kind: "none",
-    says: `Not linearizable: no order at all explains these calls${leaves}.`,
-    reasons: told.map(({ line, calls }) => sentence([line, calls.map(recordedInWords).join("; ")].join(" ").trim())),
+    says: `Not linearizable: no order at all explains these calls${isLeft ? " and leaves the keys" : ""}.`,
+    reasons: isLeft ? [...reasons, `At the end the set ${has}.`] : reasons,
     calls: told.flatMap(({ calls }) => calls),
     from: since === null ? null : { moment: BigInt(since), says: `the key is ${is}` },
   };
@@ -68,6 +69,6 @@ export function verdictOnCalls(answer, text) {
   const count = /^ok (\d+) calls$/.exec(first)?.[1];
   if (count !== undefined) return verdictOfOk(Number(count), lines, text);
   const refusal = first === "not linearizable" ? refusalIn(lines) : null;
-  if (refusal !== null) return verdictOfRefusal(refusal);
+  if (refusal !== null) return verdictOfRefusal(refusal, text);
   return { kind: "fault", says: troubleInWords(first), reasons: [], calls: [], from: null };
 }

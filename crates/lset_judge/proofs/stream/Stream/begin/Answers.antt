@@ -1,10 +1,17 @@
-use Rattle.std.proofs.Common.{◌++◌, ◌∷◌, [], ◌∙◌, ap, subst}
+use Rattle.std.proofs.Common.{◌≢◌, ◌∷◌, ◌∙◌, List, All, IsPermutation, ap, sym, subst, arith}
 use Rattle.lset_words.specs.Words.{key_of}
+use Rattle.lset_judge.specs.declared.stream.Pending.{Pending}
 use Rattle.lset_judge.specs.Events.{kind_if, begin_event}
-use Rattle.lset_judge.specs.Stream.{record_of, key_in, IsMetBy}
-use Rattle.lset_judge.proofs.Begun.{call_begun}
+use Rattle.lset_judge.specs.Stream.{record_of, pending_of, key_in, IsMetBy}
+use Rattle.lset_judge.proofs.Begun.{begins_apart, call_begun}
 use Rattle.lset_judge.proofs.Logs.{begin_logged}
 use Rattle.lset_judge.proofs.stream.Stream.begin.Goals as goal
+
+pub insert-requires : goal.insert-requires
+insert-requires c = λ i d low e.
+    let p = c.pending-pending.result in let x = c.args.call in let may = c.requires.may in
+    let own = ap (λ (q : Pending). q.call.thread) c.pending-pending.ensures in
+    let early = may.free i d low (e ∙ own) in let late = c.requires.met i d low in let ne = (may.apart i d low).0 in omega (arith, early, late, ne)
 
 pub returns-clause-begun : goal.returns-clause-begun
 returns-clause-begun c = λ threads opening calls low is.
@@ -12,8 +19,11 @@ returns-clause-begun c = λ threads opening calls low is.
     let met = c.in_ok-meet.ensures.met in let own = c.pending-pending.ensures in
     let event = c.begin_event.ensures ∙ ap (λ k. begin_event k p.end) c.kind.ensures
     ∙ ap (begin_event (kind_if x.call x.ended)) (ap (λ q. q.end) own) in
-    call_begun threads opening calls s is (record_of x) low c.requires.may c.requires.met t
-    (met.pending ∙ c.in_ok-push.ensures.items ∙ ap (λ q. s.pending.items ++ q ∷ []) own) met.at_moment
+    let apart = subst (λ (q : Pending). All (λ (r : Pending). r.end ≢ q.end) s.pending) (sym own)
+    (begins_apart threads opening calls s is (record_of x) c.requires.may c.requires.met) in
+    let moved = subst (λ (q : Pending). IsPermutation (q ∷ s.pending) c.insert.new.self) own (c.in_ok-insert.ensures apart) in
+    call_begun threads opening calls s is (record_of x) c.requires.may c.requires.met low t
+    (subst (λ (ps : List Pending). IsPermutation (pending_of (record_of x) ∷ s.pending) ps) (sym met.pending) moved) met.at_moment
     (subst (λ v. IsMetBy s.states (key_of x.call).0 x.begun v t.states s.failed t.failed) event
     (subst (λ k. IsMetBy s.states k x.begun c.begin_event.result t.states s.failed t.failed) (c.key.ensures ∙ ap (λ q. key_in q) own) met.by))
 
@@ -23,7 +33,10 @@ returns-clause-logged c = λ threads opening calls is.
     let met = c.in_ok-meet.ensures.met in let own = c.pending-pending.ensures in
     let event = c.begin_event.ensures ∙ ap (λ k. begin_event k p.end) c.kind.ensures
     ∙ ap (begin_event (kind_if x.call x.ended)) (ap (λ q. q.end) own) in
+    let apart = subst (λ (q : Pending). All (λ (r : Pending). r.end ≢ q.end) s.pending) (sym own)
+    (begins_apart threads opening calls s is (record_of x) c.requires.may c.requires.met) in
+    let moved = subst (λ (q : Pending). IsPermutation (q ∷ s.pending) c.insert.new.self) own (c.in_ok-insert.ensures apart) in
     begin_logged threads opening calls s t is (record_of x) c.requires.may
-    (met.pending ∙ c.in_ok-push.ensures.items ∙ ap (λ q. s.pending.items ++ q ∷ []) own) met.at_moment c.in_ok-meet.ensures.logs s.failed t.failed
+    (subst (λ (ps : List Pending). IsPermutation (pending_of (record_of x) ∷ s.pending) ps) (sym met.pending) moved) met.at_moment c.in_ok-meet.ensures.logs s.failed t.failed
     (subst (λ v. IsMetBy s.states (key_of x.call).0 x.begun v t.states s.failed t.failed) event
     (subst (λ k. IsMetBy s.states k x.begun c.begin_event.result t.states s.failed t.failed) (c.key.ensures ∙ ap (λ q. key_in q) own) met.by)) is.judged

@@ -1,29 +1,55 @@
-use Rattle.std.proofs.Common.{◌<◌, sym, subst, arith, length, get_or}
+use Rattle.std.proofs.Common.{◌<◌, ◌∷◌, List, sym, subst, arith, length}
 use Rattle.std.specs.Prelude.{All, Contains}
-use Rattle.std.proofs.lemmas.List.{get_or_default}
-use Rattle.lset_judge.specs.Stream.{IsNearest}
-use Rattle.lset_judge.proofs.Streamed.{all_remove}
+use Rattle.std.proofs.lemmas.List.Elements.{All-contains_itself, All-tail}
+use Rattle.std.proofs.lemmas.List.Sorted.{All-permutation, length_permutation}
+use Rattle.lset_judge.specs.declared.stream.Pending.{Pending}
+use Rattle.lset_judge.specs.Log.{AreLogged, LogsEnd}
+use Rattle.lset_judge.specs.Stream.{IsStreamOf}
+use Rattle.lset_judge.proofs.Begun.{end_met}
+use Rattle.lset_judge.proofs.Logs.{end_logged}
 use Rattle.lset_judge.proofs.stream.Stream.meet_before.Goals as goal
 
-pub loop-place-init : goal.loop-place-init
-loop-place-init c =
-    let pending = c.args.self.now.pending.items in record {
-      kept = λ threads opening calls is. is;
-      logged = λ threads opening calls is logged. logged;
-      before = λ low. low;
-      some = λ k d low. (k, low, get_or_default pending k (get_or pending k d) d low);
+pub loop-next-init : goal.loop-next-init
+loop-next-init c = record {
+  kept = λ threads opening calls is. is;
+  logged = λ threads opening calls is logged. logged;
+  before = λ low. low;
+  some = All-contains_itself c.args.self.now.pending;
+}
+
+pub loop-next-smaller : goal.loop-next-smaller
+loop-next-smaller c =
+    let s = c.loop-next.self in let rest = c.next_before.new.self in
+    let long = length_permutation s.pending (c.in-Some.next ∷ rest) c.in-Some.ensures.is in
+    subst (λ (ps : List Pending). length ps < length s.pending) (sym c.in_ok-end.ensures.met.pending) (omega (arith, long))
+
+pub loop-next-preserved : goal.loop-next-preserved
+loop-next-preserved c =
+    let s = c.loop-next.self in let t = c.end.new.self in let p = c.in-Some.next in let rest = c.next_before.new.self in
+    let next = c.in-Some.ensures in let met = c.in_ok-end.ensures.met in let was = c.args.self.now.pending in record {
+      kept = λ threads opening calls is.
+          end_met threads opening calls s t c.args.moment p rest c.requires next met.pending met.at_moment met.by
+          (c.loop-next.invariant.kept threads opening calls is);
+      logged = λ threads opening calls is logged.
+          let now = c.loop-next.invariant.kept threads opening calls is in
+          let so = end_met threads opening calls s t c.args.moment p rest c.requires next met.pending met.at_moment met.by now in
+          end_logged threads opening calls s t c.args.moment p rest next met.pending met.at_moment now so s.failed t.failed met.by
+          (subst (λ (ps : List Pending). LogsEnd s.states ps p.call t.states s.failed t.failed) (sym met.pending) c.in_ok-end.ensures.logs) so.judged
+          (c.loop-next.invariant.logged threads opening calls is logged);
+      before = λ low. let at = met.at_moment in let early = next.early in omega (arith, at, early);
+      some = subst (All (Contains was)) (sym met.pending)
+          (All-tail (Contains was) p rest (All-permutation (Contains was) s.pending (p ∷ rest) next.is c.loop-next.invariant.some));
     }
 
-pub loop-place-preserved : goal.loop-place-preserved
-loop-place-preserved c =
-    let pending = c.loop-place.self.pending.items in let kept = c.in_ok-meet_end.ensures in
-    let near = subst (λ ps. IsNearest c.args.moment ps c.in-Some.place) c.deref.ensures.value c.in-Some.ensures.nearest in
-    record {
-      kept = λ threads opening calls is. kept.kept threads opening calls (c.loop-place.invariant.kept threads opening calls is);
-      logged = λ threads opening calls is logged. kept.logged threads opening calls (c.loop-place.invariant.kept threads opening calls is)
-          (c.loop-place.invariant.logged threads opening calls is logged);
-      before = λ low. let at = kept.moment in let early = near.0 in omega (arith, at, early);
-      some = subst (All (Contains c.args.self.now.pending.items)) (sym kept.pending)
-          (all_remove (Contains c.args.self.now.pending.items) pending c.in-Some.place (subst (λ ps. c.in-Some.place < length ps) c.deref.ensures.value c.in-Some.ensures.inside)
-          c.loop-place.invariant.some);
-    }
+pub returns-clause-kept : goal.returns-clause-kept
+returns-clause-kept c = λ threads opening calls is.
+    subst (λ (ps : List Pending). IsStreamOf threads opening calls (record c.loop-next.self { pending = ps })) (sym c.in_default.ensures.0)
+    (c.loop-next.invariant.kept threads opening calls is)
+
+pub returns-clause-logged : goal.returns-clause-logged
+returns-clause-logged c = λ threads opening calls is logged.
+    subst (λ (ps : List Pending). AreLogged threads opening calls (record c.loop-next.self { pending = ps })) (sym c.in_default.ensures.0)
+    (c.loop-next.invariant.logged threads opening calls is logged)
+
+pub returns-clause-some : goal.returns-clause-some
+returns-clause-some c = subst (All (Contains c.args.self.now.pending)) (sym c.in_default.ensures.0) c.loop-next.invariant.some

@@ -12,5 +12,5 @@ returns-clause-logged c = λ threads k.
     let states = c.in_ok-opening_states.field-0 in
     let s : Stream = record { alloc = c.args.alloc; states = states; pending = c.new.result; moment = 0; failed = None } in
     let is : IsStreamOf threads c.args.opening.now [] s = search rules in
-    subst (λ (ps : List Pending). IsLog threads c.args.opening.now [] k 0 ps (log_for states k)) (sym c.new.ensures.items)
+    subst (λ (ps : List Pending). IsLog threads c.args.opening.now [] k 0 ps (log_for states k)) (sym c.new.ensures)
     (new_logged threads c.args.opening.now s is refl refl c.in_ok-opening_states.ensures.states c.in_ok-opening_states.ensures.logs k)

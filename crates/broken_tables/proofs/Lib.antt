@@ -1,2 +1,0 @@
-mod Computed
-mod Refuted

@@ -1,7 +1,0 @@
-use Rattle.std.specs.Prelude.{None, refl}
-use Rattle.broken_tables.proofs.Computed.{link_changes, key_is_lost}
-use Rattle.broken_tables.proofs.Refuted.{lost_behind}
-use Rattle.broken_tables.proofs.fine.walk_that_gives_back_pred_first.Goals as goal
-
-pub returns : goal.returns
-returns c = lost_behind (link_changes _ _ _ 0 0 refl refl refl refl) (key_is_lost _ _ _ _ _ None refl refl refl refl)

@@ -1,7 +1,0 @@
-use Rattle.std.specs.Prelude.{refl}
-use Rattle.broken_tables.proofs.Computed.{reply_fits_never}
-use Rattle.broken_tables.proofs.Refuted.{never_fits}
-use Rattle.broken_tables.proofs.lock_free.contains_by_the_key_alone.Goals as goal
-
-pub returns : goal.returns
-returns c = never_fits (reply_fits_never _ _ _ _ 14 3 _ _ refl refl refl refl refl refl refl refl)

@@ -1,0 +1,81 @@
+//! The moments of a run at which keys came and went.
+
+ghost use Rattle.std.specs.Prelude.{◌≡◌, ℕ, ◌<◌, ◌≤◌, All};
+ghost use Rattle.std.specs.List.Sorted.{IsStrictlyIncreasing};
+ghost use Rattle.lset_history.specs.Changes.{is_present, moments_of};
+
+use crate::places::{found_in, needs_key};
+use lset_history::Changes;
+use lset_words::{Call, Key, Reply};
+use std::alloc::{AllocError, Global};
+
+/// When keys were put in and taken out, up to the last moment of a run.
+#[derive(Drop)]
+pub(crate) struct Moments {
+    changes: Changes,
+    last: u32,
+    ghost past: { (k : ℕ) → All (λ m. m ≤ last) (moments_of changes k) },
+}
+
+fn is_there(changes: &Changes, key: u32, moment: u32) -> bool
+    ensures { result ≡ is_present (moments_of changes.now) key moment }
+{
+    changes.first(key, true, moment, moment).0.is_some()
+}
+
+/// Notes that a key was put in (`present`) or taken out, unless it is so already.
+fn note_key(changes: &mut Changes, key: u32, present: bool, moment: u32) -> Result<(), AllocError>
+    requires counted { 0 < moment }
+    requires later { (k : ℕ) → All (λ m. m < moment) (moments_of changes.old k) }
+    ensures { (k : ℕ) → All (λ m. m ≤ moment) (moments_of changes.new k) }
+{
+    if is_there(changes, key, moment) != present {
+        changes.note(key, present, moment)?;
+    }
+    Ok(())
+}
+
+impl Moments {
+    /// Before the first event of a run that opens with these keys.
+    pub(crate) fn opened(alloc: Global, keys: &[u32]) -> Result<Moments, AllocError>
+        requires { IsStrictlyIncreasing keys.now }
+    {
+        Ok(Moments {
+            changes: Changes::opened(alloc, keys)?,
+            last: 0,
+        })
+    }
+
+    pub(crate) fn last(&self) -> u32 {
+        self.last
+    }
+
+    /// Goes on to the next moment, at which a key is put in (`true`) or taken out, unless it is so already.
+    pub(crate) fn go_on(&mut self, change: Option<(Key, bool)>) -> Result<(), AllocError> {
+        if self.last == u32::MAX {
+            return Err(AllocError);
+        }
+        self.last += 1;
+        if let Some((key, present)) = change {
+            note_key(&mut self.changes, key.0, present, self.last)?;
+        }
+        Ok(())
+    }
+
+    /// The first moment since `begun` at which this reply of a call that changes nothing is correct, or else the last moment.
+    pub(crate) fn fit(&self, call: Call, reply: Reply, begun: u32) -> u32 {
+        let from = begun.min(self.last);
+        let fit = match call {
+            Call::Ceiling(key) => {
+                self.changes
+                    .first_ceiling(key.0, found_in(reply), from, self.last)
+            }
+            Call::Add(key) | Call::Remove(key) | Call::Contains(key) => {
+                self.changes
+                    .first(key.0, needs_key(call, reply), from, self.last)
+                    .0
+            }
+        };
+        fit.unwrap_or(self.last)
+    }
+}

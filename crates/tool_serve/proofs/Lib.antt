@@ -1,5 +1,0 @@
-mod Endings
-mod HeadLaws
-mod NewSets
-mod PrintedKeys
-mod RisingKeys

@@ -1,3 +1,0 @@
-pub mod InBars
-pub mod RunPictures
-mod Troubles

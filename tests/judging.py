@@ -1,0 +1,373 @@
+"""What `judge` says of recordings beside a search of all orders: its verdict, and each line of a refusal. Of a text with an error it names the
+line and the cause that a reader in Python finds; and it says so whatever the pieces are in which the text comes. `--few` tries a tenth of
+the texts. (The test `judge` of crates/tests_alone tries 100,000 histories.)
+"""
+
+import collections
+import random
+import re
+import subprocess
+
+import pytest
+
+from harness.programs import SECONDS, ran, wants
+from harness.set_model import CHANGES, SetModel, reply_of
+
+TEXTS, SEEDS = 200, range(1, 5)  # of each seed; --few: 20
+THREADS, KEYS = 4, 3
+LAST = 2**63 - 1
+LONGEST_LINE = 128
+MOST_SHOWN = 16
+TITLE = "listset-calls 1"
+
+Call = collections.namedtuple("Call", "thread word key begin end reply")
+
+
+def drawn(rng, calls):
+    """Calls of threads that overlap, in the order of their begins, of a set that has one reply wrong now and then; what it opens with and
+    leaves; moments are 1, 2, 3 and so on."""
+    opening = sorted(rng.sample(range(KEYS), rng.randrange(KEYS)))
+    opened, found, pending, moment = SetModel(keys=opening), [], {}, 0
+    wrong = rng.choice([0, 0, 0.05, 0.2])
+    while len(found) < calls or pending:
+        moment += 1
+        idle = [it for it in range(THREADS) if it not in pending]
+        if len(found) < calls and idle and (not pending or rng.random() < 0.5):
+            thread = rng.choice(idle)
+            pending[thread] = len(found)
+            found.append([thread, rng.choice(["add", "remove", "contains"]), rng.randrange(KEYS), moment, None, None, None])
+        elif len(found) == calls and rng.random() < 0.2:
+            break
+        else:
+            thread = rng.choice(list(pending))
+            made = found[pending.pop(thread)]
+            reply = made[6] or opened.reply(*made[:3])
+            made[4:6] = moment, reply if rng.random() >= wrong else {"true": "false", "false": "true"}[reply]
+        for thread, number in pending.items():
+            if not found[number][6] and rng.random() < 0.3:
+                found[number][6] = opened.reply(*found[number][:3])
+    return [Call(*it[:6]) for it in found], opening, sorted(opened.keys)
+
+
+def with_pending(rng, calls):
+    """The calls, of which some last ones of their threads have not ended."""
+    last, share = {it.thread: it for it in calls}, rng.choice([0, 0.3, 0.9])
+    pending = {it.begin for it in last.values() if rng.random() < share}
+    return [it._replace(end=None, reply=None) if it.begin in pending else it for it in calls]
+
+
+def spread(rng, calls, opening, keys):
+    """The calls on other keys, of a set with more of them, some of which are lost or come from nowhere."""
+    names = rng.sample(range(3 * KEYS), 3 * KEYS)
+    others = [it for it in names[KEYS:] if rng.random() < 0.5]
+    opened, left = [names[it] for it in opening] + others, {names[it] for it in keys} | {*others}
+    for wrong in rng.sample(names, rng.choice([0, 0, 1, 3])):
+        left ^= {wrong}
+    return [it._replace(key=names[it.key]) for it in with_pending(rng, calls)], sorted(opened), sorted(left)
+
+
+def moved(calls, far):
+    return [it._replace(begin=it.begin + far, end=it.end and it.end + far) for it in calls]
+
+
+def call_line(made):
+    return " ".join(["call", *("-" if it is None else str(it) for it in made)])
+
+
+def text_of(calls, opening, keys):
+    """A recording that was cut off, if no keys are given."""
+    ends = ["cut"] if keys is None else [*(f"key {it}" for it in keys), "end"]
+    return "".join(f"{it}\n" for it in [TITLE, *(f"opening {it}" for it in opening), *map(call_line, calls), *ends])
+
+
+def read_call(line):
+    thread, word, key, begin, end, reply = line.split()[1:]
+    return Call(int(thread), word, int(key), int(begin), None if end == "-" else int(end), None if reply == "-" else reply)
+
+
+# ---- all orders
+
+
+def changes(it):
+    """Whether a call changes its key; a pending one may."""
+    return it.word in CHANGES and it.reply in ("true", None)
+
+
+def ways_left(calls, is_there):
+    """How the key of these calls may be after them, there or not, if it was there before them or was not: by all orders of those that have
+    ended and of some pending ones that change it."""
+    calls = [it for it in calls if it.end or changes(it)]
+    ended = {number for number, it in enumerate(calls) if it.end}
+    before = [{other for other in ended if calls[other].end < it.begin} for it in calls]
+    reached, left, seen = [(frozenset(), is_there)], set(), set()
+    while reached:
+        placed, is_there = reached.pop()
+        if placed >= ended:
+            left.add(is_there)
+        for number, it in enumerate(calls):
+            if number not in placed and placed >= before[number] and reply_of(it.word, it.key, [it.key] * is_there) == (it.reply or "true"):
+                further = placed | {number}, is_there != changes(it)
+                reached += [further] * (further not in seen)
+                seen.add(further)
+    return left
+
+
+def known_at(calls, moment):
+    """What is known of calls at a moment: of a change that ends later that it may have been made, of any other such call nothing."""
+    ended = [it for it in calls if it.end and it.end <= moment]
+    return ended + [it._replace(end=None, reply=None) for it in calls if it.begin <= moment and it not in ended and changes(it)]
+
+
+class Judged:
+    """A recording, and what a search of all orders says of it."""
+
+    def __init__(self, calls, opening, keys):
+        self.calls, self.opening, self.keys = calls, opening, keys
+        moments = sorted({it.begin for it in calls} | {it.end for it in calls if it.end})
+        self.of_key = {key: [it for it in calls if it.key == key] for key in {it.key for it in calls}.union(opening, keys or [])}
+        without = [(moment, key) for key, of_key in self.of_key.items() if not ways_left(of_key, key in opening)
+                   for moment in moments if not ways_left(known_at(of_key, moment), key in opening)]
+        self.moment, self.key = min(without, default=(None, None))
+        if self.moment is None and keys is not None:
+            wrong = [key for key, of_key in self.of_key.items() if (key in keys) not in ways_left(of_key, key in opening)]
+            self.key = min(wrong, key=lambda it: (it not in opening and not self.may_be_changed(it), it), default=None)
+
+    def may_be_changed(self, key):
+        """Whether a call of the key has ended, or may change it."""
+        return any(it.end or changes(it) for it in self.of_key[key])
+
+    def overlapped(self):
+        """How many calls overlap another one that has changed their key."""
+        def overlap(it, other):
+            return it.key == other.key and it.begin < (other.end or LAST) and other.begin < (it.end or LAST)
+        return sum(any(it != other and other.reply and changes(other) and overlap(it, other) for other in self.calls) for it in self.calls)
+
+    def lines(self):
+        """The first lines that are due."""
+        if self.key is None:
+            many, met = len(self.calls), self.overlapped()
+            few = ["that is few, and a bug shows only if calls meet: take fewer keys, more threads, or pauses in the set"]
+            cut = ["the recording was cut off: some keys left fit, and those that were left are not known"]
+            return [f"ok {many} calls", f"{met} of them overlap a change of their key", *few * (20 * met < many), *cut * (self.keys is None)]
+        upto = "and leaves it as it was left" if self.moment is None else f"up to moment {self.moment}"
+        return ["not linearizable", f"no order explains the calls of key {self.key} {upto}"]
+
+
+WINDOW = re.compile(r"(?:at first|after the calls that ended by moment (?P<since>[0-9]+)) the key is (?P<not_there>not )?there"
+                    r"(?:, by this change:\n(?P<change>call .*))?\n"
+                    r"(?:no later call changes it\n|from there these calls have no order(?: that leaves the key as it was left)?:\n(?P<calls>(?:call .*\n)+))"
+                    r"(?:(?P<more>[0-9]+) more calls? of the key that began at moments? (?P<first>[0-9]+)(?: to (?P<last>[0-9]+))? "
+                    r"(?:is|are) not shown: .*\n)?\Z")
+
+
+def look_at_window(judged, said):
+    """What stands below the first lines of a refusal is right."""
+    window = WINDOW.match(said)
+    assert window, said
+    calls, key, upto = judged.of_key[judged.key], judged.key, judged.moment or LAST
+    since, is_there = int(window["since"] or 0), not window["not_there"]
+    # (each order of what had ended leaves the key so)
+    assert since < upto and ways_left([it for it in calls if it.end and it.end <= since], key in judged.opening) == {is_there}
+    turns = [it for it in calls if it.word == ("add" if is_there else "remove") and it.reply == "true" and it.end <= since]
+    assert window["change"] == (call_line(max(turns, key=lambda it: it.end)) if turns else None)
+    # (the calls that are shown have no order, whatever became of the others)
+    later = [it for it in calls if since < it.begin <= upto]
+    shown = [*map(read_call, (window["calls"] or "").splitlines())]
+    others = [it._replace(end=None, reply=None) for it in later if it not in shown and changes(it)]
+    assert len(shown) <= MOST_SHOWN and {*shown} <= {*later} and shown == sorted(shown, key=lambda it: it.begin)
+    ways = ways_left([*shown, *others], is_there)
+    assert not ways if judged.moment else (key in judged.keys) not in ways
+    if window["more"]:
+        first, last = int(window["first"]), int(window["last"] or window["first"])
+        assert int(window["more"]) == sum(first <= it.begin <= last and it not in shown for it in calls)
+
+
+@pytest.mark.parametrize("seed", SEEDS)
+def test_a_verdict_and_what_is_said_of_it(program, few, seed):
+    rng, found = random.Random(seed), collections.Counter()
+    for _ in range(TEXTS // 10 if few else TEXTS):
+        calls, opening, keys = spread(rng, *drawn(rng, rng.randrange(1, 14)))
+        judged = Judged(moved(calls, rng.choice([0, 2**32, LAST - 1000])), opening, None if rng.random() < 0.2 else keys)
+        text, due, is_refused = text_of(judged.calls, opening, judged.keys), judged.lines(), judged.key is not None
+        done = ran(program, "judge", text=text)
+        said = done.stdout.splitlines(keepends=True)
+        below = "".join(said[len(due):])
+        assert (done.returncode, [*map(str.rstrip, said[:len(due)])], done.stderr) == (int(is_refused), due, ""), text
+        assert is_refused or not below, text
+        if below:
+            look_at_window(judged, below)
+        found["right" if not is_refused else "by a moment" if judged.moment else "left wrong"] += 1
+        found["without a window"] += is_refused and bool(judged.of_key[judged.key]) and not below
+    assert few or min(found[it] for it in ("right", "left wrong", "by a moment")) >= TEXTS // 10, found
+    assert found["without a window"] <= TEXTS // 100, found
+
+
+def no_order(key, moment=None):
+    return f"no order explains the calls of key {key} " + (f"up to moment {moment}" if moment else "and leaves it as it was left")
+
+
+REFUSALS = {
+    "the calls that have no order first are named": (
+        ["call 0 add 3 5 8 true", "call 1 add 3 6 7 true", "call 2 remove 9 9 10 true", "call 3 contains 5 11 12 true"], no_order(3, 8)),
+    "an open change is known from its begin on": (
+        ["call 0 add 3 1 - -", "call 1 contains 3 2 3 true", "call 2 contains 3 4 5 false", "call 3 remove 3 6 - -"], no_order(3, 5)),
+    "a change that ends later is known from its begin on": (
+        ["call 0 remove 3 1 2 false", "call 1 add 3 3 9 true", "call 2 contains 3 4 5 true", "call 3 add 3 6 8 true"], no_order(3, 8)),
+    "of a call that ends later without a change nothing is known": (["call 0 add 3 1 9 false", "call 1 contains 3 2 3 true"], no_order(3, 3)),
+    "a call that has no order by a moment is named before a smaller key that is left wrong": (
+        ["opening 1", "call 0 contains 5 1 2 true", "key 0", "key 2"], no_order(5, 2)),
+    "of keys with calls the smallest is named": (
+        ["call 0 add 5 1 2 true", "call 1 add 3 3 4 true", "call 2 contains 4 5 6 false", "key 4"], no_order(3)),
+    "of keys without calls the smallest that is lost is named": (["opening 7", "opening 8", "key 2", "key 5"], no_order(7)),
+    "of keys that come from nowhere the smallest is named": (["key 5", "key 9"], no_order(5)),
+    "a key with calls is named before one that comes from nowhere": (["call 0 add 5 1 2 true", "key 3"], no_order(5)),
+    "a lost key and a smaller one of which only a look is pending": (["opening 7", "call 0 contains 5 1 - -", "key 5"], no_order(7)),
+}
+
+
+@pytest.mark.parametrize("lines, said", REFUSALS.values(), ids=REFUSALS)
+def test_a_refusal_is_the_one_that_is_known(program, lines, said):
+    answer = ran(program, "judge", text="".join(f"{it}\n" for it in [TITLE, *lines, "end"])).stdout
+    assert answer.splitlines()[:2] == ["not linearizable", said]
+
+
+# ---- errors
+
+class Fault(Exception):
+    """A line, and its cause."""
+
+
+def number_in(least, most, piece):
+    if not re.fullmatch("0|[1-9][0-9]*", piece) or not least <= int(piece) <= most:
+        raise ValueError(piece)
+    return int(piece)
+
+
+def call_of(pieces):
+    _, thread, word, key, begin, end, reply = pieces
+    end, reply = (None, None) if reply == "-" else (number_in(1, LAST, end), reply)
+    return Call(number_in(0, 2**32 - 1, thread), word, number_in(0, 2**32 - 1, key), number_in(1, LAST, begin), end, reply)
+
+
+def is_form(line, section):
+    """Whether a line may come in a text that has come to a section, by its pieces and words."""
+    pieces = line.split(" ")
+    if len(line.encode()) > LONGEST_LINE or section == "done":
+        return False
+    if pieces[0] == "call":
+        return (section in ("opening", "call") and len(pieces) == 7 and pieces[2] in ("add", "remove", "contains")
+                and (pieces[5:] == ["-", "-"] or pieces[6] in ("true", "false")))
+    if pieces[0] == "opening":
+        return section == "opening" and len(pieces) == 2
+    return line == "end" or (line == "cut" and section != "key") or (pieces[0] == "key" and len(pieces) == 2)
+
+
+def is_history(calls, made):
+    """Whether a call may follow these."""
+    if made.end is not None and made.end <= made.begin:
+        return False
+    moments = {made.begin, made.end} - {None}
+    return all(it.begin < made.begin and not moments & {it.begin, it.end}
+               and (it.thread != made.thread or (it.end is not None and it.end < made.begin)) for it in calls)
+
+
+def fault_of(text):
+    """The first fault of a text, or nothing."""
+    *lines, rest = text.split("\n")
+    section, calls, last = "opening", [], {"opening": -1, "key": -1}
+    for line_number, line in enumerate(lines[1:], 2):
+        word = line.split(" ")[0]
+        if not is_form(line, section):
+            return line_number, "Line"
+        section = {"end": "done", "cut": "done"}.get(word, word)
+        try:
+            if word == "call":
+                made = call_of(line.split(" "))
+                if not is_history(calls, made):
+                    return line_number, "History"
+                calls.append(made)
+            elif word in last:
+                key = number_in(0, 2**32 - 1, line.split(" ")[1])
+                if key <= last[word]:
+                    return line_number, "Opening"
+                last[word] = key
+        except ValueError:
+            return line_number, "Number"
+    return None if section == "done" and not rest else (len(lines) + 1, "NotEnded")
+
+
+PIECES = ["0", "1", "2", "7", "-", "05", "+1", "", "true", "false", "full", "at-1", "add", "ceiling", "call", "key", "opening", "end", "cut",
+          str(2**32 - 1), str(2**32), str(LAST), str(LAST + 1), "9" * 30, "9" * 120, "x" * 200]
+
+
+def damaged(rng, text):
+    """The text with something changed: a piece, a line that is left out, twice there or elsewhere, or bytes at its end."""
+    lines = text.split("\n")
+    at = rng.randrange(1, len(lines))
+    how = rng.randrange(6)
+    if how < 3:
+        pieces = lines[at].split(" ")
+        pieces[rng.randrange(len(pieces))] = rng.choice(PIECES)
+        lines[at] = " ".join(pieces)
+    elif how == 3:
+        del lines[at]
+    elif how == 4:
+        lines.insert(at, rng.choice(lines[1:]))
+    else:
+        return text[:rng.randrange(len(TITLE) + 1, len(text) + 1)]
+    return "\n".join(lines)
+
+
+@pytest.mark.parametrize("seed", SEEDS)
+def test_the_first_fault_is_named(program, few, seed):
+    rng, found = random.Random(seed), set()
+    for _ in range(TEXTS // 10 if few else TEXTS):
+        calls, opening, keys = drawn(rng, rng.randrange(1, 12))
+        text = damaged(rng, text_of(calls, opening, None if rng.random() < 0.3 else keys))
+        fault, done = fault_of(text), ran(program, "judge", text=text)
+        assert done.stderr == (f"listset: line {fault[0]}: {fault[1]}\n" if fault else ""), text
+        assert not fault or (done.returncode, done.stdout) == (1, ""), text
+        found.add(fault and fault[1])
+    assert few or len(found) >= 6, f"the causes are {found}"
+
+
+# ---- pieces
+
+def in_pieces(program, text, size):
+    """How `judge` ends on a text that comes in pieces of so many bytes, each written by itself."""
+    with subprocess.Popen([program, "judge"], stdin=subprocess.PIPE, stdout=subprocess.PIPE, stderr=subprocess.PIPE, bufsize=0) as judge:
+        try:
+            for at in range(0, len(text), size):
+                judge.stdin.write(text[at:at + size].encode())
+        except BrokenPipeError:
+            pass
+        output, faults = judge.communicate(timeout=SECONDS)
+    return judge.returncode, output.decode(), faults.decode()
+
+
+@pytest.mark.parametrize("size", [1, 2, 7, 15, 16, 17, 4096, 5000])
+def test_pieces_of_any_size(program, size):
+    """Of a recording, of one without its end, and of one with another title."""
+    rng = random.Random(size)
+    for many in (3, 30, 400):
+        calls, opening, keys = drawn(rng, many)
+        text = text_of(moved(calls, 10**9), opening, keys)
+        for it in (text, text.replace("\nend\n", "\nend"), text.replace(TITLE, "listset-calls 2")):
+            done = ran(program, "judge", text=it)
+            assert in_pieces(program, it, size) == (done.returncode, done.stdout, done.stderr), it
+
+
+@pytest.mark.parametrize("front", ["", "l", "listset-calls", TITLE, "listset-calls 2", "listset-calls 4\n"])
+def test_a_front_of_a_first_line_is_none(program, front):
+    wants(ran(program, "judge", text=front), 1, "", ["listset: line 1: "])
+
+
+def test_an_error_is_told_before_the_input_ends(program):
+    """A recorder may go on for hours: a line with an error ends the program while the pipe is open."""
+    with subprocess.Popen([program, "judge"], stdin=subprocess.PIPE, stdout=subprocess.PIPE, stderr=subprocess.PIPE, bufsize=0) as judge:
+        judge.stdin.write(f"{TITLE}\ncall 0 add 5 1 2 true\ncall 0 add 5 2 3 true\n".encode())
+        try:
+            status = judge.wait(timeout=SECONDS)
+        finally:
+            judge.kill()
+        assert (status, judge.stdout.read(), judge.stderr.read()) == (1, b"", b"listset: line 3: History\n")
