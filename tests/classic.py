@@ -41,9 +41,11 @@ def test_section_of_an_example(program, name, section):
 
 @pytest.mark.parametrize("name, kind, told", LACKING.findall(BROKEN))
 def test_line_of_a_broken_list(program, name, kind, told):
-    """Its order is refused, and no order explains its calls, or another one if the page says so."""
+    """Its order is refused, as `check` says, and no order explains its calls, or another one if the page says so."""
     file = LACKS / f"{name}.schedule"
     assert f"\nlist {kind}\n" in file.read_text()
+    report = "\n".join(lines_of(program, "replay", "--lacks", name, file)) + "\n"
+    assert lines_of(program, "check", text=report, status=1)[0].startswith("refused ")
     picture = lines_of(program, "show", "--lacks", name, file, status=1)
     assert any(line.startswith("refused ") for line in picture)
     assert (ANOTHER if told.endswith(EXPLAINED) else NONE) in picture

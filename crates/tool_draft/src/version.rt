@@ -1,4 +1,4 @@
-ghost use Rattle.std.specs.Prelude.{◌≡◌, IsTrue};
+ghost use Rattle.std.specs.Prelude.{IsTrue};
 ghost use Rattle.std.specs.List.{AllByRecursion};
 ghost use Rattle.lset_text.specs.Openings.{HasOpening};
 ghost use Rattle.lset_schedule.specs.Plan.{HasCallOfLine};
@@ -28,7 +28,8 @@ fn are_of_first(lines: &[Line]) -> bool
 
 /// Returns the smallest version of a schedule that has these opening keys and the calls of these lines.
 pub fn least_version(opening: &[u32], lines: &[Line]) -> Version
-    ensures { result ≡ Version.One → HasOpening Version.One opening.now × AllByRecursion (HasCallOfLine Version.One) lines.now }
+    ensures opening { HasOpening result opening.now }
+    ensures calls { AllByRecursion (HasCallOfLine result) lines.now }
 {
     if opening.is_empty() && are_of_first(lines) {
         Version::One

@@ -1,25 +1,15 @@
-ghost use Rattle.std.specs.Prelude.{◌≡◌};
-ghost use Rattle.tool_drawing.specs.Pictures.{view};
-ghost use Rattle.tool_drawing.specs.Clashes.{has, is_in_one, clashes_in, is_clash};
-
 use crate::{Picture, Refusal};
 use lset_words::CallRecord;
 
-fn has(keys: &[u32], key: u32) -> bool
-    ensures { result ≡ has key keys.now }
-{
+fn has(keys: &[u32], key: u32) -> bool {
     keys.iter().any(|kept| *kept == key)
 }
 
-fn is_in_one(key: u32, keys: &[u32], others: &[u32]) -> bool
-    ensures { result ≡ is_in_one key keys.now others.now }
-{
+fn is_in_one(key: u32, keys: &[u32], others: &[u32]) -> bool {
     has(keys, key) != has(others, key)
 }
 
-fn clashes_in(keys: &[u32], refusal: &Refusal, number: usize, made: &CallRecord) -> bool
-    ensures { result ≡ clashes_in keys.now refusal.now number made.now }
-{
+fn clashes_in(keys: &[u32], refusal: &Refusal, number: usize, made: &CallRecord) -> bool {
     match refusal {
         Refusal::Unknown { .. } => false,
         Refusal::Twice { call, .. }
@@ -36,9 +26,7 @@ fn clashes_in(keys: &[u32], refusal: &Refusal, number: usize, made: &CallRecord)
 /// Whether the call with that number, `made`, clashes in the order of a picture that is refused: the refusal names it or, if
 /// the set is wrong, its key is one that the order leaves and the keys lack, or the reverse. No call clashes if nothing is
 /// refused.
-pub fn is_clash(picture: &Picture, number: usize, made: &CallRecord) -> bool
-    ensures { result ≡ is_clash (view picture.now) number made.now }
-{
+pub fn is_clash(picture: &Picture, number: usize, made: &CallRecord) -> bool {
     match &picture.refusal {
         None => false,
         Some(refusal) => clashes_in(&picture.keys, refusal, number, made),

@@ -1,6 +1,5 @@
 //! Pictures of histories: a bar for each call, a point where it takes effect, the set below, and the order, as text and as
-//! SVG. Contracts speak of a picture as a value. They do not say how it looks: what writes it fails only if an allocation
-//! fails, and tests hold the bytes.
+//! SVG. What writes it fails only if an allocation fails; tests hold the bytes.
 #![tactic(auto)]
 
 mod beginning;
@@ -9,6 +8,7 @@ mod columns;
 mod moments;
 mod orders;
 mod picture;
+mod refusal;
 mod refusals;
 mod sets;
 mod sheet;
@@ -17,10 +17,10 @@ mod svg;
 mod text;
 
 pub use clashes::is_clash;
-pub use lset_history::Refusal;
 pub use lset_steps::StepFault;
 pub use moments::is_past_the_last;
 pub use picture::{Picture, Window};
+pub use refusal::Refusal;
 pub use svg::write_svg;
 pub use text::write_picture;
 

@@ -1,65 +1,44 @@
 //! The moments at which something happens in a picture.
-ghost use Rattle.std.specs.Prelude.{◌≡◌, ◌↔◌, IsTrue};
-ghost use Rattle.tool_drawing.specs.Pictures.{view};
-ghost use Rattle.std.specs.List.{list_any};
-ghost use Rattle.tool_drawing.specs.Moments.{ends_from, reaches, stands_from, is_told, is_past, is_past_the_last, IsPastTheLast};
 
 use crate::picture::points_of;
 use crate::{MOST_COLUMNS, Picture, Window};
 use lset_words::{CallRecord, Point, Reply};
 use std::alloc::{AllocError, Global};
 
-fn ends_from(ended: Option<(u32, Reply)>, moment: u32) -> bool
-    ensures { result ≡ ends_from moment ended }
-{
+fn ends_from(ended: Option<(u32, Reply)>, moment: u32) -> bool {
     match ended {
         None => false,
         Some((end, _)) => moment <= end,
     }
 }
 
-fn reaches(made: &CallRecord, moment: u32) -> bool
-    ensures { result ≡ reaches moment made.now }
-{
+fn reaches(made: &CallRecord, moment: u32) -> bool {
     moment <= made.begun || ends_from(made.ended, moment)
 }
 
-fn stands_from(point: &Point, moment: u32) -> bool
-    ensures { result ≡ stands_from moment point.now }
-{
+fn stands_from(point: &Point, moment: u32) -> bool {
     moment <= point.moment
 }
 
-fn any_reaches(calls: &[CallRecord], moment: u32) -> bool
-    ensures { result ≡ list_any (reaches moment) calls.now }
-{
+fn any_reaches(calls: &[CallRecord], moment: u32) -> bool {
     calls.iter().any(|made| reaches(made, moment))
 }
 
-fn any_stands(points: &[Point], moment: u32) -> bool
-    ensures { result ≡ list_any (stands_from moment) points.now }
-{
+fn any_stands(points: &[Point], moment: u32) -> bool {
     points.iter().any(|point| stands_from(point, moment))
 }
 
-fn is_told(calls: &[CallRecord], points: &[Point]) -> bool
-    ensures { result ≡ is_told calls.now points.now }
-{
+fn is_told(calls: &[CallRecord], points: &[Point]) -> bool {
     !(calls.is_empty() && points.is_empty())
 }
 
-fn is_past(calls: &[CallRecord], points: &[Point], from: u32) -> bool
-    ensures { result ≡ is_past calls.now points.now from }
-{
+fn is_past(calls: &[CallRecord], points: &[Point], from: u32) -> bool {
     is_told(calls, points) && !(any_reaches(calls, from) || any_stands(points, from))
 }
 
 /// Whether a moment, counted from 1, comes after the last one at which a call of the picture begins, takes effect or ends,
 /// so that a window from there has no column. Of a picture without calls no moment does.
-pub fn is_past_the_last(picture: &Picture, from: u32) -> bool
-    ensures test { result ≡ is_past_the_last (view picture.now) from }
-    ensures exactly { IsTrue result ↔ IsPastTheLast (view picture.now) from }
-{
+pub fn is_past_the_last(picture: &Picture, from: u32) -> bool {
     is_past(picture.history.calls(), points_of(picture), from)
 }
 

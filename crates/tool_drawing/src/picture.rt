@@ -1,7 +1,5 @@
-ghost use Rattle.std.specs.Prelude.{◌≡◌};
-ghost use Rattle.tool_drawing.specs.Pictures.{are_known, points_of, view};
-
-use lset_history::{History, Refusal};
+use crate::Refusal;
+use lset_history::History;
 use lset_steps::StepFault;
 use lset_words::{CallRecord, Kind, Placed, Point};
 
@@ -39,16 +37,12 @@ impl Window {
 }
 
 /// Whether there is a point for each place of the order, and no refusal.
-pub fn are_known(picture: &Picture) -> bool
-    ensures { result ≡ are_known (view picture.now) }
-{
+pub fn are_known(picture: &Picture) -> bool {
     picture.refusal.is_none() && picture.points.len() == picture.order.len()
 }
 
 /// Returns the points that are drawn.
-pub fn points_of(picture: &Picture) -> &[Point]
-    ensures { result.now ≡ points_of (view picture.now) }
-{
+pub fn points_of(picture: &Picture) -> &[Point] {
     if are_known(picture) {
         &picture.points
     } else {

@@ -1,7 +1,6 @@
 //! Why an order, or an event of a schedule, is refused.
-use crate::Picture;
 use crate::sets::put_set;
-use lset_history::Refusal;
+use crate::{Picture, Refusal};
 use lset_steps::StepFault;
 use lset_text::reply_word;
 use lset_words::Reply;

@@ -8,9 +8,9 @@ use tool_base::{Answer, Trouble, ValueName, deliver};
 fn write_names(alloc: Global) -> Result<Vec<u8>, AllocError> {
     let mut out = String::new(alloc);
     for example in &ALL {
-        let name = example.name();
-        let list = kind_word(example.kind());
-        let about = example.about();
+        let name = example.name;
+        let list = kind_word(example.kind);
+        let about = example.about;
         writeln!(&mut out, "{name:<26}{list:<12}{about}")?;
     }
     Ok(out.into_bytes())
@@ -20,9 +20,9 @@ fn write_names(alloc: Global) -> Result<Vec<u8>, AllocError> {
 fn shown(broken: bool, name: &[u8]) -> Option<&'static str> {
     let example = named(name)?;
     if broken {
-        example.broken_report_text()
+        example.broken_report
     } else {
-        Some(example.schedule_text())
+        Some(example.schedule)
     }
 }
 

@@ -4,6 +4,7 @@
 
 mod asking;
 mod endings;
+mod refusing;
 mod reports;
 mod schedules;
 mod tool;

@@ -1,4 +1,5 @@
-use lset_history::{CallRecord, History, Placed, Refusal, first_points, why_refused};
+use crate::refusing::why_refused;
+use lset_history::{History, Placed};
 use lset_report::Report;
 use lset_words::{Call, Point, Reply};
 use std::alloc::{AllocError, Global};
@@ -12,52 +13,38 @@ fn changes_set(call: Call, reply: Reply) -> bool {
     }
 }
 
-/// The point of a place at a moment.
-fn point_at(calls: &[CallRecord], place: Placed, moment: u32) -> Point {
-    let change = match calls.get(place.call as usize) {
-        Some(call_record) => changes_set(call_record.call, place.reply),
-        None => false,
-    };
-    Point { moment, change }
-}
-
-/// The first points of an order, each with whether its call changes the set there.
-fn first_marked(
+/// The first points of an order that explains its calls: for each place the later of the moment at which its call began and the
+/// point before it. (Herlihy and Wing's linearization points.)
+fn first_points(
     alloc: Global,
     history: &History,
     order: &[Placed],
 ) -> Result<Vec<Point>, AllocError> {
-    let calls = history.calls();
-    let moments = first_points(alloc, history, order)?;
-    order
-        .iter()
-        .zip(moments.iter())
-        .map(|(place, moment)| point_at(calls, *place, *moment))
-        .collect(alloc)
-}
-
-/// The points that are drawn of an order that has this refusal, if any.
-fn drawn_points(
-    alloc: Global,
-    history: &History,
-    order: &[Placed],
-    refusal: &Option<Refusal>,
-) -> Result<Vec<Point>, AllocError> {
-    match refusal {
-        None => first_marked(alloc, history, order),
-        Some(_) => Ok(Vec::new(alloc)),
+    let mut points = Vec::new(alloc);
+    let mut moment = 0u32;
+    for place in order {
+        if let Some(record) = history.calls().get(place.call as usize) {
+            moment = record.begun.max(moment);
+            points.push(Point {
+                moment,
+                change: changes_set(record.call, place.reply),
+            })?;
+        }
     }
+    Ok(points)
 }
 
 /// Returns the picture of a report, whose order and keys may be any: its history, its order and its keys, with the first
-/// points of the order (`first_points`) if the order explains the history and leaves exactly the keys, and else with the
-/// refusal (`why_refused`) and no points. It takes about as long as `check_order`. Allocates; `AllocError` if that fails.
-/// (The pictures of Herlihy and Wing's histories.)
+/// points of the order if it explains the history and leaves exactly the keys, and else with what `check_order` refuses, and
+/// no points. It takes about as long as `check_order`. Allocates; `AllocError` if that fails. (The pictures of Herlihy and
+/// Wing's histories.)
 pub fn picture_of_report(alloc: Global, report: Report) -> Result<Picture, AllocError> {
     let order = report.order.as_slice();
-    let keys = report.keys.as_slice();
-    let refusal = why_refused(alloc, &report.history, order, keys)?;
-    let points = drawn_points(alloc, &report.history, order, &refusal)?;
+    let refusal = why_refused(alloc, &report.history, order, &report.keys)?;
+    let points = match refusal {
+        None => first_points(alloc, &report.history, order)?,
+        Some(_) => Vec::new(alloc),
+    };
     Ok(Picture {
         kind: report.kind,
         history: report.history,
