@@ -1,11 +1,15 @@
 //! Why an order is refused: the fault that `check_order` names, and what shows it.
 
+ghost use Rattle.std.specs.Prelude.{◌≡◌, ◌<◌, length, IfOk, IfSome};
+
 use lset_history::{CallRecord, History, Oracle, OrderFault, Placed, check_order};
 use std::alloc::{AllocError, Global};
 use tool_drawing::Refusal;
 
 /// The index of the first place of a call, from this index on.
-fn place_from(order: &[Placed], from: usize, call: u32) -> Option<usize> {
+fn place_from(order: &[Placed], from: usize, call: u32) -> Option<usize>
+    ensures { IfSome result (λ place. place < length order.now) }
+{
     for index in from..order.len() {
         if order[index].call == call {
             return Some(index);
@@ -19,7 +23,9 @@ fn record_of(history: &History, call: u32) -> Option<CallRecord> {
 }
 
 /// The sequential set after these places.
-fn set_after(alloc: Global, history: &History, places: &[Placed]) -> Result<Oracle, AllocError> {
+fn set_after(alloc: Global, history: &History, places: &[Placed]) -> Result<Oracle, AllocError>
+    ensures { IfOk result (λ o. o.threads ≡ history.now.opening.threads) }
+{
     let threads = history.threads();
     let mut oracle = Oracle::opened(alloc, threads, history.quota(), history.opening())?;
     for place in places {
