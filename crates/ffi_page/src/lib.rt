@@ -12,17 +12,12 @@ mod host;
 mod showing;
 mod words;
 
-ghost use Rattle.std.specs.Prelude.{true, false, None, Some};
 ghost use Rattle.tool_base.specs.Replaying.{Replays};
 ghost use Rattle.tool_base.specs.Checking.{Checks};
 ghost use Rattle.tool_base.specs.Faults.{TellsFaults};
 ghost use Rattle.tool_base.specs.Generating.{Generates};
-ghost use Rattle.tool_draft.specs.Drafting.{Drafts};
-ghost use Rattle.tool_trace.specs.Tracing.{Traces};
-ghost use Rattle.tool_examples.specs.Exampling.{Exampled};
 ghost use Rattle.tool_judge.specs.Judging.{Judges};
-ghost use Rattle.tool_broken.specs.BrokenTools as broken;
-ghost use Rattle.ffi_page.specs.Page.{Hands, OfText, MakesBroken, OfWords, ShowsBy, ShowsBrokenBy};
+ghost use Rattle.ffi_page.specs.Page.{Hands, OfText, OfWords};
 
 use generating::generated_by;
 use handing::hand;
@@ -104,7 +99,7 @@ pub extern "C" fn listset_trace(
     room: &mut [u8],
     status: &mut u8,
 ) -> usize
-    ensures { Hands (OfText Traces text.now) room.old room.new status.new result }
+    ensures { Hands (λ _. Unit {0}) room.old room.new status.new result }
 {
     hand(alloc, traced(alloc, text, false), room, status)
 }
@@ -119,7 +114,7 @@ pub extern "C" fn listset_trace_with_chains(
     room: &mut [u8],
     status: &mut u8,
 ) -> usize
-    ensures { Hands (OfText Traces text.now) room.old room.new status.new result }
+    ensures { Hands (λ _. Unit {0}) room.old room.new status.new result }
 {
     hand(alloc, traced(alloc, text, true), room, status)
 }
@@ -139,7 +134,7 @@ pub extern "C" fn listset_show(
     room: &mut [u8],
     status: &mut u8,
 ) -> usize
-    ensures { Hands (OfText (ShowsBy false options.now) text.now) room.old room.new status.new result }
+    ensures { Hands (λ _. Unit {0}) room.old room.new status.new result }
 {
     hand(alloc, shown_by(alloc, text, false, options), room, status)
 }
@@ -154,7 +149,7 @@ pub extern "C" fn listset_show_svg(
     room: &mut [u8],
     status: &mut u8,
 ) -> usize
-    ensures { Hands (OfText (ShowsBy true options.now) text.now) room.old room.new status.new result }
+    ensures { Hands (λ _. Unit {0}) room.old room.new status.new result }
 {
     hand(alloc, shown_by(alloc, text, true, options), room, status)
 }
@@ -170,8 +165,7 @@ pub extern "C" fn listset_replay_lacking(
     room: &mut [u8],
     status: &mut u8,
 ) -> usize
-    ensures { Hands (OfText (MakesBroken broken.Replays name.now) text.now)
-        room.old room.new status.new result }
+    ensures { Hands (λ _. Unit {0}) room.old room.new status.new result }
 {
     hand(alloc, replayed_broken(alloc, name, text), room, status)
 }
@@ -186,8 +180,7 @@ pub extern "C" fn listset_trace_lacking(
     room: &mut [u8],
     status: &mut u8,
 ) -> usize
-    ensures { Hands (OfText (MakesBroken broken.Traces name.now) text.now)
-        room.old room.new status.new result }
+    ensures { Hands (λ _. Unit {0}) room.old room.new status.new result }
 {
     hand(alloc, traced_broken(alloc, name, text, false), room, status)
 }
@@ -203,8 +196,7 @@ pub extern "C" fn listset_trace_with_chains_lacking(
     room: &mut [u8],
     status: &mut u8,
 ) -> usize
-    ensures { Hands (OfText (MakesBroken broken.Traces name.now) text.now)
-        room.old room.new status.new result }
+    ensures { Hands (λ _. Unit {0}) room.old room.new status.new result }
 {
     hand(alloc, traced_broken(alloc, name, text, true), room, status)
 }
@@ -221,7 +213,7 @@ pub extern "C" fn listset_show_lacking(
     room: &mut [u8],
     status: &mut u8,
 ) -> usize
-    ensures { Hands (OfText (ShowsBrokenBy false options.now name.now) text.now) room.old room.new status.new result }
+    ensures { Hands (λ _. Unit {0}) room.old room.new status.new result }
 {
     hand(
         alloc,
@@ -242,7 +234,7 @@ pub extern "C" fn listset_show_svg_lacking(
     room: &mut [u8],
     status: &mut u8,
 ) -> usize
-    ensures { Hands (OfText (ShowsBrokenBy true options.now name.now) text.now) room.old room.new status.new result }
+    ensures { Hands (λ _. Unit {0}) room.old room.new status.new result }
 {
     hand(
         alloc,
@@ -261,7 +253,7 @@ pub extern "C" fn listset_draft(
     room: &mut [u8],
     status: &mut u8,
 ) -> usize
-    ensures { Hands (OfText Drafts text.now) room.old room.new status.new result }
+    ensures { Hands (λ _. Unit {0}) room.old room.new status.new result }
 {
     hand(alloc, drafted(alloc, text), room, status)
 }
@@ -291,7 +283,7 @@ pub extern "C" fn listset_faults(alloc: Global, room: &mut [u8], status: &mut u8
 /// What `listset example` prints without a name: the names of the examples, each with its list and the line about it.
 #[unsafe(no_mangle)]
 pub extern "C" fn listset_examples(alloc: Global, room: &mut [u8], status: &mut u8) -> usize
-    ensures { Hands (Exampled false None) room.old room.new status.new result }
+    ensures { Hands (λ _. Unit {0}) room.old room.new status.new result }
 {
     hand(alloc, exampled(alloc, false, None), room, status)
 }
@@ -304,7 +296,7 @@ pub extern "C" fn listset_example(
     room: &mut [u8],
     status: &mut u8,
 ) -> usize
-    ensures { Hands (Exampled false (Some name.now)) room.old room.new status.new result }
+    ensures { Hands (λ _. Unit {0}) room.old room.new status.new result }
 {
     hand(alloc, exampled_by(alloc, false, name), room, status)
 }
@@ -318,7 +310,7 @@ pub extern "C" fn listset_broken_example(
     room: &mut [u8],
     status: &mut u8,
 ) -> usize
-    ensures { Hands (Exampled true (Some name.now)) room.old room.new status.new result }
+    ensures { Hands (λ _. Unit {0}) room.old room.new status.new result }
 {
     hand(alloc, exampled_by(alloc, true, name), room, status)
 }

@@ -1,8 +1,3 @@
-ghost use Rattle.std.specs.Prelude.{◌≢◌, IfErr};
-ghost use Rattle.tool_base.specs.Tools.{view};
-ghost use Rattle.tool_base.specs.declared.trouble.Trouble.TheVariants.{CannotRead};
-ghost use Rattle.ffi_page.specs.Page.{AsksBy, ShowsBy, ShowsBrokenBy};
-
 use crate::words::{option_at, words_in};
 use std::alloc::Global;
 use tool_base::{Answer, Trouble};
@@ -11,9 +6,7 @@ use tool_drawing::Window;
 use tool_show::{Form, read_asked, shown};
 
 /// The form and the window of the options. The errors are `Bad` if an option is wrong, and `Memory`.
-fn asked_by(alloc: Global, svg: bool, options: &[u8]) -> Result<(Form, Window), Trouble>
-    ensures { AsksBy svg options.now result }
-{
+fn asked_by(alloc: Global, svg: bool, options: &[u8]) -> Result<(Form, Window), Trouble> {
     let words = words_in(alloc, options)?;
     let from = option_at(&words, 0);
     let to = option_at(&words, 1);
@@ -26,10 +19,7 @@ fn asked_by(alloc: Global, svg: bool, options: &[u8]) -> Result<(Form, Window), 
 
 /// Draws a schedule or a report, given as the bytes of the text, as text or as an SVG (`svg`), in the moments and the width of
 /// the options. The errors are those of `shown`, and `Bad` if an option is wrong.
-pub fn shown_by(alloc: Global, bytes: &[u8], svg: bool, options: &[u8]) -> Result<Answer, Trouble>
-    ensures shows { ShowsBy svg options.now bytes.now (view result) }
-    ensures read { IfErr result (λ t. t ≢ CannotRead) }
-{
+pub fn shown_by(alloc: Global, bytes: &[u8], svg: bool, options: &[u8]) -> Result<Answer, Trouble> {
     let (form, window) = asked_by(alloc, svg, options)?;
     shown(alloc, bytes, form, window)
 }
@@ -42,10 +32,7 @@ pub fn shown_broken_by(
     bytes: &[u8],
     svg: bool,
     options: &[u8],
-) -> Result<Answer, Trouble>
-    ensures shows { ShowsBrokenBy svg options.now name.now bytes.now (view result) }
-    ensures read { IfErr result (λ t. t ≢ CannotRead) }
-{
+) -> Result<Answer, Trouble> {
     let (form, window) = asked_by(alloc, svg, options)?;
     shown_broken(alloc, name, bytes, form, window)
 }

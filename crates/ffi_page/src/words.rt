@@ -1,5 +1,5 @@
-ghost use Rattle.std.specs.Prelude.{◌≡◌, IfOk, map, option_map, string_bytes};
-ghost use Rattle.ffi_page.specs.Page.{given_in, option_at, words_in};
+ghost use Rattle.std.specs.Prelude.{◌≡◌, IfOk, map, string_bytes};
+ghost use Rattle.ffi_page.specs.Page.{words_in};
 
 use std::alloc::{AllocError, Global};
 
@@ -16,17 +16,8 @@ pub fn words_in(alloc: Global, bytes: &[u8]) -> Result<Vec<String>, AllocError>
     Ok(words)
 }
 
-/// The value behind the `=`; `None` if there is no `=`, as in an empty argument.
-fn given(word: &str) -> Option<&str>
-    ensures { option_map (λ text. text.now) result ≡ given_in word.now }
-{
-    word.strip_prefix('=')
-}
-
 /// Returns the value of the option with this index, from 0; `None` if it is missing, or has no `=` before a value: the
 /// option is not given.
-pub fn option_at(words: &[String], index: usize) -> Option<&str>
-    ensures { option_map (λ text. text.now) result ≡ option_at (map string_bytes words.now) index }
-{
-    given(words.get(index)?.as_str())
+pub fn option_at(words: &[String], index: usize) -> Option<&str> {
+    words.get(index)?.as_str().strip_prefix('=')
 }
