@@ -63,6 +63,10 @@ size_t listset_replay(const char *schedule, size_t length, char *room, size_t si
    few calls that show it, and the status LISTSET_WRONG_TEXT. */
 size_t listset_judge(const char *recording, size_t length, char *room, size_t size, uint8_t *status);
 
+/* The same of the recording, of any length, that the file with this descriptor has from its place on: it is read in pieces, to its end
+   or to the first fault. Blocks as its reads do. If `room` is too short the answer is lost; 8,192 bytes are enough. */
+size_t listset_judge_from(int32_t file, char *room, size_t size, uint8_t *status);
+
 /* `ok` where the order of a report explains its calls, else the first fault. */
 size_t listset_check(const char *report, size_t length, char *room, size_t size, uint8_t *status);
 

@@ -78,7 +78,7 @@ def test_recordings_that_are_refused(asked, few, shape):
 
 
 def test_a_key_that_is_never_at_rest(asked, few):
-    """Few of its calls are shown, or none."""
+    """At most 16 of its calls are shown, or none."""
     answer = asked.says("judge", text=shapes.never_at_rest(1_000 if few else 10_000), status=1)
     assert answer.startswith("not linearizable\nno order explains the calls of key 5 up to moment ") and lines_of(answer, "call")[0] <= 17
 

@@ -156,6 +156,7 @@ class Judged:
 WINDOW = re.compile(r"(?:at first|after the calls that ended by moment (?P<since>[0-9]+)) the key is (?P<not_there>not )?there"
                     r"(?:, by this change:\n(?P<change>call .*))?\n"
                     r"(?:no later call changes it\n|from there these calls have no order(?: that leaves the key as it was left)?:\n(?P<calls>(?:call .*\n)+))"
+                    r"(?P<cut>[0-9]+ more calls of the key that began at moments [0-9]+ to [0-9]+ belong to these, and are not shown\n)?"
                     r"(?:(?P<more>[0-9]+) more calls? of the key that began at moments? (?P<first>[0-9]+)(?: to (?P<last>[0-9]+))? "
                     r"(?:is|are) not shown: .*\n)?\Z")
 
@@ -175,8 +176,9 @@ def look_at_window(judged, said):
     shown = [*map(read_call, (window["calls"] or "").splitlines())]
     others = [it._replace(end=None, reply=None) for it in later if it not in shown and changes(it)]
     assert len(shown) <= MOST_SHOWN and {*shown} <= {*later} and shown == sorted(shown, key=lambda it: it.begin)
-    ways = ways_left([*shown, *others], is_there)
-    assert not ways if judged.moment else (key in judged.keys) not in ways
+    if not window["cut"]:
+        ways = ways_left([*shown, *others], is_there)
+        assert not ways if judged.moment else (key in judged.keys) not in ways
     if window["more"]:
         first, last = int(window["first"]), int(window["last"] or window["first"])
         assert int(window["more"]) == sum(first <= it.begin <= last and it not in shown for it in calls)

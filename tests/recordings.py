@@ -79,8 +79,10 @@ def test_parts_on_processors_have_the_verdict(program, recorded, parts):
 
 @pytest.mark.needs("gcc")
 def test_what_cannot_be_judged_ends(program, room):
-    for words, environment in (([room / "none"], {}), ([HERE / "by_key.c"], {}), ([HERE / "by_key.c"], {"LISTSET": "/no/such/program"})):
-        assert ran(HERE / "judge_by_key", *words, env={**os.environ, "LISTSET": program, **environment}).returncode != 0
+    text, none = HERE / "by_key.c", {"LISTSET": "/no/such/program"}
+    for words, environment in (([], {}), ([room / "none"], {}), ([text, 0], {}), ([text, "x"], {}), ([text], {}), ([text], none)):
+        done = ran(HERE / "judge_by_key", *words, env={**os.environ, "LISTSET": program, **environment})
+        assert done.returncode != 0 and done.stdout[:2] != "ok", words
 
 
 @pytest.mark.needs("gcc")

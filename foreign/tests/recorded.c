@@ -1,4 +1,5 @@
 // Four threads on each list, recorded as docs/YOUR-SET.md has it, and judged in the same process.
+#define _POSIX_C_SOURCE 200809L
 #include "listset.h"
 #include <pthread.h>
 #include <stdatomic.h>
@@ -51,12 +52,24 @@ static size_t written(const uint32_t *keys, size_t count) {
   return at + sprintf(at, "end\n") - text;
 }
 
+// Whether the judge says the same of the text in a file.
+static int is_judged_from_file(size_t length, uint8_t due, const char *said) {
+  char room[8192];
+  uint8_t status;
+  FILE *file = tmpfile();
+  fwrite(text, 1, length, file);
+  rewind(file);
+  size_t count = listset_judge_from(fileno(file), room, sizeof room, &status);
+  fclose(file);
+  return status == due && count == strlen(said) && memcmp(room, said, count) == 0;
+}
+
 // What the judge says of a text, and whether it begins so.
 static int is_judged(size_t length, uint8_t due, const char *begins) {
   size_t said_length;
   uint8_t status;
   char *said = listset_said(listset_judge, text, length, &said_length, &status);
-  int is_so = status == due && strncmp(said, begins, strlen(begins)) == 0;
+  int is_so = status == due && strncmp(said, begins, strlen(begins)) == 0 && is_judged_from_file(length, due, said);
   printf("%s", said);
   free(said);
   return is_so;

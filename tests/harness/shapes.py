@@ -199,6 +199,7 @@ class Shaped:
     def __init__(self, draw, shape, size, layouts=(in_turn, side_by_side, beside_a_call, of_one_thread)):
         self.draw, (self.opening, self.calls, self.left) = draw, spread(draw, shape(size))
         replies = {reply for _, _, reply in self.calls}
+        self.has_changes = any(reply == "true" and word in ("add", "remove") for word, _, reply in self.calls)
         self.layout = of_one_thread if "full" in replies else draw.choice(layouts)
         self.threads = log_uniform(draw, MOST_THREADS, 2)
         needed = self.needed()

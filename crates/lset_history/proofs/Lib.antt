@@ -23,8 +23,6 @@ pub mod Verdicts
 pub mod ChangeLaws
 pub mod Counting
 pub mod Noting
-pub mod FirstPoints
-pub mod Clashes
 pub mod Raises
 pub mod CeilingTests
 pub mod OpeningKeys

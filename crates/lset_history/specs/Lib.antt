@@ -4,6 +4,4 @@ pub mod Faults
 pub mod Checks
 pub mod Laws
 pub mod Changes
-pub mod Points
-pub mod Refusals
 pub mod Raising

@@ -9,8 +9,6 @@ mod fault;
 mod history;
 mod oracle;
 mod placement;
-mod points;
-mod refusal;
 
 pub use changes::Changes;
 pub use checker::check_order;
@@ -22,5 +20,3 @@ pub use placement::{
     every_call_has_a_place, fits_are_replies, logs_tell_histories, placement_is_one_order,
     placement_linearizes,
 };
-pub use points::{first_points, points_exist};
-pub use refusal::{Refusal, why_refused};

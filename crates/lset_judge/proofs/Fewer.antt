@@ -1,14 +1,12 @@
 -- Calls asked of a fresh stream, and fewer of them.
-use Rattle.std.proofs.Common.{inl, inr, ◌≡◌, ℕ, ◌<◌, Bool, true, false, List, [], ◌∷◌, ◌++◌, refl, sym, ap, ◌∙◌, arith, subst}
-use Rattle.std.specs.Prelude.{◌||◌, ◌&&◌, All, Option, Some, None, IfSome, filter}
-use Rattle.std.proofs.lemmas.Bool.{cases_Bool, true≢false}
+use Rattle.std.proofs.Common.{ℕ, ◌<◌, Bool, List, sym, subst}
+use Rattle.std.specs.Prelude.{All, Option, Some, None, IfSome}
 use Rattle.lset_judge.specs.declared.stream.StreamCall.{StreamCall}
-use Rattle.lset_judge.specs.declared.stream.StreamVerdict.{StreamVerdict}
-use Rattle.lset_judge.specs.declared.stream.StreamVerdict.TheVariants.{Linearizable, NotLinearizable}
+use Rattle.lset_judge.specs.declared.stream.StreamVerdict.TheVariants.{NotLinearizable}
 use Rattle.lset_judge.specs.declared.stream.Refusal.{Refusal}
 use Rattle.lset_judge.specs.declared.stream.Stream.{Stream}
-use Rattle.lset_judge.specs.Rest.{key_if, alone, may_turn}
-use Rattle.lset_judge.specs.Stream.{record_of, stream_history, IsStreamOf, IsStreamVerdict, IsStreamVerdictCutOff}
+use Rattle.lset_judge.specs.Rest.{key_if, alone}
+use Rattle.lset_judge.specs.Stream.{stream_history, IsStreamOf, IsStreamVerdict, IsStreamVerdictCutOff}
 use Rattle.lset_judge.specs.Verdict.{IsUnexplained}
 use Rattle.lset_judge.specs.Window.{records, HaveNone}
 

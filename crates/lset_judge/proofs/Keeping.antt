@@ -1,17 +1,15 @@
 -- One more call comes: a key at rest stays so, and a call of the recording stays one.
-use Rattle.std.proofs.Common.{inl, inr, ◌≡◌, ◌≢◌, ℕ, ◌<◌, ◌≤◌, Bool, true, false, List, [], ◌∷◌, ◌++◌, refl, sym, ap, ◌∙◌, arith, subst, length, get_or, append-nil, length-append}
-use Rattle.std.specs.Prelude.{◌==◌, ◌&&◌, nat_lt, nat_le, All, Option, Some, None, IfSome, filter, Contains}
-use Rattle.std.specs.List.{AllByRecursion}
+use Rattle.std.proofs.Common.{inl, inr, ◌≡◌, ℕ, ◌<◌, ◌≤◌, Bool, true, false, List, [], ◌∷◌, ◌++◌, refl, sym, ◌∙◌, arith, subst, length, append-nil, length-append}
+use Rattle.std.specs.Prelude.{◌==◌, ◌&&◌, nat_le, Option, Some, None, IfSome, Contains}
 use Rattle.std.proofs.lemmas.Bool.{cases_Bool}
 use Rattle.std.proofs.lemmas.Bool.Decides.{nat_tests}
-use Rattle.std.proofs.lemmas.List.{map-append, get_or_append_left, get_or_push}
-use Rattle.std.proofs.lemmas.List.Elements.{All-push, filter-append, recursion_from_All}
+use Rattle.std.proofs.lemmas.List.{get_or_append_left}
+use Rattle.std.proofs.lemmas.List.Elements.{All-push, filter-append}
 use Rattle.lset_words.specs.declared.Reply.{Reply}
 use Rattle.lset_words.specs.declared.history.CallRecord.{CallRecord}
 use Rattle.lset_words.specs.declared.history.Placed.{Placed}
 use Rattle.lset_words.specs.SequentialSet.{has_key}
 use Rattle.lset_words.specs.Words.{key_of}
-use Rattle.lset_words.proofs.Numbers.{equal_test, unequal_test}
 use Rattle.lset_history.specs.Faults.{Explains}
 use Rattle.lset_judge.specs.declared.stream.StreamCall.{StreamCall}
 use Rattle.lset_judge.specs.Rest.{may_turn, has_ended, ended_by, key_if, alone, IsAtRest}
@@ -67,6 +65,3 @@ module _ (threads : ℕ) (opening : List ℕ) (calls : List CallRecord) (x : Cal
   pub before_more : (o : Option StreamCall) → Known o → IfSome o (λ (b : StreamCall). Contains more (record_of b))
   before_more None h = tt
   before_more (Some b) h = known_more b h
-
-  pub has_new : Contains more x
-  has_new = (length calls, (let long = length-append calls (x ∷ []) in omega (arith, long)), get_or_push calls x x (length calls) refl)

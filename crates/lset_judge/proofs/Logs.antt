@@ -1,6 +1,6 @@
 -- What a stream keeps of the calls of its keys goes on: at first, where a call ends, and where one begins.
-use Rattle.std.proofs.Common.{inl, inr, ◌≡◌, ◌≢◌, ◌⊎◌, ℕ, zero, suc, ◌+◌, ◌-◌, ◌<◌, ◌≤◌, Bool, true, false, List, [], ◌∷◌, ◌++◌, refl, sym, ap, ◌∙◌, arith, subst, length, get_or}
-use Rattle.std.specs.Prelude.{All, Option, Some, None, IfSome, Contains, is_some}
+use Rattle.std.proofs.Common.{inl, inr, ◌≡◌, ◌⊎◌, ℕ, zero, suc, ◌-◌, ◌<◌, ◌≤◌, Bool, true, List, [], ◌∷◌, ◌++◌, refl, sym, ap, ◌∙◌, arith, subst, length}
+use Rattle.std.specs.Prelude.{Option, Some, None, IfSome, Contains, is_some}
 use Rattle.std.specs.List.Sorted.{IsPermutation}
 use Rattle.std.proofs.lemmas.Bool.{true≢false}
 use Rattle.std.proofs.lemmas.List.Elements.{All-contains, Contains-get_or}
@@ -14,12 +14,11 @@ use Rattle.lset_words.proofs.Numbers.{same_or_not}
 use Rattle.lset_judge.specs.declared.stream.Pending.{Pending}
 use Rattle.lset_judge.specs.declared.stream.Failed.{Failed}
 use Rattle.lset_judge.specs.declared.stream.Stream.{Stream}
-use Rattle.lset_judge.specs.declared.log.Ended.{Ended}
 use Rattle.lset_judge.specs.Rule.{Event, State, fits, settled, found, entered, opened, open_changes}
 use Rattle.lset_judge.specs.Events.{Kind, changes, sees, nothing, kind_if, until_if, begin_event}
 use Rattle.lset_judge.specs.Rest.{IsAtRest}
-use Rattle.lset_judge.specs.Stream.{behind_all, record_of, call_of, pending_of, key_in, event_of, state_for, IsMetBy, IsJudgedTo, IsStreamOf, MayCome}
-use Rattle.lset_judge.specs.Log.{log_for, log_opened, pushed, unquiet, with_pending, waiting_of, IsEntry, IsOverBy, IsLog, LoggedBy, AreLogged, IsQuiet, LogsEnd}
+use Rattle.lset_judge.specs.Stream.{behind_all, record_of, pending_of, key_in, event_of, state_for, IsMetBy, IsJudgedTo, IsStreamOf, MayCome}
+use Rattle.lset_judge.specs.Log.{log_for, log_opened, pushed, unquiet, IsEntry, IsOverBy, IsLog, LoggedBy, IsQuiet, LogsEnd}
 use Rattle.lset_judge.specs.Pending.{IsNext}
 use Rattle.lset_judge.proofs.EventLemmas.{for_some}
 use Rattle.lset_judge.proofs.Resting.{at_rest}

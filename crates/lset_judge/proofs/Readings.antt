@@ -1,22 +1,16 @@
 -- If no order explains the calls as read, none explains the calls.
-use Rattle.std.proofs.Common.{inl, inr, ◌≡◌, ◌≢◌, ◌⊎◌, ℕ, zero, suc, ◌<◌, ◌≤◌, Bool, true, false, List, [], ◌∷◌, refl, sym, ap, ◌∙◌, arith, subst, length, get_or, map}
-use Rattle.std.specs.Prelude.{◌==◌, ◌||◌, nat_lt, All, AllPairs, Contains as Has, Option, Some, None, if◌then◌else◌}
-use Rattle.std.proofs.lemmas.Bool.{cases_Bool, true≢false}
+use Rattle.std.proofs.Common.{inl, inr, ◌≡◌, ◌≢◌, ◌⊎◌, ℕ, Bool, true, false, List, [], ◌∷◌, refl, sym, ap, arith}
+use Rattle.std.specs.Prelude.{◌==◌, nat_lt, if◌then◌else◌}
+use Rattle.std.proofs.lemmas.Bool.{cases_Bool}
 use Rattle.std.proofs.lemmas.Bool.Decides.{nat_tests}
-use Rattle.std.proofs.lemmas.List.{get_or_default, get_or-map, length-map}
 use Rattle.lset_words.specs.declared.Call.{Call}
 use Rattle.lset_words.specs.declared.Call.TheVariants.{Add, Remove, Contains, Ceiling}
 use Rattle.lset_words.specs.declared.Key.{Key}
 use Rattle.lset_words.specs.declared.Reply.{Reply}
 use Rattle.lset_words.specs.declared.Reply.TheVariants.{True, False, Full, At, Nothing}
-use Rattle.lset_words.specs.declared.history.CallRecord.{CallRecord}
-use Rattle.lset_words.specs.declared.history.Placed.{Placed}
-use Rattle.lset_words.specs.SequentialSet.{SetState, Answered, opening_set, has_key, ceiling_in, count_of, reply_to, after_call, IsLegal, set_left}
-use Rattle.lset_words.specs.Words.{Opening}
-use Rattle.lset_words.specs.History.{Linearizes, Precedes, answered, call_numbered, no_call}
-use Rattle.lset_words.proofs.Numbers.{equal_test, same_or_not, below_or_not}
-use Rattle.lset_history.specs.Faults.{Explains}
-use Rattle.lset_judge.specs.Reading.{call_as, reply_as, call_if, end_as, read_as}
+use Rattle.lset_words.specs.SequentialSet.{SetState, has_key, ceiling_in, count_of, reply_to, after_call}
+use Rattle.lset_words.proofs.Numbers.{equal_test}
+use Rattle.lset_judge.specs.Reading.{call_as, reply_as}
 
 -- ---- one call
 

@@ -1,44 +1,35 @@
 -- A key of a stream at rest: what the rule says of the calls of the key that have ended.
-use Rattle.std.proofs.Common.{◌≡◌, ◌≢◌, ℕ, ◌+◌, ◌<◌, ◌≤◌, ◌⊎◌, Bool, true, false, List, [], ◌∷◌, refl, sym, ap, ◌∙◌, arith, subst, inl, inr, length, get_or}
-use Rattle.std.specs.Prelude.{◌==◌, ◌&&◌, ◌||◌, nat_le, Option, Some, None, is_some, IfSome, All, AllPairs, filter, if◌then◌else◌}
+use Rattle.std.proofs.Common.{◌≡◌, ◌≢◌, ℕ, ◌<◌, ◌≤◌, Bool, true, false, List, [], ◌∷◌, refl, sym, ap, ◌∙◌, arith, subst, inl, inr, length, get_or}
+use Rattle.std.specs.Prelude.{◌==◌, ◌&&◌, ◌||◌, nat_le, Option, Some, None, is_some, IfSome, All, AllPairs, filter}
 use Rattle.std.specs.List.{AllByRecursion}
 use Rattle.std.specs.List.Sorted.{IsStrictlyIncreasing}
 use Rattle.std.proofs.lemmas.Bool.{cases_Bool, true≢false}
 use Rattle.std.proofs.lemmas.Bool.Decides.{nat_tests}
-use Rattle.std.proofs.lemmas.List.{get_or_default}
 use Rattle.std.proofs.lemmas.List.Elements.{All-filter, filter_passes, recursion_from_All}
 use Rattle.std.proofs.lemmas.List.Kept.{AllPairs-filter}
 use Rattle.std.proofs.lemmas.List.Sums.{count_by-le-length}
 use Rattle.lset_words.specs.declared.Reply.{Reply}
 use Rattle.lset_words.specs.declared.history.CallRecord.{CallRecord}
-use Rattle.lset_words.specs.declared.history.Placed.{Placed}
 use Rattle.lset_words.specs.SequentialSet.{has_key}
 use Rattle.lset_words.specs.Words.{key_of}
-use Rattle.lset_words.specs.History.{IsHistory, call_numbered, no_call}
-use Rattle.lset_words.proofs.Numbers.{equal_test, unequal_test, same_number, other_number, same_or_not}
+use Rattle.lset_words.specs.History.{IsHistory}
+use Rattle.lset_words.proofs.Numbers.{equal_test, unequal_test, same_number, same_or_not}
 use Rattle.lset_history.specs.History.{HistoryValue, latest_moment}
-use Rattle.lset_history.specs.Faults.{Explains}
 use Rattle.lset_history.proofs.Histories.{Follows, IsCall, calls_of, pairs_of, history_of}
 use Rattle.lset_history.proofs.Pairs.{pairs_head, pairs_tail}
-use Rattle.lset_judge.specs.declared.stream.Pending.{Pending}
-use Rattle.lset_judge.specs.declared.stream.Failed.{Failed}
 use Rattle.lset_judge.specs.declared.stream.Stream.{Stream}
-use Rattle.lset_judge.specs.Rule.{State, idle, leaves, same, opened, options, ruled, state_after}
-use Rattle.lset_judge.specs.Events.{Kind, changes, sees, nothing, kind_if, until_if, ends_at, begin_event, end_event, event_at, rule_explains, RulePasses}
-use Rattle.lset_judge.specs.Leaving.{has_any, may_be_left}
+use Rattle.lset_judge.specs.Rule.{State, idle, leaves, same, opened, ruled, state_after}
+use Rattle.lset_judge.specs.Events.{Kind, changes, sees, nothing, kind_if, until_if, ends_at, begin_event, event_at, rule_explains, RulePasses}
+use Rattle.lset_judge.specs.Leaving.{may_be_left}
 use Rattle.lset_judge.specs.Rest.{turns, may_turn, has_ended, ended_by, key_if, alone, IsAtRest}
-use Rattle.lset_judge.specs.Stream.{behind_all, state_for, pending_of, key_in, event_of, IsOver, IsJudgedTo, IsStreamOf}
-use Rattle.lset_judge.specs.Verdict.{IsExplained, may_add, is_plain}
+use Rattle.lset_judge.specs.Stream.{behind_all, state_for, IsStreamOf}
+use Rattle.lset_judge.specs.Verdict.{may_add, is_plain}
 use Rattle.lset_judge.proofs.After.{same_after, judged_after}
 use Rattle.lset_judge.proofs.Closed.{leaves_so, latest_upto}
 use Rattle.lset_judge.proofs.Deciding.{explained}
-use Rattle.lset_judge.proofs.EventLemmas.{ends_not, if_some, for_some, none_or_some}
+use Rattle.lset_judge.proofs.EventLemmas.{ends_not, if_some, for_some}
 use Rattle.lset_judge.proofs.Orders.{rule_refutes}
 use Rattle.lset_judge.proofs.Shifting.{idle_on}
-
-first_true : (a b : Bool) → (a && b) ≡ true → a ≡ true
-first_true true b e = refl
-first_true false b e = e
 
 second_true : (a b : Bool) → (a && b) ≡ true → b ≡ true
 second_true true b e = e

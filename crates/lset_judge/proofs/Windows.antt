@@ -1,13 +1,13 @@
 -- The window of a key, by what is kept of it.
 use Rattle.std.proofs.Common.{inl, inr, ◌≡◌, ◌⊎◌, ℕ, suc, ◌+◌, ◌<◌, ◌≤◌, Bool, true, false, List, [], ◌∷◌, refl, sym, ap, ◌∙◌, arith, subst, length, get_or, take, ◌++◌}
-use Rattle.std.specs.Prelude.{◌==◌, ◌||◌, nat_lt, nat_le, All, Option, Some, None, IfSome, filter, Contains, map}
+use Rattle.std.specs.Prelude.{◌||◌, nat_lt, All, Option, Some, None, IfSome, filter, Contains, map}
 use Rattle.std.specs.Prelude.{Result, Ok, Err, OnOk}
 use Rattle.std.specs.List.{AllByRecursion}
 use Rattle.std.specs.List.Sorted.{IsPermutation}
 use Rattle.std.proofs.lemmas.Bool.{cases_Bool, true≢false}
 use Rattle.std.proofs.lemmas.Bool.Decides.{nat_tests}
 use Rattle.std.proofs.lemmas.List.{get_or_default, take_more, map-append}
-use Rattle.std.proofs.lemmas.List.Elements.{All-map, All-contains, All-weaker, All-from_recursion, Contains-get_or, filter_passes}
+use Rattle.std.proofs.lemmas.List.Elements.{All-map, All-contains, All-weaker, All-from_recursion, filter_passes}
 use Rattle.std.proofs.lemmas.List.Sorted.{IsPermutation-sym, Contains-permutation}
 use Rattle.lset_words.specs.declared.Reply.{Reply}
 use Rattle.lset_words.specs.declared.history.CallRecord.{CallRecord}
@@ -16,7 +16,6 @@ use Rattle.lset_words.specs.Words.{key_of}
 use Rattle.lset_words.specs.History.{IsHistory, call_numbered, no_call}
 use Rattle.lset_history.proofs.Histories as histories
 use Rattle.lset_judge.specs.declared.stream.StreamCall.{StreamCall}
-use Rattle.lset_judge.specs.declared.stream.Pending.{Pending}
 use Rattle.lset_judge.specs.declared.stream.Failed.{Failed}
 use Rattle.lset_judge.specs.declared.stream.Refusal.{Refusal}
 use Rattle.lset_judge.specs.declared.stream.Stream.{Stream}
@@ -26,7 +25,7 @@ use Rattle.lset_judge.specs.declared.log.Ended.{Ended}
 use Rattle.lset_judge.specs.declared.log.Rest.{Rest}
 use Rattle.lset_judge.specs.declared.window.Window.{Window}
 use Rattle.lset_judge.specs.Rest.{has_ended, may_turn, IsAtRest}
-use Rattle.lset_judge.specs.Stream.{record_of, call_of, pending_of, IsStreamOf, IsToldBy}
+use Rattle.lset_judge.specs.Stream.{record_of, call_of, IsStreamOf, IsToldBy}
 use Rattle.lset_judge.specs.Log.{Logged, calls_in, calls_after, log_for, log_upto, IsEntry, IsLog, IsMadeBy, IsRestIn, LoggedBy, AreLogged}
 use Rattle.lset_judge.specs.Window.{records, is_asked, asked_as, asked_of, calls_of, shown_of, hidden_between, HaveNoneOf, HaveNone, IsMaker, IsAfter, IsSame, IsOpened, IsReached, IsRestOf, IsWindow}
 use Rattle.lset_judge.proofs.EventLemmas.{if_some}

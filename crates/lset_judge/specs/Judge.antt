@@ -1,5 +1,5 @@
 -- WHAT THE JUDGE KEEPS, and what its answer says.
-use Rattle.std.specs.Prelude.{◌≡◌, ℕ, List, Option, Some, None, IfSome}
+use Rattle.std.specs.Prelude.{◌≡◌, ℕ, List, None, IfSome}
 use Rattle.lset_words.specs.declared.history.CallRecord.{CallRecord}
 use Rattle.lset_judge.specs.declared.stream.StreamVerdict.TheVariants.{Linearizable, NotLinearizable}
 use Rattle.lset_judge.specs.Stream.{stream_history, IsStreamOf, IsStreamVerdict, IsStreamVerdictCutOff}

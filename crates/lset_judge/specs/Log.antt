@@ -17,7 +17,7 @@ use Rattle.lset_judge.specs.declared.log.Rest.{Rest}
 use Rattle.lset_judge.specs.declared.log.Log.{Log}
 use Rattle.lset_judge.specs.Rule.{State}
 use Rattle.lset_judge.specs.Rest.{has_ended, may_turn, IsAtRest}
-use Rattle.lset_judge.specs.Stream.{record_of, call_of, pending_of, key_in, state_for}
+use Rattle.lset_judge.specs.Stream.{record_of, call_of, pending_of, state_for}
 use Rattle.lset_judge.specs.Window.{makes_so}
 
 -- the calls that ended after a moment; how the key was then, if it is known that it was at rest; and a change that made it so

@@ -6,11 +6,8 @@ use Rattle.lset_words.specs.declared.Call.TheVariants.{Add, Remove, Contains, Ce
 use Rattle.lset_words.specs.declared.Reply.{Reply}
 use Rattle.lset_words.specs.declared.Reply.TheVariants.{True, False, Full, At, Nothing}
 use Rattle.lset_words.specs.declared.history.CallRecord.{CallRecord}
-use Rattle.lset_judge.specs.declared.stream.StreamVerdict.TheVariants.{Linearizable, NotLinearizable}
 use Rattle.lset_history.specs.History.{HistoryValue}
 use Rattle.lset_judge.specs.Verdict.{IsPlain, IsExplained, IsUnexplained, with_quota, without_quota}
-use Rattle.lset_judge.specs.Stream.{stream_history}
-use Rattle.lset_judge.specs.declared.judging.Verdict.{Verdict}
 use Rattle.lset_judge.specs.declared.judging.Verdict.TheVariants as verdict
 use Rattle.lset_judge.specs.declared.history.Judged.{Judged}
 use Rattle.lset_judge.specs.declared.history.Judged.TheVariants as judged

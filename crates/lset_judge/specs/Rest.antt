@@ -8,7 +8,6 @@ use Rattle.lset_words.specs.Words.{key_of}
 use Rattle.lset_words.specs.SequentialSet.{has_key}
 use Rattle.lset_history.specs.History.{HistoryValue}
 use Rattle.lset_history.specs.Faults.{Explains}
-use Rattle.lset_judge.specs.Rule.{Event, begins, ends, looks, leaves, idle}
 use Rattle.lset_judge.specs.Events.{Kind, changes, sees, nothing, kind_if}
 use Rattle.lset_judge.specs.Verdict.{IsExplained}
 

@@ -48,5 +48,10 @@ pub fn run_of<M: Machine>(
     let Ok(layout) = layout_opening(schedule.threads, schedule.quota, keys.len() as u32) else {
         unreachable!();
     };
-    Run::opened(alloc, World::<M>::opened(alloc, layout, keys)?, keys, chains)
+    Run::opened(
+        alloc,
+        World::<M>::opened(alloc, layout, keys)?,
+        keys,
+        chains,
+    )
 }

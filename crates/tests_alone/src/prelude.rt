@@ -2,7 +2,9 @@
 pub use lset_coarse::CoarseList;
 pub use lset_fine::FineList;
 pub use lset_history::{Changes, History, HistoryFault, Oracle, OrderFault, Placed, check_order};
-pub use lset_judge::{Hidden, Judge, LAST_MOMENT, Refusal, StreamCall, StreamFault, Verdict, Window};
+pub use lset_judge::{
+    Hidden, Judge, LAST_MOMENT, Refusal, StreamCall, StreamFault, Verdict, Window,
+};
 pub use lset_lazy::LazyList;
 pub use lset_lock_free::LockFreeList;
 pub use lset_optimistic::OptimisticList;

@@ -2,6 +2,9 @@ use lset_judge::{Hidden, StreamCall, Window};
 use lset_text::{call_word, reply_word};
 use std::alloc::{AllocError, Global};
 
+/// The most calls that are printed: of more, the last to begin.
+const MOST_SHOWN: usize = 16;
+
 /// A call, as a recording has it.
 fn put_call(out: &mut String, made: StreamCall) -> Result<(), AllocError> {
     let StreamCall {
@@ -67,8 +70,24 @@ fn put_calls(out: &mut String, window: &Window) -> Result<(), AllocError> {
     }
     let heading = heading(window.left);
     writeln!(out, "{heading}")?;
-    for call in &window.calls {
+    let earlier = window.calls.len().saturating_sub(MOST_SHOWN);
+    for call in window.calls.iter().skip(earlier) {
         put_call(out, *call)?;
+    }
+    put_earlier(out, &window.calls, earlier)
+}
+
+/// Where the first of the calls are, if they are too many to be printed.
+fn put_earlier(out: &mut String, calls: &[StreamCall], earlier: usize) -> Result<(), AllocError> {
+    let (Some(first), Some(last)) = (calls.first(), calls.get(earlier.saturating_sub(1))) else {
+        return Ok(());
+    };
+    if earlier > 0 {
+        let (first, last) = (first.begun, last.begun);
+        writeln!(
+            out,
+            "{earlier} more calls of the key that began at moments {first} to {last} belong to these, and are not shown"
+        )?;
     }
     Ok(())
 }

@@ -1,5 +1,4 @@
-use Rattle.std.proofs.Common.{refl, ap, ◌∙◌, length}
-use Rattle.lset_judge.specs.Window.{calls_of}
+use Rattle.std.proofs.Common.{refl, ◌∙◌}
 use Rattle.lset_judge.proofs.Windows.{same_length}
 use Rattle.lset_judge.proofs.asked.shorten.Goals as goal
 

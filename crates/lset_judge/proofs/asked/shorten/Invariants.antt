@@ -1,4 +1,4 @@
-use Rattle.std.proofs.Common.{◌≡◌, ℕ, ◌+◌, ◌-◌, length}
+use Rattle.std.proofs.Common.{◌≡◌, ℕ, ◌-◌, length}
 use Rattle.lset_judge.specs.Window.{asked_of, calls_of, HaveNoneOf}
 use Rattle.lset_judge.proofs.asked.shorten.Given as goal
 

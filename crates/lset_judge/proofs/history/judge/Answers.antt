@@ -1,4 +1,4 @@
-use Rattle.std.proofs.Common.{true, ◌≡◌, ℕ, ◌+◌, ◌<◌, ◌++◌, ◌∷◌, [], List, map, take, length, subst, sym, ap, ◌∙◌, arith, rules}
+use Rattle.std.proofs.Common.{true, ◌≡◌, ℕ, ◌+◌, ◌++◌, ◌∷◌, [], List, map, take, subst, sym, ap, ◌∙◌, arith, rules}
 use Rattle.std.specs.Prelude.{IfSome}
 use Rattle.std.proofs.lemmas.List.{take_more, take_all, map-append}
 use Rattle.std.proofs.lemmas.List.Elements.{recursion_from_All}
@@ -6,7 +6,6 @@ use Rattle.lset_words.specs.declared.Reply.{Reply}
 use Rattle.lset_words.specs.declared.history.CallRecord.{CallRecord}
 use Rattle.lset_judge.specs.Stream.{record_of, stream_history}
 use Rattle.lset_judge.specs.Verdict.{IsExplained, is_plain}
-use Rattle.lset_judge.specs.declared.judging.Verdict.{Verdict}
 use Rattle.lset_judge.specs.Judge.{IsJudgeOf, IsVerdict}
 use Rattle.lset_judge.specs.Reading.{read_as}
 use Rattle.lset_words.specs.History.{IsHistory}

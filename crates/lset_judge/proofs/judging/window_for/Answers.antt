@@ -1,8 +1,5 @@
-use Rattle.std.proofs.Common.{sym, subst}
-use Rattle.std.specs.Prelude.{IfSome}
 use Rattle.lset_judge.specs.Log.{log_of}
-use Rattle.lset_judge.specs.declared.log.Log.{Log}
-use Rattle.lset_judge.proofs.Windows.{TellsOf, tells_stream}
+use Rattle.lset_judge.proofs.Windows.{tells_stream}
 use Rattle.lset_judge.proofs.judging.window_for.Goals as goal
 
 pub returns : goal.returns

@@ -1,5 +1,4 @@
 use Rattle.std.proofs.Common.{sym, ap, ◌∙◌}
-use Rattle.std.specs.Prelude.{Vec}
 use Rattle.std.proofs.lemmas.List.{take_all}
 use Rattle.lset_judge.specs.Log.{waiting_of}
 use Rattle.lset_judge.proofs.Logging.{waiting_in, waiting_out}

@@ -1,8 +1,7 @@
-use Rattle.std.proofs.Common.{◌≡◌, ◌∙◌, ℕ, List, ap, refl, subst}
-use Rattle.lset_judge.specs.declared.window.Window.{Window}
+use Rattle.std.proofs.Common.{◌∙◌, List, ap, refl, subst}
 use Rattle.lset_judge.specs.declared.asked.Part.{Part}
 use Rattle.lset_judge.specs.Log.{log_of}
-use Rattle.lset_judge.specs.Window.{asked_of, shown_of, calls_of, HaveNoneOf}
+use Rattle.lset_judge.specs.Window.{asked_of, shown_of, HaveNoneOf}
 use Rattle.lset_judge.proofs.Windows.{window_is}
 use Rattle.lset_judge.proofs.window.window_at.Goals as goal
 

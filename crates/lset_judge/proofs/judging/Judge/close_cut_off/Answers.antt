@@ -1,6 +1,6 @@
-use Rattle.std.proofs.Common.{refl, sym, subst}
+use Rattle.std.proofs.Common.{refl, subst}
 use Rattle.std.specs.Prelude.{None}
-use Rattle.lset_judge.specs.Stream.{stream_history, IsStreamVerdictCutOff, IsToldBy}
+use Rattle.lset_judge.specs.Stream.{stream_history, IsStreamVerdictCutOff}
 use Rattle.lset_judge.proofs.Windows.{tells_now}
 use Rattle.lset_judge.proofs.judging.Judge.close_cut_off.Goals as goal
 

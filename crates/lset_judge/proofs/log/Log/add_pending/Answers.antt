@@ -1,7 +1,6 @@
-use Rattle.std.proofs.Common.{List, [], ap, sym, refl, ◌∙◌, append-nil, take}
+use Rattle.std.proofs.Common.{ap, sym, ◌∙◌}
 use Rattle.std.proofs.lemmas.List.{take_all}
-use Rattle.lset_judge.specs.declared.log.Ended.{Ended}
-use Rattle.lset_judge.specs.Log.{Logged, log_of, pushed, unquiet, with_pending}
+use Rattle.lset_judge.specs.Log.{log_of, pushed, unquiet, with_pending}
 use Rattle.lset_judge.proofs.Logging.{with_more, with_none, pending_more}
 use Rattle.lset_judge.proofs.log.Log.add_pending.Goals as goal
 

@@ -1,4 +1,4 @@
-use Rattle.std.proofs.Common.{◌≡◌, ◌∙◌, ◌<◌, ◌-◌, sym, arith, length}
+use Rattle.std.proofs.Common.{◌∙◌, ◌<◌, ◌-◌, sym, arith, length}
 use Rattle.lset_judge.specs.Log.{log_of}
 use Rattle.lset_judge.proofs.Logging.{of_entry}
 use Rattle.lset_judge.proofs.log.Log.made_by.Goals as goal

@@ -1,9 +1,7 @@
-use Rattle.std.proofs.Common.{ℕ, List, ◌≡◌, ◌≢◌, ◌∙◌, sym, subst}
+use Rattle.std.proofs.Common.{ℕ, ◌∙◌, sym, subst}
 use Rattle.std.specs.Prelude.{None}
 use Rattle.lset_words.specs.Words.{key_of}
-use Rattle.lset_judge.specs.declared.stream.Pending.{Pending}
 use Rattle.lset_judge.specs.Rule.{State}
-use Rattle.lset_judge.specs.Stream.{state_for}
 use Rattle.lset_judge.specs.Log.{Logged, log_for, waiting_of, IsQuiet, LogsEnd, StaysLog}
 use Rattle.lset_judge.proofs.stream.Stream.meet_end_going.Goals as goal
 

@@ -1,0 +1,92 @@
+"""What judge of a recording costs beside the judge written by hand (peer_judge.rs): its time is to be that of the calls, whatever they are, and
+its memory that of the keys and of the pending calls."""
+
+import collections
+import os
+import random
+import tempfile
+
+from build_benches import by_rustc
+from measuring import built, heading, least, memory_of, row, seconds_of
+
+MILLION = 1_000_000
+THREADS, KEYS = 16, 64
+RUNS = 3
+MOST_KB, MOST_GROWTH, MOST_OF_THREADS = 1_000, 10.3, 2  # more of memory and of time for ten times the calls; of 4,096 threads to 8
+
+# Each recording: what it is called, how many calls it has, of how many threads on how many keys, and whether one more call spans all
+RECORDINGS = {
+    "1,000,000 calls": (MILLION, THREADS, KEYS, False),
+    "10,000,000 calls": (10 * MILLION, THREADS, KEYS, False),
+    "8 threads": (MILLION, 8, KEYS, False),
+    "512 threads": (MILLION, 512, KEYS, False),
+    "4,096 threads": (MILLION, 4_096, KEYS, False),
+    "a million keys": (MILLION, THREADS, MILLION, False),
+    "one key": (MILLION, THREADS, 1, False),
+    "one call spans all": (MILLION, THREADS, KEYS, True),
+    "100,000 calls pending at once": (MILLION, 200_000, KEYS, False),
+}
+
+
+def judge():
+    """The table of recordings. Gives the status: 1 where time or memory grows by more than it is to."""
+    heading("Recording", "`judge`, s", "KB", "by hand, s", "KB", "ratio")
+    found = {}
+    with tempfile.TemporaryDirectory(prefix="bench-") as room:
+        programs = [built("listset"), "judge"], [by_rustc("peer_judge.rs", room)]
+        for name, asked in RECORDINGS.items():
+            with open(f"{room}/recording", "w", encoding="ascii") as file:
+                file.writelines(lines_of(*asked))
+            found[name] = measured_row(name, programs, file.name)
+    (few, few_kb), (many, many_kb) = found["1,000,000 calls"], found["10,000,000 calls"]
+    is_even = many_kb - few_kb <= MOST_KB and many <= MOST_GROWTH * few
+    return 0 if is_even and found["4,096 threads"][0] <= MOST_OF_THREADS * found["8 threads"][0] else 1
+
+
+def measured_row(name, programs, given):
+    """Prints the row of a recording: the least seconds of some runs, in turn. Gives those of the first program, and its kilobytes."""
+    ours, hand = least([seconds_of(words, given, os.devnull, 0) for words in programs] for _ in range(RUNS))
+    kb, hand_kb = (memory_of(words, given) or 0 for words in programs)
+    row(name, f"{ours:.2f}", f"{kb:,}", f"{hand:.2f}", f"{hand_kb:,}", f"{ours / hand:.2f}")
+    return ours, kb
+
+
+def lines_of(calls, threads, keys, has_spanning):
+    """The lines of a recording: threads draw which begins a call or ends its own; one takes effect as it begins or as it ends."""
+    yield "listset-calls 1\n"
+    if has_spanning:
+        yield f"call {threads} add {keys} 1 {2 * calls + 2} true\n"
+    there, begun = {keys} if has_spanning else set(), collections.deque()
+    for made in overlapping(random.Random(1), calls, threads, keys, there):
+        begun += [made] if made else []
+        while begun and begun[0][4]:
+            thread, word, key, begin, end, reply = begun.popleft()
+            yield f"call {thread} {word} {key} {begin} {end} {reply}\n"
+    yield from (f"key {key}\n" for key in sorted(there))
+    yield "end\n"
+
+
+def overlapping(draw, calls, threads, keys, there):
+    """Each call as it begins, and None as one has ended; the set is changed as they take effect."""
+    pending, left, moment = {}, calls, 1
+    while left or pending:
+        thread = draw.randrange(threads) if left else next(iter(pending))
+        moment += 1
+        if thread in pending:
+            made = pending.pop(thread)
+            made[4:] = moment, made[5] or effect_of(made, there)
+            yield None
+        else:
+            made = pending[thread] = [thread, draw.choice(("add", "remove", "contains")), draw.randrange(keys), moment, None, None]
+            made[5] = effect_of(made, there) if draw.random() < 0.5 else None
+            left -= 1
+            yield made
+
+
+def effect_of(made, there):
+    """The reply of a call that takes effect."""
+    word, key = made[1:3]
+    is_true = (key in there) != (word == "add")
+    if is_true and word != "contains":
+        there ^= {key}
+    return "true" if is_true else "false"
