@@ -55,7 +55,7 @@ ASKED = """
 1 show OPENING
 1 show refused.schedule
 1 show version-1-opening.schedule
-3 show opens-with-keys.report
+2 show opens-with-keys.report
 4 show two-removers.broken.report
 4 show snip.broken.report
 1 show --svg open-call.schedule
@@ -69,7 +69,7 @@ ASKED = """
 1 show --svg --from 2 OPENING
 1 trace --lacks lock OPENING
 2 replay --lacks lock ENDED
-4 show --lacks lock ENDED
+3 show --lacks lock ENDED
 1 trace --chain TRIES
 4 trace --chain CHAIN
 1 draft ../../tests/transcripts/data/drafts/ceiling-meets-mark.draft
