@@ -44,7 +44,7 @@ ASKED = """
 1 replay refused.schedule
 1 replay version-1-opening.schedule
 1 judge ../../tests/transcripts/data/recorded/seen.calls
-1 judge ../../tests/transcripts/data/recorded/lost.calls
+7 judge ../../tests/transcripts/data/recorded/lost.calls
 2 check one-add.report
 2 check opens-with-keys.report
 1 check ceiling-left-in-chain.broken.report
@@ -56,8 +56,8 @@ ASKED = """
 1 show refused.schedule
 1 show version-1-opening.schedule
 2 show opens-with-keys.report
-4 show two-removers.broken.report
-4 show snip.broken.report
+15 show two-removers.broken.report
+3 show snip.broken.report
 1 show --svg open-call.schedule
 3 show --svg stale-pred.broken.report
 1 trace one-add.schedule

@@ -217,10 +217,10 @@ function checkRefusals(ask) {
   const picture = inPage("drawRecorded")(stale.calls, stale.from, 600);
   check(`where the key is there: ${picture}`, barsIn(picture) === 2 && picture.includes("cursor") && picture.includes(">the key is there</text>"));
   const open = saidOf(ask, `${TITLE}call 0 add 5 1 - -\ncall 1 contains 5 2 3 false\ncall 1 remove 5 4 5 true\nkey 5\nend`);
-  const isPending = open.calls.some(({ ended }) => ended === null) && open.reasons.join().includes("add(5) of t0, begun at 1, is pending");
-  check(`a pending call: ${open.reasons}`, open.kind === "none" && isPending);
+  const hidden = "2 more calls of the key that began at moments 1 to 2 are not shown: whatever they did, these have no order.";
+  check(`a pending call: ${open.reasons}`, open.kind === "none" && open.calls.length === 1 && open.reasons.includes(hidden));
   const left = saidOf(ask, `${TITLE}call 0 contains 5 1 2 false\nkey 5\nend`).reasons;
-  const unchanged = ["No order explains the calls of key 5 and leaves it as it was left.", "At first the key is not there.", "No later call changes it.", "At the end the set has it."];
+  const unchanged = ["No order explains the calls of key 5 and leaves it as it was left.", "After the calls that ended by moment 2 the key is not there.", "No later call changes it.", "At the end the set has it."];
   check(`left otherwise: ${left}`, left.join() === unchanged.join());
 }
 
