@@ -21,14 +21,14 @@ use Rattle.lset_judge.specs.declared.stream.StreamCall.{StreamCall}
 use Rattle.lset_judge.specs.declared.stream.TheConstants.{LAST_MOMENT}
 use Rattle.lset_judge.specs.Verdict.{is_plain, is_truth}
 use Rattle.lset_judge.specs.Stream.{record_of, behind_all}
-use Rattle.lset_recording.specs.declared.fault.RecordingCause.TheVariants as wrong
+use Rattle.lset_text.specs.declared.causes.Cause.TheVariants as wrong
 use Rattle.lset_recording.specs.declared.lines.Line.{Line}
 use Rattle.lset_recording.specs.declared.lines.Line.TheVariants as told
 use Rattle.lset_recording.specs.declared.lines.Section.{Section}
 use Rattle.lset_recording.specs.declared.lines.Section.TheVariants as section
 use Rattle.lset_recording.specs.declared.lines.TheConstants.{LONGEST_LINE}
 use Rattle.lset_recording.specs.Texts.{end_pieces, call_pieces, title}
-use Rattle.lset_recording.specs.Reading.{causes, kinds, from_calls, opening_kind, open_kind, true_kind, false_kind, key_kind, end_kind, cut_kind}
+use Rattle.lset_recording.specs.Reading.{kinds, from_calls, opening_kind, open_kind, true_kind, false_kind, key_kind, end_kind, cut_kind}
 use Rattle.lset_recording.specs.Reading.{Comes, IsFormed, line_told, line_behind_title}
 
 -- the pieces of a line
@@ -156,8 +156,8 @@ short_line false e r x is = is
 behind_title : (s : Section) (line : List ℕ) (l : Line) → line_behind_title s line ≡ Ok l
     → (line ≡ line_of (line_pieces l)) × IsLine l × Comes s l
 behind_title s line l is =
-    let f = line_found One causes line_pieces (IsLineIn s) (kinds s) line l (kinds_known s)
-    (short_line (nat_lt LONGEST_LINE (length line)) wrong.Line (line_in One causes (kinds s) line) l is) in
+    let f = line_found One wrong.Line line_pieces (IsLineIn s) (kinds s) line l (kinds_known s)
+    (short_line (nat_lt LONGEST_LINE (length line)) wrong.Line (line_in One wrong.Line (kinds s) line) l is) in
     (f.0, f.1.0, f.1.1)
 
 titled : (b : Bool) (line : List ℕ) (l : Line) → bytes_eq line title ≡ b → cond b (Ok told.Title) (Err wrong.Header) ≡ Ok l
