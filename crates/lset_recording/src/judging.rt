@@ -33,6 +33,7 @@ pub struct RecordingAnswer {
 }
 
 /// The judge of the calls so far, or one of no calls of a set that opens with these keys.
+#[tactic(auto, using(crate::proofs::Followed::opened))]
 fn or_opened(alloc: Global, judge: Option<Judge>, opening: &[u32]) -> Result<Judge, AllocError>
     requires { IsStrictlyIncreasing opening.now }
     ensures { IfOk result (λ j. (calls : List RecordedCall) → IsJudgeKept opening.now calls judge → IsJudgeKept opening.now calls (Some j)) }
@@ -84,9 +85,7 @@ fn add_key(keys: &mut Vec<u32>, key: u32) -> Result<(), Cause>
     if !is_above(keys, key) {
         return Err(Cause::Opening);
     }
-    if keys.push(key).is_err() {
-        return Err(Cause::Memory);
-    }
+    keys.push(key)?;
     Ok(())
 }
 
@@ -203,9 +202,10 @@ impl Judging {
     pub(crate) fn cause_if_long(&self) -> Cause
         ensures { result ≡ cause_if_long self.now.section }
     {
-        match self.section {
-            Section::Title => Cause::Header,
-            Section::Opening | Section::Calls | Section::Keys | Section::Done => { Cause::Line }
+        if self.section.is_title() {
+            Cause::Header
+        } else {
+            Cause::Line
         }
     }
 
@@ -213,9 +213,10 @@ impl Judging {
     fn cause_at_end(&self) -> Cause
         ensures { result ≡ cause_at_end self.now.section }
     {
-        match self.section {
-            Section::Title => Cause::Header,
-            Section::Opening | Section::Calls | Section::Keys | Section::Done => { Cause::NotEnded }
+        if self.section.is_title() {
+            Cause::Header
+        } else {
+            Cause::NotEnded
         }
     }
 

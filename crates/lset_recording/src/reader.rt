@@ -144,6 +144,7 @@ impl RecordingReader {
     ///
     /// The first fault of the text, whatever comes after these bytes; `Cause::Memory` if an allocation fails. Its line is one whose
     /// newline is in the piece. After an error each further call of `feed`, and `finish`, return that error.
+    #[tactic(auto, using(crate::proofs::ReadLaws::none_failed, crate::proofs::ReadLaws::one_failed))]
     pub fn feed(&mut self, piece: &[u8]) -> Result<(), LineFault>
         ensures taken { OnOk result ((bytes : List ℕ) → IsRead bytes self.old → IsRead (bytes ++ piece.now) self.new) }
         ensures refused { IfErr result (λ fault. (bytes : List ℕ) → IsRead bytes self.old → IsRefusedAt (bytes ++ piece.now) fault) }
@@ -183,6 +184,7 @@ impl RecordingReader {
     /// # Errors
     ///
     /// The fault of the text, if it may not end here; `Cause::Memory` if an allocation fails; the error of `feed`, if it returned one.
+    #[tactic(auto, using(crate::proofs::ReadLaws::none_failed, crate::proofs::ReadLaws::one_failed))]
     pub fn finish(self) -> Result<RecordingAnswer, LineFault>
         ensures said { IfOk result (λ answer. (bytes : List ℕ) → IsRead bytes self
             → (c : Recording) × Says bytes (Ok c) × IsAnswered c answer) }
@@ -199,6 +201,7 @@ impl RecordingReader {
 }
 
 /// The bytes that say a recording are the one text of it.
+#[tactic(auto, using(crate::proofs::TextFound::text_found))]
 pub fn recordings_are_read()
     ensures { RecordingsAreRead }
 {}
