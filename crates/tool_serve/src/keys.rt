@@ -3,7 +3,6 @@
 use lset_text::{Cause, LineFault, cut, is_above, number};
 use lset_words::MOST_OPENING;
 use std::alloc::Global;
-use tool_base::Trouble;
 
 /// What is left of a text, and the number of its first line.
 #[derive(Clone, Copy)]
@@ -52,8 +51,8 @@ fn key_of_line(line: &[u8]) -> Result<u32, Cause> {
     number(piece, 0, u32::MAX).ok_or(Cause::Number)
 }
 
-/// The key of a line that comes after these keys.
-fn next_key(line: &[u8], keys: &[u32]) -> Result<u32, Cause> {
+/// Puts the key of a line behind these keys.
+fn add_key(keys: &mut Vec<u32>, line: &[u8]) -> Result<(), Cause> {
     let key = key_of_line(line)?;
     if keys.len() >= MOST_OPENING as usize {
         return Err(Cause::TooMany);
@@ -61,20 +60,19 @@ fn next_key(line: &[u8], keys: &[u32]) -> Result<u32, Cause> {
     if !is_above(keys, key) {
         return Err(Cause::Opening);
     }
-    Ok(key)
+    keys.push(key)?;
+    Ok(())
 }
 
 /// The keys of the lines that are left, all of them lines of keys.
-fn keys_of_lines(alloc: Global, left: Remaining<'_>) -> Result<Vec<u32>, Trouble> {
+fn keys_of_lines(alloc: Global, left: Remaining<'_>) -> Result<Vec<u32>, LineFault> {
     let mut keys = Vec::new(alloc);
     let mut line = left.line;
     let mut rest = left.text;
     while !rest.is_empty() {
-        let Some((first, after)) = cut(rest, b'\n') else {
-            return Err(LineFault::at(line, Cause::NotEnded).into());
-        };
-        let key = next_key(first, &keys).map_err(|cause| LineFault::at(line, cause))?;
-        keys.push(key)?;
+        let fault = |cause| LineFault::at(line, cause);
+        let (first, after) = cut(rest, b'\n').ok_or(fault(Cause::NotEnded))?;
+        add_key(&mut keys, first).map_err(fault)?;
         line = line.saturating_add(1);
         rest = after;
     }
@@ -88,14 +86,13 @@ fn keys_of_lines(alloc: Global, left: Remaining<'_>) -> Result<Vec<u32>, Trouble
 ///
 /// # Errors
 ///
-/// `Line` for the first line that is refused, with the first check that it fails:
+/// The first line that is refused, with the first check that it fails:
 /// - `NotEnded`: it has bytes and no newline;
 /// - `Line`: it is not `key` and one further field;
 /// - `Number`: the key is not a decimal from 0 to 4,294,967,295 without leading zeros;
 /// - `TooMany`: there are `MOST_OPENING` keys above it;
-/// - `Opening`: the key is not above the one before.
-///
-/// `Memory`: an allocation failed.
-pub fn read_keys(alloc: Global, text: &[u8]) -> Result<Vec<u32>, Trouble> {
+/// - `Opening`: the key is not above the one before;
+/// - `Memory`: an allocation failed.
+pub fn read_keys(alloc: Global, text: &[u8]) -> Result<Vec<u32>, LineFault> {
     keys_of_lines(alloc, after_head(text))
 }
