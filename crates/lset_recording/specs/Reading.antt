@@ -244,10 +244,26 @@ IsVerdictIf false c verdict = IsVerdict all_threads c.opening c.calls c.keys ver
 abbrev pub IsVerdictOnRecording : Recording → Verdict → Type 0
 IsVerdictOnRecording c verdict = IsVerdictIf c.cut_off c verdict
 
--- whether calls may come in a section
+-- ---- which lines may come in a section
+
+abbrev pub takes_opening : Section → Bool
+takes_opening section.Title = false
+takes_opening section.Opening = true
+takes_opening section.Calls = false
+takes_opening section.Keys = false
+takes_opening section.Done = false
+
 abbrev pub takes_calls : Section → Bool
 takes_calls section.Title = false
 takes_calls section.Opening = true
 takes_calls section.Calls = true
 takes_calls section.Keys = false
 takes_calls section.Done = false
+
+-- keys, or the end
+abbrev pub takes_keys : Section → Bool
+takes_keys section.Title = false
+takes_keys section.Opening = true
+takes_keys section.Calls = true
+takes_keys section.Keys = true
+takes_keys section.Done = false

@@ -12,7 +12,9 @@ ghost use Rattle.lset_recording.specs.Reading.{
   line_told,
   title_told,
   section_after,
+  takes_opening,
   takes_calls,
+  takes_keys,
   is_title,
 };
 
@@ -69,10 +71,22 @@ impl Section {
         matches!(self, Section::Title)
     }
 
+    fn takes_opening(self) -> bool
+        ensures { result ≡ takes_opening self }
+    {
+        matches!(self, Section::Opening)
+    }
+
     fn takes_calls(self) -> bool
         ensures { result ≡ takes_calls self }
     {
         matches!(self, Section::Opening | Section::Calls)
+    }
+
+    fn takes_keys(self) -> bool
+        ensures { result ≡ takes_keys self }
+    {
+        !matches!(self, Section::Title | Section::Done)
     }
 }
 
@@ -209,27 +223,27 @@ fn call(thread: &[u8], rest: &[u8]) -> Result<Line, Cause>
 fn opening_or_key(section: Section, word: &[u8], key: &[u8]) -> Result<Line, Cause>
     ensures { result ≡ first_of One Cause.Line (kinds section) (word.now ∷ key.now ∷ []) }
 {
-    match (section, word) {
-        (Section::Opening, b"opening") => {
-            let key = number(key, 0, u32::MAX).ok_or(Cause::Number)?;
-            Ok(Line::Opening(key))
-        }
-        (Section::Opening | Section::Calls | Section::Keys, b"key") => {
-            let key = number(key, 0, u32::MAX).ok_or(Cause::Number)?;
-            Ok(Line::Key(key))
-        }
-        _ => Err(Cause::Line),
+    if section.takes_opening() && word == b"opening".as_slice() {
+        let key = number(key, 0, u32::MAX).ok_or(Cause::Number)?;
+        return Ok(Line::Opening(key));
     }
+    if !section.takes_keys() || word != b"key".as_slice() {
+        return Err(Cause::Line);
+    }
+    let key = number(key, 0, u32::MAX).ok_or(Cause::Number)?;
+    Ok(Line::Key(key))
 }
 
 fn end(section: Section, word: &[u8]) -> Result<Line, Cause>
     ensures { result ≡ first_of One Cause.Line (kinds section) (word.now ∷ []) }
 {
-    match (section, word) {
-        (Section::Opening | Section::Calls, b"cut") => Ok(Line::Cut),
-        (Section::Opening | Section::Calls | Section::Keys, b"end") => Ok(Line::End),
-        _ => Err(Cause::Line),
+    if section.takes_calls() && word == b"cut".as_slice() {
+        return Ok(Line::Cut);
     }
+    if !section.takes_keys() || word != b"end".as_slice() {
+        return Err(Cause::Line);
+    }
+    Ok(Line::End)
 }
 
 fn line_in(section: Section, line: &[u8]) -> Result<Line, Cause>

@@ -1,7 +1,7 @@
 //! The line of a call that has ended, read in one pass, as long recordings have one beside another. Any other line is left to the kinds of
 //! lines: `None` says nothing of it.
 
-ghost use Rattle.std.specs.Prelude.{◌≡◌, ◌≤◌, ◌++◌, ◌∷◌, ℕ, IfSome, Ok, true, codes};
+ghost use Rattle.std.specs.Prelude.{◌≡◌, ◌≤◌, ◌++◌, ◌∷◌, IfSome, Ok, true, codes};
 ghost use Rattle.std.specs.Fmt.{decimal};
 ghost use Rattle.lset_text.specs.declared.words.Version.TheVariants.{One};
 ghost use Rattle.lset_text.specs.Kinds.{line_in};
