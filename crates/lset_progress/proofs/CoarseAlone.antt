@@ -1,11 +1,9 @@
 -- The rows of CoarseList: that its calls end alone, and that it has no deadlock.
-use Rattle.std.specs.Prelude.{◌≡◌, ◌≢◌, ℕ, ◌+◌, ◌*◌, ◌/◌, ◌<◌, nat_le, Bool, false, List, slice_index, if◌then◌else◌, ◌==◌, refl}
-use Rattle.std.proofs.Common.{arith, inl, inr, sym, ◌∙◌, ap, subst}
+use Rattle.std.specs.Prelude.{◌≡◌, ℕ, ◌+◌, ◌*◌, ◌/◌, ◌<◌, nat_le, Bool, false, List, if◌then◌else◌, ◌==◌, refl}
+use Rattle.std.proofs.Common.{arith, inl, inr, ap, subst}
 use Rattle.lset_words.proofs.Numbers.{if_other}
-use Rattle.lset_words.specs.Words.{node_count, target, Sizes, Opening, sizes}
-use Rattle.lset_steps.specs.declared.Event.{Event}
+use Rattle.lset_words.specs.Words.{node_count, target, Sizes}
 use Rattle.lset_steps.specs.declared.Local.{Local}
-use Rattle.lset_steps.specs.Steps.{Run, state_at}
 use Rattle.lset_steps.specs.Chain.{View, view, node_key, node_link}
 use Rattle.lset_steps.specs.ReadRows.{continued}
 use Rattle.lset_steps.proofs.Memory.{inner, next_in}
@@ -16,12 +14,13 @@ use Rattle.lset_coarse.specs.Coarse.{coarse, targets}
 use Rattle.lset_coarse.specs.Lawful.{coarse_lawful}
 use Rattle.lset_coarse.specs.Lawful.Outline.{At, Walking, one_lock, coarse_follows}
 use Rattle.lset_coarse.specs.Lawful.Outline.At.{at0, at1, at2, at3, at4, at5, at6, at7, at8, at9, at10}
-use Rattle.lset_progress.specs.Progress.{IsPending, CallsEndAlone, CanEnd, Holds, SomeCallCanEnd, SomeThreadGetsOn, coarse_steps}
+use Rattle.lset_progress.specs.Progress.{CallsEndAlone, SomeThreadGetsOn, coarse_steps}
+use Rattle.lset_progress.specs.DeadlockFreedom.{IsLivelockFree, IsDeadlockFree, each_call, lock_window}
 use Rattle.lset_progress.proofs.Ahead.{ahead}
-use Rattle.lset_progress.proofs.CanEnd.{alone_can}
 use Rattle.lset_progress.proofs.Decided.{by_below, by_decision}
-use Rattle.lset_progress.proofs.Holders.{holder_known, one_or_more}
-use Rattle.lset_progress.proofs.LocksAlone.{Shows, calls_end, gets_on, may}
+use Rattle.lset_progress.proofs.LivelockFreedom.{is_livelock_free, each_counts}
+use Rattle.lset_progress.proofs.DeadlockFreedom.{is_deadlock_free}
+use Rattle.lset_progress.proofs.LocksAlone.{Shows, calls_end, gets_on}
 use Rattle.lset_progress.proofs.Rest.{rest, few_by, fewer}
 use Rattle.lset_progress.proofs.Rows.{Shape, Timed, Loads, RowBy, within, Only, at_row, goes}
 use Rattle.lset_progress.proofs.Standing.{Standing, stands}
@@ -82,7 +81,7 @@ module _ {sz : Sizes} {ws : List ℕ} {used : ℕ → ℕ} {t : ℕ} {vs : ℕ �
       own = ap (λ n. n + 1) h.registers.thread;
       early = λ z. z;
       last = λ x m. absurd m.1;
-      taken = goes (λ x o m. absurd m.1) (λ z. omega arith) (λ z. absurd z) (λ c v. v) (omega arith);
+      taken = λ free. goes (λ x o m. absurd m.1) (λ z. omega arith) (λ z. absurd z) (λ c v. v) (omega arith);
       mine = (refl, tt);
       missed = λ s d. if_other s 0 d _ _;
     },
@@ -97,9 +96,9 @@ module _ {sz : Sizes} {ws : List ℕ} {used : ℕ → ℕ} {t : ℕ} {vs : ℕ �
     by_below (To 3) (node_key ws l.curr) (target l.call)
         (λ lt. goes (λ x o m. m) (λ z. omega arith) (λ z. absurd z) (λ c v. v) (omega arith))
         (λ ge. by_decision (To 3) targets (node_key ws l.curr) (record l { pc = 3; ckey = node_key ws l.curr })
-        (goes (λ x o m. m) (λ z. omega arith) (λ z. tt) (λ c v. v) (omega arith))
-        (goes (λ x o m. m) (λ z. omega arith) (λ z. tt) (λ c v. v) (omega arith))
-        (λ r. goes (λ x o m. m) (λ z. omega arith) (λ z. tt) (λ c v. v) (omega arith))),
+        (goes (λ x o m. m) (λ z. omega arith) (λ z. absurd z) (λ c v. v) (omega arith))
+        (goes (λ x o m. m) (λ z. omega arith) (λ z. absurd z) (λ c v. v) (omega arith))
+        (λ r. goes (λ x o m. m) (λ z. omega arith) (λ z. absurd z) (λ c v. v) (omega arith))),
   )
   row few (at4 e d w lt) =
       let less : rest size ws (node_link ws l.curr / 2) < rest size ws l.curr = fewer false sz ws used h.memory l.curr
@@ -108,37 +107,33 @@ module _ {sz : Sizes} {ws : List ℕ} {used : ℕ → ℕ} {t : ℕ} {vs : ℕ �
   row few (at5 e d w a) = at_row Row l 5 e (
     inl (tt, omega arith),
     inl (
-      goes (λ x o m. m) (λ z. omega arith) (λ z. tt) (λ c v. v) (omega arith),
-      tt,
-      inl (tt, omega arith),
+      goes (λ x o m. m) (λ z. omega arith) (λ z. (tt, omega arith)) (λ c v. v) (omega arith),
+      (tt, omega arith),
     ),
   )
   row few (at6 e d w a x) = at_row Row l 6 e (
     inl (tt, omega arith),
     inl (
-      goes (λ x o m. m) (λ z. omega arith) (λ z. tt) (λ c v. v) (omega arith),
-      tt,
-      inl (tt, omega arith),
+      goes (λ x o m. m) (λ z. omega arith) (λ z. (tt, omega arith)) (λ c v. v) (omega arith),
+      (tt, omega arith),
     ),
   )
   row few (at7 e d w a x y) = at_row Row l 7 e (
     inl (tt, omega arith),
     inl (
-      goes (λ x o m. m) (λ z. omega arith) (λ z. tt) (λ c v. v) (omega arith),
-      tt,
-      inl (tt, omega arith),
+      goes (λ x o m. m) (λ z. omega arith) (λ z. (tt, omega arith)) (λ c v. v) (omega arith),
+      (tt, omega arith),
     ),
   )
   row few (at8 e d w a) = at_row Row l 8 e (
     inl (tt, omega arith),
-    goes (λ x o m. m) (λ z. omega arith) (λ z. tt) (λ c v. v) (omega arith),
+    goes (λ x o m. m) (λ z. omega arith) (λ z. (tt, omega arith)) (λ c v. v) (omega arith),
   )
   row few (at9 e d w a x) = at_row Row l 9 e (
     inl (tt, omega arith),
     inl (
-      goes (λ x o m. m) (λ z. omega arith) (λ z. tt) (λ c v. v) (omega arith),
-      tt,
-      inl (tt, omega arith),
+      goes (λ x o m. m) (λ z. omega arith) (λ z. (tt, omega arith)) (λ c v. v) (omega arith),
+      (tt, omega arith),
     ),
   )
   row few (at10 e w r ry due) = at_row Row l 10 e (
@@ -160,9 +155,7 @@ shows = record {
   rows = λ op last k t es r upto tn busy. row_of (stands coarse coarse_lawful At follows op last k t es r upto tn busy);
   rests = λ l x e m. subst (λ n. Only (nat_le 2 n)) e m.1;
   late_busy = λ l late e. subst (λ n. Only (within 5 10 n)) e late;
-  late_calm = λ ws l late. tt;
   calm_alone = λ op last k t es r upto others. tt;
-  ready = λ op k es r. inr (λ u un. tt);
 }
 
 pub coarse_calls_end : CallsEndAlone coarse coarse_steps
@@ -171,33 +164,11 @@ coarse_calls_end = calls_end coarse coarse_lawful shape coarse_steps shows
 pub coarse_gets_on : SomeThreadGetsOn coarse
 coarse_gets_on = gets_on coarse coarse_lawful shape coarse_steps shows
 
--- SOME CALL CAN END: that of the thread that has the lock, or each, if nobody has it
-module _ (op : Opening) (k : ℕ) (es : ℕ → Event) (r : Run coarse op es k) where
-  abbrev lock : ℕ
-  lock = slice_index (state_at coarse op es k).words 0
+pub coarse_livelock_free : IsLivelockFree each_call coarse (lock_window coarse_steps)
+coarse_livelock_free = is_livelock_free coarse coarse_lawful shape coarse_steps shows each_call
+    (each_counts coarse shape (λ ws l. tt)) (λ sz. omega arith)
 
-  only_word : (v x : ℕ) → Holds (sizes op) (state_at coarse op es k) v x → lock ≡ v + 1
-  only_word v x h =
-      let m = holder_known coarse coarse_lawful shape.may (may coarse coarse_lawful shape coarse_steps shows) op es k r x h.is_lock h.inside
-      k (omega arith) v h.mine in
-      ap (λ i. slice_index (state_at coarse op es k).words i) (sym m.1.0) ∙ h.mine
-
-  -- who is the only one to have it
-  ends : (t : ℕ) → t < op.threads → IsPending (state_at coarse op es k) t → ((v : ℕ) → v ≢ t → lock ≡ v + 1 → ⊥)
-      → CanEnd coarse (state_at coarse op es k) (coarse_steps (sizes op))
-  ends t tn busy only = alone_can coarse (state_at coarse op es k) t (coarse_steps (sizes op))
-      (coarse_calls_end op k t es r tn busy (λ v x vn d h. only v d (only_word v x h)))
-
-  can_end : (t : ℕ) → t < op.threads → IsPending (state_at coarse op es k) t
-      → CanEnd coarse (state_at coarse op es k) (coarse_steps (sizes op))
-  can_end t tn busy = elim (one_or_more lock) [
-    | inl z ↦ ends t tn busy (λ v d h. omega arith)
-    | inr e ↦
-        (let m = holder_known coarse coarse_lawful shape.may (may coarse coarse_lawful shape coarse_steps shows) op es k r 0 (inl refl)
-        (omega arith) k (omega arith) e.0 e.1 in
-        let is : slice_index (state_at coarse op es k).words 0 ≡ e.0 + 1 = e.1 in
-        ends e.0 m.0 (λ z. subst (λ n. Only (nat_le 2 n)) z m.1.1) (λ v d h. d (omega arith)))
-  ]
-
-pub coarse_can_end : SomeCallCanEnd coarse coarse_steps
-coarse_can_end op k t es r tn busy = can_end op k es r t tn busy
+pub coarse_deadlock_free : IsDeadlockFree each_call coarse
+coarse_deadlock_free = is_deadlock_free coarse coarse_lawful shape coarse_steps shows each_call
+    (each_counts coarse shape (λ ws l. tt)) (lock_window coarse_steps)
+    coarse_livelock_free

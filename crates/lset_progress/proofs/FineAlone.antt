@@ -1,6 +1,6 @@
 -- The rows of FineList: that its calls end alone, and that it has no deadlock.
 use Rattle.std.specs.Prelude.{◌≡◌, ℕ, ◌+◌, ◌*◌, ◌/◌, ◌<◌, ◌||◌, Bool, false, List, if◌then◌else◌, ◌==◌, refl}
-use Rattle.std.proofs.Common.{arith, inl, inr, ap, subst}
+use Rattle.std.proofs.Common.{arith, inl, inr, subst}
 use Rattle.lset_words.proofs.Numbers.{if_other}
 use Rattle.lset_words.specs.Words.{node_count, target, Sizes}
 use Rattle.lset_steps.specs.declared.Local.{Local}
@@ -14,13 +14,16 @@ use Rattle.lset_fine.specs.Fine.{fine, targets}
 use Rattle.lset_fine.specs.Lawful.{fine_lawful}
 use Rattle.lset_fine.specs.Lawful.Outline.{At, fine_follows}
 use Rattle.lset_fine.specs.Lawful.Outline.At.{at0, at1, at2, at3, at4, at5, at6, at7, at8, at9, at10, at11, at12, at13}
-use Rattle.lset_progress.specs.Progress.{CallsEndAlone, SomeCallCanEnd, SomeThreadGetsOn, fine_steps, for_each}
+use Rattle.lset_progress.specs.Progress.{CallsEndAlone, SomeThreadGetsOn, fine_steps}
+use Rattle.lset_progress.specs.DeadlockFreedom.{IsLivelockFree, IsDeadlockFree, each_call, lock_window}
 use Rattle.lset_progress.proofs.Ahead.{ahead}
+use Rattle.lset_progress.proofs.LivelockFreedom.{is_livelock_free, each_counts}
 use Rattle.lset_progress.proofs.Decided.{by_below, by_decision}
-use Rattle.lset_progress.proofs.LocksAlone.{Shows, calls_end, gets_on, can_end}
+use Rattle.lset_progress.proofs.DeadlockFreedom.{is_deadlock_free}
+use Rattle.lset_progress.proofs.LocksAlone.{Shows, calls_end, gets_on}
 use Rattle.lset_progress.proofs.Rest.{rest, few_by, fewer}
 use Rattle.lset_progress.proofs.Rows.{Shape, Timed, Loads, RowBy, NodeLocks, within, Only, at_row, goes}
-use Rattle.lset_progress.proofs.Rows.{no_lock, pred_only, gave_pred, gave_curr, ranked}
+use Rattle.lset_progress.proofs.Rows.{no_lock, pred_only, gave_pred, gave_curr, after_pred, takes_lock}
 use Rattle.lset_progress.proofs.Standing.{Standing, stands}
 
 -- how many steps are left behind the next one, at each row
@@ -79,33 +82,18 @@ module _ {sz : Sizes} {ws : List ℕ} {used : ℕ → ℕ} {t : ℕ} {vs : ℕ �
     takes_head : Row (record l { pc = 1 })
     takes_head = (
       inl (tt, omega arith),
-      record {
-        is_lock = inr (0, refl);
-        inside = omega arith;
-        free = refl;
-        own = ap (λ n. n + 1) h.registers.thread;
-        early = λ z. z;
-        last = λ x m. no_lock m;
-        taken = goes (λ x o m. no_lock m) (λ z. omega arith) (λ z. absurd z) (λ c v. v) (omega arith);
-        mine = inl (refl, tt);
-        missed = λ s d. if_other s 0 d _ _;
-      },
+      takes_lock shape size fine sz ws t (record l { pc = 1 }) 0 (omega arith) h.registers.thread (λ z. z) (λ x m. no_lock m)
+          (λ free. goes (λ x o m. no_lock m) (λ z. omega arith) (λ z. absurd z) (λ c v. v) (omega arith))
+          (inl (refl, tt)) (λ s d. if_other s 0 d _ _),
     )
 
     takes_curr : Behind V t (target l.call) l.pred l.curr → Row (record l { pc = 3 })
     takes_curr b = (
       inl (tt, omega arith),
-      record {
-        is_lock = inr (l.curr, refl);
-        inside = omega arith;
-        free = refl;
-        own = ap (λ n. n + 1) h.registers.thread;
-        early = λ z. z;
-        last = λ x m. elim m [ inl p ↦ ranked size ws l.curr l.pred x p.0 (curr_less b) | inr c ↦ absurd c.1 ];
-        taken = goes (λ x o m. pred_only m) (λ z. omega arith) (λ z. absurd z) (λ c v. v) (omega arith);
-        mine = inr (refl, tt);
-        missed = λ s d. if_other s 0 d _ _;
-      },
+      takes_lock shape size fine sz ws t (record l { pc = 3 }) l.curr inside h.registers.thread
+          (λ z. z) (λ x m. after_pred size ws l.curr l.pred x (curr_less b) m)
+          (λ free. goes (λ x o m. pred_only m) (λ z. omega arith) (λ z. absurd z) (λ c v. v) (omega arith))
+          (inr (refl, tt)) (λ s d. if_other s 0 d _ _),
     )
 
     row : At sz.quota t vs first now V done l → Row l
@@ -122,9 +110,9 @@ module _ {sz : Sizes} {ws : List ℕ} {used : ℕ → ℕ} {t : ℕ} {vs : ℕ �
       by_below (To 4) (node_key ws l.curr) (target l.call)
           (λ lt. goes (λ x o m. m) (λ z. omega arith) (λ z. absurd z) (λ c v. v) (omega arith))
           (λ ge. by_decision (To 4) targets (node_key ws l.curr) (record l { pc = 4; ckey = node_key ws l.curr })
-          (goes (λ x o m. m) (λ z. omega arith) (λ z. tt) (λ c v. v) (omega arith))
-          (goes (λ x o m. m) (λ z. omega arith) (λ z. tt) (λ c v. v) (omega arith))
-          (λ r. goes (λ x o m. m) (λ z. omega arith) (λ z. tt) (λ c v. v) (omega arith))),
+          (goes (λ x o m. m) (λ z. omega arith) (λ z. absurd z) (λ c v. v) (omega arith))
+          (goes (λ x o m. m) (λ z. omega arith) (λ z. absurd z) (λ c v. v) (omega arith))
+          (λ r. goes (λ x o m. m) (λ z. omega arith) (λ z. absurd z) (λ c v. v) (omega arith))),
     )
     row (at5 e d b lt) = at_row Row l 5 e (
       inl (tt, omega arith),
@@ -142,44 +130,40 @@ module _ {sz : Sizes} {ws : List ℕ} {used : ℕ → ℕ} {t : ℕ} {vs : ℕ �
     row (at7 e d b a) = at_row Row l 7 e (
       inl (tt, omega arith),
       inl (
-        goes (λ x o m. m) (λ z. omega arith) (λ z. tt) (λ c v. v) (omega arith),
-        tt,
-        inl (tt, omega arith),
+        goes (λ x o m. m) (λ z. omega arith) (λ z. (tt, omega arith)) (λ c v. v) (omega arith),
+        (tt, omega arith),
       ),
     )
     row (at8 e d b a x) = at_row Row l 8 e (
       inl (tt, omega arith),
       inl (
-        goes (λ x o m. m) (λ z. omega arith) (λ z. tt) (λ c v. v) (omega arith),
-        tt,
-        inl (tt, omega arith),
+        goes (λ x o m. m) (λ z. omega arith) (λ z. (tt, omega arith)) (λ c v. v) (omega arith),
+        (tt, omega arith),
       ),
     )
     row (at9 e d b a x y) = at_row Row l 9 e (
       inl (tt, omega arith),
       inl (
-        goes (λ x o m. m) (λ z. omega arith) (λ z. tt) (λ c v. v) (omega arith),
-        tt,
-        inl (tt, omega arith),
+        goes (λ x o m. m) (λ z. omega arith) (λ z. (tt, omega arith)) (λ c v. v) (omega arith),
+        (tt, omega arith),
       ),
     )
     row (at10 e d b a) = at_row Row l 10 e (
       inl (tt, omega arith),
-      goes (λ x o m. m) (λ z. omega arith) (λ z. tt) (λ c v. v) (omega arith),
+      goes (λ x o m. m) (λ z. omega arith) (λ z. (tt, omega arith)) (λ c v. v) (omega arith),
     )
     row (at11 e d b a x) = at_row Row l 11 e (
       inl (tt, omega arith),
       inl (
-        goes (λ x o m. m) (λ z. omega arith) (λ z. tt) (λ c v. v) (omega arith),
-        tt,
-        inl (tt, omega arith),
+        goes (λ x o m. m) (λ z. omega arith) (λ z. (tt, omega arith)) (λ c v. v) (omega arith),
+        (tt, omega arith),
       ),
     )
     row (at12 e p c d r ry due) = at_row Row l 12 e (
       inl (tt, omega arith),
       inr (
         inr (l.curr, refl),
-        goes (λ x o m. gave_curr o m) (λ z. omega arith) (λ z. tt) (λ c v. v) (omega arith),
+        goes (λ x o m. gave_curr o m) (λ z. omega arith) (λ z. (tt, omega arith)) (λ c v. v) (omega arith),
       ),
     )
     row (at13 e p r ry due) = at_row Row l 13 e (
@@ -202,9 +186,7 @@ shows = record {
       row_of (stands fine fine_lawful At follows op last k t es r upto tn busy);
   rests = λ l x e m. no_lock (subst (λ n. shape.may (record l { pc = n }) x) e m);
   late_busy = λ l late e. subst (λ n. Only (within 7 13 n)) e late;
-  late_calm = λ ws l late. tt;
   calm_alone = λ op last k t es r upto others. tt;
-  ready = λ op k es r. inr (λ u un. tt);
 }
 
 pub fine_calls_end : CallsEndAlone fine fine_steps
@@ -213,5 +195,11 @@ fine_calls_end = calls_end fine fine_lawful shape fine_steps shows
 pub fine_gets_on : SomeThreadGetsOn fine
 fine_gets_on = gets_on fine fine_lawful shape fine_steps shows
 
-pub fine_can_end : SomeCallCanEnd fine (for_each fine_steps)
-fine_can_end = can_end fine fine_lawful shape fine_steps shows
+pub fine_livelock_free : IsLivelockFree each_call fine (lock_window fine_steps)
+fine_livelock_free = is_livelock_free fine fine_lawful shape fine_steps shows each_call
+    (each_counts fine shape (λ ws l. tt)) (λ sz. omega arith)
+
+pub fine_deadlock_free : IsDeadlockFree each_call fine
+fine_deadlock_free = is_deadlock_free fine fine_lawful shape fine_steps shows each_call
+    (each_counts fine shape (λ ws l. tt)) (lock_window fine_steps)
+    fine_livelock_free

@@ -1,9 +1,10 @@
 -- Who has marked a node of LazyList holds its lock until it has taken the node out: so no node of the chain is marked while nobody
 -- stands between the two.
 use Rattle.std.specs.Prelude.{◌≡◌, ◌≢◌, ℕ, ◌+◌, ◌*◌, ◌/◌, ◌%◌, ◌<◌, ◌≤◌, Bool, true, false, Option, Some, None, List, refl}
-use Rattle.std.specs.Prelude.{if◌then◌else◌, ◌==◌, slice_set}
+use Rattle.std.specs.Prelude.{if◌then◌else◌, ◌==◌, ◌⊎◌, slice_index, slice_set}
 use Rattle.std.proofs.Common.{arith, inl, inr, sym, ◌∙◌, ap, subst, zero, suc}
 use Rattle.lset_words.proofs.Numbers.{same_or_not, if_other}
+use Rattle.lset_words.specs.declared.Call.TheVariants.{Ceiling}
 use Rattle.lset_words.specs.declared.Key.{Key}
 use Rattle.lset_words.specs.Words.{link_index, lock_index, node_count, target, Opening, sizes, key_of}
 use Rattle.lset_words.specs.Log.{begun_at, has_changed}
@@ -22,7 +23,8 @@ use Rattle.lset_steps.proofs.Moves.{Move, KeepsNodes}
 use Rattle.lset_steps.proofs.Moves.Move.{quiet, inserts, sets, clears, removes}
 use Rattle.lset_steps.proofs.Openings.{opening_memory}
 use Rattle.lset_steps.proofs.QuietMove.{in_chain_published, chain_before}
-use Rattle.lset_steps.proofs.ReadOutline.{even_or_odd}
+use Rattle.lset_steps.proofs.ReadOutline.{Reading, even_or_odd}
+use Rattle.lset_steps.proofs.ReadOutline.Reading.{reads20, reads21, reads22, reads23, reads24, reads25}
 use Rattle.lset_steps.proofs.Segments.{gap}
 use Rattle.lset_steps.proofs.Turns.{discipline_of, node_locks}
 use Rattle.lset_lazy.specs.Lazy.{lazy}
@@ -305,3 +307,58 @@ plain_then op k es r none b p = elim (even_or_odd (node_link (state_at lazy op e
   | inl even ↦ even
   | inr odd ↦ (let x = marked_at op es k r k (omega arith) b p odd in absurd (none x.by x.thread x.row))
 ]
+
+-- A MARKED NODE OF THE CHAIN is locked by the thread that is about to take it out: so no node is marked that another may lock
+pub unmarked_unless : (op : Opening) (last k t : ℕ) (es : ℕ → Event) → Run lazy op es last → k ≤ last
+    → (local_of (state_at lazy op es k) t).pc ≢ 12 → (b : ℕ) → Path (node_link (state_at lazy op es k).words) 0 b
+    → (slice_index (state_at lazy op es k).words (lock_index b) ≡ 0)
+    ⊎ (slice_index (state_at lazy op es k).words (lock_index b) ≡ t + 1)
+    → node_link (state_at lazy op es k).words b % 2 ≡ 0
+unmarked_unless op last k t es r l never b p own = elim (even_or_odd (node_link (state_at lazy op es k).words b)) [
+  | inl even ↦ even
+  | inr odd ↦
+      (let i : Known op k es = known op last k es r l in
+      let x = marked_at op es last r k l b p odd in
+      let u : ℕ = x.by in
+      let h = (at_12 (i.threads x.by x.thread).at x.row).0 in
+      let locked : slice_index (state_at lazy op es k).words (lock_index b) ≡ x.by + 1 =
+      ap (λ a. slice_index (state_at lazy op es k).words (lock_index a)) (sym x.node) ∙ h.mine in
+      absurd (elim own [
+        | inl z ↦ omega arith
+        | inr z ↦ never (let same : x.by ≡ t = omega arith in subst (λ u. (local_of (state_at lazy op es k) u).pc ≡ 12) same x.row)
+      ]))
+]
+
+reading_ceiling : {vs : ℕ → View} {first now : ℕ} {done : Bool} {l : Local} → Reading vs first now done l → 23 ≤ l.pc
+    → l.call ≡ Ceiling (key_of l.call)
+reading_ceiling (reads20 e d c a) h = absurd (omega arith)
+reading_ceiling (reads21 e d c a) h = absurd (omega arith)
+reading_ceiling (reads22 e d c a) h = absurd (omega arith)
+reading_ceiling (reads23 e d c a) h = c
+reading_ceiling (reads24 e d c a) h = c
+reading_ceiling (reads25 e d c a) h = c
+
+-- from row 23 on stands a ceiling
+at_23 : {q t : ℕ} {vs : ℕ → View} {first now : ℕ} {v : View} {done : Bool} {l : Local} → At q t vs first now v done l → 23 ≤ l.pc
+    → l.call ≡ Ceiling (key_of l.call)
+at_23 (at_read a) h = reading_ceiling a h
+at_23 (at0 e) h = absurd (omega arith)
+at_23 (at1 e d) h = absurd (omega arith)
+at_23 (at2 e d x) h = absurd (omega arith)
+at_23 (at3 e d x lt) h = absurd (omega arith)
+at_23 (at4 e d f) h = absurd (omega arith)
+at_23 (at5 e d f p) h = absurd (omega arith)
+at_23 (at6 e d f b) h = absurd (omega arith)
+at_23 (at7 e d f b) h = absurd (omega arith)
+at_23 (at8 e d b a) h = absurd (omega arith)
+at_23 (at9 e d b a x) h = absurd (omega arith)
+at_23 (at10 e d b a x y) h = absurd (omega arith)
+at_23 (at11 e d b a x) h = absurd (omega arith)
+at_23 (at12 e d b a x) h = absurd (omega arith)
+at_23 (at13 e b o) h = absurd (omega arith)
+at_23 (at14 e p o) h = absurd (omega arith)
+
+pub ceiling_row : (op : Opening) (last k t : ℕ) (es : ℕ → Event) → Run lazy op es last → k ≤ last → t < op.threads
+    → 23 ≤ (local_of (state_at lazy op es k) t).pc
+    → (local_of (state_at lazy op es k) t).call ≡ Ceiling (key_of (local_of (state_at lazy op es k) t).call)
+ceiling_row op last k t es r l tn high = at_23 ((known op last k es r l).threads t tn).at high

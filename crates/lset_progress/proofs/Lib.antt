@@ -6,7 +6,7 @@ mod Alone
 mod Holders
 mod Waiting
 mod Totals
-mod CanEnd
+mod Windows
 mod HeadPlain
 mod Standing
 mod Rows
@@ -18,10 +18,14 @@ mod FineAlone
 mod OptimisticAlone
 mod LazyMarks
 mod LazyAlone
+mod CeilingEnds
 mod LockFreeSteps
 mod LockFreeAlone
 mod LockFreedom
+mod LivelockFreedom
+mod DeadlockFreedom
 mod WrittenRuns
 mod CeilingWaits
 mod WrongMachines
 mod Livelock
+mod Yielding

@@ -200,11 +200,11 @@ module _ {sz : Sizes} {ws : List ℕ} {used : ℕ → ℕ} {t : ℕ} {vs : ℕ �
   -- on to a row below 23; again from the head; and to the end
   to : {k k' : Local} {ws' : List ℕ} → k'.pc ≢ 0 → k'.pc < 23 → (Valid (node_link ws) k → Valid (node_link ws') k')
       → left size key k' < left size key k → After k ws' (continued k')
-  to busy low valid less = (goes (λ x o m. m) busy (λ z. z) (λ c v. valid v) less, inr (λ c high. absurd (omega arith)))
+  to busy low valid less = (goes (λ x o m. m) busy (λ z. absurd z) (λ c v. valid v) less, inr (λ c high. absurd (omega arith)))
 
   again : {n : ℕ} → (Valid (node_link ws) (record l { pc = n }) → ⊥) → From n ws (continued (record l { pc = 1 }))
   again never = (
-    fails (λ x o m. m) (λ z. omega arith) (λ z. z) (λ c v. never v)
+    fails (λ x o m. m) (λ z. omega arith) (λ z. absurd z) (λ c v. never v)
         (outside (node_link ws) (record l { pc = 1 }) (λ a b. omega arith) (λ a. absurd (omega arith))) (omega arith),
     inr (λ c high. absurd (omega arith)),
   )

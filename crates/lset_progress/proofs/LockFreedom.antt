@@ -1,7 +1,7 @@
 -- That LockFreeList is lock-free. While no call ends, no node is put in, so that each thread marks at most one node, and each node is
 -- taken out at most once; between two such exchanges each thread has the steps of its walk and of one more.
 use Rattle.std.specs.Prelude.{◌≡◌, ◌≢◌, ℕ, ◌+◌, ◌*◌, ◌%◌, ◌<◌, ◌≤◌, ◌⊎◌, Bool, true, false, List, if◌then◌else◌, ◌==◌, refl}
-use Rattle.std.proofs.Common.{arith, inl, inr, sym, ◌∙◌, ap, subst, zero, suc}
+use Rattle.std.proofs.Common.{arith, inl, inr, sym, ◌∙◌, ap, subst, suc}
 use Rattle.lset_words.proofs.Numbers.{same_or_not, if_same, if_other}
 use Rattle.lset_words.specs.declared.Call.{Call}
 use Rattle.lset_words.specs.declared.Call.TheVariants as call
@@ -21,7 +21,7 @@ use Rattle.lset_steps.proofs.QuietMove.{in_chain_published, quiet_back, quiet_ke
 use Rattle.lset_steps.proofs.UnlinkMove.{unlink_back, unlink_curr}
 use Rattle.lset_lock_free.specs.LockFree.{lock_free}
 use Rattle.lset_lock_free.specs.Lawful.{lock_free_lawful}
-use Rattle.lset_progress.specs.Progress.{IsCeiling, Answers, IsLockFree, SomeEnds, counted, steps_of, steps_among}
+use Rattle.lset_progress.specs.Progress.{IsCeiling, Answers, IsLockFree, counted, steps_of}
 use Rattle.lset_progress.specs.Progress.{lock_free_steps, lock_free_window}
 use Rattle.lset_progress.proofs.Holders.{one_or_more}
 use Rattle.lset_progress.proofs.LockFreeAlone.{Timed, Valid, shape, round, left, full_time, own_step}
@@ -30,7 +30,8 @@ use Rattle.lset_progress.proofs.LockFreeSteps.{same_call, keys_on}
 use Rattle.lset_progress.proofs.LockFreeSteps.Stepped.{still, marks, unlinks}
 use Rattle.lset_progress.proofs.Rest.{SameKeys}
 use Rattle.lset_progress.proofs.Rows.{no_time}
-use Rattle.lset_progress.proofs.Totals.{total, total_less, total_all, total_at, total_step}
+use Rattle.lset_progress.proofs.Totals.{total, total_less, total_all, total_at, total_step, one_price, put, put_this, put_that}
+use Rattle.lset_progress.proofs.Windows.{Then, some_ends}
 
 -- WHAT A THREAD HAS LEFT: a call that counts its walk, and one more where others have disturbed it; and whoever is to begin such a
 -- call the most
@@ -41,14 +42,6 @@ Fits reads sz key ws m l = (lock_free_steps sz ≤ m)
 -- what an exchange that succeeds may cost the threads
 abbrev price : Sizes → ℕ
 price sz = sz.threads * round (node_count sz)
-
-one_price : (c a b : ℕ) → a + 1 ≤ b → c * a + c ≤ c * b
-one_price zero a b l = omega arith
-one_price (suc c) a b l =
-    let h : c * a + c ≤ c * b = one_price c a b l in
-    let x : suc c * a ≡ c * a + a = grind arith in
-    let y : suc c * b ≡ c * b + b = grind arith in
-    omega arith
 
 record Phase (reads : Bool) (sz : Sizes) (s : State) (p : ℕ) : Type 0 where
   key : ℕ → ℕ
@@ -61,16 +54,6 @@ record Phase (reads : Bool) (sz : Sizes) (s : State) (p : ℕ) : Type 0 where
   markers : (u : ℕ) → u < sz.threads → (local_of s u).pc ≢ 10 → may_mark u ≡ 1
   nodes : (a : ℕ) → a < node_count sz → InChain (view_of sz s) a → may_leave a ≡ 1
   within : price sz * (total may_leave (node_count sz) + total may_mark sz.threads) + total time sz.threads ≤ p
-
--- the number given for one of them
-abbrev put : (ℕ → ℕ) → ℕ → ℕ → ℕ → ℕ
-put b u n t = if t == u then n else b t
-
-put_this : (b : ℕ → ℕ) (u n : ℕ) → put b u n u ≡ n
-put_this b u n = if_same u u refl n (b u)
-
-put_that : (b : ℕ → ℕ) (u n t : ℕ) → t ≢ u → put b u n t ≡ b t
-put_that b u n t d = if_other t u d n (b t)
 
 -- whether the steps of a call count
 counted_or_not : (reads : Bool) (c : Call) → (counted reads c ≡ 0) ⊎ (counted reads c ≡ 1)
@@ -374,14 +357,11 @@ module _ (reads : Bool) (op : Opening) (last k : ℕ) (es : ℕ → Event) (r : 
 
 -- A RUN of which so many steps count
 module _ (reads : Bool) (op : Opening) (last : ℕ) (es : ℕ → Event) (r : Run lock_free op es last) where
-  abbrev Then : ℕ → ℕ → Event → Type 0
-  Then k p e = ((t : ℕ) × (e ≡ Go t) × Answers lock_free (state_at lock_free op es k) t
-      × (counted reads (local_of (state_at lock_free op es k) t).call ≡ 1))
-      ⊎ ((p' : ℕ) × (p' + steps_of reads (state_at lock_free op es k) e ≤ p)
-      × Phase reads (sizes op) (after lock_free (state_at lock_free op es k) e) p')
+  abbrev Event' : ℕ → ℕ → Event → Type 0
+  Event' k p e = Then lock_free (steps_of reads) op es (Phase reads (sizes op)) k p e
 
   one_event : (k p : ℕ) → k < last → Phase reads (sizes op) (state_at lock_free op es k) p → (e : Event)
-      → Enabled (state_at lock_free op es k) e → Then k p e
+      → Enabled (state_at lock_free op es k) e → Event' k p e
   one_event k p l f (Begin t c) en = inr (p, omega arith, begins reads op last k es r (omega arith) t c en p f)
   one_event k p l f (Go t) en = elim (goes reads op last k es r l t en p f) [
     | inl a ↦ inl (t, refl, a.0, a.1)
@@ -401,34 +381,6 @@ module _ (reads : Bool) (op : Opening) (last : ℕ) (es : ℕ → Event) (r : Ru
         | inr g ↦ no_time shape (node_count (sizes op)) f.key (node_link (state_at lock_free op es k).words)
             (local_of (state_at lock_free op es k) 0) g.2
       ]
-
-  through : (n k p : ℕ) → k + n ≤ last → Phase reads (sizes op) (state_at lock_free op es k) p
-      → p ≤ steps_among reads lock_free op es k n → SomeEnds reads lock_free op es k n
-  through zero k p l f h =
-      let z : p ≡ 0 = omega arith in
-      absurd (none_left k (omega arith) (subst (λ x. Phase reads (sizes op) (state_at lock_free op es k) x) z f))
-  through (suc n) k p l f h = elim (one_event k p (omega arith) f (es k) (r.enabled k (omega arith))) [
-    | inl a ↦ record {
-      at = k;
-      from = omega arith;
-      before = omega arith;
-      thread = a.0;
-      own = a.1;
-      counts = a.3;
-      ends = a.2;
-    }
-    | inr x ↦
-        (let less : x.0 + steps_of reads (state_at lock_free op es k) (es k) ≤ p = x.1 in
-        let e : SomeEnds reads lock_free op es (suc k) n = through n (suc k) x.0 (omega arith) x.2 (omega arith) in record {
-          at = e.at;
-          from = (let g : suc k ≤ e.at = e.from in omega arith);
-          before = (let g : e.at < suc k + n = e.before in omega arith);
-          thread = e.thread;
-          own = e.own;
-          counts = e.counts;
-          ends = e.ends;
-        })
-  ]
 
   starts : (k : ℕ) → Phase reads (sizes op) (state_at lock_free op es k) (lock_free_window (sizes op))
   starts k =
@@ -450,4 +402,6 @@ module _ (reads : Bool) (op : Opening) (last : ℕ) (es : ℕ → Event) (r : Ru
 
 pub lock_free_is_lock_free : IsLockFree lock_free lock_free_window
 lock_free_is_lock_free reads op k n es r h =
-    through reads op (k + n) es r n k (lock_free_window (sizes op)) (omega arith) (starts reads op (k + n) es r k) h
+    some_ends lock_free (steps_of reads) op es (Phase reads (sizes op)) (k + n)
+    (λ j p l f. one_event reads op (k + n) es r j p l f (es j) (r.enabled j l)) (none_left reads op (k + n) es r)
+    n k (lock_free_window (sizes op)) (omega arith) (starts reads op (k + n) es r k) h

@@ -1,7 +1,7 @@
 -- The rows of OptimisticList: a walk from the head that nobody disturbs is valid.
 use Rattle.std.specs.Prelude.{◌≡◌, ◌≢◌, ℕ, ◌+◌, ◌*◌, ◌/◌, ◌%◌, ◌<◌, ◌≤◌, ◌||◌, Bool, false, Option, Some, None, is_some, List}
 use Rattle.std.specs.Prelude.{if◌then◌else◌, ◌==◌, refl}
-use Rattle.std.proofs.Common.{arith, inl, inr, sym, ap, subst}
+use Rattle.std.proofs.Common.{arith, inl, inr, sym, subst}
 use Rattle.lset_words.proofs.Numbers.{if_other}
 use Rattle.lset_words.specs.declared.Reply.{Reply}
 use Rattle.lset_words.specs.Words.{lock_index, node_count, target, Sizes}
@@ -17,14 +17,17 @@ use Rattle.lset_optimistic.specs.Lawful.{optimistic_lawful}
 use Rattle.lset_optimistic.specs.Lawful.Outline.{At, optimistic_follows}
 use Rattle.lset_optimistic.specs.Lawful.Outline.At.{at0, at1, at2, at3, at4, at5, at6, at7, at8, at9, at10, at11, at12, at13}
 use Rattle.lset_optimistic.specs.Lawful.Outline.At.{at14, at15}
-use Rattle.lset_progress.specs.Progress.{CallsEndAlone, SomeCallCanEnd, SomeThreadGetsOn, for_each, optimistic_steps}
+use Rattle.lset_progress.specs.Progress.{CallsEndAlone, SomeThreadGetsOn, optimistic_steps}
+use Rattle.lset_progress.specs.DeadlockFreedom.{IsLivelockFree, IsDeadlockFree, each_call, lock_window}
 use Rattle.lset_progress.proofs.Ahead.{ahead, ahead_less}
+use Rattle.lset_progress.proofs.LivelockFreedom.{is_livelock_free, each_counts}
 use Rattle.lset_progress.proofs.Decided.{by_same, by_below, by_decision, some_or_none}
-use Rattle.lset_progress.proofs.LocksAlone.{Shows, calls_end, gets_on, can_end}
+use Rattle.lset_progress.proofs.DeadlockFreedom.{is_deadlock_free}
+use Rattle.lset_progress.proofs.LocksAlone.{Shows, calls_end, gets_on}
 use Rattle.lset_progress.proofs.Paths.{Path, no_steps, path_on, path_from, path_up}
 use Rattle.lset_progress.proofs.Rest.{rest, few_by, fewer}
 use Rattle.lset_progress.proofs.Rows.{Shape, Timed, Loads, Stores, RowBy, NodeLocks, within, When, Only, at_row, goes, fails}
-use Rattle.lset_progress.proofs.Rows.{no_lock, pred_only, gave_pred, gave_curr, ranked}
+use Rattle.lset_progress.proofs.Rows.{no_lock, pred_only, gave_pred, gave_curr, after_pred, takes_lock}
 use Rattle.lset_progress.proofs.Standing.{Standing, stands}
 
 -- HOW MANY STEPS are left behind the next one, at each row, of a walk that is valid. If there is no reply, both locks are given back,
@@ -107,35 +110,22 @@ module _ {sz : Sizes} {ws : List ℕ} {used : ℕ → ℕ} {t : ℕ} {vs : ℕ �
     takes_pred : Row (record l { pc = 4 })
     takes_pred = (
       inr (omega arith),
-      record {
-        is_lock = inr (l.pred, refl);
-        inside = omega arith;
-        free = refl;
-        own = ap (λ n. n + 1) h.registers.thread;
-        early = λ z. z.0;
-        last = λ x m. no_lock m;
-        taken = goes (λ x o m. no_lock m) (λ z. omega arith) (λ z. absurd z.0) (λ c v. v) (omega arith);
-        mine = inl (refl, tt);
-        missed = λ s d. if_other s 0 d _ _;
-      },
+      takes_lock shape size optimistic sz ws t (record l { pc = 4 }) l.pred pred h.registers.thread (λ z. z.0) (λ x m. no_lock m)
+          (λ free. goes (λ x o m. no_lock m) (λ z. omega arith) (λ z. absurd z.0) (λ c v. v) (omega arith))
+          (inl (refl, tt)) (λ s d. if_other s 0 d _ _),
     )
 
     takes_curr : Found V (target l.call) l.pred l.curr l.ckey → Row (record l { pc = 5 })
     takes_curr f = (
       inr (omega arith),
-      record {
-        is_lock = inr (l.curr, refl);
-        inside = omega arith;
-        free = refl;
-        own = ap (λ n. n + 1) h.registers.thread;
-        early = λ z. z.0;
-        last = λ x m. elim m [ inl p ↦ ranked size ws l.curr l.pred x p.0 (curr_less f) | inr c ↦ absurd c.1 ];
-        taken = by_same (To 5) l.pred 0
-            (λ y. goes (λ x o m. pred_only m) (λ z. omega arith) (λ z. absurd z.0) (λ c v. (tt, tt, v.2, tt, tt)) (omega arith))
-            (λ y. goes (λ x o m. pred_only m) (λ z. omega arith) (λ z. absurd z.0) (λ c v. (tt, tt, v.2, v.0, λ z. y (sym z))) (omega arith));
-        mine = by_same (λ k. shape.may k (lock_index l.curr)) l.pred 0 (λ y. inr (refl, tt)) (λ y. inr (refl, tt));
-        missed = λ s d. if_other s 0 d _ _;
-      },
+      takes_lock shape size optimistic sz ws t (record l { pc = 5 }) l.curr curr h.registers.thread
+          (λ z. z.0) (λ x m. after_pred size ws l.curr l.pred x (curr_less f) m)
+          (λ free. by_same (To 5) l.pred 0
+          (λ y. goes (λ x o m. pred_only m) (λ z. omega arith) (λ z. absurd z.0) (λ c v. (tt, tt, v.2, tt, tt)) (omega arith))
+          (λ y. goes (λ x o m. pred_only m) (λ z. omega arith) (λ z. absurd z.0) (λ c v. (tt, tt, v.2, v.0, λ z. y (sym z)))
+          (omega arith)))
+          (by_same (λ k. shape.may k (lock_index l.curr)) l.pred 0 (λ y. inr (refl, tt)) (λ y. inr (refl, tt)))
+          (λ s d. if_other s 0 d _ _),
     )
 
     -- the last lock is given back
@@ -223,44 +213,40 @@ module _ {sz : Sizes} {ws : List ℕ} {used : ℕ → ℕ} {t : ℕ} {vs : ℕ �
     row (at9 e d b a) = at_row Row l 9 e (
       inl ((tt, tt, tt, tt, tt), omega arith),
       inl (
-        goes (λ x o m. m) (λ z. omega arith) (λ z. z) (λ c v. v) (omega arith),
-        (tt, tt),
-        inl ((tt, tt, tt, tt, tt), omega arith),
+        goes (λ x o m. m) (λ z. omega arith) (λ z. (z, omega arith)) (λ c v. v) (omega arith),
+        ((tt, tt), omega arith),
       ),
     )
     row (at10 e d b a x) = at_row Row l 10 e (
       inl ((tt, tt, tt, tt, tt), omega arith),
       inl (
-        goes (λ x o m. m) (λ z. omega arith) (λ z. z) (λ c v. v) (omega arith),
-        (tt, tt),
-        inl ((tt, tt, tt, tt, tt), omega arith),
+        goes (λ x o m. m) (λ z. omega arith) (λ z. (z, omega arith)) (λ c v. v) (omega arith),
+        ((tt, tt), omega arith),
       ),
     )
     row (at11 e d b a x y) = at_row Row l 11 e (
       inl ((tt, tt, tt, tt, tt), omega arith),
       inl (
-        goes (λ x o m. m) (λ z. omega arith) (λ z. (tt, tt)) (λ c v. v) (omega arith),
-        (tt, tt),
-        inl ((tt, tt, tt, tt, tt), omega arith),
+        goes (λ x o m. m) (λ z. omega arith) (λ z. ((tt, tt), omega arith)) (λ c v. v) (omega arith),
+        ((tt, tt), omega arith),
       ),
     )
     row (at12 e d b a) = at_row Row l 12 e (
       inl ((tt, tt, tt, tt, tt), omega arith),
-      goes (λ x o m. m) (λ z. omega arith) (λ z. z) (λ c v. v) (omega arith),
+      goes (λ x o m. m) (λ z. omega arith) (λ z. (z, omega arith)) (λ c v. v) (omega arith),
     )
     row (at13 e d b a x) = at_row Row l 13 e (
       inl ((tt, tt, tt, tt, tt), omega arith),
       inl (
-        goes (λ x o m. m) (λ z. omega arith) (λ z. (tt, tt)) (λ c v. v) (omega arith),
-        (tt, tt),
-        inl ((tt, tt, tt, tt, tt), omega arith),
+        goes (λ x o m. m) (λ z. omega arith) (λ z. ((tt, tt), omega arith)) (λ c v. v) (omega arith),
+        ((tt, tt), omega arith),
       ),
     )
     row (at14 e p c d i o) = at_row Row l 14 e (
       inl ((tt, tt, tt, tt, tt), omega arith),
       inr (
         inr (l.pred, refl),
-        goes (λ x o m. gave_pred o m) (λ z. omega arith) (λ z. z) (λ c v. v) (omega arith),
+        goes (λ x o m. gave_pred o m) (λ z. omega arith) (λ z. (z, omega arith)) (λ c v. v) (omega arith),
       ),
     )
     row (at15 e c o) = at_row Row l 15 e (inl ((tt, tt, tt, tt, tt), omega arith), inr (inr (l.curr, refl), gives_last))
@@ -277,9 +263,7 @@ shows = record {
   rows = λ op last k t es r upto tn busy. row_of (stands optimistic optimistic_lawful At follows op last k t es r upto tn busy);
   rests = λ l x e m. no_lock (subst (λ n. shape.may (record l { pc = n }) x) e m);
   late_busy = λ l late e. subst (λ n. Only (within 9 15 n)) e late.0;
-  late_calm = λ ws l late. tt;
   calm_alone = λ op last k t es r upto others. tt;
-  ready = λ op k es r. inr (λ u un. tt);
 }
 
 pub optimistic_calls_end : CallsEndAlone optimistic optimistic_steps
@@ -288,5 +272,11 @@ optimistic_calls_end = calls_end optimistic optimistic_lawful shape optimistic_s
 pub optimistic_gets_on : SomeThreadGetsOn optimistic
 optimistic_gets_on = gets_on optimistic optimistic_lawful shape optimistic_steps shows
 
-pub optimistic_can_end : SomeCallCanEnd optimistic (for_each optimistic_steps)
-optimistic_can_end = can_end optimistic optimistic_lawful shape optimistic_steps shows
+pub optimistic_livelock_free : IsLivelockFree each_call optimistic (lock_window optimistic_steps)
+optimistic_livelock_free = is_livelock_free optimistic optimistic_lawful shape optimistic_steps shows each_call
+    (each_counts optimistic shape (λ ws l. tt)) (λ sz. omega arith)
+
+pub optimistic_deadlock_free : IsDeadlockFree each_call optimistic
+optimistic_deadlock_free = is_deadlock_free optimistic optimistic_lawful shape optimistic_steps shows each_call
+    (each_counts optimistic shape (λ ws l. tt)) (lock_window optimistic_steps)
+    optimistic_livelock_free

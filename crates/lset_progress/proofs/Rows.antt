@@ -1,10 +1,10 @@
 -- WHAT A LIST WITH LOCKS SHOWS OF EACH ROW, once: which locks a thread holds behind it, and how much is left of its call. From
 -- these rows follow all laws of progress of the list (LocksAlone).
-use Rattle.std.specs.Prelude.{◌≡◌, ◌≢◌, ℕ, ◌+◌, ◌-◌, ◌/◌, ◌<◌, ◌⊎◌, ◌&&◌, nat_le, not, Bool, true, false, MatchBool, Some, None, List}
-use Rattle.std.specs.Prelude.{slice_index, slice_set}
-use Rattle.std.proofs.Common.{arith, inl, inr, subst, sym, suc, refl}
+use Rattle.std.specs.Prelude.{◌≡◌, ◌≢◌, ℕ, ◌+◌, ◌-◌, ◌/◌, ◌<◌, ◌≤◌, ◌⊎◌, ◌&&◌, nat_le, not, Bool, true, false, MatchBool}
+use Rattle.std.specs.Prelude.{Some, None, List, slice_index, slice_set}
+use Rattle.std.proofs.Common.{arith, inl, inr, subst, sym, ap, suc, refl}
 use Rattle.lset_words.specs.declared.Reply.{Reply}
-use Rattle.lset_words.specs.Words.{lock_index, word_count, Sizes}
+use Rattle.lset_words.specs.Words.{lock_index, node_count, word_count, Sizes}
 use Rattle.lset_steps.specs.declared.Action.{Action}
 use Rattle.lset_steps.specs.declared.Action.TheVariants.{Load, Store, Exchange}
 use Rattle.lset_steps.specs.declared.Fed.{Fed}
@@ -61,12 +61,18 @@ gave_curr d (inr c) = absurd (d c.0)
 abbrev pub rank : ℕ → List ℕ → ℕ → ℕ
 rank size ws w = rest size ws (w / 3 - 1)
 
-pub ranked : (size : ℕ) (ws : List ℕ) (a b x : ℕ) → x ≡ lock_index b → rest size ws a < rest size ws b
+ranked : (size : ℕ) (ws : List ℕ) (a b x : ℕ) → x ≡ lock_index b → rest size ws a < rest size ws b
     → rank size ws (lock_index a) < rank size ws x
 ranked size ws a b x e less =
     let here : lock_index a / 3 - 1 ≡ a = omega arith in
     let there : x / 3 - 1 ≡ b = omega arith in
     subst (λ i. rest size ws i < rank size ws x) (sym here) (subst (λ i. rest size ws a < rest size ws i) (sym there) less)
+
+-- who has only the lock of pred comes to that of curr
+pub after_pred : {A : Type 0} (size : ℕ) (ws : List ℕ) (curr pred x : ℕ) → rest size ws curr < rest size ws pred
+    → ((x ≡ lock_index pred) × Unit {0}) ⊎ (A × ⊥) → rank size ws (lock_index curr) < rank size ws x
+after_pred size ws curr pred x less (inl p) = ranked size ws curr pred x p.0 less
+after_pred size ws curr pred x less (inr c) = absurd c.1
 
 -- WHAT A LIST COUNTS: the lock words that a thread may hold; that its call is behind its decision, from where it tries no lock; what
 -- its next step asks of the words; that its walk is valid, by the links; how many steps are left behind the next one of a valid walk,
@@ -78,6 +84,10 @@ pub record Shape : Type 1 where
   pub valid : (ℕ → ℕ) → Local → Type 0
   pub left : ℕ → (ℕ → ℕ) → Local → ℕ
   pub round : ℕ → ℕ
+
+-- behind a decision fewer than n steps are left, whatever the words are
+abbrev pub LateBy : Shape → ℕ → Local → Type 0
+LateBy S n l = S.late l × (S.left 0 (λ a. 0) l < n)
 
 abbrev pub Any : ℕ → Type 0
 Any x = Unit {0}
@@ -95,6 +105,10 @@ module _ (S : Shape) (size : ℕ) where
   timed_same ws ws' n l keys links h = subst (λ k. TimedBy k (node_link ws') n l) (sym keys)
       (subst (λ f. TimedBy (node_key ws) f n l) (sym links) h)
 
+  pub timed_more : (ws : List ℕ) (l : Local) (n m : ℕ) → n ≤ m → Timed ws n l → Timed ws m l
+  timed_more ws l n m le (inl v) = let h : S.left size (node_key ws) l < n = v.1 in inl (v.0, omega arith)
+  timed_more ws l n m le (inr h) = inr (omega arith)
+
   pub no_time : (key link : ℕ → ℕ) (l : Local) → TimedBy key link 0 l → ⊥
   no_time key link l (inl v) = let h : S.left size key l < 0 = v.1 in omega arith
   no_time key link l (inr h) = omega arith
@@ -102,7 +116,7 @@ module _ (S : Shape) (size : ℕ) where
   -- A STEP of l over ws that leaves l' over ws' and ends no call: a walk that is valid stays so, or one that was not is given up
   pub record Goes (key : ℕ → ℕ) (ws : List ℕ) (l : Local) (key' : ℕ → ℕ) (ws' : List ℕ) (l' : Local) : Type 0 where
     pub busy : l'.pc ≢ 0
-    pub late : S.late l → S.late l'
+    pub late : S.late l → LateBy S (S.left 0 (λ a. 0) l) l'
     pub near : S.calm ws l → (n : ℕ) → TimedBy key (node_link ws) (suc n) l → TimedBy key' (node_link ws') n l'
 
   -- and one that is fed f, where only the words O may still be held
@@ -125,20 +139,37 @@ module _ (S : Shape) (size : ℕ) where
       pub own : to ≡ t + 1
       pub early : S.late l → ⊥
       pub last : (x : ℕ) → S.may l x → rank size ws w < rank size ws x
-      pub taken : Loads ws l (T.feed l 0)
+      pub taken : slice_index ws w ≡ 0 → Loads ws l (T.feed l 0)
       pub mine : S.may (T.feed l 0).local w
       pub missed : (seen : ℕ) → seen ≢ 0 → (T.feed l seen).local ≡ l
+
+    -- of the lock of node b
+    pub takes_lock : (b : ℕ) → b < node_count sz → l.thread ≡ t → (S.late l → ⊥)
+        → ((x : ℕ) → S.may l x → rank size ws (lock_index b) < rank size ws x)
+        → (slice_index ws (lock_index b) ≡ 0 → Loads ws l (T.feed l 0)) → S.may (T.feed l 0).local (lock_index b)
+        → ((seen : ℕ) → seen ≢ 0 → (T.feed l seen).local ≡ l) → Tries (lock_index b) 0 (l.thread + 1)
+    takes_lock b inn thread early last taken mine missed = record {
+      is_lock = inr (b, refl);
+      inside = omega arith;
+      free = refl;
+      own = ap (λ n. n + 1) thread;
+      early = early;
+      last = last;
+      taken = taken;
+      mine = mine;
+      missed = missed;
+    }
 
     -- a store of another word comes behind the decision
     abbrev pub RowBy : Action → Type 0
     RowBy (Load w) = Loads ws l (T.feed l (slice_index ws w))
-    RowBy (Store w v) = (Stores ws l w (slice_set ws w v) (T.feed l v) × S.late l × Timed ws 6 l)
+    RowBy (Store w v) = (Stores ws l w (slice_set ws w v) (T.feed l v) × LateBy S 5 l)
         ⊎ (IsLockWord w × Stores ws l w ws (T.feed l v))
     RowBy (Exchange w from to) = Tries w from to
 
 module _ {S : Shape} {size : ℕ} {key : ℕ → ℕ} {ws : List ℕ} {l : Local} {O : ℕ → Type 0} {key' : ℕ → ℕ} {ws' : List ℕ} {l' : Local}
     (keeps : (x : ℕ) → O x → S.may l x → S.may l' x) where
-  pub goes : l'.pc ≢ 0 → (S.late l → S.late l')
+  pub goes : l'.pc ≢ 0 → (S.late l → LateBy S (S.left 0 (λ a. 0) l) l')
       → (S.calm ws l → S.valid (node_link ws) l → S.valid (node_link ws') l')
       → S.left size key' l' < S.left size key l
       → Then S size key ws l O key' ws' (record { local = l'; answer = None })
@@ -155,7 +186,7 @@ module _ {S : Shape} {size : ℕ} {key : ℕ → ℕ} {ws : List ℕ} {l : Local
   }
 
   -- no walk that is valid gives up
-  pub fails : l'.pc ≢ 0 → (S.late l → S.late l')
+  pub fails : l'.pc ≢ 0 → (S.late l → LateBy S (S.left 0 (λ a. 0) l) l')
       → (S.calm ws l → S.valid (node_link ws) l → ⊥) → S.valid (node_link ws') l'
       → S.left size key' l' < S.left size key l + S.round size
       → Then S size key ws l O key' ws' (record { local = l'; answer = None })

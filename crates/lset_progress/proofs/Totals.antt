@@ -1,7 +1,7 @@
 -- Sums of what the first n threads, or nodes, have left.
-use Rattle.std.specs.Prelude.{◌≡◌, ◌≢◌, ℕ, ◌+◌, ◌*◌, ◌<◌, ◌≤◌, refl}
+use Rattle.std.specs.Prelude.{◌≡◌, ◌≢◌, ℕ, ◌+◌, ◌*◌, ◌<◌, ◌≤◌, ◌==◌, if◌then◌else◌, refl}
 use Rattle.std.proofs.Common.{arith, inl, inr, ap, zero, suc}
-use Rattle.lset_words.proofs.Numbers.{same_or_not}
+use Rattle.lset_words.proofs.Numbers.{same_or_not, if_same, if_other}
 
 abbrev pub total : (ℕ → ℕ) → ℕ → ℕ
 total b zero = 0
@@ -59,3 +59,22 @@ total_step b c (suc n) u d x l e h =
           let r : total c n + x ≤ total b n + n * d = total_step b c n u d x (omega arith) e (λ v k. h v (omega arith)) in
           omega arith)
     ]
+
+-- what is one less c times is c less
+pub one_price : (c a b : ℕ) → a + 1 ≤ b → c * a + c ≤ c * b
+one_price zero a b l = omega arith
+one_price (suc c) a b l =
+    let h : c * a + c ≤ c * b = one_price c a b l in
+    let x : suc c * a ≡ c * a + a = grind arith in
+    let y : suc c * b ≡ c * b + b = grind arith in
+    omega arith
+
+-- the number given for one of them
+abbrev pub put : (ℕ → ℕ) → ℕ → ℕ → ℕ → ℕ
+put b u n t = if t == u then n else b t
+
+pub put_this : (b : ℕ → ℕ) (u n : ℕ) → put b u n u ≡ n
+put_this b u n = if_same u u refl n (b u)
+
+pub put_that : (b : ℕ → ℕ) (u n t : ℕ) → t ≢ u → put b u n t ≡ b t
+put_that b u n t d = if_other t u d n (b t)

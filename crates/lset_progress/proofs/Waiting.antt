@@ -33,29 +33,31 @@ module _ (T : Table) (s : State) (t : ℕ) (en : Enabled s (Go t)) where
 
 -- WHAT A LIST SHOWS of a state: who waits for which node, and that whoever has it waits at most for one of a lower rank
 pub record Climbs (T : Table) (s : State) (threads : ℕ) : Type 1 where
+  -- which of the threads that have calls are meant
+  pub meant : ℕ → Type 0
   pub waits : ℕ → ℕ → Type 0
   pub has : ℕ → ℕ → Type 0
   pub rank : ℕ → ℕ
   pub either : (t : ℕ) → t < threads → IsPending s t → GetsOn T s t ⊎ ((a : ℕ) × waits t a)
-  pub holder : (t a : ℕ) → t < threads → waits t a → (u : ℕ) × (u < threads) × IsPending s u × has u a
+  pub holder : (t a : ℕ) → t < threads → waits t a → (u : ℕ) × (u < threads) × IsPending s u × meant u × has u a
   pub lower : (u a c : ℕ) → u < threads → has u a → waits u c → rank c < rank a
 
 module _ (T : Table) (s : State) (threads : ℕ) (c : Climbs T s threads) where
   abbrev Some : Type 0
-  Some = (u : ℕ) × (u < threads) × GetsOn T s u
+  Some = (u : ℕ) × (u < threads) × c.meant u × GetsOn T s u
 
   climbs : (n t a : ℕ) → t < threads → c.waits t a → c.rank a < n → Some
   climbs zero t a tn w l = absurd (omega arith)
   climbs (suc n) t a tn w l =
       let h = c.holder t a tn w in
       elim (c.either h.0 h.1 h.2) [
-        | inl g ↦ (h.0, h.1, g)
-        | inr x ↦ (let low : c.rank x.0 < c.rank a = c.lower h.0 a x.0 h.1 h.3 x.1 in
+        | inl g ↦ (h.0, h.1, h.3, g)
+        | inr x ↦ (let low : c.rank x.0 < c.rank a = c.lower h.0 a x.0 h.1 h.4 x.1 in
             climbs n h.0 x.0 h.1 x.1 (omega arith))
       ]
 
-  pub some_gets_on : (t : ℕ) → t < threads → IsPending s t → Some
-  some_gets_on t tn busy = elim (c.either t tn busy) [
-    | inl g ↦ (t, tn, g)
+  pub some_gets_on : (t : ℕ) → t < threads → IsPending s t → c.meant t → Some
+  some_gets_on t tn busy meant = elim (c.either t tn busy) [
+    | inl g ↦ (t, tn, meant, g)
     | inr x ↦ climbs (suc (c.rank x.0)) t x.0 tn x.1 (omega arith)
   ]

@@ -85,7 +85,7 @@ silent_at j l = subst (λ e. (told spinning (state_at spinning op spins j) e).an
 
 pub spinning_is_not_lock_free : NotLockFree spinning
 spinning_is_not_lock_free reads most law =
-    none_ends reads spinning spins 17 (counts_at reads) silent_at most (spins_run (17 + most (sizes op))) law
+    none_ends (steps_of reads) spinning spins 17 (counts_at reads) silent_at most (spins_run (17 + most (sizes op))) law
 
 -- Thread 0 has walked to head and tail; thread 1 puts 7 between; thread 0 fails, keeps the lock of the head, and comes to it again.
 abbrev keeping_events : List Event

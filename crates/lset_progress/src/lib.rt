@@ -1,12 +1,10 @@
 //! Progress of the five lists, as laws of the runs of their step machines: each law is a function whose contract is the law, and
 //! whose call does nothing. Nothing is asked of the schedule.
 //!
-//! The laws of the lists with locks say that there is no deadlock. They do not exclude livelock, so they are weaker than what
-//! Herlihy and Shavit call freedom from deadlock: that in each fair run some pending call ends.
-//!
 //! N is the number of nodes: head, tail, one for each slot of each thread, and one for each opening key.
 #![tactic(auto)]
 
+ghost use Rattle.std.specs.Prelude.{Bool};
 ghost use Rattle.lset_coarse.specs.Coarse.{coarse};
 ghost use Rattle.lset_fine.specs.Fine.{fine};
 ghost use Rattle.lset_optimistic.specs.Optimistic.{optimistic};
@@ -16,18 +14,28 @@ ghost use Rattle.lset_progress.specs.Progress.{
   CallsEndAlone,
   CallsEndUnhindered,
   IsLockFree,
-  SomeCallCanEnd,
   SomeCeilingNeverEnds,
   SomeThreadGetsOn,
   coarse_steps,
+  counted,
   fine_steps,
-  for_each,
   lazy_steps,
   lock_free_steps,
   lock_free_window,
   optimistic_steps,
 };
-ghost use Rattle.lset_progress.specs.Wrong.{NoCallsEndAlone, NoCallsEndUnhindered, NotLockFree, claiming, crossed, keeping, spinning};
+ghost use Rattle.lset_progress.specs.DeadlockFreedom.{IsDeadlockFree, IsLivelockFree, each_call, lock_window};
+ghost use Rattle.lset_progress.specs.Wrong.{
+  NoCallsEndAlone,
+  NoCallsEndUnhindered,
+  NotLivelockFree,
+  NotLockFree,
+  claiming,
+  crossed,
+  keeping,
+  spinning,
+  yielding,
+};
 
 /// Theorem: while no other thread holds the lock of a CoarseList, a call that runs alone ends within `2N + 3` steps. (Solo
 /// termination, of Herlihy and Shavit's coarse-grained list.)
@@ -77,51 +85,78 @@ pub fn a_lock_free_ceiling_may_never_end()
 {}
 
 /// Theorem: while a call of a CoarseList is pending, some thread can make a step that is not a failed attempt to take the
-/// lock. (No deadlock; livelock is not excluded.)
+/// lock.
 pub fn some_coarse_call_gets_on()
     ensures { SomeThreadGetsOn coarse }
 {}
 
-/// Theorem: while a call of a CoarseList is pending, there are at most `2N + 3` steps of one thread, of which the last ends
-/// a call. (No deadlock; livelock is not excluded.)
-pub fn some_coarse_call_can_end()
-    ensures { SomeCallCanEnd coarse coarse_steps }
+/// Theorem: of any `n(2N + 3)(5n + 1)` steps of the n threads of a CoarseList that follow one another and are no failed
+/// attempts to take the lock, one ends its call. (Freedom from livelock.)
+pub fn coarse_list_is_livelock_free()
+    ensures { IsLivelockFree each_call coarse (lock_window coarse_steps) }
+{}
+
+/// Theorem: in each run of a CoarseList without an end in which each thread with a call goes on, while a call is pending, one
+/// ends later. (Freedom from deadlock, as Herlihy and Shavit define it.)
+pub fn coarse_list_is_deadlock_free()
+    ensures { IsDeadlockFree each_call coarse }
 {}
 
 /// Theorem: while a call of a FineList is pending, some thread can make a step that is not a failed attempt to take a lock.
-/// (No deadlock, by Herlihy and Shavit's order of the nodes; livelock is not excluded.)
+/// (Herlihy and Shavit's order of the nodes.)
 pub fn some_fine_call_gets_on()
     ensures { SomeThreadGetsOn fine }
 {}
 
-/// Theorem: while a call of a FineList is pending, there are at most `n(4N + 3) + 7` steps of the n threads, of which the
-/// last ends a call. (No deadlock; livelock is not excluded.)
-pub fn some_fine_call_can_end()
-    ensures { SomeCallCanEnd fine (for_each fine_steps) }
+/// Theorem: of any `n(4N + 3)(5n + 1)` steps of the n threads of a FineList that follow one another and are no failed
+/// attempts to take a lock, one ends its call. (Freedom from livelock.)
+pub fn fine_list_is_livelock_free()
+    ensures { IsLivelockFree each_call fine (lock_window fine_steps) }
+{}
+
+/// Theorem: in each run of a FineList without an end in which each thread with a call goes on, while a call is pending, one
+/// ends later. (Freedom from deadlock, as Herlihy and Shavit define it.)
+pub fn fine_list_is_deadlock_free()
+    ensures { IsDeadlockFree each_call fine }
 {}
 
 /// Theorem: while a call of an OptimisticList is pending, some thread can make a step that is not a failed attempt to take a
-/// lock. (No deadlock, by Herlihy and Shavit's order of the nodes; livelock is not excluded.)
+/// lock. (Herlihy and Shavit's order of the nodes.)
 pub fn some_optimistic_call_gets_on()
     ensures { SomeThreadGetsOn optimistic }
 {}
 
-/// Theorem: while a call of an OptimisticList is pending, there are at most `n(8N + 9) + 7` steps of the n threads, of which
-/// the last ends a call. (No deadlock; livelock is not excluded.)
-pub fn some_optimistic_call_can_end()
-    ensures { SomeCallCanEnd optimistic (for_each optimistic_steps) }
+/// Theorem: of any `n(8N + 9)(5n + 1)` steps of the n threads of an OptimisticList that follow one another and are no failed
+/// attempts to take a lock, one ends its call. (Freedom from livelock.)
+pub fn optimistic_list_is_livelock_free()
+    ensures { IsLivelockFree each_call optimistic (lock_window optimistic_steps) }
+{}
+
+/// Theorem: in each run of an OptimisticList without an end in which each thread with a call goes on, while a call is
+/// pending, one ends later. (Freedom from deadlock, as Herlihy and Shavit define it.)
+pub fn optimistic_list_is_deadlock_free()
+    ensures { IsDeadlockFree each_call optimistic }
 {}
 
 /// Theorem: while a call of a LazyList is pending, some thread can make a step that is not a failed attempt to take a lock.
-/// (No deadlock, by Herlihy and Shavit's order of the nodes; livelock is not excluded.)
+/// (Herlihy and Shavit's order of the nodes.)
 pub fn some_lazy_call_gets_on()
     ensures { SomeThreadGetsOn lazy }
 {}
 
-/// Theorem: while a call of a LazyList is pending, there are at most `n(4N + 15) + 7` steps of the n threads, of which the
-/// last ends a call. (No deadlock; livelock is not excluded.)
-pub fn some_lazy_call_can_end()
-    ensures { SomeCallCanEnd lazy (for_each lazy_steps) }
+/// Theorem: of any `n(4N + 15)(5n + 1)` steps of `add` and `remove` that the n threads of a LazyList make one after another,
+/// and that are no failed attempts to take a lock, one ends its call, whatever else happens between them; and of as many
+/// steps of `add`, `remove` and `contains` too. (Freedom from livelock.)
+pub fn lazy_list_is_livelock_free()
+    ensures { (reads : Bool) → IsLivelockFree (counted reads) lazy (lock_window lazy_steps) }
+{}
+
+/// Theorem: in each run of a LazyList without an end in which each thread with a call goes on, while a call is pending, one
+/// ends later; while an `add` or a `remove` is, one of these; and while an `add`, a `remove` or a `contains` is, one of
+/// these. (Freedom from deadlock, as Herlihy and Shavit define it.)
+pub fn lazy_list_is_deadlock_free()
+    ensures all { IsDeadlockFree each_call lazy }
+    ensures counted { (reads : Bool) → IsDeadlockFree (counted reads) lazy }
 {}
 
 /// Lemma: the law of `lock_free_calls_end_alone` refuses a LockFreeList whose walk attempts to unlink a marked node again
@@ -150,4 +185,12 @@ pub fn a_kept_lock_is_refused()
 /// Lemma: the law of `some_lazy_call_gets_on` refuses a LazyList whose `remove` takes its two locks in the other order.
 pub fn crossed_locks_are_refused()
     ensures { SomeThreadGetsOn crossed → ⊥ }
+{}
+
+/// Lemma: the laws of freedom from livelock and from deadlock refuse a LazyList whose `remove` takes its two locks in the
+/// other order, and in which a thread that finds its second lock taken gives the first back and starts again: two threads can
+/// do so for ever, in a run that is fair.
+pub fn two_that_yield_are_not_deadlock_free()
+    ensures bounded { (reads : Bool) → NotLivelockFree (counted reads) yielding }
+    ensures fair { (reads : Bool) → IsDeadlockFree (counted reads) yielding → ⊥ }
 {}
