@@ -1,6 +1,6 @@
 -- In a fair run of LazyList a ceiling brings some call to an end too: while no call that takes locks is pending, no node of the
 -- chain is marked and no word changes, so that the ceiling ends.
-use Rattle.std.specs.Prelude.{◌≡◌, ◌≢◌, ℕ, ◌+◌, ◌-◌, ◌<◌, ◌≤◌, ◌⊎◌, true, if◌then◌else◌, List, slice_index, refl}
+use Rattle.std.specs.Prelude.{◌≡◌, ◌≢◌, ℕ, ◌+◌, ◌-◌, ◌<◌, ◌≤◌, ◌⊎◌, Bool, true, false, if◌then◌else◌, List, slice_index, refl}
 use Rattle.std.proofs.Common.{arith, inl, inr, sym, ◌∙◌, ap, subst, zero, suc}
 use Rattle.lset_words.proofs.Numbers.{same_or_not, if_same, if_other}
 use Rattle.lset_words.specs.Words.{node_count, Opening, sizes}
@@ -20,47 +20,39 @@ use Rattle.lset_lazy.specs.Lawful.{lazy_lawful}
 use Rattle.lset_lazy.specs.Lawful.Outline.{has_read_rows}
 use Rattle.lset_progress.specs.Progress.{IsPending, SomeEnds, counted, lazy_steps}
 use Rattle.lset_progress.specs.DeadlockFreedom.{IsFair, IsDeadlockFree, each_call, is_lock_word, unless_failed, moves}
-use Rattle.lset_progress.proofs.LazyAlone.{shape, shows, counts, counted_or_not, uncounted_reads, lazy_deadlock_free}
+use Rattle.lset_progress.proofs.LazyAlone.{shape, shows, counts, uncounted_reads, lazy_deadlock_free}
 use Rattle.lset_progress.proofs.LazyMarks.{plain_then}
 use Rattle.lset_progress.proofs.LocksAlone.{IsFree, own_step}
-use Rattle.lset_progress.proofs.DeadlockFreedom.{lock_or_not}
-use Rattle.lset_progress.proofs.LivelockFreedom.{is_lock_test}
 use Rattle.lset_progress.proofs.Rows.{Timed, no_time, at_row}
+use Rattle.lset_progress.proofs.Windows.{counted_or_not, ends_later}
 
 -- a step that counts for some calls counts for each
-counts_more : (ws : List ℕ) (a : Action) (n : ℕ) → unless_failed ws a n ≡ 1 → unless_failed ws a 1 ≡ 1
-counts_more ws (Load w) n e = refl
-counts_more ws (Store w v) n e = refl
-counts_more ws (Exchange w old new) n e = elim (same_or_not (slice_index ws w) old) [
-  | inl y ↦ if_same (slice_index ws w) old y 1 (if is_lock_word w then 0 else 1)
-  | inr d ↦ elim (lock_or_not w) [
-    | inl is ↦ absurd (let z : 0 ≡ 1 = sym (if_other (slice_index ws w) old d n (if is_lock_word w then 0 else n)
-        ∙ ap (λ b. if b then 0 else n) (is_lock_test w is)) ∙ e in omega arith)
-    | inr other ↦ if_other (slice_index ws w) old d 1 (if is_lock_word w then 0 else 1) ∙ ap (λ b. if b then 0 else 1) other
-  ]
+either_way : (b : Bool) (n : ℕ) → (if b then n else n) ≡ n
+either_way true n = refl
+either_way false n = refl
+
+none_counts : (ws : List ℕ) (a : Action) → unless_failed ws a 0 ≡ 0
+none_counts ws (Load w) = refl
+none_counts ws (Store w v) = refl
+none_counts ws (Exchange w old new) = elim (same_or_not (slice_index ws w) old) [
+  | inl y ↦ if_same (slice_index ws w) old y 0 (if is_lock_word w then 0 else 0)
+  | inr d ↦ if_other (slice_index ws w) old d 0 (if is_lock_word w then 0 else 0) ∙ either_way (is_lock_word w) 0
 ]
 
 moves_more : (s : State) (e : Event) → moves (counted true) lazy s e ≡ 1 → moves each_call lazy s e ≡ 1
 moves_more s (Begin t c) h = h
-moves_more s (Go t) h = counts_more s.words (lazy.next (local_of s t)) (counted true (local_of s t).call) h
+moves_more s (Go t) h = elim (counted_or_not true (local_of s t).call) [
+  | inl e ↦ absurd (let z : moves (counted true) lazy s (Go t) ≡ 0 =
+      ap (unless_failed s.words (lazy.next (local_of s t))) e ∙ none_counts s.words (lazy.next (local_of s t)) in omega arith)
+  | inr e ↦ sym (ap (unless_failed s.words (lazy.next (local_of s t))) e) ∙ h
+]
 
 module _ (op : Opening) (es : ℕ → Event) (fair : IsFair lazy op es) (t : ℕ) (tn : t < op.threads) where
   abbrev Ends : ℕ → Type 0
   Ends k = (n : ℕ) × SomeEnds (moves each_call lazy) lazy op es k n
 
   earlier : (k : ℕ) → Ends (suc k) → Ends k
-  earlier k x = (
-    suc x.0,
-    record {
-      at = x.1.at;
-      from = (let h : suc k ≤ x.1.at = x.1.from in omega arith);
-      before = (let h : x.1.at < suc k + x.0 = x.1.before in omega arith);
-      thread = x.1.thread;
-      own = x.1.own;
-      counts = x.1.counts;
-      ends = x.1.ends;
-    },
-  )
+  earlier k x = (suc x.0, ends_later x.1)
 
   by_counted : (k u : ℕ) → u < op.threads → IsPending (state_at lazy op es k) u
       → counted true (local_of (state_at lazy op es k) u).call ≡ 1 → Ends k
@@ -215,7 +207,7 @@ all_deadlock_free op k t es fair tn busy one = elim (counted_or_not true (local_
   | inl zero' ↦ ends_within op es fair t tn (lazy_steps (sizes op)) k (record {
     pending = busy;
     is_read = zero';
-    timed = (shows.rows op k k t es (fair.run k) (omega arith) tn busy).0;
+    timed = (shows.rows op k k t es (fair.run k) (omega arith) tn busy).time;
   })
   | inr one' ↦ by_counted op es fair t tn k t tn busy one'
 ]

@@ -1,5 +1,5 @@
 -- The rows of CoarseList: that its calls end alone, and that it has no deadlock.
-use Rattle.std.specs.Prelude.{◌≡◌, ℕ, ◌+◌, ◌*◌, ◌/◌, ◌<◌, nat_le, Bool, false, List, if◌then◌else◌, ◌==◌, refl}
+use Rattle.std.specs.Prelude.{◌≡◌, ℕ, ◌+◌, ◌*◌, ◌/◌, ◌<◌, nat_le, Bool, false, List, [], ◌∷◌, refl, slice_index}
 use Rattle.std.proofs.Common.{arith, inl, inr, ap, subst}
 use Rattle.lset_words.proofs.Numbers.{if_other}
 use Rattle.lset_words.specs.Words.{node_count, target, Sizes}
@@ -22,22 +22,13 @@ use Rattle.lset_progress.proofs.LivelockFreedom.{is_livelock_free, each_counts}
 use Rattle.lset_progress.proofs.DeadlockFreedom.{is_deadlock_free}
 use Rattle.lset_progress.proofs.LocksAlone.{Shows, calls_end, gets_on}
 use Rattle.lset_progress.proofs.Rest.{rest, few_by, fewer}
-use Rattle.lset_progress.proofs.Rows.{Shape, Timed, Loads, RowBy, within, Only, at_row, goes}
+use Rattle.lset_progress.proofs.Rows.{Shape, Loads, RowOf, within, Only, at_row, goes, on, takes, timed, unlocks, writes}
 use Rattle.lset_progress.proofs.Standing.{Standing, stands}
 
--- how many steps are left behind the next one, at each row
+-- how many steps are left behind the next one, row by row from row 0
 abbrev left : ℕ → (ℕ → ℕ) → Local → ℕ
-left size key l =
-    if l.pc == 1 then 2 * size + 2
-    else if l.pc == 2 then 2 * size + 1
-    else if l.pc == 3 then 2 * ahead key size (key l.curr) + 4
-    else if l.pc == 4 then 2 * ahead key size (key l.curr) + 3
-    else if l.pc == 5 then 3
-    else if l.pc == 6 then 2
-    else if l.pc == 7 then 1
-    else if l.pc == 8 then 2
-    else if l.pc == 9 then 1
-    else 0
+left size key l = slice_index (0 ∷ (2 * size + 2) ∷ (2 * size + 1) ∷ (2 * ahead key size (key l.curr) + 4)
+    ∷ (2 * ahead key size (key l.curr) + 3) ∷ 3 ∷ 2 ∷ 1 ∷ 2 ∷ 1 ∷ 0 ∷ []) l.pc
 
 -- the list's lock is held from row 2 on
 abbrev shape : Shape
@@ -59,7 +50,7 @@ module _ {sz : Sizes} {ws : List ℕ} {used : ℕ → ℕ} {t : ℕ} {vs : ℕ �
   V = view sz ws used
 
   abbrev Row : Local → Type 0
-  Row k = Timed shape size ws (coarse_steps sz) k × RowBy shape size coarse sz ws t k (coarse.next k)
+  Row k = RowOf shape size coarse sz ws t (coarse_steps sz) k
 
   -- a load at row n leads to k
   abbrev To : ℕ → Local → Type 0
@@ -72,77 +63,31 @@ module _ {sz : Sizes} {ws : List ℕ} {used : ℕ → ℕ} {t : ℕ} {vs : ℕ �
 
   row : rest size ws l.curr < size → At sz.quota t vs first now V done l → Row l
   row few (at0 e) = absurd (h.busy e)
-  row few (at1 e d) = at_row Row l 1 e (
-    inl (tt, omega arith),
-    record {
-      is_lock = inl refl;
-      inside = omega arith;
-      free = refl;
-      own = ap (λ n. n + 1) h.registers.thread;
-      early = λ z. z;
-      last = λ x m. absurd m.1;
-      taken = λ free. goes (λ x o m. absurd m.1) (λ z. omega arith) (λ z. absurd z) (λ c v. v) (omega arith);
-      mine = (refl, tt);
-      missed = λ s d. if_other s 0 d _ _;
-    },
-  )
+  row few (at1 e d) = at_row Row l 1 e (takes refl (inl refl) (omega arith) h.registers.thread (λ z. z) (λ x m. absurd m.1)
+      (λ free. on (λ x o m. absurd m.1) tt (λ z. z) (λ v. v) (omega arith)) (refl, tt) (λ s d. if_other s 0 d _ _)
+      (inl (tt, omega arith)))
   row few (at2 e d w) =
       let head : rest size ws 0 < size = few_by size (node_key ws) 0 (omega arith) in
       let next : rest size ws (node_link ws 0 / 2) < rest size ws 0 =
       fewer false sz ws used h.memory 0 h.memory.ordered.head_published (omega arith) in
-      at_row Row l 2 e (inl (tt, omega arith), goes (λ x o m. m) (λ z. omega arith) (λ z. absurd z) (λ c v. v) (omega arith))
-  row few (at3 e d w) = at_row Row l 3 e (
-    inl (tt, omega arith),
-    by_below (To 3) (node_key ws l.curr) (target l.call)
-        (λ lt. goes (λ x o m. m) (λ z. omega arith) (λ z. absurd z) (λ c v. v) (omega arith))
-        (λ ge. by_decision (To 3) targets (node_key ws l.curr) (record l { pc = 3; ckey = node_key ws l.curr })
-        (goes (λ x o m. m) (λ z. omega arith) (λ z. absurd z) (λ c v. v) (omega arith))
-        (goes (λ x o m. m) (λ z. omega arith) (λ z. absurd z) (λ c v. v) (omega arith))
-        (λ r. goes (λ x o m. m) (λ z. omega arith) (λ z. absurd z) (λ c v. v) (omega arith))),
-  )
+      at_row Row l 2 e (timed (inl (tt, omega arith)) (on (λ x o m. m) tt (λ z. z) (λ v. v) (omega arith)))
+  row few (at3 e d w) = at_row Row l 3 e (timed (inl (tt, omega arith)) (by_below (To 3) (node_key ws l.curr) (target l.call)
+      (λ lt. on (λ x o m. m) tt (λ z. z) (λ v. v) (omega arith))
+      (λ ge. by_decision (To 3) targets (node_key ws l.curr) (record l { pc = 3; ckey = node_key ws l.curr })
+      (on (λ x o m. m) tt (λ z. z) (λ v. v) (omega arith)) (on (λ x o m. m) tt (λ z. z) (λ v. v) (omega arith))
+      (λ r. on (λ x o m. m) tt (λ z. z) (λ v. v) (omega arith)))))
   row few (at4 e d w lt) =
       let less : rest size ws (node_link ws l.curr / 2) < rest size ws l.curr = fewer false sz ws used h.memory l.curr
       (curr_published w) (inner false sz ws used h.memory l.curr (target l.call) lt h.registers.low) in
-      at_row Row l 4 e (inl (tt, omega arith), goes (λ x o m. m) (λ z. omega arith) (λ z. absurd z) (λ c v. v) (omega arith))
-  row few (at5 e d w a) = at_row Row l 5 e (
-    inl (tt, omega arith),
-    inl (
-      goes (λ x o m. m) (λ z. omega arith) (λ z. (tt, omega arith)) (λ c v. v) (omega arith),
-      (tt, omega arith),
-    ),
-  )
-  row few (at6 e d w a x) = at_row Row l 6 e (
-    inl (tt, omega arith),
-    inl (
-      goes (λ x o m. m) (λ z. omega arith) (λ z. (tt, omega arith)) (λ c v. v) (omega arith),
-      (tt, omega arith),
-    ),
-  )
-  row few (at7 e d w a x y) = at_row Row l 7 e (
-    inl (tt, omega arith),
-    inl (
-      goes (λ x o m. m) (λ z. omega arith) (λ z. (tt, omega arith)) (λ c v. v) (omega arith),
-      (tt, omega arith),
-    ),
-  )
-  row few (at8 e d w a) = at_row Row l 8 e (
-    inl (tt, omega arith),
-    goes (λ x o m. m) (λ z. omega arith) (λ z. (tt, omega arith)) (λ c v. v) (omega arith),
-  )
-  row few (at9 e d w a x) = at_row Row l 9 e (
-    inl (tt, omega arith),
-    inl (
-      goes (λ x o m. m) (λ z. omega arith) (λ z. (tt, omega arith)) (λ c v. v) (omega arith),
-      (tt, omega arith),
-    ),
-  )
-  row few (at10 e w r ry due) = at_row Row l 10 e (
-    inl (tt, omega arith),
-    inr (
-      inl refl,
-      record { keeps = λ x o m. absurd (o m.0); then = inl (r, ry) },
-    ),
-  )
+      at_row Row l 4 e (timed (inl (tt, omega arith)) (on (λ x o m. m) tt (λ z. z) (λ v. v) (omega arith)))
+  row few (at5 e d w a) = at_row Row l 5 e (writes refl refl (λ x m. m) tt tt tt (λ v. v) (omega arith))
+  row few (at6 e d w a x) = at_row Row l 6 e (writes refl refl (λ x m. m) tt tt tt (λ v. v) (omega arith))
+  row few (at7 e d w a x y) = at_row Row l 7 e (writes refl refl (λ x m. m) tt tt tt (λ v. v) (omega arith))
+  row few (at8 e d w a) = at_row Row l 8 e (timed (inl (tt, omega arith))
+      (goes (λ x o m. m) tt (λ z. (tt, omega arith)) (λ v. v) (omega arith)))
+  row few (at9 e d w a x) = at_row Row l 9 e (writes refl refl (λ x m. m) tt tt tt (λ v. v) (omega arith))
+  row few (at10 e w r ry due) = at_row Row l 10 e (timed (inl (tt, omega arith))
+      (unlocks (inl refl) (record { keeps = λ x o m. absurd (o m.0); then = inl (r, ry) })))
 
   row_of : Row l
   row_of = row (few_by size (node_key ws) l.curr h.registers.curr) h.at

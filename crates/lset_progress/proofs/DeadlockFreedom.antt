@@ -1,8 +1,7 @@
 -- From freedom from livelock to that from deadlock: a thread that gets on does so until another has made a step that
 -- counts, so that in a fair run such steps come again and again.
 use Rattle.std.specs.Prelude.{◌≡◌, ◌≢◌, ℕ, ◌+◌, ◌-◌, ◌/◌, ◌%◌, ◌<◌, ◌≤◌, ◌⊎◌, true, false, List, Option, Some, None}
-use Rattle.std.specs.Prelude.{if◌then◌else◌, ◌==◌, nat_lt}
-use Rattle.std.specs.Prelude.{slice_index, slice_set, refl}
+use Rattle.std.specs.Prelude.{if◌then◌else◌, ◌==◌, nat_lt, slice_index, slice_set, refl}
 use Rattle.std.proofs.Common.{arith, inl, inr, sym, ◌∙◌, ap, subst, zero, suc}
 use Rattle.lset_words.proofs.Numbers.{same_or_not, below_or_not, if_same, if_other, if_below, if_not_below}
 use Rattle.lset_words.specs.declared.Call.{Call}
@@ -22,8 +21,9 @@ use Rattle.lset_progress.specs.DeadlockFreedom.{IsLivelockFree, IsFair, IsDeadlo
 use Rattle.lset_progress.proofs.LivelockFreedom.{Counts}
 use Rattle.lset_progress.proofs.LocksAlone.{Shows, some_meant}
 use Rattle.lset_progress.proofs.Rows.{Shape}
+use Rattle.lset_progress.proofs.Windows.{ends_later}
 
-pub lock_or_not : (x : ℕ) → IsLockWord x ⊎ (is_lock_word x ≡ false)
+lock_or_not : (x : ℕ) → IsLockWord x ⊎ (is_lock_word x ≡ false)
 lock_or_not x = elim (same_or_not x 0) [
   | inl e ↦ inl (inl e)
   | inr d ↦
@@ -33,7 +33,8 @@ lock_or_not x = elim (same_or_not x 0) [
         | inl lt ↦ inr (skip ∙ if_below x 5 lt false (if x % 3 == 2 then true else false))
         | inr ge ↦ elim (same_or_not (x % 3) 2) [
           | inl e ↦ inl (inr (x / 3 - 1, omega arith))
-          | inr d' ↦ inr (skip ∙ if_not_below x 5 ge false (if x % 3 == 2 then true else false) ∙ if_other (x % 3) 2 d' true false)
+          | inr d' ↦ inr (skip ∙ if_not_below x 5 ge false (if x % 3 == 2 then true else false)
+              ∙ if_other (x % 3) 2 d' true false)
         ]
       ])
 ]
@@ -76,15 +77,7 @@ module _ (T : Table) (law : Lawful T) (S : Shape) (most : Sizes → ℕ) (shows 
   later_on m k g m' l = (
     suc g.0,
     elim g.1 [
-      | inl e ↦ inl (record {
-        at = e.at;
-        from = (let h : suc k ≤ e.at = e.from in omega arith);
-        before = (let h : e.at < suc k + g.0 = e.before in omega arith);
-        thread = e.thread;
-        own = e.own;
-        counts = e.counts;
-        ends = e.ends;
-      })
+      | inl e ↦ inl (ends_later e)
       | inr h ↦ inr (omega arith)
     ],
   )

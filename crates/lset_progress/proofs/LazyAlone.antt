@@ -1,8 +1,7 @@
 -- The rows of LazyList: a walk from the head that nobody disturbs is validated, and meets no mark.
-use Rattle.std.specs.Prelude.{◌≡◌, ◌≢◌, ℕ, ◌+◌, ◌*◌, ◌/◌, ◌%◌, ◌<◌, ◌≤◌, ◌⊎◌, ◌||◌, Bool, true, false, Option, Some, None, is_some}
-use Rattle.std.specs.Prelude.{List, slice_index}
-use Rattle.std.specs.Prelude.{if◌then◌else◌, ◌==◌, refl}
-use Rattle.std.proofs.Common.{arith, inl, inr, sym, ◌∙◌, ap, subst}
+use Rattle.std.specs.Prelude.{◌≡◌, ◌≢◌, ℕ, ◌+◌, ◌*◌, ◌/◌, ◌%◌, ◌<◌, ◌≤◌, ◌⊎◌, ◌||◌, Bool, true, false, Option, Some, None}
+use Rattle.std.specs.Prelude.{is_some, List, [], ◌∷◌, slice_index, if◌then◌else◌, ◌==◌, refl}
+use Rattle.std.proofs.Common.{arith, get_or, inl, inr, sym, ◌∙◌, ap, subst}
 use Rattle.lset_words.proofs.Numbers.{if_other}
 use Rattle.lset_words.specs.declared.Call.{Call}
 use Rattle.lset_words.specs.declared.Call.TheVariants.{Add, Remove, Contains, Ceiling}
@@ -34,16 +33,16 @@ use Rattle.lset_progress.proofs.DeadlockFreedom.{is_deadlock_free}
 use Rattle.lset_progress.proofs.LazyMarks.{follows, no_marks, unmarked_unless, ceiling_row}
 use Rattle.lset_progress.proofs.LocksAlone.{Shows, calls_end, gets_on}
 use Rattle.lset_progress.proofs.Paths.{Path, no_steps, path_on}
-use Rattle.lset_progress.proofs.ReadAlone.{Plain, Along, Reads, ReadsAt, reads_left, reads_then}
-use Rattle.lset_progress.proofs.ReadAlone.{from_20, from_21, from_22, from_23, from_24, from_25}
+use Rattle.lset_progress.proofs.ReadAlone.{Plain, Along, Reads, ReadsAt, reads_left, reads_then, from_20, from_21, from_22}
+use Rattle.lset_progress.proofs.ReadAlone.{from_23, from_24, from_25}
 use Rattle.lset_progress.proofs.Rest.{rest, few_by, fewer}
-use Rattle.lset_progress.proofs.Rows.{Shape, Timed, Loads, Stores, RowBy, NodeLocks, within, When, Only, at_row, goes}
-use Rattle.lset_progress.proofs.Rows.{fails, stops}
-use Rattle.lset_progress.proofs.Rows.{no_lock, pred_only, gave_pred, gave_curr, after_pred, takes_lock}
+use Rattle.lset_progress.proofs.Rows.{Shape, Loads, Stores, RowOf, NodeLocks, within, When, Only, at_row, stops, no_lock}
+use Rattle.lset_progress.proofs.Rows.{pred_only, gave_pred, gave_curr, after_pred, again, goes, on, takes, timed, unlocks, writes}
 use Rattle.lset_progress.proofs.Standing.{Standing, stands}
+use Rattle.lset_progress.proofs.Windows.{counted_or_not}
 
--- HOW MANY STEPS are left behind the next one, at each row, of a walk that is validated. If there is no reply, both locks are
--- given back, and the walk starts again.
+-- HOW MANY STEPS are left behind the next one, row by row from row 0, of a walk that is validated. If there is no reply, both
+-- locks are given back, and the walk starts again.
 abbrev round : ℕ → ℕ
 round size = 2 * size + 7
 
@@ -56,22 +55,9 @@ again_few size None = omega arith
 again_few size (Some r) = omega arith
 
 abbrev left : ℕ → (ℕ → ℕ) → Local → ℕ
-left size key l =
-    if l.pc == 1 then 2 * size + 6
-    else if l.pc == 2 then 2 * ahead key size (key l.curr) + 9
-    else if l.pc == 3 then 2 * ahead key size (key l.curr) + 8
-    else if l.pc == 4 then 8
-    else if l.pc == 5 then 7
-    else if l.pc == 6 then 6
-    else if l.pc == 7 then 5
-    else if l.pc == 8 then 4
-    else if l.pc == 9 then 3
-    else if l.pc == 10 then 2
-    else if l.pc == 11 then 3
-    else if l.pc == 12 then 2
-    else if l.pc == 13 then 1 + then_again size l.reply
-    else if l.pc == 14 then then_again size l.reply
-    else reads_left size key l
+left size key l = get_or (0 ∷ (2 * size + 6) ∷ (2 * ahead key size (key l.curr) + 9)
+    ∷ (2 * ahead key size (key l.curr) + 8) ∷ 8 ∷ 7 ∷ 6 ∷ 5 ∷ 4 ∷ 3 ∷ 2 ∷ 3 ∷ 2 ∷ (1 + then_again size l.reply)
+    ∷ (then_again size l.reply) ∷ []) l.pc (reads_left size key l)
 
 -- A walk is valid if pred is in the chain, and curr comes after it; from its locks on neither is marked. Behind its decision a
 -- thread has a reply where it gives its locks back. Where a ceiling walks no node of the chain may be marked.
@@ -106,7 +92,7 @@ module _ {sz : Sizes} {ws : List ℕ} {used : ℕ → ℕ} {t : ℕ} {vs : ℕ �
   V = view sz ws used
 
   abbrev Row : Local → Type 0
-  Row k = Timed shape size ws (lazy_steps sz) k × RowBy shape size lazy sz ws t k (lazy.next k)
+  Row k = RowOf shape size lazy sz ws t (lazy_steps sz) k
 
   -- a load at row n leads to k
   abbrev To : ℕ → Local → Type 0
@@ -121,7 +107,8 @@ module _ {sz : Sizes} {ws : List ℕ} {used : ℕ → ℕ} {t : ℕ} {vs : ℕ �
       let below : node_key ws l.pred < target l.call = f.spot.below in
       let is : node_key ws l.curr ≡ l.ckey = f.is in
       let above : target l.call ≤ l.ckey = f.above in
-      ahead_less (node_key ws) size (node_key ws l.pred) l.curr (inside true sz ws used h.memory l.curr f.spot.curr_published) (omega arith)
+      ahead_less (node_key ws) size (node_key ws l.pred) l.curr (inside true sz ws used h.memory l.curr f.spot.curr_published)
+      (omega arith)
 
   -- the walk has come to curr
   comes : Path (node_link ws) 0 l.pred × (node_link ws l.pred / 2 ≡ l.curr) → node_key ws l.pred < target l.call
@@ -129,27 +116,7 @@ module _ {sz : Sizes} {ws : List ℕ} {used : ℕ → ℕ} {t : ℕ} {vs : ℕ �
   comes v below = path_on (node_link ws) 0 l.pred l.curr v.0 (user l.pred below) v.1
 
   module _ (few : rest size ws l.curr < size) (pred : l.pred < node_count sz) (curr : l.curr < node_count sz)
-      (again : then_again size l.reply ≤ 2 * size + 7) where
-    takes_pred : l.pc ≡ 4 → Row (record l { pc = 4 })
-    takes_pred e = (
-      inr (omega arith),
-      takes_lock shape size lazy sz ws t (record l { pc = 4 }) l.pred pred h.registers.thread (λ z. z.0) (λ x m. no_lock m)
-          (λ free. goes (λ x o m. no_lock m) (λ z. omega arith) (λ z. absurd z.0) (λ c v.
-          let half : node_link ws l.pred / 2 ≡ l.curr = v.0.1 in
-          let even : node_link ws l.pred % 2 ≡ 0 = unmarked (λ z. omega arith) l.pred v.0.0 (inl free) in
-          (v.0, (omega arith), tt, tt)) (omega arith))
-          (inl (refl, tt)) (λ s d. if_other s 0 d _ _),
-    )
-
-    takes_curr : Found V (target l.call) l.pred l.curr l.ckey → Row (record l { pc = 5 })
-    takes_curr f = (
-      inr (omega arith),
-      takes_lock shape size lazy sz ws t (record l { pc = 5 }) l.curr curr h.registers.thread
-          (λ z. z.0) (λ x m. after_pred size ws l.curr l.pred x (curr_less f) m)
-          (λ free. goes (λ x o m. pred_only m) (λ z. omega arith) (λ z. absurd z.0) (λ c v. v) (omega arith))
-          (inr (refl, tt)) (λ s d. if_other s 0 d _ _),
-    )
-
+      (round_few : then_again size l.reply ≤ 2 * size + 7) where
     -- the last lock is given back
     abbrev Last : Option Reply → Type 0
     Last r = Stores shape size ws (record l { pc = 14 }) (lock_index l.pred) ws (released r (record l { pc = 14 }))
@@ -158,8 +125,7 @@ module _ {sz : Sizes} {ws : List ℕ} {used : ℕ → ℕ} {t : ℕ} {vs : ℕ �
     gives_last = elim (some_or_none l.reply) [
       | inl z ↦
           (let y : then_again size l.reply ≡ 2 * size + 7 = rw z refl in
-          subst Last (sym z) (goes (λ x o m. gave_pred o m) (λ z. omega arith) (λ r. absurd (subst (λ o. Only (is_some o)) z r.1))
-          (λ c v. v)
+          subst Last (sym z) (goes (λ x o m. gave_pred o m) tt (λ r. absurd (subst (λ o. Only (is_some o)) z r.1)) (λ v. v)
           (omega arith)))
       | inr z ↦ subst Last (sym z.1) (stops (λ x o m. gave_pred o m))
     ]
@@ -170,36 +136,18 @@ module _ {sz : Sizes} {ws : List ℕ} {used : ℕ → ℕ} {t : ℕ} {vs : ℕ �
     read n {f} row a = reads_then shape size (node_key ws) ws (reads_at size (node_key ws) ws) (record l { pc = n }) f row a
 
     reads : Reading vs first now done l → Row l
-    reads (reads20 e d c a) = at_row Row l 20 e (
-      inr (omega arith),
-      read 20 (inl refl)
-          (from_20 h (node_key ws) (λ a p. refl) (round size) (omega arith) a),
-    )
-    reads (reads21 e d c a) = at_row Row l 21 e (
-      inr (omega arith),
-      read 21 (inr (inl refl))
-          (from_21 h (node_key ws) (λ a p. refl) (round size) (omega arith)),
-    )
-    reads (reads22 e d c a) = at_row Row l 22 e (
-      inr (omega arith),
-      read 22 (inr (inr (inl refl)))
-          (from_22 h (node_key ws) (λ a p. refl) (round size) (omega arith)),
-    )
-    reads (reads23 e d c a) = at_row Row l 23 e (
-      inr (omega arith),
-      read 23 (inr (inr (inr (inl refl))))
-          (from_23 h (node_key ws) (λ a p. refl) (round size) (omega arith) a),
-    )
-    reads (reads24 e d c a) = at_row Row l 24 e (
-      inr (omega arith),
-      read 24 (inr (inr (inr (inr (inl refl)))))
-          (from_24 h (node_key ws) (λ a p. refl) (round size) (omega arith)),
-    )
-    reads (reads25 e d c a) = at_row Row l 25 e (
-      inr (omega arith),
-      read 25 (inr (inr (inr (inr (inr refl)))))
-          (from_25 h (node_key ws) (λ a p. refl) (round size) (omega arith)),
-    )
+    reads (reads20 e d c a) = at_row Row l 20 e (timed (inr (omega arith)) (read 20 (inl refl)
+        (from_20 h (node_key ws) (λ a p. refl) (round size) (omega arith) a)))
+    reads (reads21 e d c a) = at_row Row l 21 e (timed (inr (omega arith)) (read 21 (inr (inl refl))
+        (from_21 h (node_key ws) (λ a p. refl) (round size) (omega arith))))
+    reads (reads22 e d c a) = at_row Row l 22 e (timed (inr (omega arith)) (read 22 (inr (inr (inl refl)))
+        (from_22 h (node_key ws) (λ a p. refl) (round size) (omega arith))))
+    reads (reads23 e d c a) = at_row Row l 23 e (timed (inr (omega arith)) (read 23 (inr (inr (inr (inl refl))))
+        (from_23 h (node_key ws) (λ a p. refl) (round size) (omega arith) a)))
+    reads (reads24 e d c a) = at_row Row l 24 e (timed (inr (omega arith)) (read 24 (inr (inr (inr (inr (inl refl)))))
+        (from_24 h (node_key ws) (λ a p. refl) (round size) (omega arith))))
+    reads (reads25 e d c a) = at_row Row l 25 e (timed (inr (omega arith)) (read 25 (inr (inr (inr (inr (inr refl)))))
+        (from_25 h (node_key ws) (λ a p. refl) (round size) (omega arith))))
 
     row : At sz.quota t vs first now V done l → Row l
     row (at0 e) = absurd (h.busy e)
@@ -207,87 +155,45 @@ module _ {sz : Sizes} {ws : List ℕ} {used : ℕ → ℕ} {t : ℕ} {vs : ℕ �
         let head : rest size ws 0 < size = few_by size (node_key ws) 0 (omega arith) in
         let next : rest size ws (node_link ws 0 / 2) < rest size ws 0 =
         fewer true sz ws used h.memory 0 h.memory.ordered.head_published (omega arith) in
-        at_row Row l 1 e (
-          inl ((tt, tt, tt, tt), omega arith),
-          goes (λ x o m. no_lock m) (λ z. omega arith) (λ z. absurd z.0)
-              (λ c v. ((no_steps (node_link ws) 0, refl), tt, tt, tt)) (omega arith),
-        )
-    row (at2 e d x) = at_row Row l 2 e (
-      inr (omega arith),
-      by_below (To 2) (node_key ws l.curr) (target l.call)
-          (λ lt. goes (λ x o m. no_lock m) (λ z. omega arith) (λ z. absurd z.0) (λ c v. (tt, tt, comes v.0 x.below, tt))
-          (omega arith))
-          (λ ge. goes (λ x o m. no_lock m) (λ z. omega arith) (λ z. absurd z.0) (λ c v. v) (omega arith)),
-    )
+        at_row Row l 1 e (timed (inl ((tt, tt, tt, tt), omega arith)) (on (λ x o m. no_lock m) tt (λ z. z.0)
+        (λ v. ((no_steps (node_link ws) 0, refl), tt, tt, tt)) (omega arith)))
+    row (at2 e d x) = at_row Row l 2 e (timed (inr (omega arith)) (by_below (To 2) (node_key ws l.curr) (target l.call)
+        (λ lt. on (λ x o m. no_lock m) tt (λ z. z.0) (λ v. (tt, tt, comes v.0 x.below, tt)) (omega arith))
+        (λ ge. on (λ x o m. no_lock m) tt (λ z. z.0) (λ v. v) (omega arith))))
     row (at3 e d x lt) =
         let less : rest size ws (node_link ws l.curr / 2) < rest size ws l.curr =
         fewer true sz ws used h.memory l.curr x.curr_published (user l.curr lt) in
-        at_row Row l 3 e (
-          inr (omega arith),
-          goes (λ x o m. no_lock m) (λ z. omega arith) (λ z. absurd z.0)
-              (λ c v. ((v.2, refl), tt, tt, tt)) (omega arith),
-        )
-    row (at4 e d f) = at_row Row l 4 e (takes_pred e)
-    row (at5 e d f p) = at_row Row l 5 e (takes_curr f)
-    row (at6 e d f b) = at_row Row l 6 e (
-      inr (omega arith),
-      by_same (To 6) (node_link ws l.pred) (2 * l.curr)
-          (λ y. goes (λ x o m. m) (λ z. omega arith) (λ z. absurd z.0) (λ c v. v) (omega arith))
-          (λ y. fails (λ x o m. m) (λ z. omega arith) (λ z. absurd z.0) (λ c v. y v.1) (tt, tt, tt, tt) (omega arith)),
-    )
-    row (at7 e d f b) = at_row Row l 7 e (
-      inr (omega arith),
-      by_same (To 7) (node_link ws l.curr % 2) 0
-          (λ y. by_decision (To 7) targets l.ckey (record l { pc = 7; succ = node_link ws l.curr / 2 })
-          (goes (λ x o m. m) (λ z. omega arith) (λ z. absurd z.0) (λ c v. (tt, tt, tt, tt)) (omega arith))
-          (goes (λ x o m. m) (λ z. omega arith) (λ z. absurd z.0) (λ c v. (tt, tt, tt, tt)) (omega arith))
-          (λ r. goes (λ x o m. m) (λ z. omega arith) (λ z. absurd z.0) (λ c v. (tt, tt, tt, tt)) (omega arith)))
-          (λ y. fails (λ x o m. m) (λ z. omega arith) (λ z. absurd z.0) (λ c v. y (unmarked (λ z. omega arith) l.curr
-          (comes v.0 f.spot.below) (inr b.mine))) (tt, tt, tt, tt) (omega arith)),
-    )
-    row (at8 e d b a) = at_row Row l 8 e (
-      inl ((tt, tt, tt, tt), omega arith),
-      inl (
-        goes (λ x o m. m) (λ z. omega arith) (λ z. (z, omega arith)) (λ c v. v) (omega arith),
-        ((tt, tt), omega arith),
-      ),
-    )
-    row (at9 e d b a x) = at_row Row l 9 e (
-      inl ((tt, tt, tt, tt), omega arith),
-      inl (
-        goes (λ x o m. m) (λ z. omega arith) (λ z. (z, omega arith)) (λ c v. v) (omega arith),
-        ((tt, tt), omega arith),
-      ),
-    )
-    row (at10 e d b a x y) = at_row Row l 10 e (
-      inl ((tt, tt, tt, tt), omega arith),
-      inl (
-        goes (λ x o m. m) (λ z. omega arith) (λ z. ((tt, tt), omega arith)) (λ c v. v) (omega arith),
-        ((tt, tt), omega arith),
-      ),
-    )
-    row (at11 e d b a x) = at_row Row l 11 e (
-      inl ((tt, tt, tt, tt), omega arith),
-      inl (
-        goes (λ x o m. m) (λ z. omega arith) (λ z. (z, omega arith)) (λ c v. v) (omega arith),
-        ((tt, tt), omega arith),
-      ),
-    )
-    row (at12 e d b a x) = at_row Row l 12 e (
-      inl ((tt, tt, tt, tt), omega arith),
-      inl (
-        goes (λ x o m. m) (λ z. omega arith) (λ z. ((tt, tt), omega arith)) (λ c v. v) (omega arith),
-        ((tt, tt), omega arith),
-      ),
-    )
-    row (at13 e b o) = at_row Row l 13 e (
-      inl ((tt, tt, tt, tt), omega arith),
-      inr (
-        inr (l.curr, refl),
-        goes (λ x o m. gave_curr o m) (λ z. omega arith) (λ z. (z, omega arith)) (λ c v. v) (omega arith),
-      ),
-    )
-    row (at14 e p o) = at_row Row l 14 e (inl ((tt, tt, tt, tt), omega arith), inr (inr (l.pred, refl), gives_last))
+        at_row Row l 3 e (timed (inr (omega arith))
+        (on (λ x o m. no_lock m) tt (λ z. z.0) (λ v. ((v.2, refl), tt, tt, tt)) (omega arith)))
+    row (at4 e d f) = at_row Row l 4 e (takes refl (inr (l.pred, refl)) (omega arith) h.registers.thread (λ z. z.0)
+        (λ x m. no_lock m)
+        (λ free. on (λ x o m. no_lock m) tt (λ z. z.0) (λ v.
+        let half : node_link ws l.pred / 2 ≡ l.curr = v.0.1 in
+        let even : node_link ws l.pred % 2 ≡ 0 = unmarked (λ z. omega arith) l.pred v.0.0 (inl free) in
+        (v.0, (omega arith), tt, tt)) (omega arith))
+        (inl (refl, tt)) (λ s d. if_other s 0 d _ _) (inr (omega arith)))
+    row (at5 e d f p) = at_row Row l 5 e (takes refl (inr (l.curr, refl)) (omega arith) h.registers.thread (λ z. z.0)
+        (λ x m. after_pred size ws l.curr l.pred x (curr_less f) m)
+        (λ free. on (λ x o m. pred_only m) tt (λ z. z.0) (λ v. v) (omega arith)) (inr (refl, tt)) (λ s d. if_other s 0 d _ _)
+        (inr (omega arith)))
+    row (at6 e d f b) = at_row Row l 6 e (timed (inr (omega arith)) (by_same (To 6) (node_link ws l.pred) (2 * l.curr)
+        (λ y. on (λ x o m. m) tt (λ z. z.0) (λ v. v) (omega arith))
+        (λ y. again (λ x o m. m) tt (λ z. z.0) (λ v. y v.1) (tt, tt, tt, tt) (omega arith))))
+    row (at7 e d f b) = at_row Row l 7 e (timed (inr (omega arith)) (by_same (To 7) (node_link ws l.curr % 2) 0
+        (λ y. by_decision (To 7) targets l.ckey (record l { pc = 7; succ = node_link ws l.curr / 2 })
+        (on (λ x o m. m) tt (λ z. z.0) (λ v. (tt, tt, tt, tt)) (omega arith))
+        (on (λ x o m. m) tt (λ z. z.0) (λ v. (tt, tt, tt, tt)) (omega arith))
+        (λ r. on (λ x o m. m) tt (λ z. z.0) (λ v. (tt, tt, tt, tt)) (omega arith)))
+        (λ y. again (λ x o m. m) tt (λ z. z.0) (λ v. y (unmarked (λ z. omega arith) l.curr (comes v.0 f.spot.below) (inr b.mine)))
+        (tt, tt, tt, tt) (omega arith))))
+    row (at8 e d b a) = at_row Row l 8 e (writes refl refl (λ x m. m) (tt, tt) (tt, tt) tt (λ v. v) (omega arith))
+    row (at9 e d b a x) = at_row Row l 9 e (writes refl refl (λ x m. m) (tt, tt) (tt, tt) tt (λ v. v) (omega arith))
+    row (at10 e d b a x y) = at_row Row l 10 e (writes refl refl (λ x m. m) (tt, tt) (tt, tt) tt (λ v. v) (omega arith))
+    row (at11 e d b a x) = at_row Row l 11 e (writes refl refl (λ x m. m) (tt, tt) (tt, tt) tt (λ v. v) (omega arith))
+    row (at12 e d b a x) = at_row Row l 12 e (writes refl refl (λ x m. m) (tt, tt) (tt, tt) tt (λ v. v) (omega arith))
+    row (at13 e b o) = at_row Row l 13 e (timed (inl ((tt, tt, tt, tt), omega arith))
+        (unlocks (inr (l.curr, refl)) (goes (λ x o m. gave_curr o m) tt (λ z. (z, omega arith)) (λ v. v) (omega arith))))
+    row (at14 e p o) = at_row Row l 14 e (timed (inl ((tt, tt, tt, tt), omega arith)) (unlocks (inr (l.pred, refl)) gives_last))
     row (at_read a) = reads a
 
   row_of : Row l
@@ -310,13 +216,6 @@ lazy_gets_on = gets_on lazy lazy_lawful shape lazy_steps shows
 
 -- WHICH STEPS COUNT: those of add and remove, or those of contains too. Who is behind its decision adds or removes, and a ceiling
 -- alone asks that no node of the chain is marked.
-pub counted_or_not : (reads : Bool) (c : Call) → (counted reads c ≡ 0) ⊎ (counted reads c ≡ 1)
-counted_or_not reads (Add k) = inr refl
-counted_or_not reads (Remove k) = inr refl
-counted_or_not true (Contains k) = inr refl
-counted_or_not false (Contains k) = inl refl
-counted_or_not reads (Ceiling k) = inl refl
-
 late_counts : (reads : Bool) (c : Call) → (IsRead c → ⊥) → counted reads c ≡ 1
 late_counts reads (Add k) no_read = refl
 late_counts reads (Remove k) no_read = refl

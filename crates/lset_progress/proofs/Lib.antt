@@ -4,14 +4,12 @@ mod Paths
 mod Decided
 mod Alone
 mod Holders
-mod Waiting
 mod Totals
 mod Windows
 mod HeadPlain
 mod Standing
 mod Rows
 mod LocksAlone
-mod ReadStays
 mod ReadAlone
 mod CoarseAlone
 mod FineAlone
@@ -28,4 +26,3 @@ mod WrittenRuns
 mod CeilingWaits
 mod WrongMachines
 mod Livelock
-mod Yielding

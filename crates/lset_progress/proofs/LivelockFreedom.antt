@@ -23,7 +23,7 @@ use Rattle.lset_progress.proofs.Rows.{Shape, LateBy, Timed, RowBy, timed_same, t
 use Rattle.lset_progress.proofs.Totals.{total, total_less, total_all, total_at, total_step, one_price, put, put_this, put_that}
 use Rattle.lset_progress.proofs.Windows.{Then, some_ends}
 
-pub is_lock_test : (x : ℕ) → IsLockWord x → is_lock_word x ≡ true
+is_lock_test : (x : ℕ) → IsLockWord x → is_lock_word x ≡ true
 is_lock_test x (inl e) = subst (λ z. is_lock_word z ≡ true) (sym e) refl
 is_lock_test x (inr (i, e)) =
     if_other x 0 (omega arith) true (if nat_lt x 5 then false else if x % 3 == 2 then true else false)
@@ -66,31 +66,30 @@ module _ (T : Table) (law : Lawful T) (S : Shape) (most : Sizes → ℕ) (shows 
     owes : (u : ℕ) → u < sz.threads → Owes (stores u) (local_of s u)
     within : price sz * total stores sz.threads + total time sz.threads ≤ p
 
-  -- AT A BEGIN nothing is lost
-  module _ (sz : Sizes) (s : State) (t : ℕ) (c : Call) (en : Enabled s (Begin t c)) (p : ℕ) (f : Phase sz s p) where
-    abbrev B : State
-    B = after T s (Begin t c)
+  -- where each thread has as much left as before, nothing is lost
+  same_phase : (sz : Sizes) (s s' : State) (p : ℕ) (f : Phase sz s p)
+      → ((u : ℕ) → u < sz.threads → Fits sz s'.words (f.time u) (local_of s' u) × Owes (f.stores u) (local_of s' u))
+      → Phase sz s' p
+  same_phase sz s s' p f as_much = record {
+    time = f.time;
+    stores = f.stores;
+    times = λ u un. (as_much u un).0;
+    owes = λ u un. (as_much u un).1;
+    within = f.within;
+  }
 
-    same_but : (u : ℕ) → u ≢ t → local_of B u ≡ local_of s u
-    same_but u d = put_other s t u (T.begin c (local_of s t)) d
-
-    rests : (u : ℕ) → u ≡ t → (local_of s u).pc ≡ 0
-    rests u y = ap (λ z. (local_of s z).pc) y ∙ en.1
-
-    begins : Phase sz B p
-    begins = record {
-      time = f.time;
-      stores = f.stores;
-      times = λ u un. elim (same_or_not u t) [
-        | inl y ↦ elim (f.times u un) [ inl h ↦ inl h | inr h ↦ absurd (h.0 (rests u y)) ]
-        | inr y ↦ subst (λ l. Fits sz s.words (f.time u) l) (sym (same_but u y)) (f.times u un)
-      ];
-      owes = λ u un. elim (same_or_not u t) [
-        | inl y ↦ elim (f.owes u un) [ inl h ↦ inl h | inr h ↦ absurd (shows.late_busy (local_of s u) h.0 (rests u y)) ]
-        | inr y ↦ subst (λ l. Owes (f.stores u) l) (sym (same_but u y)) (f.owes u un)
-      ];
-      within = f.within;
-    }
+  -- AT A BEGIN
+  begins : (sz : Sizes) (s : State) (t : ℕ) (c : Call) → Enabled s (Begin t c) → (p : ℕ) → Phase sz s p
+      → Phase sz (after T s (Begin t c)) p
+  begins sz s t c en p f = same_phase sz s (after T s (Begin t c)) p f (λ u un. elim (same_or_not u t) [
+    | inl y ↦
+        (let rests : (local_of s u).pc ≡ 0 = ap (λ z. (local_of s z).pc) y ∙ en.1 in (
+          elim (f.times u un) [ inl h ↦ inl h | inr h ↦ absurd (h.0 rests) ],
+          elim (f.owes u un) [ inl h ↦ inl h | inr h ↦ absurd (shows.late_busy (local_of s u) h.0 rests) ],
+        ))
+    | inr y ↦ subst (λ l. Fits sz s.words (f.time u) l × Owes (f.stores u) l)
+        (sym (put_other s t u (T.begin c (local_of s t)) y)) (f.times u un, f.owes u un)
+  ])
 
   -- AT A STEP that ends no call that counts, as much is lost as counts
   module _ (op : Opening) (last k : ℕ) (es : ℕ → Event) (r : Run T op es last) (below : k < last) (t : ℕ) (ee : es k ≡ Go t)
@@ -152,14 +151,9 @@ module _ (T : Table) (law : Lawful T) (S : Shape) (most : Sizes → ℕ) (shows 
       fails = (
         p,
         (let z : moves calls T s (Go t) ≡ 0 = weighs_none in omega arith),
-        record {
-          time = f.time;
-          stores = f.stores;
-          times = λ u un. subst (λ ws. Fits (sizes op) ws (f.time u) (local_of s' u)) (sym words_stay)
-              (subst (λ l. Fits (sizes op) s.words (f.time u) l) (sym (local_stays u)) (f.times u un));
-          owes = λ u un. subst (λ l. Owes (f.stores u) l) (sym (local_stays u)) (f.owes u un);
-          within = f.within;
-        },
+        same_phase (sizes op) s s' p f (λ u un. subst (λ ws. Fits (sizes op) ws (f.time u) (local_of s' u)
+            × Owes (f.stores u) (local_of s' u)) (sym words_stay) (subst (λ l. Fits (sizes op) s.words (f.time u) l
+            × Owes (f.stores u) l) (sym (local_stays u)) (f.times u un, f.owes u un))),
       )
 
     -- any other step
@@ -198,26 +192,17 @@ module _ (T : Table) (law : Lawful T) (S : Shape) (most : Sizes → ℕ) (shows 
         passes same = (
           p,
           (let z : moves calls T s (Go t) ≡ calls L.call = weight in omega arith),
-          record {
-            time = f.time;
-            stores = f.stores;
-            times = λ u un. elim (same_or_not u t) [
-              | inl y ↦ elim (f.times u un) [
+          same_phase (sizes op) s s' p f (λ u un. elim (same_or_not u t) [
+            | inl y ↦ (
+              elim (f.times u un) [
                 | inl h ↦ inl h
                 | inr h ↦ absurd (let one : calls L.call ≡ 1 = subst (λ z. calls (local_of s z).call ≡ 1) y h.1 in omega arith)
-              ]
-              | inr y ↦ subst (λ l. Fits (sizes op) s'.words (f.time u) l) (sym (same_other u y))
-                  (fits_on same (f.time u) (local_of s u) (f.times u un))
-            ];
-            owes = λ u un. elim (same_or_not u t) [
-              | inl y ↦ elim (f.owes u un) [
-                | inl h ↦ inl h
-                | inr h ↦ absurd (not_late (subst (λ z. S.late (local_of s z)) y h.0))
-              ]
-              | inr y ↦ subst (λ l. Owes (f.stores u) l) (sym (same_other u y)) (f.owes u un)
-            ];
-            within = f.within;
-          },
+              ],
+              elim (f.owes u un) [ inl h ↦ inl h | inr h ↦ absurd (not_late (subst (λ z. S.late (local_of s z)) y h.0)) ],
+            )
+            | inr y ↦ subst (λ l. Fits (sizes op) s'.words (f.time u) l × Owes (f.stores u) l) (sym (same_other u y))
+                (fits_on same (f.time u) (local_of s u) (f.times u un), f.owes u un)
+          ]),
         )
 
       -- of one that does: with n steps left
@@ -254,7 +239,7 @@ module _ (T : Table) (law : Lawful T) (S : Shape) (most : Sizes → ℕ) (shows 
           -- keys and links stay
           quiet : Kept → Later
           quiet same =
-              let fewer : total (put f.time t n) op.threads + 1 ≡ total f.time op.threads =
+              let fewer : total (put f.time t n) op.threads + 1 ≤ total f.time op.threads =
               total_less f.time (put f.time t n) op.threads t tn
               (let e : put f.time t n t ≡ n = put_this f.time t n in omega arith) (λ v d. put_that f.time t n v d) in (
                 price (sizes op) * total f.stores op.threads + total (put f.time t n) op.threads,
@@ -280,7 +265,7 @@ module _ (T : Table) (law : Lawful T) (S : Shape) (most : Sizes → ℕ) (shows 
           -- or the step is one behind a decision
           stores_on : LateBy S 5 L → (m : ℕ) → f.stores t ≡ suc m → S.left 0 (λ a. 0) L < suc m → Later
           stores_on x m e few =
-              let fewer : total (put f.stores t m) op.threads + 1 ≡ total f.stores op.threads =
+              let fewer : total (put f.stores t m) op.threads + 1 ≤ total f.stores op.threads =
               total_less f.stores (put f.stores t m) op.threads t tn
               (let e' : put f.stores t m t ≡ m = put_this f.stores t m in omega arith) (λ v d. put_that f.stores t m v d) in
               let costs : price (sizes op) * total (put f.stores t m) op.threads + price (sizes op)
@@ -320,8 +305,8 @@ module _ (T : Table) (law : Lawful T) (S : Shape) (most : Sizes → ℕ) (shows 
 
       time_now : calls L.call ≡ 1 → Timed S (node_count (sizes op)) s.words (f.time t) L
       time_now one = elim (f.times t tn) [
-        | inl h ↦ timed_more S (node_count (sizes op)) s.words L (most (sizes op)) (f.time t) h
-            (shows.rows op last k t es r (omega arith) tn en.1).0
+        | inl h ↦ timed_more S (node_count (sizes op)) (node_key s.words) (node_link s.words) L (most (sizes op)) (f.time t) h
+            (shows.rows op last k t es r (omega arith) tn en.1).time
         | inr h ↦ h.2
       ]
 
@@ -342,7 +327,8 @@ module _ (T : Table) (law : Lawful T) (S : Shape) (most : Sizes → ℕ) (shows 
                 | inl a ↦ inl (a, weighs_one one z.0 is time)
                 | inr g ↦
                     (let calm = counts.calm op last k t es r (omega arith) tn en.1 one free in
-                    let goes_on : (L'.pc ≢ 0) × Timed S (node_count (sizes op)) s'.words z.0 L' = (g.busy, g.near calm z.0 time) in
+                    let goes_on : (L'.pc ≢ 0) × Timed S (node_count (sizes op)) s'.words z.0 L' =
+                    (g.busy, g.near calm z.0 time) in
                     inr (elim (late_or_keeps S T (sizes op) s.words t L (T.next L) here) [
                       | inl x ↦ stores_more one z.0 is time goes_on g.late x
                       | inr same ↦ quiet one z.0 is time goes_on g.late same

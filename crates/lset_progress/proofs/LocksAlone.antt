@@ -1,6 +1,6 @@
 -- THE LAWS OF PROGRESS OF A LIST WITH LOCKS, from its rows: its calls end alone, and some thread gets on.
 use Rattle.std.specs.Prelude.{◌≡◌, ◌≢◌, ℕ, ◌+◌, ◌<◌, ◌≤◌, ◌⊎◌, List, slice_index, length, Some, refl}
-use Rattle.std.proofs.Common.{arith, inl, inr, sym, ◌∙◌, ap, subst, suc}
+use Rattle.std.proofs.Common.{arith, inl, inr, sym, ◌∙◌, ap, subst, zero, suc}
 use Rattle.lset_words.proofs.Numbers.{same_or_not}
 use Rattle.lset_words.specs.declared.Call.{Call}
 use Rattle.lset_words.specs.declared.Reply.{Reply}
@@ -13,27 +13,29 @@ use Rattle.lset_steps.specs.declared.Fed.{Fed}
 use Rattle.lset_steps.specs.declared.Local.{Local}
 use Rattle.lset_steps.specs.Steps.{Table, State, Run, Enabled, state_at, after, local_of, seen_by, seen_next, left_by}
 use Rattle.lset_steps.specs.Chain.{node_key, node_link}
-use Rattle.lset_steps.specs.Laws.{Lawful, IsLockWord}
+use Rattle.lset_steps.specs.Laws.{Lawful, IsLockWord, word_named}
 use Rattle.lset_steps.specs.Promises.{held}
 use Rattle.lset_steps.proofs.Discipline.{put_same}
-use Rattle.lset_progress.specs.Progress.{IsPending, Answers, NoOtherHolds, CallsEndAlone, GetsOn}
-use Rattle.lset_progress.specs.Progress.{SomeThreadGetsOn}
+use Rattle.lset_progress.specs.Progress.{IsPending, Answers, NoOtherHolds, CallsEndAlone, GetsOn, SomeThreadGetsOn}
 use Rattle.lset_progress.proofs.Alone.{Nears, ends_alone}
 use Rattle.lset_progress.proofs.Holders.{MayHold, after_store, after_try, holder_known, one_or_more, try_succeeds, others_wait}
-use Rattle.lset_progress.proofs.Rest.{keys_stay, links_stay, keys_tried, links_tried}
-use Rattle.lset_progress.proofs.Rows.{Shape, LateBy, Timed, Goes, RowBy, rank, timed_same, no_time}
-use Rattle.lset_progress.proofs.Waiting.{Climbs, on_load, on_store, on_try, some_gets_on}
+use Rattle.lset_progress.proofs.Rest.{SameList, stay, tried}
+use Rattle.lset_progress.proofs.Rows.{Shape, LateBy, Timed, Goes, RowBy, RowOf, rank, timed_same, no_time}
 
 pub record Shows (T : Table) (S : Shape) (most : Sizes → ℕ) : Type 0 where
   pub rows : (op : Opening) (last k t : ℕ) (es : ℕ → Event) → Run T op es last → k ≤ last → t < op.threads
       → IsPending (state_at T op es k) t
-      → Timed S (node_count (sizes op)) (state_at T op es k).words (most (sizes op)) (local_of (state_at T op es k) t)
-      × RowBy S (node_count (sizes op)) T (sizes op) (state_at T op es k).words t (local_of (state_at T op es k) t)
-      (T.next (local_of (state_at T op es k) t))
+      → RowOf S (node_count (sizes op)) T (sizes op) (state_at T op es k).words t (most (sizes op))
+      (local_of (state_at T op es k) t)
   pub rests : (l : Local) (x : ℕ) → l.pc ≡ 0 → S.may l x → ⊥
   pub late_busy : (l : Local) → S.late l → l.pc ≢ 0
   pub calm_alone : (op : Opening) (last k t : ℕ) (es : ℕ → Event) → Run T op es last → k ≤ last
       → NoOtherHolds (sizes op) (state_at T op es k) t → S.calm (state_at T op es k).words (local_of (state_at T op es k) t)
+
+-- what a try of a word expects there
+abbrev expected : Action → ℕ → ℕ
+expected (Exchange x old new) other = old
+expected a other = other
 
 -- the lock that a step tries is free
 abbrev pub IsFree : List ℕ → Action → Type 0
@@ -64,42 +66,41 @@ module _ (S : Shape) (T : Table) (sz : Sizes) (ws : List ℕ) (t : ℕ) (l : Loc
       | inl old ↦ (row.taken z).keeps x tt (before old)
       | inr took ↦ subst (λ y. S.may (T.feed l 0).local y) took.0 row.mine
     ])
-    | inr z ↦ subst (λ k. S.may k x) (sym (row.missed (slice_index ws w) z)) (elim (after_try x t t (slice_index ws x) w from to h) [
-      | inl old ↦ before old
-      | inr took ↦ absurd (z (ap (slice_index ws) took.0 ∙ took.1))
-    ])
+    | inr z ↦ subst (λ k. S.may k x) (sym (row.missed (slice_index ws w) z))
+        (elim (after_try x t t (slice_index ws x) w from to h) [
+          | inl old ↦ before old
+          | inr took ↦ absurd (z (ap (slice_index ws) took.0 ∙ took.1))
+        ])
   ]
 
   -- it is behind the decision, or leaves keys and links
   abbrev pub Keeps : Action → Type 0
-  Keeps a = (node_key (left_by ws a) ≡ node_key ws) × (node_link (left_by ws a) ≡ node_link ws)
+  Keeps a = SameList ws (left_by ws a)
 
   pub late_or_keeps : (a : Action) → Row a → LateBy S 5 l ⊎ Keeps a
   late_or_keeps (Load w) row = inr (refl, refl)
   late_or_keeps (Store w v) (inl y) = inl y.1
-  late_or_keeps (Store w v) (inr y) = inr (keys_stay ws w v y.0, links_stay ws w v y.0)
-  late_or_keeps (Exchange w from to) row = inr (keys_tried ws w from to row.is_lock, links_tried ws w from to row.is_lock)
+  late_or_keeps (Store w v) (inr y) = inr (stay ws w v y.0)
+  late_or_keeps (Exchange w from to) row = inr (tried ws w from to row.is_lock)
 
   -- and ends the call, or goes on
   abbrev Comes : List ℕ → Fed → Type 0
   Comes ws' f = ((r : Reply) × (f.answer ≡ Some r)) ⊎ Goes S size (node_key ws) ws l (node_key ws') ws' f.local
 
-  same_list : (ws' : List ℕ) (f : Fed) → node_key ws' ≡ node_key ws → node_link ws' ≡ node_link ws → Comes ws f → Comes ws' f
-  same_list ws' f keys links (inl a) = inl a
-  same_list ws' f keys links (inr g) = inr (record {
+  same_list : (ws' : List ℕ) (f : Fed) → SameList ws ws' → Comes ws f → Comes ws' f
+  same_list ws' f same (inl a) = inl a
+  same_list ws' f same (inr g) = inr (record {
     busy = g.busy;
     late = g.late;
-    near = λ calm n time. timed_same S size ws ws' n f.local keys links (g.near calm n time);
+    near = λ calm n time. timed_same S size ws ws' n f.local same.0 same.1 (g.near calm n time);
   })
 
   comes_by : (a : Action) → Row a → IsFree ws a → Comes (left_by ws a) (T.feed l (seen_by ws a))
   comes_by (Load w) row free = row.then
   comes_by (Store w v) (inl y) free = y.0.then
-  comes_by (Store w v) (inr y) free = same_list (left_by ws (Store w v)) (T.feed l v) (keys_stay ws w v y.0) (links_stay ws w v y.0)
-      y.1.then
+  comes_by (Store w v) (inr y) free = same_list (left_by ws (Store w v)) (T.feed l v) (stay ws w v y.0) y.1.then
   comes_by (Exchange w from to) row free = same_list (left_by ws (Exchange w from to)) (T.feed l (slice_index ws w))
-      (keys_tried ws w from to row.is_lock) (links_tried ws w from to row.is_lock)
-      (subst (λ s. Comes ws (T.feed l s)) (sym free) (row.taken free).then)
+      (tried ws w from to row.is_lock) (subst (λ s. Comes ws (T.feed l s)) (sym free) (row.taken free).then)
 
 module _ (T : Table) (law : Lawful T) (S : Shape) (most : Sizes → ℕ) (shows : Shows T S most) where
   pub may : MayHold T S.may
@@ -109,7 +110,7 @@ module _ (T : Table) (law : Lawful T) (S : Shape) (most : Sizes → ℕ) (shows 
         let s : State = state_at T op es k in
         let en : Enabled (state_at T op es k) (Go t) = subst (λ e. Enabled (state_at T op es k) e) ee (r.enabled k l) in
         may_after S T (sizes op) (state_at T op es k).words t (local_of (state_at T op es k) t) x before
-        (T.next (local_of (state_at T op es k) t)) (shows.rows op last k t es r (omega arith) tn en.1).1 now;
+        (T.next (local_of (state_at T op es k) t)) (shows.rows op last k t es r (omega arith) tn en.1).by now;
   }
 
   -- AT A MOMENT of a run, of a thread with a call
@@ -122,7 +123,7 @@ module _ (T : Table) (law : Lawful T) (S : Shape) (most : Sizes → ℕ) (shows 
     L = local_of s t
 
     pub row : RowBy S (node_count (sizes op)) T (sizes op) s.words t L (T.next L)
-    row = (shows.rows op last k t es r upto tn busy).1
+    row = (shows.rows op last k t es r upto tn busy).by
 
     inside : t < length s.locals
     inside = rw (law.states op last k es r upto).locals tn
@@ -167,7 +168,7 @@ module _ (T : Table) (law : Lawful T) (S : Shape) (most : Sizes → ℕ) (shows 
 
   pub calls_end : CallsEndAlone T most
   calls_end op k t es r tn busy others = ends_alone T law Stage nears op t tn (most (sizes op)) k es r
-      (others, busy, (shows.rows op k k t es r (omega arith) tn busy).0)
+      (others, busy, (shows.rows op k k t es r (omega arith) tn busy).time)
 
   -- NO DEADLOCK: who waits for a lock holds only locks that come before it
   module _ (calls : Call → ℕ) (op : Opening) (k : ℕ) (es : ℕ → Event) (r : Run T op es k)
@@ -185,14 +186,24 @@ module _ (T : Table) (law : Lawful T) (S : Shape) (most : Sizes → ℕ) (shows 
       inside : w < word_count (sizes op)
       last : (x : ℕ) → S.may (local_of now u) x → rank_of w < rank_of x
 
-    goes_or_waits : (u : ℕ) → Enabled now (Go u) → (a : Action) → T.next (local_of now u) ≡ a
+    goes_by : (u : ℕ) → Enabled now (Go u) → (a : Action) → T.next (local_of now u) ≡ a
         → RowBy S (node_count (sizes op)) T (sizes op) now.words u (local_of now u) a → GetsOn T now u ⊎ ((w : ℕ) × Waits u w)
-    goes_or_waits u en (Load w) acts y = inl (on_load T now u en w acts)
-    goes_or_waits u en (Store w v) acts y = inl (on_store T now u en w v acts)
-    goes_or_waits u en (Exchange w from to) acts y = elim (same_or_not (slice_index now.words w) 0) [
-      | inl z ↦ inl (on_try T now u en w from to acts (z ∙ sym y.free))
+    goes_by u en (Load w) acts y =
+        inl (record { enabled = en; tries = λ x old new is e. absurd (let z = sym acts ∙ e in cc) })
+    goes_by u en (Store w v) acts y =
+        inl (record { enabled = en; tries = λ x old new is e. absurd (let z = sym acts ∙ e in cc) })
+    goes_by u en (Exchange w from to) acts y = elim (same_or_not (slice_index now.words w) 0) [
+      | inl z ↦ inl (record {
+        enabled = en;
+        tries = λ x old new is e. let same : Exchange w from to ≡ Exchange x old new = sym acts ∙ e in
+            ap (slice_index now.words) (sym (ap word_named same)) ∙ z ∙ sym y.free ∙ ap (λ a. expected a 0) same;
+      })
       | inr z ↦ inr (w, record { taken = z; is_lock = y.is_lock; inside = y.inside; last = y.last })
     ]
+
+    goes_or_waits : (u : ℕ) → u < op.threads → IsPending now u → GetsOn T now u ⊎ ((w : ℕ) × Waits u w)
+    goes_or_waits u un busy = goes_by u (rw (law.states op k k es r (omega arith)).locals un, busy) (T.next (local_of now u)) refl
+        (row op k k u es r (omega arith) un busy)
 
     abbrev Meant : ℕ → Type 0
     Meant u = calls (local_of now u).call ≡ 1
@@ -205,22 +216,24 @@ module _ (T : Table) (law : Lawful T) (S : Shape) (most : Sizes → ℕ) (shows 
           (h.0, x.0, (λ z. shows.rests (local_of now h.0) w z x.1), holds h.0 w x.0 x.1, x.1))
     ]
 
-    climbing : Climbs T now op.threads
-    climbing = record {
-      meant = Meant;
-      waits = Waits;
-      has = λ u w. S.may (local_of now u) w;
-      rank = rank_of;
-      either = λ u un busy. goes_or_waits u (rw (law.states op k k es r (omega arith)).locals un, busy)
-          (T.next (local_of now u)) refl (row op k k u es r (omega arith) un busy);
-      holder = λ u w un y. its_holder u w y;
-      lower = λ u a w un h y. y.last a h;
-    }
+    abbrev SomeMeant : Type 0
+    SomeMeant = (u : ℕ) × (u < op.threads) × Meant u × GetsOn T now u
 
-    pub some_meant : (t : ℕ) → t < op.threads → IsPending now t → Meant t
-        → (u : ℕ) × (u < op.threads) × Meant u × GetsOn T now u
-    unfolding climbing
-    some_meant t tn busy meant = some_gets_on T now op.threads climbing t tn busy meant
+    -- whoever has the lock waits, if at all, for one of a lower rank
+    climbs : (n u w : ℕ) → Waits u w → rank_of w < n → SomeMeant
+    climbs zero u w y less = absurd (omega arith)
+    climbs (suc n) u w y less =
+        let h = its_holder u w y in
+        elim (goes_or_waits h.0 h.1 h.2) [
+          | inl g ↦ (h.0, h.1, h.3, g)
+          | inr x ↦ (let low : rank_of x.0 < rank_of w = x.1.last w h.4 in climbs n h.0 x.0 x.1 (omega arith))
+        ]
+
+    pub some_meant : (t : ℕ) → t < op.threads → IsPending now t → Meant t → SomeMeant
+    some_meant t tn busy meant = elim (goes_or_waits t tn busy) [
+      | inl g ↦ (t, tn, meant, g)
+      | inr x ↦ climbs (suc (rank_of x.0)) t x.0 x.1 (omega arith)
+    ]
 
   pub gets_on : SomeThreadGetsOn T
   gets_on op k t es r tn busy =

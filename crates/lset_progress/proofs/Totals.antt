@@ -7,24 +7,6 @@ abbrev pub total : (ℕ → ℕ) → ℕ → ℕ
 total b zero = 0
 total b (suc n) = b n + total b n
 
-pub total_same : (b c : ℕ → ℕ) (n : ℕ) → ((v : ℕ) → v < n → c v ≡ b v) → total c n ≡ total b n
-total_same b c zero h = refl
-total_same b c (suc n) h =
-    let e : c n ≡ b n = h n (omega arith) in
-    let r : total c n ≡ total b n = total_same b c n (λ v l. h v (omega arith)) in omega arith
-
--- one falls by 1
-pub total_less : (b c : ℕ → ℕ) (n u : ℕ) → u < n → c u + 1 ≡ b u → ((v : ℕ) → v ≢ u → c v ≡ b v) → total c n + 1 ≡ total b n
-total_less b c zero u l e h = absurd (omega arith)
-total_less b c (suc n) u l e h = elim (same_or_not n u) [
-  | inl y ↦
-      (let x : c n ≡ c u = ap c y in let x' : b n ≡ b u = ap b y in
-      let r : total c n ≡ total b n = total_same b c n (λ v k. h v (omega arith)) in omega arith)
-  | inr y ↦
-      (let x : c n ≡ b n = h n y in
-      let r : total c n + 1 ≡ total b n = total_less b c n u (omega arith) e h in omega arith)
-]
-
 pub total_all : (most n : ℕ) → total (λ t. most) n ≡ n * most
 total_all most zero = omega arith
 total_all most (suc n) = let r : total (λ t. most) n ≡ n * most = total_all most n in grind arith
@@ -59,6 +41,13 @@ total_step b c (suc n) u d x l e h =
           let r : total c n + x ≤ total b n + n * d = total_step b c n u d x (omega arith) e (λ v k. h v (omega arith)) in
           omega arith)
     ]
+
+-- one falls by 1, and the others stay
+pub total_less : (b c : ℕ → ℕ) (n u : ℕ) → u < n → c u + 1 ≤ b u → ((v : ℕ) → v ≢ u → c v ≡ b v) → total c n + 1 ≤ total b n
+total_less b c n u l e h =
+    let x : total c n + 1 ≤ total b n + n * 0 =
+    total_step b c n u 0 1 l e (λ v vn d. let y : c v ≡ b v = h v d in omega arith) in
+    omega arith
 
 -- what is one less c times is c less
 pub one_price : (c a b : ℕ) → a + 1 ≤ b → c * a + c ≤ c * b

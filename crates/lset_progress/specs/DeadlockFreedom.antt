@@ -1,5 +1,6 @@
--- Freedom from deadlock, as Herlihy and Shavit define it: in a run in which every thread goes on, calls end again and again. It has
--- two parts, of which neither asks for fairness: some thread gets on (SomeThreadGetsOn), and who gets on brings some call to an end.
+-- Freedom from deadlock, as Herlihy and Shavit define it: in a run in which every thread goes on, calls end again and again. It
+-- has two parts, of which neither asks for fairness: some thread gets on (SomeThreadGetsOn), and who gets on brings some call to
+-- an end.
 use Rattle.std.specs.Prelude.{◌≡◌, ℕ, ◌+◌, ◌*◌, ◌%◌, ◌<◌, ◌≤◌, nat_lt, ◌==◌, if◌then◌else◌, Bool, true, false, List, slice_index}
 use Rattle.lset_words.specs.declared.Call.{Call}
 use Rattle.lset_words.specs.Words.{Sizes, Opening}
@@ -44,7 +45,7 @@ IsDeadlockFree calls T = (op : Opening) (k t : ℕ) (es : ℕ → Event) → IsF
     → IsPending (state_at T op es k) t → calls (local_of (state_at T op es k) t).call ≡ 1
     → (n : ℕ) × SomeEnds (moves calls T) T op es k n
 
--- THE MOST STEPS, for n threads: to each those of its call alone, and again to all behind each step of a call behind its decision,
--- of which there are 5 at most
+-- THE MOST STEPS, for n threads: to each those of its call alone, and again to all behind each step of a call behind its
+-- decision, of which there are 5 at most
 abbrev pub lock_window : (Sizes → ℕ) → Sizes → ℕ
 lock_window most sz = sz.threads * most sz * (5 * sz.threads + 1)

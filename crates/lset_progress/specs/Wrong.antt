@@ -97,8 +97,8 @@ crossed = record {
   effect = lazy.effect;
 }
 
--- The same, but no thread waits for its second lock: it looks at it (row 16), and if it is taken gives the first back (row 15), and
--- starts again.
+-- The same, but no thread waits for its second lock: it looks at it (row 16), and if it is taken gives the first back (row 15),
+-- and starts again.
 abbrev pub looks_first : Fed → Fed
 looks_first f = record { local = if f.local.pc == 5 then record f.local { pc = 16 } else f.local; answer = f.answer }
 
