@@ -1,6 +1,6 @@
 -- The rows of CoarseList: that its calls end alone, and that it has no deadlock.
 use Rattle.std.specs.Prelude.{◌≡◌, ℕ, ◌+◌, ◌*◌, ◌/◌, ◌<◌, nat_le, Bool, false, List, [], ◌∷◌, refl, slice_index}
-use Rattle.std.proofs.Common.{arith, inl, inr, ap, subst}
+use Rattle.std.proofs.Common.{arith, inl, subst}
 use Rattle.lset_words.proofs.Numbers.{if_other}
 use Rattle.lset_words.specs.Words.{node_count, target, Sizes}
 use Rattle.lset_steps.specs.declared.Local.{Local}

@@ -1,6 +1,6 @@
 -- The rows of LazyList: a walk from the head that nobody disturbs is validated, and meets no mark.
-use Rattle.std.specs.Prelude.{◌≡◌, ◌≢◌, ℕ, ◌+◌, ◌*◌, ◌/◌, ◌%◌, ◌<◌, ◌≤◌, ◌⊎◌, ◌||◌, Bool, true, false, Option, Some, None}
-use Rattle.std.specs.Prelude.{is_some, List, [], ◌∷◌, slice_index, if◌then◌else◌, ◌==◌, refl}
+use Rattle.std.specs.Prelude.{◌≡◌, ◌≢◌, ℕ, ◌+◌, ◌*◌, ◌/◌, ◌%◌, ◌<◌, ◌≤◌, ◌⊎◌, ◌||◌, Bool, true, Option, Some, None}
+use Rattle.std.specs.Prelude.{is_some, List, [], ◌∷◌, slice_index, refl}
 use Rattle.std.proofs.Common.{arith, get_or, inl, inr, sym, ◌∙◌, ap, subst}
 use Rattle.lset_words.proofs.Numbers.{if_other}
 use Rattle.lset_words.specs.declared.Call.{Call}

@@ -1,6 +1,6 @@
 -- That LockFreeList is lock-free. While no call ends, no node is put in, so that each thread marks at most one node, and each
 -- node is taken out at most once; between two such exchanges each thread has the steps of its walk and of one more.
-use Rattle.std.specs.Prelude.{◌≡◌, ◌≢◌, ℕ, ◌+◌, ◌*◌, ◌%◌, ◌<◌, ◌≤◌, ◌⊎◌, Bool, true, false, List, if◌then◌else◌, ◌==◌, refl}
+use Rattle.std.specs.Prelude.{◌≡◌, ◌≢◌, ℕ, ◌+◌, ◌*◌, ◌%◌, ◌<◌, ◌≤◌, ◌⊎◌, Bool, true, List, if◌then◌else◌, ◌==◌, refl}
 use Rattle.std.proofs.Common.{arith, inl, inr, sym, ◌∙◌, ap, subst, suc}
 use Rattle.lset_words.proofs.Numbers.{same_or_not, if_same, if_other}
 use Rattle.lset_words.specs.declared.Call.{Call}

@@ -1,5 +1,5 @@
 -- What is left of a walk at a node, and that writes of locks leave it.
-use Rattle.std.specs.Prelude.{◌≡◌, ◌≢◌, ℕ, ◌/◌, ◌<◌, ◌⊎◌, Bool, List, slice_index, slice_set}
+use Rattle.std.specs.Prelude.{◌≡◌, ◌≢◌, ℕ, ◌/◌, ◌<◌, Bool, List, slice_index, slice_set}
 use Rattle.std.proofs.Common.{arith, inl, inr, sym, subst, refl}
 use Rattle.lset_words.proofs.Numbers.{same_or_not, if_same, if_other}
 use Rattle.lset_words.specs.Words.{node_count, Sizes}

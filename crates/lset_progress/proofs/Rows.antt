@@ -1,11 +1,11 @@
 -- WHAT A LIST WITH LOCKS SHOWS OF EACH ROW, once: which locks a thread holds behind it, and how much is left of its call. From
 -- these rows follow all laws of progress of the list (LocksAlone).
-use Rattle.std.specs.Prelude.{◌≡◌, ◌≢◌, ℕ, ◌+◌, ◌-◌, ◌/◌, ◌<◌, ◌≤◌, ◌⊎◌, ◌&&◌, nat_le, nat_lt, not, Bool, true, false, MatchBool}
+use Rattle.std.specs.Prelude.{◌≡◌, ◌≢◌, ℕ, ◌+◌, ◌-◌, ◌/◌, ◌<◌, ◌≤◌, ◌⊎◌, ◌&&◌, nat_le, nat_lt, Bool, true, false, MatchBool}
 use Rattle.std.specs.Prelude.{Some, None, List, slice_index, slice_set}
 use Rattle.std.proofs.Common.{arith, inl, inr, subst, sym, ap, suc, refl}
 use Rattle.lset_words.proofs.Numbers.{lower_number}
 use Rattle.lset_words.specs.declared.Reply.{Reply}
-use Rattle.lset_words.specs.Words.{lock_index, node_count, word_count, Sizes}
+use Rattle.lset_words.specs.Words.{lock_index, word_count, Sizes}
 use Rattle.lset_steps.specs.declared.Action.{Action}
 use Rattle.lset_steps.specs.declared.Action.TheVariants.{Load, Store, Exchange}
 use Rattle.lset_steps.specs.declared.Fed.{Fed}

@@ -1,8 +1,8 @@
 -- Runs whose events are written out: some events from the opening state on, and then a round that is made again and again.
-use Rattle.std.specs.Prelude.{◌≡◌, ℕ, ◌+◌, ◌*◌, ◌<◌, ◌≤◌, ◌==◌, ◌&&◌, nat_lt, not, is_some, Bool, true, false, Some, None, List}
+use Rattle.std.specs.Prelude.{◌≡◌, ℕ, ◌+◌, ◌*◌, ◌<◌, ◌≤◌, ◌==◌, ◌&&◌, nat_lt, not, is_some, Bool, true, false, Some, List}
 use Rattle.std.specs.Prelude.{[], ◌∷◌, length, refl}
 use Rattle.std.proofs.Common.{arith, inl, inr, sym, ◌∙◌, ap, subst, zero, suc}
-use Rattle.lset_words.proofs.Numbers.{same_number, lower_number, below_or_not}
+use Rattle.lset_words.proofs.Numbers.{same_number, lower_number}
 use Rattle.lset_words.proofs.Bounds.{opens_empty}
 use Rattle.lset_words.specs.declared.Call.{Call}
 use Rattle.lset_words.specs.declared.Reply.{Reply}
