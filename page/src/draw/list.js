@@ -196,6 +196,7 @@ function drawLink(state, name, places, event) {
 }
 
 function pathOf(from, to, x1, y1) {
+  if (from === to) return pathAround(from, x1, y1);
   if (from.aside && !to.aside) return pathUp(from, to, x1, y1);
   const isNext = to.x > from.x && to.x - from.x < 2 * (from.width + LEAST_GAP);
   if (from.aside && !isNext) return pathOver(from, to, x1, y1);
@@ -211,6 +212,9 @@ function bent(start, ...turns) {
   });
   return `M${start[0]} ${start[1]}${corners.join("")}`;
 }
+
+// From a node to itself: around its corner, and into its top.
+const pathAround = (from, x1, y1) => bent([x1, y1], from.x + from.width + 10, from.y - 12, from.x + from.width - 12, from.y - 3);
 
 // From a node below the chain to one in it: along under the registers, and up through the gap left of the node into its side. No
 // register is written there.

@@ -1,18 +1,22 @@
 // The parts of the page by their names, and what is done to them so that nobody loses the focus.
 
+/** @type {(id: string) => any} */
 export const byId = (id) => document.getElementById(id);
 
-// Puts a text of elements in place of what a box has; what had the focus there has it again, or the box's first part that can.
+// Puts a text of elements in place of what a box has; what had the focus there has it again, or else a button of the same thread, or the
+// first one: never a field, in which the next key would be another one than the reader means.
 export function redraw(box, html) {
+  /** @type {any} */
   const before = box.contains(document.activeElement) ? document.activeElement : null;
   const keyOf = (part) => JSON.stringify({ ...part.dataset, name: part.tagName });
   const key = before === null ? "" : keyOf(before);
   if (typeof html === "string") box.innerHTML = html;
   else box.replaceChildren(...html);
   if (before === null) return;
-  const parts = [...box.querySelectorAll("button, select, input, a, [tabindex]")];
+  const same = [...box.querySelectorAll("button, select, input, a, [tabindex]")].find((part) => keyOf(part) === key);
+  const buttons = [...box.querySelectorAll("button, a")];
   const isOfSame = (part) => part.dataset.of !== undefined && part.dataset.of === before.dataset.of;
-  (parts.find((part) => keyOf(part) === key) ?? parts.find(isOfSame) ?? parts[0] ?? box).focus();
+  (same ?? buttons.find(isOfSame) ?? buttons[0] ?? box).focus();
 }
 
 // A button that does nothing now is told as such, and keeps the focus that it has.

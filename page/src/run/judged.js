@@ -100,9 +100,11 @@ export class OwnAnswer {
     return placed.map(({ call, at }) => ({ call, at, reply: this.replyOf(call) }));
   }
 
-  // The calls of which something is still to be said.
+  // What is still to be said, in words: of each call its point, its reply, or both.
   unsaid() {
-    return this.exercise.calls.filter((call) => call.ended !== null && (!this.points.has(call.id) || this.replyOf(call) === null));
+    const lackOf = (call) => [this.points.has(call.id) ? "" : "point", this.replyOf(call) === null ? "reply" : ""].filter((it) => it !== "");
+    const lacking = this.exercise.calls.filter((call) => call.ended !== null && lackOf(call).length > 0);
+    return lacking.map((call) => `the ${lackOf(call).join(" and the ")} of ${nameOfCall(call)}`);
   }
 }
 
@@ -118,7 +120,7 @@ export function verdictOn(ask, answer) {
   const unsaid = answer.unsaid();
   if (answer.isNone) return verdictOnClaim(ask, answer.exercise);
   const nothing = { isRight: null, clash: null, report: null };
-  if (unsaid.length > 0) return { ...nothing, says: `Still missing: ${unsaid.map(nameOfCall).join(", ")}.` };
+  if (unsaid.length > 0) return { ...nothing, says: `Still missing: ${unsaid.join(", ")}.` };
   const report = reportOfAnswer(answer);
   const checked = ask("listset_check", report).text.trim();
   if (checked === "ok") return { isRight: true, clash: null, report, says: rightInWords(answer) };
@@ -172,7 +174,7 @@ function faultInWords(answer, line) {
   const bySet = /^refused WrongReply (\d+): place (\d+) says (\S+), and .*?the set is (\{.*\}) and answers (\S+)$/.exec(line);
   if (bySet !== null) {
     const [, id, place, reply, set, other] = bySet;
-    const before = Number(place) === 1 ? "before your first call" : `after ${named(order[place - 2].call.id)} in your order`;
+    const before = Number(place) === 1 ? "before your first call" : `after ${named(order[Number(place) - 2].call.id)} in your order`;
     return `${named(id)} cannot answer ${reply} there: ${before} the set is ${set}, and it would answer ${other}.`;
   }
   const byRun = /^refused WrongReply (\d+): place \d+ says (\S+), and the history says/.exec(line);

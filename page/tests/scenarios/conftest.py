@@ -66,6 +66,11 @@ class Visitor(webdriver.Browser):
             it.scrollIntoView({ block: "center", behavior: "instant" });
             const box = it.getBoundingClientRect(); return [box.left + box.width / 2, box.top + box.height / 2]""", what, words)
 
+    def unfold(self, what):
+        """Opens what is folded, where it is."""
+        if not self.script("return document.querySelector(arguments[0]).open", what):
+            self.click(f"{what} > summary")
+
     def click(self, what, words=None):
         self.point(*self.middle(what, words))
 
@@ -129,10 +134,12 @@ def visitor(profile, request):
     profile.size(1300, 900)
     profile.go(f"{profile.place}/tests/nothing.html")
     profile.script("localStorage.clear(); sessionStorage.clear()")
+    profile.faults()
     yield profile
     if (folder := request.config.getoption("shots")) is not None:
         folder.mkdir(parents=True, exist_ok=True)
         profile.picture(folder / f"{request.node.name}.png")
+    assert not (faults := profile.faults()), faults
 
 
 @pytest.fixture

@@ -33,8 +33,8 @@ def opened(visitor, name, text):
 
 def test_files(visitor):
     visitor.open("#example=snip")
-    trace = visitor.script("return listsets.run().trace.text")
-    report = visitor.script("return listsets.askNow('listset_replay', listsets.run().text).text")
+    trace = visitor.script("return listsets.now.run.trace.text")
+    report = visitor.script("return listsets.askNow('listset_replay', listsets.now.run.text).text")
     opened(visitor, "own.trace", trace)
     assert "gives the same" in visitor.text("#source")
     opened(visitor, "wrong.trace", trace.replace("event 7 ", "event 07 "))
@@ -97,4 +97,5 @@ def test_a_lecture_is_left_by_escape(visitor):
     visitor.open("#example=snip&event=5&view=lecture")
     assert not visitor.is_seen("#top") and visitor.is_seen("#list svg")
     visitor.press("PageDown", "Escape")
+    visitor.settle()
     assert visitor.is_seen("#top") and "view=" not in visitor.hash and visitor.event() == 6

@@ -57,7 +57,7 @@ def test_a_solved_lesson_can_be_explored_on(visitor):
 
 def test_a_course_link_survives(visitor, another):
     visitor.open("#learn")
-    visitor.click("#lesson-write summary")
+    visitor.unfold("#lesson-write")
     visitor.type("#lesson-course-text", COURSE)
     visitor.click("#lesson-link")
     link = visitor.wait("return document.getElementById('lesson-link-text').value")
@@ -78,7 +78,7 @@ def test_a_course_link_survives(visitor, another):
 
 def test_a_faulty_course_has_no_link(visitor):
     visitor.open("#learn")
-    visitor.click("#lesson-write summary")
+    visitor.unfold("#lesson-write")
     visitor.type("#lesson-course-text", COURSE)
     visitor.click("#lesson-link")
     visitor.wait("return document.getElementById('lesson-link-text').value")
@@ -91,17 +91,17 @@ def test_a_goal_without_a_bound_is_told(visitor):
     steps = "".join(f"  step {it} of 0\n" for it in "ABCDEF")
     goal = f"goal\n{steps}  call Z of 0: remove, key 9, answers true\n  say It goes on.\n"
     visitor.open("#learn")
-    visitor.click("#lesson-write summary")
+    visitor.unfold("#lesson-write")
     visitor.type("#lesson-course-text", COURSE[: COURSE.index("goal")] + goal)
     visitor.click("#lesson-try")
-    assert "line 12:" in visitor.text("#lesson-faults") and "too many ways" in visitor.text("#lesson-faults")
+    assert "line 3:" in visitor.text("#lesson-faults") and "too many ways" in visitor.text("#lesson-faults")
 
 
 def test_kept_work_of_the_version_before_opens(visitor):
     kept = visitor.script("const ask = new XMLHttpRequest(); ask.open('GET', 'kept.json', false); ask.send(); return ask.responseText")
     visitor.script("for (const [name, text] of Object.entries(JSON.parse(arguments[0]))) localStorage.setItem(name, text)", kept)
     visitor.open("#learn=one-lock")
-    assert visitor.event() == 3 and "One lock" in visitor.text("#lesson-title") + visitor.title
+    assert visitor.event() == 3 and "The one lock" in visitor.title
     visitor.open("#break")
     assert visitor.is_seen("#map-break .done")
     visitor.open("#learn")

@@ -36,10 +36,12 @@ def test_the_next_visit_opens_what_was_looked_at(visitor):
     visitor.press("Right", "Right", "Right")
     visitor.settle()
     visitor.open()
+    visitor.settle()
     assert visitor.event() == 3 and "#example=snip" in visitor.hash
 
 
-def test_a_step_is_no_entry_of_the_history(visitor):
+def test_a_step_is_no_entry_of_the_history(another):
+    visitor = another
     visitor.open("#watch")
     before = visitor.script("return history.length")
     visitor.click("#map-watch a[href^='#example=snip']")
@@ -54,7 +56,7 @@ def test_a_step_is_no_entry_of_the_history(visitor):
 
 def test_reload_shows_the_same_run(visitor):
     visitor.open("#example=snip")
-    visitor.press("Right", "1", "1")
+    visitor.press("Right", "0", "0")
     visitor.settle()
     where, said = visitor.text("#where"), visitor.text("#said")
     visitor.reload()
@@ -118,7 +120,7 @@ def test_keys_and_slider(visitor):
     assert visitor.event() == 39 and "it took effect at event 23, a step of t1" in visitor.text("#said")
     visitor.press("Shift+Left", "Home", "?")
     assert visitor.event() == 0 and visitor.is_seen("#key-help")
-    visitor.press("?", "e", "0")
+    visitor.press("?", "Right", "e", "0")
     assert "ended" in visitor.text("#told")
 
 
@@ -142,8 +144,9 @@ def test_print_shows_the_run_alone(visitor):
 
 def test_in_a_frame(visitor):
     visitor.open("#example=snip&event=5")
-    visitor.script("""document.body.innerHTML = ""; const frame = document.createElement("iframe");
-        Object.assign(frame, { width: 800, height: 520, src: "index.html#example=snip&event=5&view=list" }); document.body.append(frame)""")
+    visitor.go(f"{visitor.place}/tests/nothing.html")
+    visitor.script("""const frame = document.createElement("iframe");
+        Object.assign(frame, { width: 800, height: 520, src: "../index.html#example=snip&event=5&view=list" }); document.body.append(frame)""")
     visitor.wait("return document.querySelector('iframe').contentDocument?.body?.dataset.ready === 'yes'")
     svg = "return document.querySelector('iframe').contentDocument.querySelector('#list svg').getClientRects().length"
     assert visitor.script(svg) == 1

@@ -18,13 +18,13 @@ import urllib.request
 NEEDS = {"chromium": ("chromium-driver", ["chromedriver"]), "firefox": ("firefox-esr", ["firefox-esr", "firefox"]),
          "webkit": ("webkit2gtk-driver and xvfb", ["WebKitWebDriver"])}
 KEYS = {"Enter": "\ue007", "Tab": "\ue004", "Escape": "\ue00c", "Left": "\ue012", "Up": "\ue013", "Right": "\ue014", "Down": "\ue015",
-        "Home": "\ue011", "End": "\ue010", "Space": " ", "Backspace": "\ue003"}
+        "Home": "\ue011", "PageUp": "\ue00e", "PageDown": "\ue00f", "End": "\ue010", "Space": " ", "Backspace": "\ue003"}
 SHIFT, CONTROL = "\ue008", "\ue009"
 # Names of the same commands: of WebDriver over HTTP (method and path), and of Marionette.
 COMMANDS = {"go": ("POST", "url", "WebDriver:Navigate"), "back": ("POST", "back", "WebDriver:Back"),
             "reload": ("POST", "refresh", "WebDriver:Refresh"), "script": ("POST", "execute/sync", "WebDriver:ExecuteScript"),
             "act": ("POST", "actions", "WebDriver:PerformActions"), "picture": ("GET", "screenshot", "WebDriver:TakeScreenshot"),
-            "size": ("POST", "window/rect", "WebDriver:SetWindowRect"), "end": ("DELETE", "", "WebDriver:DeleteSession")}
+            "size": ("POST", "window/rect", "WebDriver:SetWindowRect"), "end": ("DELETE", "", "WebDriver:DeleteSession"), "log": ("POST", "se/log", None)}
 
 
 class Failed(Exception):
@@ -125,7 +125,7 @@ def connection(name, path, folder):
         words = ["xvfb-run", "-a", "-s", "-screen 0 2000x1300x24", path, f"--port={port}"]
         return OverHttp(words, port, wanted, folder)
     args = ["--headless=new", "--no-sandbox", "--disable-gpu", f"--user-data-dir={folder}/profile"]
-    return OverHttp([path, f"--port={port}"], port, {"goog:chromeOptions": {"args": args}}, folder)
+    return OverHttp([path, f"--port={port}"], port, {"goog:chromeOptions": {"args": args}, "goog:loggingPrefs": {"browser": "ALL"}}, folder)
 
 
 class Browser:
@@ -170,11 +170,18 @@ class Browser:
         deeds = []
         for key in keys:
             *held, last = key.split("+") if len(key) > 1 else [key]
+            assert len(last) == 1 or last in KEYS, last
             held = [{"Shift": SHIFT, "Control": CONTROL}[it] for it in held]
             last = KEYS.get(last, last)
             deeds += [{"type": "keyDown", "value": it} for it in (*held, last)]
             deeds += [{"type": "keyUp", "value": it} for it in (last, *held)]
         self.at.command("act", {"actions": [{"type": "key", "id": "keys", "actions": deeds}]})
+
+    def faults(self):
+        """What scripts have failed with since this was asked last, where a browser tells that."""
+        if self.name != "chromium":
+            return []
+        return [it["message"] for it in self.at.command("log", {"type": "browser"}) if it["source"] == "javascript"]
 
     def point(self, x, y, kind="mouse"):
         move = {"type": "pointerMove", "duration": 0, "x": int(x), "y": int(y), "origin": "viewport"}
