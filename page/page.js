@@ -12,6 +12,7 @@ function defineMissing(prototype, methods) {
   }
 }
 
+/** @this {any} @param {number} index */
 function itemAt(index) {
   return this[index < 0 ? this.length + index : index];
 }
@@ -343,24 +344,43 @@ const $page_dom = (() => {
 const byId = (id) => document.getElementById(id);
 
 function redraw(box, html) {
+  /** @type {any} */
   const before = box.contains(document.activeElement) ? document.activeElement : null;
   const keyOf = (part) => JSON.stringify({ ...part.dataset, name: part.tagName });
   const key = before === null ? "" : keyOf(before);
   if (typeof html === "string") box.innerHTML = html;
   else box.replaceChildren(...html);
   if (before === null) return;
-  const parts = [...box.querySelectorAll("button, select, input, a, [tabindex]")];
-  const isOfSame = (part) => part.dataset.of !== undefined && part.dataset.of === before.dataset.of;
-  (parts.find((part) => keyOf(part) === key) ?? parts.find(isOfSame) ?? parts[0] ?? box).focus();
+  const same = [...box.querySelectorAll("button, select, input, a, [tabindex]")].find((part) => keyOf(part) === key);
+  (same ?? box.querySelector("button, a") ?? box).focus();
 }
 
 const setAble = (id, isAble) => byId(id).setAttribute("aria-disabled", String(!isAble));
 
 function setHidden(part, isHidden, other) {
-  if (isHidden && part === document.activeElement) other.focus();
+  if (part.hidden === isHidden) return;
+  if (isHidden && part.contains(document.activeElement)) other.focus();
   part.hidden = isHidden;
 }
-return { byId, redraw, setAble, setHidden };
+
+function setHtml(box, html) {
+  if (texts.get(box) === html) return;
+  texts.set(box, html);
+  box.innerHTML = html;
+}
+const texts = new WeakMap();
+
+function keepHeight(box, of) {
+  const key = `${of} ${innerWidth}`;
+  const before = heights.get(box);
+  if (before?.key !== key) box.style.minHeight = "";
+  const height = Math.max(box.offsetHeight, before?.key === key ? before.height : 0);
+  if (before?.key === key && before.height === height) return;
+  heights.set(box, { key, height });
+  box.style.minHeight = `${height}px`;
+}
+const heights = new WeakMap();
+return { byId, redraw, setAble, setHidden, setHtml, keepHeight };
 })();
 
 // made/traces.js
@@ -1074,7 +1094,12 @@ class Trace {
   constructor(text, version = 1, before = null) {
     const [, kind, lacks = null, threads, quota] =
       /^listset-trace 1\nlist (\S+)\n(?:lacks (\S+)\n)?threads (\d+)\nquota (\d+)\n/.exec(text);
-    Object.assign(this, { text, version, kind, lacks, threads: Number(threads), quota: Number(quota) });
+    this.text = text;
+    this.version = version;
+    this.kind = kind;
+    this.lacks = lacks;
+    this.threads = Number(threads);
+    this.quota = Number(quota);
     this.opening = [];
     this.starts = []; // of each event, where its line begins
     this.calls = [];
@@ -1409,7 +1434,7 @@ function faultInWords(answer, line) {
   const bySet = /^refused WrongReply (\d+): place (\d+) says (\S+), and .*?the set is (\{.*\}) and answers (\S+)$/.exec(line);
   if (bySet !== null) {
     const [, id, place, reply, set, other] = bySet;
-    const before = Number(place) === 1 ? "before your first call" : `after ${named(order[place - 2].call.id)} in your order`;
+    const before = Number(place) === 1 ? "before your first call" : `after ${named(order[Number(place) - 2].call.id)} in your order`;
     return `${named(id)} cannot answer ${reply} there: ${before} the set is ${set}, and it would answer ${other}.`;
   }
   const byRun = /^refused WrongReply (\d+): place \d+ says (\S+), and the history says/.exec(line);
@@ -2289,6 +2314,7 @@ const { byId } = $page_dom;
 const { exampleIn, isWhatIf, reduce, stateAtFirst } = $page_state;
 const NO_ENGINE = "The replayer does not run in this browser: no schedule can be run, no report checked. A file of listset trace can be opened.";
 
+/** @type {{ state: import("./state.js").State, engine: any, render: (state: any, moment: any) => void }} */
 const held = { state: stateAtFirst(), engine: null, render: () => {} };
 
 const now = {
@@ -3922,14 +3948,18 @@ function goToPlace(activity, screen) {
 function showParts(state) {
   const facts = factsOf(state, { hasEngine: services.hasEngine, isPhone: innerWidth <= PHONE });
   for (const [id, isSeen] of Object.entries(SEEN)) setHidden(byId(id), !isSeen(facts), byId("skip"));
-  for (const part of document.querySelectorAll(".of-engine")) part.hidden = !facts.hasEngine;
   const { activity, screen, view } = state.place;
+  const key = [activity, screen, view, facts.hasEngine].join();
+  if (key === placed.key) return;
+  placed.key = key;
+  for (const part of document.querySelectorAll(".of-engine:not([id])")) part.hidden = !facts.hasEngine;
   Object.assign(document.body.dataset, { activity, screen, view: view ?? "" });
   for (const link of document.querySelectorAll("nav [data-to]")) {
     if (link.dataset.to === activity) link.setAttribute("aria-current", "page");
     else link.removeAttribute("aria-current");
   }
 }
+const placed = { key: "" };
 const services = { hasEngine: true }; // until it is known that there is none
 
 function setProgress(id, done, total) {
@@ -3944,7 +3974,7 @@ function slideZoom(width, height) {
   return Math.max(0.75, Math.min(3, width / 1280, height / 720));
 }
 
-const fitSlide = () => document.body.style.setProperty("--slide", slideZoom(innerWidth, innerHeight));
+const fitSlide = () => document.body.style.setProperty("--slide", String(slideZoom(innerWidth, innerHeight)));
 
 function setView(view) {
   change("view", { view });
@@ -3964,8 +3994,8 @@ const { forgetRoom, keptHeight, roomOf } = $draw_room;
 const { drawTable } = $draw_table;
 const { drawThreads, MOST_ROWS } = $draw_threads;
 const { momentAt, sentenceOf } = $run_sentences;
-const { byId, setAble } = $page_dom;
-const { exampleShown, hiddenOutcomes, isJudging, now } = $page_now;
+const { byId, keepHeight, setAble, setHtml } = $page_dom;
+const { hiddenOutcomes, isJudging, now } = $page_now;
 const { isAtWork, slideZoom } = $page_places;
 const LINE_HEIGHT = 21;
 
@@ -3998,32 +4028,14 @@ function showList({ state, event }, wide) {
   byId("list").style.minHeight = isKept ? `${keptHeight(Number(byId("list").firstElementChild.getAttribute("height")), wide)}px` : "";
 }
 
-const MOST_MEASURED = 300; // events of a run whose sentences are measured
-const sentences = { trace: null, wide: 0 };
-
-function keepRoomForSentences(state, count) {
-  const box = byId("said");
-  const { trace } = now.run;
-  if (box.clientWidth === 0 || (sentences.trace === trace && sentences.wide === box.clientWidth)) return;
-  Object.assign(sentences, { trace, wide: box.clientWidth });
-  box.style.minHeight = "";
-  if (trace.total > MOST_MEASURED) return;
-  const lengthOf = (sentence) => sentence.replace(/<[^>]*>/g, "").length;
-  const all = Array.from({ length: trace.total + 1 }, (_, number) => sentenceOf(momentAt(state, number)));
-  state.moveTo(count);
-  box.innerHTML = all.reduce((one, other) => (lengthOf(other) > lengthOf(one) ? other : one));
-  box.style.minHeight = `${box.offsetHeight + 1}px`; // (that is rounded)
-}
-
 function showBar(moment) {
   const { trace, count } = now.run;
   const { total } = trace;
   const name = `${LISTS[trace.kind].name}${trace.lacks === null ? "" : " without one check"}`;
   byId("title").textContent = `${name}, ${trace.threads} thread${trace.threads > 1 ? "s" : ""}`;
-  document.title = `${exampleShown() === "" ? now.task.work : exampleShown()}, event ${count}: ${name}`;
   byId("source").textContent = now.run.source;
-  keepRoomForSentences(moment.state, count);
-  byId("said").innerHTML = sentenceOf(moment, hiddenOutcomes());
+  setHtml(byId("said"), sentenceOf(moment, hiddenOutcomes()));
+  keepHeight(byId("said"), now.task.work);
   const slider = byId("slider");
   Object.assign(slider, { max: total, value: count });
   slider.setAttribute("aria-valuetext", `event ${count} of ${total}: ${byId("said").textContent}`);
@@ -4033,6 +4045,7 @@ function showBar(moment) {
 }
 
 function showThreads(event) {
+  if (!byId("threads-box").open) return;
   const many = now.run.trace.threads > MOST_ROWS;
   byId("threads").innerHTML = drawThreads(now.run.state, event, now.prefs.allThreads, hiddenOutcomes().includes("reply"));
   byId("all-threads").hidden = !many;
@@ -4062,25 +4075,15 @@ function showHistory(event, wide) {
   const { trace, count } = now.run;
   const { hides } = now.prefs;
   const scale = scaleOf(trace, count, Math.max(300, wide), hides);
-  byId("calls").innerHTML = drawCalls(trace, scale);
-  byId("contents").innerHTML = drawContents(trace, scale);
-  keepRoomForOrder(trace, wide);
-  byId("order").innerHTML = drawOrder(trace, count, hides);
+  setHtml(byId("calls"), drawCalls(trace, scale));
+  setHtml(byId("contents"), drawContents(trace, scale));
+  setHtml(byId("order"), drawOrder(trace, count, hides));
+  keepHeight(byId("order"), now.task.work);
   drawnHistory.scale = scale;
   const box = byId("calls");
   if (event === null || scale.height <= ALL_LANES || box.scrollHeight <= box.clientHeight) return;
   const y = scale.y(event.thread);
   if (y < box.scrollTop + 20 || y > box.scrollTop + box.clientHeight - 20) box.scrollTop = y - box.clientHeight / 2;
-}
-
-const order = { trace: null, wide: 0 };
-
-function keepRoomForOrder(trace, wide) {
-  if (order.trace === trace && order.wide === wide) return;
-  Object.assign(order, { trace, wide });
-  byId("order").style.minHeight = "";
-  byId("order").innerHTML = drawOrder(trace, trace.total);
-  byId("order").style.minHeight = `${byId("order").offsetHeight}px`;
 }
 
 function listHeight() {
@@ -4116,6 +4119,7 @@ function scrollToTouched(wide) {
 const editor = { isSeen: false };
 
 function watchEditor() {
+  /** @param {IntersectionObserverEntry[]} seen */
   const look = ([{ isIntersecting }]) => {
     editor.isSeen = isIntersecting;
     if (!isIntersecting || now.run.trace === null) return;
@@ -4404,7 +4408,7 @@ function scheduleOfDraft(ask, text, lacks = null) {
   return made.status === 0 ? { text: made.text, fault: null } : { text: null, fault: made.text.trim() };
 }
 
-function stepsOfLacking(ask, lacks, lines, [thread, row]) {
+function stepsOfLacking(ask, lacks, lines, thread, row) {
   const fault = (cause) => ({ count: null, fault: `listset: line ${lines.length + 1}: ${cause}` });
   const { text } = ask("listset_trace_lacking", lacks, `${[...lines, `go ${thread} ${MOST_TRIED}`].join("\n")}\n`);
   if (!isTrace(text)) return { count: null, fault: text.trim() };
@@ -4419,7 +4423,7 @@ function scheduleOfLackingDraft(ask, lacks, text) {
   const lines = [];
   for (const line of text.split("\n").slice(0, -1)) {
     const asked = /^go (\d+) (?:out|to (\d+))$/.exec(line);
-    const { count, fault } = asked === null ? { count: null, fault: null } : stepsOfLacking(ask, lacks, lines, asked.slice(1));
+    const { count, fault } = asked === null ? { count: null, fault: null } : stepsOfLacking(ask, lacks, lines, asked[1], asked[2]);
     if (fault !== null) return { text: null, fault };
     lines.push(asked === null ? line : `go ${asked[1]} ${count}`);
   }
@@ -4716,7 +4720,11 @@ class CourseReader {
     this.block = null; // the part to which lines belong that begin with two spaces
     const lines = withoutIndent(text).map((line, index) => ({ line, number: index + 1 }));
     const [title, ...rest] = lines.filter(({ line }) => line !== "" && !line.startsWith("#"));
-    if (title?.line !== COURSE_TITLE) return this.fault(title?.number ?? 1, `expected "${COURSE_TITLE}" here`);
+    if (title?.line !== COURSE_TITLE) this.fault(title?.number ?? 1, `expected "${COURSE_TITLE}" here`);
+    else this.takeAll(title, rest);
+  }
+
+  takeAll(title, rest) {
     rest.forEach(({ line, number }) => this.take(line, number));
     if (this.name === "") this.fault(title.number, 'expected the line "course NAME" below it');
     if (this.lessons.length === 0) this.fault(title.number, "there is no lesson below");
@@ -5468,9 +5476,11 @@ function taskOfName(name, lacks) {
   return lacks === null ? { kind: "own", id: "", course: "" } : { kind: "level", id: lacks, course: "" };
 }
 
+/** @type {(entry: any[]) => [string, any]} */
 const workOf = ([name, kept]) => [name, { ...kept, task: isTask(kept.task) ? kept.task : taskOfName(name, kept.lacks ?? null) }];
 
 const works = {
+  /** @type {Map<string, any>} */
   byName: new Map(),
   isKept: true,
 
@@ -5526,8 +5536,10 @@ const FIRST_ROOM = 1 << 22; // bytes handed to the engine for its answer, at fir
 const LARGE_MEMORY = 1 << 28; // past so many bytes an instance is not used again
 
 class Engine {
+  /** @param {(input: bigint, room: Uint8Array) => number} read */
   constructor(module, read = () => -1) {
     this.module = module;
+    /** @type {any} */
     this.instance = null;
     this.host = { env: { read: (input, at, count) => BigInt(read(input, this.piece(Number(at), Number(count)))) } };
   }
@@ -5874,7 +5886,7 @@ function showHeader(trace) {
   byId("new-threads").value = trace.threads;
   byId("new-quota").value = trace.quota;
 }
-return { work, forgetBefore, keepBefore, undo, redo, beginTask, openTask, ownTask, openWork, openExample, newSchedule, openLacking, leaveWhatIf, runBox, runWithOpening, goOn, showHeader };
+return { forgetBefore, keepBefore, undo, redo, beginTask, openTask, ownTask, openWork, openExample, newSchedule, openLacking, leaveWhatIf, runBox, runWithOpening, goOn, showHeader };
 })();
 
 // run/address.js
@@ -6412,6 +6424,14 @@ const SLIDER_KEYS = { ...HALF_STEPS, PageDown: -5, PageUp: 5, Home: -Infinity, E
 const judgePart = (name) => byId(`judge-${name}`);
 
 class Judging {
+  exercise = null;
+  answer = null;
+  verdict = null;
+  held = null; // the call whose point is dragged
+  tries = 0; // that were refused
+  moment = 0; // of a claim
+  told = "";
+
   begin(level) {
     if (now.run.lacks !== null) return this.take(exerciseOf(now.task.verdict.report, "claim", false));
     const broken = exampleShown() === "" ? null : askNow("listset_broken_example", exampleShown());
@@ -6876,20 +6896,28 @@ function drawMovesNow({ trace, state }) {
 }
 
 function drawMoves(state, isAble) {
-  const rows = state.threads.map((own, thread) => {
-    const row = document.createElement("div");
-    row.className = "row";
-    row.dataset.thread = thread;
-    row.classList.add(colourOf(thread));
-    row.setAttribute("role", "group");
-    row.setAttribute("aria-label", `thread ${thread}`);
-    row.innerHTML = chipOf(thread);
-    row.append(...(own.pc !== 0 ? stepControls(state, thread) : beginControls(thread)));
-    row.querySelectorAll("button, select, input").forEach((control) => (control.dataset.of = thread));
-    if (!isAble) row.querySelectorAll("button, select, input").forEach((control) => (control.disabled = true));
-    return row;
+  const box = byId("moves");
+  if (box.children.length !== state.threads.length) box.replaceChildren(...state.threads.map((_, thread) => rowOf(thread)));
+  state.threads.forEach((own, thread) => {
+    const row = box.children[thread];
+    const key = JSON.stringify([state.trace.kind, own.pc, own.call, isAble]);
+    if (row.dataset.key === key) return;
+    row.dataset.key = key;
+    const controls = own.pc !== 0 ? stepControls(state, thread) : beginControls(thread);
+    const parts = controls.flatMap((control) => [control, ...control.querySelectorAll("button, select, input")]);
+    parts.forEach((part) => Object.assign(part, { disabled: !isAble }));
+    redraw(row.lastElementChild, controls);
   });
-  redraw(byId("moves"), rows);
+}
+
+function rowOf(thread) {
+  const row = document.createElement("div");
+  row.className = `row ${colourOf(thread)}`;
+  row.dataset.thread = String(thread);
+  row.setAttribute("role", "group");
+  row.setAttribute("aria-label", `thread ${thread}`);
+  row.innerHTML = `${chipOf(thread)}<div class="controls"></div>`;
+  return row;
 }
 
 function buttonOf(text, deed, title, onclick) {
@@ -7247,11 +7275,12 @@ function programText(program) {
   return lines.join("");
 }
 
-const programOf = (trace) => trace.callsOf.map((calls) => calls.map(({ operation, key }) => `${operation} ${key}`));
-
 class Side {
   constructor(ask, kind, { program, quota, opening }) {
-    Object.assign(this, { ask, kind, lines: [], counts: [0] });
+    this.ask = ask;
+    this.kind = kind;
+    this.lines = [];
+    this.counts = [0];
     const set = [titleOf(2), `list ${kind}`, `threads ${program.length}`, `quota ${quota}`];
     this.head = [...set, ...opening.map((key) => `opening ${key}`)];
     this.run();
@@ -7473,7 +7502,7 @@ function listenToSides() {
   };
   sidesPart("slider").oninput = () => turnTo(Number(sidesPart("slider").value));
 }
-return { drawCompare, openCompare, titleOfSides, shownSides, pressForSides, showSides, addressOfSides, listenToSides };
+return { drawCompare, openCompare, titleOfSides, pressForSides, showSides, listenToSides };
 })();
 
 // course/course_link.js
@@ -8274,6 +8303,7 @@ function unmailed(text) {
 }
 
 function textsIn(text) {
+  /** @type {any[]} */
   const found = [];
   const given = text.split(/\r\n|\r|\n/);
   for (const { line, number } of unmailed(text)) {
@@ -8722,7 +8752,7 @@ const FIRST = {
   },
 };
 
-function questionsByList(more = "", isDone = () => false) {
+function questionsByList(more = "", isDone = (_) => false) {
   const columns = Object.entries(LISTS).map(([kind, { name }]) => {
     const items = examples().filter((one) => one.kind === kind).map(({ name: example }) => {
       const here = example === exampleShown() && more === "" ? { "aria-current": "true" } : {};
@@ -8903,6 +8933,7 @@ function leaveMap() {
   if (isAtMap()) drawWatchMap(true);
 }
 
+/** @param {string[]} place @param {any} wanted */
 function openPlace([activity, value], { text, event, lacks, course }) {
   if (activity in WANTS_ENGINE) needEngine(WANTS_ENGINE[activity]);
   if (activity === "compare") return openCompare(null);
@@ -9141,7 +9172,7 @@ function wholePicture() {
 }
 
 const savePicture = () => saveText("page.svg", wholePicture());
-return { wholePicture, savePicture };
+return { savePicture };
 })();
 
 // page/controls.js
@@ -9184,7 +9215,7 @@ function listenToDrawings() {
   byId("all-threads").onclick = () => {
     dispatch("prefs", { allThreads: !now.prefs.allThreads });
   };
-  for (const name of ["table-box", "listing-box", "turns-box"]) byId(name).ontoggle = show;
+  for (const name of ["table-box", "listing-box", "threads-box", "turns-box"]) byId(name).ontoggle = show;
 }
 
 function stopUnable(event) {
@@ -9291,7 +9322,7 @@ const $activities_place = (() => {
 const { drawCode } = $draw_code_column;
 const { titleIn } = $page_address_of;
 const { placeMoves } = $page_controls;
-const { byId } = $page_dom;
+const { byId, setHtml } = $page_dom;
 const { held, now } = $page_now;
 const { isAtMap, isAtWork } = $page_places;
 const { showTaskOfBreak, titleOfLevel } = $activities_break_map;
@@ -9313,7 +9344,7 @@ const TITLES = {
 function showPlace(moment) {
   document.title = titleIn(held.state, TITLES);
   if (isAtMap()) return;
-  byId("book-code").innerHTML = drawCode(moment);
+  setHtml(byId("book-code"), drawCode(moment));
   const links = TASKS[now.place.activity]();
   for (const name of ["before", "next"]) {
     byId(`task-${name}`).hidden = links[name] === null;

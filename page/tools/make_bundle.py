@@ -85,7 +85,7 @@ def variable(name):
 
 def bundle_text(page, texts, entry="src/main.js"):
     """The text of the script for the folder of the page, with these texts in place of some of its files."""
-    users = [*(page / "tests").glob("*.js"), page / "check_lessons.js", page / "listset.js"]
+    users = [*(page / "tests").glob("*.js"), *(page / "tests" / "scenarios").glob("*.py"), page / "check_lessons.js", page / "listset.js"]
     bundle = Bundle(page.resolve(), texts, set(re.findall(r"\w+", "\n".join(file.read_text() for file in users))))
     bundle.add((page / entry).resolve())
     if unused := bundle.unused():

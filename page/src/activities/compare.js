@@ -34,7 +34,7 @@ export const titleOfSides = () => ["one", "other"].map((name) => LISTS[sidesPart
 
 const sidesPart = (name) => byId(`sides-${name}`);
 
-export const shownSides = { sides: null, at: 0, quota: 4, opening: [] }; // at: how many turns are shown
+const shownSides = { sides: null, at: 0, quota: 4, opening: [] }; // at: how many turns are shown
 
 // Begins at the first turn, with the program that stands there.
 function beginSides(turns = []) {
@@ -128,7 +128,7 @@ export function showSides() {
 }
 
 // The address of what is shown, from # on.
-export function addressOfSides() {
+function addressOfSides() {
   const { sides, quota, opening } = shownSides;
   const calls = sides.program.flatMap((own, thread) => own.map((call) => `${thread}.${call.replace(" ", ".")}`));
   const parts = [`sides=${sides.sides.map(({ kind }) => kind).join(".")}`, `quota=${quota}`];

@@ -2,7 +2,7 @@
 import { drawCode } from "../draw/code_column.js";
 import { titleIn } from "../page/address_of.js";
 import { placeMoves } from "../page/controls.js";
-import { byId } from "../page/dom.js";
+import { byId, setHtml } from "../page/dom.js";
 import { held, now } from "../page/now.js";
 import { isAtMap, isAtWork } from "../page/places.js";
 import { showTaskOfBreak, titleOfLevel } from "./break_map.js";
@@ -26,7 +26,7 @@ const TITLES = {
 export function showPlace(moment) {
   document.title = titleIn(held.state, TITLES);
   if (isAtMap()) return;
-  byId("book-code").innerHTML = drawCode(moment);
+  setHtml(byId("book-code"), drawCode(moment));
   const links = TASKS[now.place.activity]();
   for (const name of ["before", "next"]) {
     byId(`task-${name}`).hidden = links[name] === null;

@@ -39,7 +39,7 @@ export function listenToDrawings() {
   byId("all-threads").onclick = () => {
     dispatch("prefs", { allThreads: !now.prefs.allThreads });
   };
-  for (const name of ["table-box", "listing-box", "turns-box"]) byId(name).ontoggle = show;
+  for (const name of ["table-box", "listing-box", "threads-box", "turns-box"]) byId(name).ontoggle = show;
 }
 
 // What cannot be pressed now does nothing.

@@ -20,22 +20,30 @@ export function drawMovesNow({ trace, state }) {
   byId("moves-note").textContent = isLater ? `From event ${now.run.count} on; later events are dropped.` : "";
 }
 
-// One row of controls for each thread.
+// One row of controls for each thread, which is made anew where its thread stands elsewhere than before.
 function drawMoves(state, isAble) {
-  const rows = state.threads.map((own, thread) => {
-    const row = document.createElement("div");
-    row.className = "row";
-    row.dataset.thread = thread;
-    row.classList.add(colourOf(thread));
-    row.setAttribute("role", "group");
-    row.setAttribute("aria-label", `thread ${thread}`);
-    row.innerHTML = chipOf(thread);
-    row.append(...(own.pc !== 0 ? stepControls(state, thread) : beginControls(thread)));
-    row.querySelectorAll("button, select, input").forEach((control) => (control.dataset.of = thread));
-    if (!isAble) row.querySelectorAll("button, select, input").forEach((control) => (control.disabled = true));
-    return row;
+  const box = byId("moves");
+  if (box.children.length !== state.threads.length) box.replaceChildren(...state.threads.map((_, thread) => rowOf(thread)));
+  state.threads.forEach((own, thread) => {
+    const row = box.children[thread];
+    const key = JSON.stringify([state.trace.kind, own.pc, own.call, isAble]);
+    if (row.dataset.key === key) return;
+    row.dataset.key = key;
+    const controls = own.pc !== 0 ? stepControls(state, thread) : beginControls(thread);
+    const parts = controls.flatMap((control) => [control, ...control.querySelectorAll("button, select, input")]);
+    parts.forEach((part) => Object.assign(part, { disabled: !isAble }));
+    redraw(row.lastElementChild, controls);
   });
-  redraw(byId("moves"), rows);
+}
+
+function rowOf(thread) {
+  const row = document.createElement("div");
+  row.className = `row ${colourOf(thread)}`;
+  row.dataset.thread = String(thread);
+  row.setAttribute("role", "group");
+  row.setAttribute("aria-label", `thread ${thread}`);
+  row.innerHTML = `${chipOf(thread)}<div class="controls"></div>`;
+  return row;
 }
 
 // A button of a thread; what stands in brackets in its text is left out on a phone.

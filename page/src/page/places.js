@@ -16,14 +16,18 @@ export function goToPlace(activity, screen) {
 export function showParts(state) {
   const facts = factsOf(state, { hasEngine: services.hasEngine, isPhone: innerWidth <= PHONE });
   for (const [id, isSeen] of Object.entries(SEEN)) setHidden(byId(id), !isSeen(facts), byId("skip"));
-  for (const part of document.querySelectorAll(".of-engine")) part.hidden = !facts.hasEngine;
   const { activity, screen, view } = state.place;
+  const key = [activity, screen, view, facts.hasEngine].join();
+  if (key === placed.key) return;
+  placed.key = key;
+  for (const part of document.querySelectorAll(".of-engine:not([id])")) part.hidden = !facts.hasEngine;
   Object.assign(document.body.dataset, { activity, screen, view: view ?? "" });
   for (const link of document.querySelectorAll("nav [data-to]")) {
     if (link.dataset.to === activity) link.setAttribute("aria-current", "page");
     else link.removeAttribute("aria-current");
   }
 }
+const placed = { key: "" };
 export const services = { hasEngine: true }; // until it is known that there is none
 
 export function setProgress(id, done, total) {

@@ -8,8 +8,8 @@ import { forgetRoom, keptHeight, roomOf } from "../draw/room.js";
 import { drawTable } from "../draw/table.js";
 import { drawThreads, MOST_ROWS } from "../draw/threads.js";
 import { momentAt, sentenceOf } from "../run/sentences.js";
-import { byId, setAble } from "./dom.js";
-import { exampleShown, hiddenOutcomes, isJudging, now } from "./now.js";
+import { byId, keepHeight, setAble, setHtml } from "./dom.js";
+import { hiddenOutcomes, isJudging, now } from "./now.js";
 import { isAtWork, slideZoom } from "./places.js";
 
 const LINE_HEIGHT = 21;
@@ -46,34 +46,15 @@ function showList({ state, event }, wide) {
   byId("list").style.minHeight = isKept ? `${keptHeight(Number(byId("list").firstElementChild.getAttribute("height")), wide)}px` : "";
 }
 
-const MOST_MEASURED = 300; // events of a run whose sentences are measured
-const sentences = { trace: null, wide: 0 };
-
-// The sentence has the room of the longest one of its run, so that nothing below it moves.
-function keepRoomForSentences(state, count) {
-  const box = byId("said");
-  const { trace } = now.run;
-  if (box.clientWidth === 0 || (sentences.trace === trace && sentences.wide === box.clientWidth)) return;
-  Object.assign(sentences, { trace, wide: box.clientWidth });
-  box.style.minHeight = "";
-  if (trace.total > MOST_MEASURED) return;
-  const lengthOf = (sentence) => sentence.replace(/<[^>]*>/g, "").length;
-  const all = Array.from({ length: trace.total + 1 }, (_, number) => sentenceOf(momentAt(state, number)));
-  state.moveTo(count);
-  box.innerHTML = all.reduce((one, other) => (lengthOf(other) > lengthOf(one) ? other : one));
-  box.style.minHeight = `${box.offsetHeight + 1}px`; // (that is rounded)
-}
-
 // The names, the question, the sentence and the bar above the picture.
 export function showBar(moment) {
   const { trace, count } = now.run;
   const { total } = trace;
   const name = `${LISTS[trace.kind].name}${trace.lacks === null ? "" : " without one check"}`;
   byId("title").textContent = `${name}, ${trace.threads} thread${trace.threads > 1 ? "s" : ""}`;
-  document.title = `${exampleShown() === "" ? now.task.work : exampleShown()}, event ${count}: ${name}`;
   byId("source").textContent = now.run.source;
-  keepRoomForSentences(moment.state, count);
-  byId("said").innerHTML = sentenceOf(moment, hiddenOutcomes());
+  setHtml(byId("said"), sentenceOf(moment, hiddenOutcomes()));
+  keepHeight(byId("said"), now.task.work);
   const slider = byId("slider");
   Object.assign(slider, { max: total, value: count });
   slider.setAttribute("aria-valuetext", `event ${count} of ${total}: ${byId("said").textContent}`);
@@ -83,6 +64,7 @@ export function showBar(moment) {
 }
 
 function showThreads(event) {
+  if (!byId("threads-box").open) return;
   const many = now.run.trace.threads > MOST_ROWS;
   byId("threads").innerHTML = drawThreads(now.run.state, event, now.prefs.allThreads, hiddenOutcomes().includes("reply"));
   byId("all-threads").hidden = !many;
@@ -114,26 +96,15 @@ function showHistory(event, wide) {
   const { trace, count } = now.run;
   const { hides } = now.prefs;
   const scale = scaleOf(trace, count, Math.max(300, wide), hides);
-  byId("calls").innerHTML = drawCalls(trace, scale);
-  byId("contents").innerHTML = drawContents(trace, scale);
-  keepRoomForOrder(trace, wide);
-  byId("order").innerHTML = drawOrder(trace, count, hides);
+  setHtml(byId("calls"), drawCalls(trace, scale));
+  setHtml(byId("contents"), drawContents(trace, scale));
+  setHtml(byId("order"), drawOrder(trace, count, hides));
+  keepHeight(byId("order"), now.task.work);
   drawnHistory.scale = scale;
   const box = byId("calls");
   if (event === null || scale.height <= ALL_LANES || box.scrollHeight <= box.clientHeight) return;
   const y = scale.y(event.thread);
   if (y < box.scrollTop + 20 || y > box.scrollTop + box.clientHeight - 20) box.scrollTop = y - box.clientHeight / 2;
-}
-
-const order = { trace: null, wide: 0 };
-
-// The order of the calls has the room of the whole one, so that nothing below it moves.
-function keepRoomForOrder(trace, wide) {
-  if (order.trace === trace && order.wide === wide) return;
-  Object.assign(order, { trace, wide });
-  byId("order").style.minHeight = "";
-  byId("order").innerHTML = drawOrder(trace, trace.total);
-  byId("order").style.minHeight = `${byId("order").offsetHeight}px`;
 }
 
 // Where the page is as wide as a table, controls, list and history stand on one screen: what is above and below the list leaves so

@@ -12,7 +12,7 @@ import { askNow, change, held, now, tellLine } from "./now.js";
 import { runText } from "./run_text.js";
 import { showMarks } from "./view.js";
 
-export const work = { before: [], after: [] }; // what was shown before, for Undo, and what was undone, for Redo
+const work = { before: [], after: [] }; // what was shown before, for Undo, and what was undone, for Redo
 
 function present() {
   const { text, count, lacks } = now.run;

@@ -15,9 +15,28 @@ PAGE = pathlib.Path(__file__).resolve().parents[2]
 SECONDS = 20  # in which something has to be seen
 
 
+SLOW = 2  # seconds that the engine takes to come over a slow network
+
+
 class Quiet(http.server.SimpleHTTPRequestHandler):
+    """Gives the files of the page; slow.html is the page over a slow network, cases.json has what the program answers."""
+
+    def __init__(self, *words, cases=None, **how):
+        self.cases = cases
+        super().__init__(*words, directory=str(PAGE), **how)
+
     def log_message(self, *words):
         pass
+
+    def translate_path(self, path):
+        if path.startswith("/slow.html"):
+            return str(PAGE / "index.html")
+        return str(self.cases) if path == "/cases.json" else super().translate_path(path)
+
+    def do_GET(self):
+        if self.path == "/listset.wasm" and "slow" in self.headers.get("referer", ""):
+            time.sleep(SLOW)
+        super().do_GET()
 
 
 class Visitor(webdriver.Browser):
@@ -104,6 +123,7 @@ class Visitor(webdriver.Browser):
 
 def pytest_addoption(parser):
     parser.addoption("--browser", action="append", help="one of chromium, firefox, webkit; else all that are installed")
+    parser.addoption("--cases", type=pathlib.Path, help="what the program answers (page/test makes it), to compare the engine with")
     parser.addoption("--shots", type=pathlib.Path, help="a folder for a picture of each scenario's end")
 
 
@@ -113,8 +133,9 @@ def pytest_generate_tests(metafunc):
 
 
 @pytest.fixture(scope="session")
-def place():
-    server = http.server.ThreadingHTTPServer(("127.0.0.1", 0), functools.partial(Quiet, directory=str(PAGE)))
+def place(request):
+    handler = functools.partial(Quiet, cases=request.config.getoption("--cases"))
+    server = http.server.ThreadingHTTPServer(("127.0.0.1", 0), handler)
     threading.Thread(target=server.serve_forever, daemon=True).start()
     yield f"http://127.0.0.1:{server.server_port}"
     server.shutdown()

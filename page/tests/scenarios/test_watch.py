@@ -120,7 +120,7 @@ def test_keys_and_slider(visitor):
     assert visitor.event() == 39 and "it took effect at event 23, a step of t1" in visitor.text("#said")
     visitor.press("Shift+Left", "Home", "?")
     assert visitor.event() == 0 and visitor.is_seen("#key-help")
-    visitor.press("?", "Right", "e", "0")
+    visitor.press("?", "Right", "e", "1")
     assert "ended" in visitor.text("#told")
 
 
