@@ -1079,6 +1079,129 @@ end
 return { EXAMPLES, TRACES };
 })();
 
+// engine/answers.js
+const $engine_answers = (() => {
+const linesIn = (text) => text.trimEnd().split("\n");
+
+function callOfReport(line) {
+  const [, id, thread, operation, key, begun, ended, reply = null] = line.split(" ");
+  const end = ended === "open" ? null : Number(ended);
+  return { id: Number(id), thread: Number(thread), operation, key: Number(key), begun: Number(begun), ended: end, reply };
+}
+
+function callOfRecording(line) {
+  const [, thread, operation, key, begun, ended, reply] = line.split(" ");
+  const isOpen = ended === "-";
+  const moments = { begun: BigInt(begun), ended: isOpen ? null : BigInt(ended) };
+  return { thread: Number(thread), operation, key: Number(key), ...moments, reply: isOpen ? null : reply };
+}
+
+function readReport(text) {
+  const lines = linesIn(text);
+  const linesOf = (word) => lines.filter((line) => line.startsWith(`${word} `));
+  const valuesOf = (word) => linesOf(word).map((line) => line.split(" ").slice(1));
+  return {
+    head: [...lines.slice(0, 4), ...linesOf("opening")],
+    threads: Number(lines[2].split(" ")[1]),
+    opening: valuesOf("opening").map(([key]) => Number(key)),
+    calls: linesOf("call").map(callOfReport),
+    callLines: linesOf("call"),
+    places: valuesOf("place").map(([call, reply]) => ({ call: Number(call), reply })),
+    keys: valuesOf("key").map(([key]) => Number(key)),
+    keyLines: linesOf("key"),
+  };
+}
+
+function callsOfRecording(text, most) {
+  const calls = [];
+  for (const [line] of text.matchAll(/^call .*$/gm)) {
+    if (calls.length === most) break;
+    calls.push(callOfRecording(line));
+  }
+  return calls;
+}
+
+const leavesKey = (text, key) => new RegExp(`^key ${key}$`, "m").test(text);
+
+const readExamples = (text) =>
+  linesIn(text).map((line) => {
+    const [name, kind] = line.split(/ +/);
+    return { name, kind };
+  });
+
+function readFault(text) {
+  const says = text.trim();
+  const [, line = null, cause = null] = /line (\d+)(?: of the schedule is refused)?: (\w+)/i.exec(says) ?? [];
+  return { line: line === null ? null : Number(line), cause, says };
+}
+
+function readCheck(text) {
+  const says = text.trim();
+  if (says === "ok") return { kind: "ok", call: null, says };
+  const refused = /^refused \w+(?: (\d+))?/.exec(says);
+  if (refused === null) return { kind: "trouble", call: null, says };
+  return { kind: "refused", call: refused[1] === undefined ? null : Number(refused[1]), says };
+}
+
+const REFUSALS = [
+  { kind: "reply", form: /^refused WrongReply (\d+): place (\d+) says (\S+), and .*?the set is (\{.*\}) and answers (\S+)$/, names: ["call", "place", "reply", "set", "answers"] },
+  { kind: "run", form: /^refused WrongReply (\d+): place \d+ says (\S+), and the history says/, names: ["call", "reply"] },
+  { kind: "early", form: /^refused TooEarly (\d+): it begins at (\d+) and stands before call (\d+), which ended at (\d+)$/, names: ["call", "begun", "first", "ended"] },
+  { kind: "keys", form: /^refused WrongSet: the order leaves (\{.*\}), and the keys are (\{.*\})$/, names: ["set", "keys"] },
+];
+
+function readRefused(says) {
+  for (const { kind, form, names } of REFUSALS) {
+    const found = form.exec(says);
+    if (found !== null) return { kind, says, ...Object.fromEntries(names.map((name, at) => [name, found[at + 1]])) };
+  }
+  return { kind: "other", says };
+}
+
+const ENDINGS = {
+  "not linearizable": "none",
+  "another order explains this report": "another",
+  "it is not known whether another order explains this report": "unknown",
+};
+
+function readShow({ status, text }) {
+  const lines = linesIn(text);
+  const line = lines.find((one) => one.startsWith("refused "));
+  const refused = line === undefined ? null : readRefused(line);
+  const at = lines.findIndex((one) => Object.hasOwn(ENDINGS, one));
+  if (at === -1) return { kind: status === 0 ? "own" : "trouble", refused, why: null, says: lines[0] };
+  return { kind: ENDINGS[lines[at]], refused, why: readWhy(lines.slice(at + 1)), says: lines[at + 1] ?? "" };
+}
+
+const WHY = /^no order explains the calls of key (\d+) (up to|and leaves)/;
+const FROM = /^(?:at first|after the calls that ended by moment (\d+)) the key is (there|not there)/;
+
+function readWhy(lines) {
+  const [, key, what] = WHY.exec(lines[0]) ?? [];
+  if (key === undefined) return null;
+  const told = [];
+  for (const line of lines) {
+    if (line.startsWith("call ")) told.at(-1).calls.push(callOfRecording(line));
+    else told.push({ says: line, calls: [] });
+  }
+  const [, since = null, is = null] = FROM.exec(told[1]?.says) ?? [];
+  const calls = told.find(({ says }) => says.startsWith("from there"))?.calls ?? [];
+  return { key: Number(key), isLeft: what === "and leaves", since, is, calls, told };
+}
+
+function readJudge(text) {
+  const [first, ...lines] = linesIn(text);
+  const count = /^ok (\d+) calls$/.exec(first)?.[1];
+  if (count !== undefined) {
+    const isCutOff = lines.some((line) => line.startsWith("the recording was cut off"));
+    return { kind: "ok", count: Number(count), isCutOff, remarks: lines };
+  }
+  const why = first === "not linearizable" ? readWhy(lines) : null;
+  return why === null ? { kind: "fault", fault: readFault(first) } : { kind: "none", why };
+}
+return { readReport, callsOfRecording, leavesKey, readExamples, readFault, readCheck, readShow, readJudge };
+})();
+
 // run/trace.js
 const $run_trace = (() => {
 const HEADER_LINES = 4;
@@ -1282,8 +1405,8 @@ return { escaped, tag, label, title, colourOf, chipOf, keyText, said, counted, c
 
 // run/judged.js
 const $run_judged = (() => {
+const { readCheck, readReport, readShow } = $engine_answers;
 const { callText, openReply } = $run_markup;
-const { HEADER_LINES } = $run_trace;
 const MOST_JUDGED = 60; // events of a run that is judged
 
 const LEVELS = {
@@ -1301,27 +1424,9 @@ const LEVELS = {
 };
 
 function exerciseOf(text, level, isWhole = true) {
-  const lines = text.trimEnd().split("\n");
-  const linesOf = (word) => lines.filter((line) => line.startsWith(`${word} `));
-  const calls = linesOf("call").map(callOfLine);
-  return {
-    level,
-    isWhole,
-    calls,
-    places: linesOf("place").map((line) => line.split(" ").slice(1).join("-")),
-    reportText: text,
-    head: [...lines.slice(0, HEADER_LINES), ...linesOf("opening")],
-    callLines: linesOf("call"),
-    keyLines: linesOf("key"),
-    threads: Number(lines[2].split(" ")[1]),
-    last: Math.max(1, ...calls.flatMap((call) => [call.begun, call.ended ?? 0])),
-  };
-}
-
-function callOfLine(line) {
-  const [, id, thread, operation, key, begun, ended, reply = null] = line.split(" ");
-  const end = ended === "open" ? null : Number(ended);
-  return { id: Number(id), thread: Number(thread), operation, key: Number(key), begun: Number(begun), ended: end, reply };
+  const report = readReport(text);
+  const last = Math.max(1, ...report.calls.flatMap((call) => [call.begun, call.ended ?? 0]));
+  return { ...report, level, isWhole, reportText: text, last };
 }
 
 const nameOfCall = (call) => `${callText(call)} of t${call.thread}`;
@@ -1330,8 +1435,8 @@ const lastMoment = (exercise, call) => call.ended ?? exercise.last;
 function repliesOf(exercise, { operation }) {
   if (operation === "add") return ["true", "false", "full"];
   if (operation !== "ceiling") return ["true", "false"];
-  const named = [...exercise.head, ...exercise.callLines].map((line) => /^(?:opening|call \d+ \d+ add) (\d+)/.exec(line)?.[1]);
-  const keys = [...new Set(named.filter((key) => key !== undefined).map(Number))].sort((one, other) => one - other);
+  const added = exercise.calls.filter((call) => call.operation === "add").map(({ key }) => key);
+  const keys = [...new Set([...exercise.opening, ...added])].sort((one, other) => one - other);
   return ["nothing", ...keys.map((key) => `at-${key}`)];
 }
 
@@ -1388,33 +1493,19 @@ function verdictOn(ask, answer) {
   const nothing = { isRight: null, clash: null, report: null };
   if (unsaid.length > 0) return { ...nothing, says: `Still missing: ${unsaid.join(", ")}.` };
   const report = reportOfAnswer(answer);
-  const checked = ask("listset_check", report).text.trim();
-  if (checked === "ok") return { isRight: true, clash: null, report, says: rightInWords(answer) };
-  if (!checked.startsWith("refused ")) return { ...nothing, says: `This order is not judged: ${checked}.` };
-  const told = ask("listset_show", report).text.split("\n").find((line) => line.startsWith("refused ")) ?? checked;
-  const clash = Number(/^refused \w+ (\d+)/.exec(checked)?.[1] ?? -1);
-  return { isRight: false, clash, report, says: faultInWords(answer, told) };
-}
-
-const ENDINGS = {
-  "not linearizable": "none",
-  "another order explains this report": "another",
-  "it is not known whether another order explains this report": "unknown",
-};
-
-function otherOrders({ status, text }) {
-  const lines = text.trimEnd().split("\n");
-  const at = lines.findIndex((line) => Object.hasOwn(ENDINGS, line));
-  if (at !== -1) return { kind: ENDINGS[lines[at]], lines: lines.slice(at + 1) };
-  return status === 0 ? { kind: "own", lines: [] } : { kind: "trouble", lines };
+  const checked = readCheck(ask("listset_check", report).text);
+  if (checked.kind === "ok") return { isRight: true, clash: null, report, says: rightInWords(answer) };
+  if (checked.kind === "trouble") return { ...nothing, says: `This order is not judged: ${checked.says}.` };
+  const { refused } = readShow(ask("listset_show", report));
+  return { isRight: false, clash: checked.call, report, says: refused === null ? checked.says : faultInWords(answer, refused) };
 }
 
 function verdictOnClaim(ask, { isWhole, reportText }) {
   const said = (isRight, says) => ({ isRight, clash: null, report: null, says });
   const there = "There is one: this is a run of a correct list, and each of those has an order (proved). Find it.";
   if (isWhole) return said(false, there);
-  const { kind, lines } = otherOrders(ask("listset_show", reportText));
-  if (kind === "trouble") return said(null, `Whether there is none is not judged: ${lines[0]}.`);
+  const { kind, says } = readShow(ask("listset_show", reportText));
+  if (kind === "trouble") return said(null, `Whether there is none is not judged: ${says}.`);
   if (kind === "none") return said(true, "Right: no order explains this report (proved). It comes from a broken list.");
   if (kind === "unknown") return said(null, "This report comes from a broken list, and whether an order explains it is not known.");
   return said(false, "There is one, although this report comes from a broken list. Find it.");
@@ -1423,31 +1514,23 @@ function verdictOnClaim(ask, { isWhole, reportText }) {
 function rightInWords(answer) {
   if (!answer.exercise.isWhole) return "check says ok: this order explains the report, so this schedule does not break the list.";
   const own = answer.order().map(({ call, reply }) => `${call.id}-${reply}`);
-  const isSame = own.join() === answer.exercise.places.join();
+  const isSame = own.join() === answer.exercise.places.map(({ call, reply }) => `${call}-${reply}`).join();
   const also = isSame ? "It is also the order of the replayer." : "The replayer has another one: both explain the run.";
   return `check says ok: this order explains the run. ${also}`;
 }
 
-function faultInWords(answer, line) {
-  const order = answer.order();
+function faultInWords(answer, refused) {
+  const { call, place, reply, set, answers, begun, first, ended, keys } = refused;
   const named = (id) => nameOfCall(answer.exercise.calls[Number(id)]);
-  const bySet = /^refused WrongReply (\d+): place (\d+) says (\S+), and .*?the set is (\{.*\}) and answers (\S+)$/.exec(line);
-  if (bySet !== null) {
-    const [, id, place, reply, set, other] = bySet;
-    const before = Number(place) === 1 ? "before your first call" : `after ${named(order[Number(place) - 2].call.id)} in your order`;
-    return `${named(id)} cannot answer ${reply} there: ${before} the set is ${set}, and it would answer ${other}.`;
+  if (refused.kind === "reply") {
+    const before = Number(place) === 1 ? "before your first call" : `after ${named(answer.order()[Number(place) - 2].call.id)} in your order`;
+    return `${named(call)} cannot answer ${reply} there: ${before} the set is ${set}, and it would answer ${answers}.`;
   }
-  const byRun = /^refused WrongReply (\d+): place \d+ says (\S+), and the history says/.exec(line);
-  if (byRun !== null) return `${named(byRun[1])} does not answer ${byRun[2]} in this run. Look at what it sees before it answers.`;
-  const early = /^refused TooEarly (\d+): it begins at (\d+) and stands before call (\d+), which ended at (\d+)$/.exec(line);
-  if (early !== null) {
-    const [, late, begun, first, ended] = early;
-    const stands = `in your order it comes before ${named(first)}, which ended at event ${ended}`;
-    return `${named(late)} begins at event ${begun}, and ${stands}.`;
+  if (refused.kind === "run") return `${named(call)} does not answer ${reply} in this run. Look at what it sees before it answers.`;
+  if (refused.kind === "early") {
+    return `${named(call)} begins at event ${begun}, and in your order it comes before ${named(first)}, which ended at event ${ended}.`;
   }
-  const leaves = /^refused WrongSet: the order leaves (\{.*\}), and the keys are (\{.*\})$/.exec(line);
-  if (leaves !== null) return `Your order leaves the set ${leaves[1]}; at the end of this run it is ${leaves[2]}.`;
-  return line;
+  return refused.kind === "keys" ? `Your order leaves the set ${set}; at the end of this run it is ${keys}.` : refused.says;
 }
 
 const wordOfAnswer = (answer) => (answer.isNone ? "none" : answer.order().map(({ call, reply }) => `${call.id}-${reply}`).join());
@@ -1466,7 +1549,7 @@ function answerOfWord(exercise, word) {
   }
   return answer;
 }
-return { MOST_JUDGED, LEVELS, exerciseOf, nameOfCall, lastMoment, repliesOf, OwnAnswer, reportOfAnswer, verdictOn, otherOrders, wordOfAnswer, answerOfWord };
+return { MOST_JUDGED, LEVELS, exerciseOf, nameOfCall, lastMoment, repliesOf, OwnAnswer, reportOfAnswer, verdictOn, wordOfAnswer, answerOfWord };
 })();
 
 // run/schedule_text.js
@@ -2305,6 +2388,7 @@ return { stateAtFirst, isWhatIf, exampleIn, reduce, entryOf };
 
 // page/now.js
 const $page_now = (() => {
+const { readFault } = $engine_answers;
 const { CAUSES } = $run_faults;
 const { LEVELS } = $run_judged;
 const { scheduleOfTrace } = $run_schedule_text;
@@ -2408,9 +2492,8 @@ function tellFault(line, cause, said, isOld = true) {
 const tellTrouble = (said) => (byId("fault").textContent = said);
 
 function tellLine(text) {
-  const found = /^listset: line (\d+): (\w+)$/.exec(text);
-  if (found !== null) tellFault(Number(found[1]), found[2], text);
-  else tellFault(null, "", text);
+  const { line, cause } = readFault(text);
+  tellFault(line, cause ?? "", text);
 }
 return { NO_ENGINE, held, now, change, show, dispatch, on, announce, isJudging, hiddenOutcomes, exampleShown, isForked, goTo, tell, takeTrace, takeScheduleOfTrace, askNow, tellFault, tellTrouble, tellLine };
 })();
@@ -4155,6 +4238,7 @@ return { showRun, showBar, drawnHistory, watchEditor, showMarks };
 // page/example.js
 const $page_example = (() => {
 const { EXAMPLES, TRACES } = $made_traces;
+const { readExamples } = $engine_answers;
 const { Trace } = $run_trace;
 const { askNow, change, held, takeScheduleOfTrace, takeTrace } = $page_now;
 const { showMarks } = $page_view;
@@ -4162,16 +4246,10 @@ const KEPT_BESIDE = "a trace that is kept beside the page";
 const known = { examples: null };
 
 function examples() {
-  if (held.engine === null) return examplesIn(EXAMPLES);
-  known.examples ??= examplesIn(askNow("listset_examples", "").text);
+  if (held.engine === null) return readExamples(EXAMPLES);
+  known.examples ??= readExamples(askNow("listset_examples", "").text);
   return known.examples;
 }
-
-const examplesIn = (text) =>
-  text.trimEnd().split("\n").map((line) => {
-    const [name, kind] = line.split(/ +/);
-    return { name, kind };
-  });
 
 const isExample = (name) => examples().some((one) => one.name === name);
 
@@ -4260,49 +4338,13 @@ function goToTurn(step) {
 return { wantsLessMotion, stopPlay, startPlay, togglePlay, changeSpeed, goByHand, goToTurn };
 })();
 
-// run/refusal.js
-const $run_refusal = (() => {
-function callOfLine(line) {
-  const [, thread, operation, key, begun, ended, reply] = line.split(" ");
-  const isOpen = ended === "-";
-  const moments = { begun: BigInt(begun), ended: isOpen ? null : BigInt(ended) };
-  return { thread: Number(thread), operation, key: Number(key), ...moments, reply: isOpen ? null : reply };
-}
-
-function firstCalls(text, most) {
-  const calls = [];
-  for (const [line] of text.matchAll(/^call .*$/gm)) {
-    if (calls.length === most) break;
-    calls.push(callOfLine(line));
-  }
-  return calls;
-}
-
-const WHY = /^no order explains the calls of key (\d+) (up to|and leaves)/;
-const FROM = /^(?:at first|after the calls that ended by moment (\d+)) the key is (there|not there)/;
-
-function refusalIn(lines) {
-  const [, key, what] = WHY.exec(lines[0]) ?? [];
-  if (key === undefined) return null;
-  const told = [];
-  for (const line of lines) {
-    if (line.startsWith("call ")) told.at(-1).calls.push(callOfLine(line));
-    else told.push({ line, calls: [] });
-  }
-  const [, since = null, is = null] = FROM.exec(told[1]?.line) ?? [];
-  const calls = told.find(({ line }) => line.startsWith("from there"))?.calls ?? [];
-  return { key: Number(key), isLeft: what === "and leaves", since, is, calls, told };
-}
-return { firstCalls, refusalIn };
-})();
-
 // run/broken.js
 const $run_broken = (() => {
 const { LACKING } = $made_classics;
 const { LISTS } = $made_rows;
-const { exerciseOf, nameOfCall, otherOrders } = $run_judged;
+const { readCheck, readReport, readShow } = $engine_answers;
+const { nameOfCall } = $run_judged;
 const { escaped } = $run_markup;
-const { refusalIn } = $run_refusal;
 const { scheduleOfTrace, titleOf } = $run_schedule_text;
 const { isFailed, isLock, momentAt, sentenceOf } = $run_sentences;
 const { State } = $run_state;
@@ -4339,29 +4381,28 @@ function startOfLacking(name) {
 function verdictOnLacking(ask, lacks, schedule) {
   const { status, text } = ask("listset_replay_lacking", lacks, schedule);
   if (status !== 0) return { kind: "refused", says: `The schedule is refused: ${text.trim()}`, report: null };
-  const checked = ask("listset_check", text).text.trim();
-  if (checked === "ok") return { kind: "explained", says: EXPLAINED, report: text };
-  if (!checked.startsWith("refused ")) return { kind: "refused", says: `The run is not judged: ${checked}.`, report: null };
-  const { kind, lines } = otherOrders(ask("listset_show", text));
-  if (kind !== "none") return { kind: "points", says: `${BY_POINTS} ${kind === "another" ? OTHER : UNKNOWN}`, report: text };
-  return { kind: "broken", says: `Broken: ${whyNone(text, lines)}. ${UNEXPLAINED}`, report: text };
+  const checked = readCheck(ask("listset_check", text).text);
+  if (checked.kind === "ok") return { kind: "explained", says: EXPLAINED, report: text };
+  if (checked.kind === "trouble") return { kind: "refused", says: `The run is not judged: ${checked.says}.`, report: null };
+  const shown = readShow(ask("listset_show", text));
+  if (shown.kind !== "none") return { kind: "points", says: `${BY_POINTS} ${shown.kind === "another" ? OTHER : UNKNOWN}`, report: text };
+  return { kind: "broken", says: `Broken: ${whyNone(text, shown)}. ${UNEXPLAINED}`, report: text };
 }
 
-function whyNone(report, lines) {
-  const refusal = refusalIn(lines);
-  if (refusal === null) return lines[0];
-  const exercise = exerciseOf(report, "claim");
-  const { key, isLeft, since, is, calls } = refusal;
+function whyNone(text, { why, says }) {
+  if (why === null) return says;
+  const exercise = readReport(text);
+  const { key, isLeft, since, is, calls } = why;
   if (isLeft && isLost(exercise, key)) return `${key} was added once and never removed, and at the end the set does not have it`;
-  const left = exercise.keyLines.includes(`key ${key}`) ? "has it" : "does not have it";
+  const left = exercise.keys.includes(key) ? "has it" : "does not have it";
   const then = [...calls.map((call) => callInWords(exercise, call)), ...(isLeft ? [`at the end the set ${left}`] : [])].join(", ");
-  if (is === null) return then === "" ? lines[0] : then;
+  if (is === null) return then === "" ? says : then;
   return `${key} is ${is} ${since === null ? "at first" : `after event ${since}`}, and then ${then}`;
 }
 
-function isLost({ calls, head, keyLines }, key) {
+function isLost({ calls, opening, keys }, key) {
   const count = (operation) => calls.filter((call) => call.operation === operation && call.reply === "true" && call.key === key).length;
-  const isThere = head.includes(`opening ${key}`) || keyLines.includes(`key ${key}`);
+  const isThere = opening.includes(key) || keys.includes(key);
   return count("add") === 1 && count("remove") === 0 && !isThere;
 }
 
@@ -4831,6 +4872,7 @@ return { COURSE_TITLE, readCourse, lessonText };
 
 // course/lesson.js
 const $course_lesson = (() => {
+const { readFault } = $engine_answers;
 const { askList, TO_BREAK, verdictOnLacking } = $run_broken;
 const { scheduleOfDraft } = $run_draft;
 const { CAUSES } = $run_faults;
@@ -4923,8 +4965,8 @@ function troubleOf(ask, lesson) {
 }
 
 function refusedLine(lesson, part, fault) {
-  const [, number, cause] = /line (\d+)(?: of the schedule is refused)?: (\w+)/i.exec(fault) ?? [];
-  const given = lesson.events[Number(number) - HEADER_LINES - lesson.opening.length - 1];
+  const { line, cause } = readFault(fault);
+  const given = lesson.events[line - HEADER_LINES - lesson.opening.length - 1];
   if (given === undefined || !(cause in CAUSES)) return { line: lesson.line, says: `its ${part} is refused: ${fault}` };
   return { line: given.number, says: `its ${part} is refused at "${given.line}": ${CAUSES[cause]}` };
 }
@@ -6177,9 +6219,9 @@ return { ORDER, numberOf, addressOfLevel, wordOf, whyWrong, titleOfLevel, drawBr
 
 // run/recorded.js
 const $run_recorded = (() => {
+const { callsOfRecording, leavesKey, readJudge } = $engine_answers;
 const { CAUSES_OF_CALLS } = $run_faults;
 const { nameOfCall } = $run_judged;
-const { firstCalls, refusalIn } = $run_refusal;
 const RECORDED_EXAMPLE = `listset-calls 1
 opening 8
 call 0 add 5 1 4 true
@@ -6200,27 +6242,26 @@ const recordedInWords = (call) =>
 
 const sentence = (line) => `${line[0].toUpperCase()}${line.slice(1)}.`;
 
-function okInWords(count, lines) {
+function okInWords({ count, isCutOff }) {
   const calls = count === 1 ? "this one call" : `these ${count.toLocaleString("en")} calls`;
-  const isCutOff = lines.some((line) => line.startsWith("the recording was cut off"));
   const keys = isCutOff ? ", whatever keys it leaves" : " and leaves the keys";
   return `Linearizable: an order explains ${calls}${keys}. It says nothing of other runs.`;
 }
 
-function verdictOfOk(count, lines, text) {
-  const drawn = count > MOST_DRAWN ? [`the first ${MOST_DRAWN} calls are drawn`] : [];
+function verdictOfOk(judged, text) {
+  const drawn = judged.count > MOST_DRAWN ? [`the first ${MOST_DRAWN} calls are drawn`] : [];
   return {
     kind: "ok",
-    says: okInWords(count, lines),
-    reasons: [...lines, ...drawn].map(sentence),
-    calls: firstCalls(text, MOST_DRAWN),
+    says: okInWords(judged),
+    reasons: [...judged.remarks, ...drawn].map(sentence),
+    calls: callsOfRecording(text, MOST_DRAWN),
     from: null,
   };
 }
 
 function verdictOfRefusal({ key, isLeft, since, is, told }, text) {
-  const reasons = told.map(({ line, calls }) => sentence([line, calls.map(recordedInWords).join("; ")].join(" ").trim()));
-  const has = new RegExp(`^key ${key}$`, "m").test(text) ? "has it" : "does not have it";
+  const reasons = told.map(({ says, calls }) => sentence([says, calls.map(recordedInWords).join("; ")].join(" ").trim()));
+  const has = leavesKey(text, key) ? "has it" : "does not have it";
   return {
     kind: "none",
     says: `Not linearizable: no order at all explains these calls${isLeft ? " and leaves the keys" : ""}.`,
@@ -6230,18 +6271,15 @@ function verdictOfRefusal({ key, isLeft, since, is, told }, text) {
   };
 }
 
-function troubleInWords(line) {
-  const cause = /^listset: line \d+: (\w+)$/.exec(line)?.[1];
-  return Object.hasOwn(CAUSES_OF_CALLS, cause) ? `${line}: ${CAUSES_OF_CALLS[cause]}.` : line;
+function troubleInWords({ cause, says }) {
+  return Object.hasOwn(CAUSES_OF_CALLS, cause) ? `${says}: ${CAUSES_OF_CALLS[cause]}.` : says;
 }
 
 function verdictOnCalls(answer, text) {
-  const [first, ...lines] = answer.trimEnd().split("\n");
-  const count = /^ok (\d+) calls$/.exec(first)?.[1];
-  if (count !== undefined) return verdictOfOk(Number(count), lines, text);
-  const refusal = first === "not linearizable" ? refusalIn(lines) : null;
-  if (refusal !== null) return verdictOfRefusal(refusal, text);
-  return { kind: "fault", says: troubleInWords(first), reasons: [], calls: [], from: null };
+  const judged = readJudge(answer);
+  if (judged.kind === "ok") return verdictOfOk(judged, text);
+  if (judged.kind === "none") return verdictOfRefusal(judged.why, text);
+  return { kind: "fault", says: troubleInWords(judged.fault), reasons: [], calls: [], from: null };
 }
 return { RECORDED_EXAMPLE, withNewline, recordedInWords, verdictOnCalls };
 })();
@@ -6714,7 +6752,7 @@ function drawLevel(trace, verdict) {
   byId("break-question").textContent = GRADES[grade] === undefined ? "" : TO_DO;
   byId("break-state").className = shown.kind;
   if (byId("break-verdict").textContent !== shown.says) byId("break-verdict").textContent = shown.says; // a reader hears it once
-  byId("break-why").textContent = shown.why;
+  byId("break-why").textContent = isWon ? "" : shown.why; // then it stands beside the two sets
   byId("break-judge").hidden = verdict.kind !== "points";
   drawHints(name, isWon);
   byId("break-win").hidden = !isWon;
@@ -6814,6 +6852,7 @@ return { judgeBreaking, showBreaking, listenToBreaking };
 
 // page/steps.js
 const $page_steps = (() => {
+const { readFault } = $engine_answers;
 const { askList } = $run_broken;
 const { MOST_TRIED, scheduleOfDraft } = $run_draft;
 const { callText, chipOf, escaped } = $run_markup;
@@ -6841,7 +6880,7 @@ function stepsToRow(thread, row) {
   if (isAtRest(thread)) return tellRest(thread);
   const { count, fault } = stepsOfDraft(`go ${thread} to ${row}`);
   if (count !== null) goOn(`go ${thread} ${count}`, count, `${chipOf(thread)} is at row ${row}.`);
-  else if (fault.endsWith(": Idle")) stepsToEnd(thread, `ended its call before it came to row ${row}`);
+  else if (readFault(fault).cause === "Idle") stepsToEnd(thread, `ended its call before it came to row ${row}`);
   else stepsToLock(thread, fault, `it has not come to row ${row}`);
 }
 
@@ -6853,7 +6892,7 @@ function stepsOfDraft(line) {
 function stepsToLock(thread, fault, notYet) {
   const text = scheduleAndLine(now.run.trace, now.run.count, `go ${thread} ${MOST_TRIED}`);
   const answer = askList(askNow, "listset_trace", now.run.lacks, text);
-  if (!fault.endsWith(": Waits") || !isTrace(answer.text)) {
+  if (readFault(fault).cause !== "Waits" || !isTrace(answer.text)) {
     return tell(`No step was made: ${escaped(fault)}.`);
   }
   const events = new Trace(answer.text).events().slice(now.run.count);
@@ -7792,9 +7831,10 @@ return { faultOfTrace };
 
 // page/files.js
 const $page_files = (() => {
+const { readShow } = $engine_answers;
 const { askList } = $run_broken;
 const { faultOfTrace } = $run_check_trace;
-const { otherOrders } = $run_judged;
+const { recordedInWords } = $run_recorded;
 const { scheduleOfTrace } = $run_schedule_text;
 const { isTrace, Trace } = $run_trace;
 const { byId } = $page_dom;
@@ -7891,9 +7931,9 @@ function drawPicture(text) {
 }
 
 function refusalIn(drawn) {
-  const { kind, lines } = otherOrders(drawn);
-  const refused = drawn.text.split("\n").filter((line) => line.startsWith("refused "));
-  return [...refused, ...(kind === "none" ? lines.filter((line) => !line.endsWith(":")) : [])].join("; ");
+  const { refused, why } = readShow(drawn);
+  const reasons = (why?.told ?? []).flatMap(({ says, calls }) => (calls.length === 0 ? [says] : calls.map(recordedInWords)));
+  return [...(refused === null ? [] : [refused.says]), ...reasons].join("; ");
 }
 
 function scrollToClash() {
@@ -9473,5 +9513,5 @@ if (typeof document !== "undefined") startPage(); // in node there is none
 return {  };
 })();
 
-return Object.assign({}, $made_classics, $data_levels, $page_dom, $made_traces, $run_trace, $run_faults, $run_markup, $run_judged, $run_schedule_text, $made_rows, $run_state, $run_sentences, $page_state, $page_now, $draw_glide, $draw_labels, $draw_history, $draw_list, $made_code, $draw_listing, $draw_room, $draw_table, $draw_threads, $page_seen, $page_places, $page_view, $page_example, $page_play, $run_refusal, $run_broken, $run_draft, $run_moments, $course_goal_words, $course_course_text, $course_lesson, $made_book, $page_kept, $engine_engine, $engine_worker, $page_long_run, $page_run_text, $page_work, $run_address, $page_menu, $activities_broken_kept, $activities_break_map, $run_recorded, $draw_judged, $activities_judging, $activities_break_level, $page_steps, $page_moves, $page_keys, $run_seed, $page_address_of, $page_visit, $run_sides, $activities_compare, $course_course_link, $run_check_trace, $page_files, $activities_kept_lessons, $activities_learning, $activities_learn_map, $activities_courses, $course_hand_in, $activities_lessons, $activities_recorded, $data_book_code, $activities_watch, $activities_judge_map, $activities_read, $activities_open, $draw_code_column, $page_save_picture, $page_controls, $activities_place);
+return Object.assign({}, $made_classics, $data_levels, $page_dom, $made_traces, $engine_answers, $run_trace, $run_faults, $run_markup, $run_judged, $run_schedule_text, $made_rows, $run_state, $run_sentences, $page_state, $page_now, $draw_glide, $draw_labels, $draw_history, $draw_list, $made_code, $draw_listing, $draw_room, $draw_table, $draw_threads, $page_seen, $page_places, $page_view, $page_example, $page_play, $run_broken, $run_draft, $run_moments, $course_goal_words, $course_course_text, $course_lesson, $made_book, $page_kept, $engine_engine, $engine_worker, $page_long_run, $page_run_text, $page_work, $run_address, $page_menu, $activities_broken_kept, $activities_break_map, $run_recorded, $draw_judged, $activities_judging, $activities_break_level, $page_steps, $page_moves, $page_keys, $run_seed, $page_address_of, $page_visit, $run_sides, $activities_compare, $course_course_link, $run_check_trace, $page_files, $activities_kept_lessons, $activities_learning, $activities_learn_map, $activities_courses, $course_hand_in, $activities_lessons, $activities_recorded, $data_book_code, $activities_watch, $activities_judge_map, $activities_read, $activities_open, $draw_code_column, $page_save_picture, $page_controls, $activities_place);
 })();

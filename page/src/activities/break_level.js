@@ -111,7 +111,7 @@ function drawLevel(trace, verdict) {
   byId("break-question").textContent = GRADES[grade] === undefined ? "" : TO_DO;
   byId("break-state").className = shown.kind;
   if (byId("break-verdict").textContent !== shown.says) byId("break-verdict").textContent = shown.says; // a reader hears it once
-  byId("break-why").textContent = shown.why;
+  byId("break-why").textContent = isWon ? "" : shown.why; // then it stands beside the two sets
   byId("break-judge").hidden = verdict.kind !== "points";
   drawHints(name, isWon);
   byId("break-win").hidden = !isWon;

@@ -1,5 +1,6 @@
 // What a lesson says of a schedule: whether it is a solution, which conditions of the goal its run meets, and why none is looked
 // at. A lesson is tried when it is read: its start does not reach its goal, and its answer does.
+import { readFault } from "../engine/answers.js";
 import { askList, TO_BREAK, verdictOnLacking } from "../run/broken.js";
 import { scheduleOfDraft } from "../run/draft.js";
 import { CAUSES } from "../run/faults.js";
@@ -103,8 +104,8 @@ function troubleOf(ask, lesson) {
 
 // A fault of the schedule of a start or an answer, told by the line of the course and in words.
 function refusedLine(lesson, part, fault) {
-  const [, number, cause] = /line (\d+)(?: of the schedule is refused)?: (\w+)/i.exec(fault) ?? [];
-  const given = lesson.events[Number(number) - HEADER_LINES - lesson.opening.length - 1];
+  const { line, cause } = readFault(fault);
+  const given = lesson.events[line - HEADER_LINES - lesson.opening.length - 1];
   if (given === undefined || !(cause in CAUSES)) return { line: lesson.line, says: `its ${part} is refused: ${fault}` };
   return { line: given.number, says: `its ${part} is refused at "${given.line}": ${CAUSES[cause]}` };
 }

@@ -1,5 +1,6 @@
 // The classic examples by their names. Without an engine they are shown from their traces, which are kept beside the page.
 import { EXAMPLES, TRACES } from "../../made/traces.js";
+import { readExamples } from "../engine/answers.js";
 import { Trace } from "../run/trace.js";
 import { askNow, change, held, takeScheduleOfTrace, takeTrace } from "./now.js";
 import { showMarks } from "./view.js";
@@ -9,16 +10,10 @@ const known = { examples: null };
 
 // The examples in their order, each { name, kind }, of what `listset example` prints; the rest of that would tell the answers.
 export function examples() {
-  if (held.engine === null) return examplesIn(EXAMPLES);
-  known.examples ??= examplesIn(askNow("listset_examples", "").text);
+  if (held.engine === null) return readExamples(EXAMPLES);
+  known.examples ??= readExamples(askNow("listset_examples", "").text);
   return known.examples;
 }
-
-const examplesIn = (text) =>
-  text.trimEnd().split("\n").map((line) => {
-    const [name, kind] = line.split(/ +/);
-    return { name, kind };
-  });
 
 export const isExample = (name) => examples().some((one) => one.name === name);
 

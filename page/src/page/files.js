@@ -1,7 +1,8 @@
 // Files: a schedule, a trace or a report that is opened; a schedule and a trace that are saved. And the box of the report.
+import { readShow } from "../engine/answers.js";
 import { askList } from "../run/broken.js";
 import { faultOfTrace } from "../run/check_trace.js";
-import { otherOrders } from "../run/judged.js";
+import { recordedInWords } from "../run/recorded.js";
 import { scheduleOfTrace } from "../run/schedule_text.js";
 import { isTrace, Trace } from "../run/trace.js";
 import { byId } from "./dom.js";
@@ -106,9 +107,9 @@ function drawPicture(text) {
 
 // The lines of a picture that say why its order is refused, or which event is, and why no order explains the report.
 function refusalIn(drawn) {
-  const { kind, lines } = otherOrders(drawn);
-  const refused = drawn.text.split("\n").filter((line) => line.startsWith("refused "));
-  return [...refused, ...(kind === "none" ? lines.filter((line) => !line.endsWith(":")) : [])].join("; ");
+  const { refused, why } = readShow(drawn);
+  const reasons = (why?.told ?? []).flatMap(({ says, calls }) => (calls.length === 0 ? [says] : calls.map(recordedInWords)));
+  return [...(refused === null ? [] : [refused.says]), ...reasons].join("; ");
 }
 
 // Brings the first call that clashes into sight, with its reply, where the picture is wider than its place.

@@ -1,5 +1,6 @@
 // The state of the page as it is now, and what changes it. Each change is an action of state.js; then all is drawn anew by one render.
 // No other module of the page but dom.js and state.js is imported here, and so none has to be imported in a circle.
+import { readFault } from "../engine/answers.js";
 import { CAUSES } from "../run/faults.js";
 import { LEVELS } from "../run/judged.js";
 import { scheduleOfTrace } from "../run/schedule_text.js";
@@ -114,7 +115,6 @@ export function tellFault(line, cause, said, isOld = true) {
 export const tellTrouble = (said) => (byId("fault").textContent = said);
 
 export function tellLine(text) {
-  const found = /^listset: line (\d+): (\w+)$/.exec(text);
-  if (found !== null) tellFault(Number(found[1]), found[2], text);
-  else tellFault(null, "", text);
+  const { line, cause } = readFault(text);
+  tellFault(line, cause ?? "", text);
 }

@@ -1,5 +1,6 @@
 // Steps of one thread, from the event that is shown: one, as many as end its call, as many as lead to a row. How many these are
 // says the engine: the line is that of a draft.
+import { readFault } from "../engine/answers.js";
 import { askList } from "../run/broken.js";
 import { MOST_TRIED, scheduleOfDraft } from "../run/draft.js";
 import { callText, chipOf, escaped } from "../run/markup.js";
@@ -28,7 +29,7 @@ export function stepsToRow(thread, row) {
   if (isAtRest(thread)) return tellRest(thread);
   const { count, fault } = stepsOfDraft(`go ${thread} to ${row}`);
   if (count !== null) goOn(`go ${thread} ${count}`, count, `${chipOf(thread)} is at row ${row}.`);
-  else if (fault.endsWith(": Idle")) stepsToEnd(thread, `ended its call before it came to row ${row}`);
+  else if (readFault(fault).cause === "Idle") stepsToEnd(thread, `ended its call before it came to row ${row}`);
   else stepsToLock(thread, fault, `it has not come to row ${row}`);
 }
 
@@ -42,7 +43,7 @@ function stepsOfDraft(line) {
 function stepsToLock(thread, fault, notYet) {
   const text = scheduleAndLine(now.run.trace, now.run.count, `go ${thread} ${MOST_TRIED}`);
   const answer = askList(askNow, "listset_trace", now.run.lacks, text);
-  if (!fault.endsWith(": Waits") || !isTrace(answer.text)) {
+  if (readFault(fault).cause !== "Waits" || !isTrace(answer.text)) {
     return tell(`No step was made: ${escaped(fault)}.`);
   }
   const events = new Trace(answer.text).events().slice(now.run.count);
