@@ -2073,10 +2073,10 @@ function keysInChain(state) {
 return { linkTarget, keyNumber, State, isWritten, ownerOf, contentsIn, promisedKeys, keysInChain };
 })();
 
-// run/sentences.js
-const $run_sentences = (() => {
+// run/outcomes.js
+const $run_outcomes = (() => {
 const { LISTS } = $made_rows;
-const { callText, chipOf, keyText, said } = $run_markup;
+const { chipOf, keyText, said } = $run_markup;
 const { keyNumber, ownerOf } = $run_state;
 const { firstOpeningNode } = $run_trace;
 const isLock = (word) => word.endsWith(".lock");
@@ -2085,30 +2085,8 @@ const isDone = (event) => event.deed === "store" || (event.deed === "exchange" &
 const isFailed = (event) => event.deed === "exchange" && event.saw !== event.from;
 const ownerIn = (word) => word.split(".")[0];
 const isLinkOf = (event) => event.word?.endsWith(".link");
-
-const lockedBy = (word) => (word === "list.lock" ? "the list" : mono(ownerIn(word)));
 const lockNames = (words) => `the lock${words.length > 1 ? "s" : ""} of ${words.map(ownerIn).join(" and ")}`;
 const setsMark = (event) => isLinkOf(event) && event.to?.endsWith("*") === true;
-
-function deedText(event, row) {
-  const word = event.word && mono(event.word);
-  if (event.deed === "begin") return `begins ${callText(event.call)}.`;
-  if (event.deed === "load") return `reads ${word}: ${said(event.saw)}.`;
-  if (isLock(event.word)) return lockText(event, row);
-  const change = event.deed === "store" ? `${word} := ${said(event.to)}` : `${word}: ${said(event.from)} → ${said(event.to)}`;
-  const finds = isFailed(event) ? `, but finds ${said(event.saw)}` : "";
-  if (setsMark(event)) return `${isFailed(event) ? "tries to mark" : "marks"} ${mono(ownerIn(event.word))} (${change})${finds}.`;
-  if (event.deed === "store") return `sets ${word} to ${said(event.to)}.`;
-  return `${isFailed(event) ? "tries to change" : "changes"} ${word} from ${said(event.from)} to ${said(event.to)}${finds}.`;
-}
-
-function lockText(event, row) {
-  const name = lockedBy(event.word);
-  if (event.deed === "store") return `unlocks ${name}.`;
-  if (!isFailed(event)) return `locks ${name}.`;
-  const then = event.changes.pc === row ? "It will try again" : `It continues all the same, at row ${event.changes.pc}`;
-  return `tries to lock ${name}, but ${event.saw} holds it. ${then}.`;
-}
 
 function marksOf(trace) {
   if (trace.marks !== undefined) return trace.marks;
@@ -2126,7 +2104,7 @@ function wholeName({ trace, event }, name) {
   return `${name}</b>, ${whose}, which ${chipOf(mark.thread)} marked at event ${mark.number}`;
 }
 
-function isInChain(state, key) {
+function hasInChain(state, key) {
   return state.chain().some((name) => String(state.nodes[name].key) === String(key) && !state.nodes[name].link.endsWith("*"));
 }
 
@@ -2134,7 +2112,7 @@ const OUTCOMES = {
   change({ trace, state, event, held, hadKey }) {
     const { put, took } = event;
     const had = trace.lacks !== null && hadKey;
-    const hasNow = (key) => trace.lacks !== null && isInChain(state, key);
+    const hasNow = (key) => trace.lacks !== null && hasInChain(state, key);
     if (put !== undefined) {
       if (had) return `<b>This should add ${put} to the set, but ${put} is in it already.</b>`;
       if (trace.lacks === null || hasNow(put)) return `<b>This adds ${put} to the set</b>, in slot ${held.used} of ${trace.quota}.`;
@@ -2249,6 +2227,35 @@ function secondWalkAtKey(held, row) {
 }
 
 const isOpeningNode = (trace, name) => /^n/.test(name) && Number(name.slice(1)) >= firstOpeningNode(trace);
+return { isLock, mono, isFailed, ownerIn, setsMark, hasInChain, OUTCOMES };
+})();
+
+// run/sentences.js
+const $run_sentences = (() => {
+const { LISTS } = $made_rows;
+const { callText, chipOf, said } = $run_markup;
+const { hasInChain, isFailed, isLock, mono, OUTCOMES, ownerIn, setsMark } = $run_outcomes;
+const lockedBy = (word) => (word === "list.lock" ? "the list" : mono(ownerIn(word)));
+
+function deedText(event, row) {
+  const word = event.word && mono(event.word);
+  if (event.deed === "begin") return `begins ${callText(event.call)}.`;
+  if (event.deed === "load") return `reads ${word}: ${said(event.saw)}.`;
+  if (isLock(event.word)) return lockText(event, row);
+  const change = event.deed === "store" ? `${word} := ${said(event.to)}` : `${word}: ${said(event.from)} → ${said(event.to)}`;
+  const finds = isFailed(event) ? `, but finds ${said(event.saw)}` : "";
+  if (setsMark(event)) return `${isFailed(event) ? "tries to mark" : "marks"} ${mono(ownerIn(event.word))} (${change})${finds}.`;
+  if (event.deed === "store") return `sets ${word} to ${said(event.to)}.`;
+  return `${isFailed(event) ? "tries to change" : "changes"} ${word} from ${said(event.from)} to ${said(event.to)}${finds}.`;
+}
+
+function lockText(event, row) {
+  const name = lockedBy(event.word);
+  if (event.deed === "store") return `unlocks ${name}.`;
+  if (!isFailed(event)) return `locks ${name}.`;
+  const then = event.changes.pc === row ? "It will try again" : `It continues all the same, at row ${event.changes.pc}`;
+  return `tries to lock ${name}, but ${event.saw} holds it. ${then}.`;
+}
 
 function effectText({ trace, event }, hidden) {
   const { call } = event;
@@ -2274,7 +2281,7 @@ function momentAt(state, count) {
   state.moveTo(Math.max(count - 1, 0));
   const before = event === null ? null : { ...state.threads[event.thread] };
   const changed = event?.put ?? event?.took;
-  const hadKey = trace.lacks !== null && changed !== undefined && isInChain(state, changed);
+  const hadKey = trace.lacks !== null && changed !== undefined && hasInChain(state, changed);
   const wasInChain = trace.lacks === null || before === null || state.chain().includes(before.curr);
   state.moveTo(count);
   if (event === null) return { trace, state, event };
@@ -2291,7 +2298,7 @@ function sentenceOf(moment, hidden = []) {
   const parts = [chipOf(event.thread), deedText(event, moment.before.pc), ...outcomes, effectText(moment, hidden)];
   return parts.filter((text) => text !== "").join(" ");
 }
-return { isLock, mono, isFailed, ownerIn, momentAt, sentenceOf };
+return { momentAt, sentenceOf };
 })();
 
 // page/state.js
@@ -2498,52 +2505,6 @@ function tellLine(text) {
 return { NO_ENGINE, held, now, change, show, dispatch, on, announce, isJudging, hiddenOutcomes, exampleShown, isForked, goTo, tell, takeTrace, takeScheduleOfTrace, askNow, tellFault, tellTrouble, tellLine };
 })();
 
-// draw/glide.js
-const $draw_glide = (() => {
-const TIME = 260; // milliseconds
-const EASE = { duration: TIME, easing: "cubic-bezier(.2, .7, .2, 1)" };
-
-const wantsStill = () => matchMedia("(prefers-reduced-motion: reduce)").matches;
-
-function placesIn(box) {
-  const places = new Map();
-  for (const part of box.querySelectorAll("[data-part]")) {
-    const { x = "0", y = "0", to = "" } = part.dataset;
-    places.set(part.dataset.part, { x: Number(x), y: Number(y), to, d: part.querySelector("path")?.getAttribute("d") ?? "" });
-  }
-  return places;
-}
-
-function glideArrow(part, before) {
-  const path = part.querySelector("path");
-  if (path === null || path.getAttribute("d") === before.d) return;
-  if (part.dataset.to === before.to) {
-    const forms = [before.d, path.getAttribute("d")].map((d) => ({ d: `path("${d}")` }));
-    path.animate(forms, EASE);
-  } else {
-    const length = path.getTotalLength();
-    const strokeDasharray = `${length} ${length}`;
-    path.animate([{ strokeDasharray, strokeDashoffset: length }, { strokeDasharray, strokeDashoffset: 0 }], EASE);
-  }
-}
-
-function glide(box, draw, isNear) {
-  const before = isNear && !wantsStill() && !document.hidden ? placesIn(box) : null;
-  draw();
-  if (before === null || before.size === 0) return;
-  for (const part of box.querySelectorAll("[data-part]")) {
-    const was = before.get(part.dataset.part);
-    if (was === undefined) part.animate([{ opacity: 0 }, { opacity: 1 }], EASE);
-    else if (part.dataset.part.startsWith("link ")) glideArrow(part, was);
-    else {
-      const [dx, dy] = [was.x - Number(part.dataset.x), was.y - Number(part.dataset.y)];
-      if (dx !== 0 || dy !== 0) part.animate([{ translate: `${dx}px ${dy}px` }, { translate: "0 0" }], EASE);
-    }
-  }
-}
-return { glide };
-})();
-
 // draw/labels.js
 const $draw_labels = (() => {
 const { callText } = $run_markup;
@@ -2581,8 +2542,7 @@ return { ROW_HEIGHT, widthOf, placeLabels, SIGNS_IN_WORDS, signOf, labelWidth };
 
 // draw/history.js
 const $draw_history = (() => {
-const { callText, chipOf, colourOf, label, openReply, tag, title } = $run_markup;
-const { contentsIn } = $run_state;
+const { callText, colourOf, label, tag, title } = $run_markup;
 const { labelWidth, placeLabels, ROW_HEIGHT, signOf, SIGNS_IN_WORDS } = $draw_labels;
 const HISTORY_LEFT = 50;
 const HISTORY_RIGHT = 16;
@@ -2737,7 +2697,14 @@ function drawCalls(trace, scale) {
   const signs = scale.areWhole ? "" : label({ class: "note", x: 2, y: height - 4 }, SIGNS_IN_WORDS);
   return tag("svg", frame, ...lanes, drawCursor(scale, height, scale.y(0) - scale.bar / 2 - 2), ...stems, ...bars, ...points, signs);
 }
+return { HISTORY_LEFT, scaleOf, heightOfCalls, isReached, drawCursor, drawCalls };
+})();
 
+// draw/contents.js
+const $draw_contents = (() => {
+const { callText, chipOf, label, openReply, tag, title } = $run_markup;
+const { contentsIn } = $run_state;
+const { drawCursor, HISTORY_LEFT, isReached } = $draw_history;
 const KEY_WIDTH = 8; // pixels, of each character of the contents
 
 function drawContent(part, scale) {
@@ -2801,15 +2768,60 @@ function drawOrder(trace, count, hides = false) {
   const after = last < total ? `<li class="later">… ${total - last} more</li>` : "";
   return `<ol>${before}${items.join("")}${after}</ol>`;
 }
-return { HISTORY_LEFT, scaleOf, heightOfCalls, drawCalls, drawContents, drawOrder };
+return { drawContents, drawOrder };
 })();
 
-// draw/list.js
-const $draw_list = (() => {
+// draw/glide.js
+const $draw_glide = (() => {
+const TIME = 260; // milliseconds
+const EASE = { duration: TIME, easing: "cubic-bezier(.2, .7, .2, 1)" };
+
+const wantsStill = () => matchMedia("(prefers-reduced-motion: reduce)").matches;
+
+function placesIn(box) {
+  const places = new Map();
+  for (const part of box.querySelectorAll("[data-part]")) {
+    const { x = "0", y = "0", to = "" } = part.dataset;
+    places.set(part.dataset.part, { x: Number(x), y: Number(y), to, d: part.querySelector("path")?.getAttribute("d") ?? "" });
+  }
+  return places;
+}
+
+function glideArrow(part, before) {
+  const path = part.querySelector("path");
+  if (path === null || path.getAttribute("d") === before.d) return;
+  if (part.dataset.to === before.to) {
+    const forms = [before.d, path.getAttribute("d")].map((d) => ({ d: `path("${d}")` }));
+    path.animate(forms, EASE);
+  } else {
+    const length = path.getTotalLength();
+    const strokeDasharray = `${length} ${length}`;
+    path.animate([{ strokeDasharray, strokeDashoffset: length }, { strokeDasharray, strokeDashoffset: 0 }], EASE);
+  }
+}
+
+function glide(box, draw, isNear) {
+  const before = isNear && !wantsStill() && !document.hidden ? placesIn(box) : null;
+  draw();
+  if (before === null || before.size === 0) return;
+  for (const part of box.querySelectorAll("[data-part]")) {
+    const was = before.get(part.dataset.part);
+    if (was === undefined) part.animate([{ opacity: 0 }, { opacity: 1 }], EASE);
+    else if (part.dataset.part.startsWith("link ")) glideArrow(part, was);
+    else {
+      const [dx, dy] = [was.x - Number(part.dataset.x), was.y - Number(part.dataset.y)];
+      if (dx !== 0 || dy !== 0) part.animate([{ translate: `${dx}px ${dy}px` }, { translate: "0 0" }], EASE);
+    }
+  }
+}
+return { glide };
+})();
+
+// draw/places.js
+const $draw_places = (() => {
 const { LISTS } = $made_rows;
-const { callText, colourOf, keyText, label, said, tag, title } = $run_markup;
-const { ownerIn } = $run_sentences;
-const { isWritten, keyNumber, linkTarget, ownerOf } = $run_state;
+const { ownerIn } = $run_outcomes;
+const { isWritten, keyNumber, linkTarget } = $run_state;
 const { NODE_REGISTERS } = $run_trace;
 const WIDE = { node: 94, gap: 48, least: 420, scale: 0.8 };
 const COMPACT = { node: 76, gap: 32, least: 340, scale: 0.65 };
@@ -2817,11 +2829,9 @@ const NARROW = 480; // pixels
 const shapeFor = (room) => (room < NARROW ? COMPACT : WIDE);
 
 const NODE_HEIGHT = 54;
-const LINK_WIDTH = 24;
 const LEAST_GAP = 12; // between nodes that are not in the chain
 const FOLD_WIDTH = 84;
 const TOP = 58;
-const LOCK_HEIGHT = 31; // of what stands above a node
 const MOST_UNFOLDED = 14; // a longer chain is folded
 const MOST_ASIDE = 10; // nodes drawn that are not in the chain
 const MOST_POINTING = 6; // threads whose registers are drawn
@@ -2899,6 +2909,146 @@ function placeAside(state, chain, shown, places, y) {
   return taken.length === 0 ? 0 : Math.max(...taken) + width + 16;
 }
 
+function roomsUnder(state, items, shown, shape) {
+  const risen = new Set(shown.map((name) => linkTarget(state.nodes[name].link)));
+  const rooms = {};
+  items.forEach(({ name }, index) => {
+    const next = items[index + 1];
+    const isCrossed = next !== undefined && (next.folded ?? [next.name]).some((other) => risen.has(other));
+    rooms[name] = shape.node + (isCrossed ? 0 : shape.gap - 6);
+  });
+  return rooms;
+}
+
+function labelTexts(thread, registers, room) {
+  const texts = [];
+  for (const register of registers) {
+    const joined = `${texts[texts.length - 1]}, ${register}`;
+    if (texts.length > 0 && joined.length * SIGN_WIDTH <= room) texts[texts.length - 1] = joined;
+    else texts.push(`▲ t${thread} ${register}`);
+  }
+  return texts;
+}
+
+function pointerLabels(pointers, places, rooms) {
+  const labels = [];
+  const add = (thread, name, text) => {
+    const { x, y } = places[name];
+    const own = { thread, name, text, row: y, left: x, right: x + SIGN_WIDTH * text.length + 8, lane: 0 };
+    const isBeside = (other) => other.left >= own.right || own.left >= other.right;
+    const isInTheWay = (other) => other.row === own.row && other.lane === own.lane && !isBeside(other);
+    while (labels.some(isInTheWay)) own.lane++;
+    labels.push(own);
+  };
+  for (const { thread, at } of pointers) {
+    for (const name in at) {
+      if (!places[name] || places[name].folded) continue;
+      for (const text of labelTexts(thread, at[name], rooms[name] ?? places[name].width)) add(thread, name, text);
+    }
+  }
+  return labels;
+}
+
+function arranged(state, event, shape = WIDE) {
+  const chain = state.chain();
+  const pointers = pointersOf(state, event);
+  const important = importantNodes(state, event, pointers);
+  const items = foldedChain(chain, important);
+  const { places, width } = placesOfChain(items, shape);
+  const { shown, more } = nodesAside(state, chain, important);
+  const rooms = roomsUnder(state, items, shown, shape);
+  const lanesUnder = (labels, row) => Math.max(0, ...labels.filter((own) => own.row === row).map((own) => own.lane + 1));
+  const below = TOP + NODE_HEIGHT + 18 * lanesUnder(pointerLabels(pointers, places, rooms), TOP) + 62;
+  const right = placeAside(state, chain, shown, places, below);
+  const labels = pointerLabels(pointers, places, rooms);
+  const bottom = shown.length > 0 ? below : TOP;
+  const names = [...items.filter((item) => item.name).map((item) => item.name), ...shown];
+  const height = bottom + NODE_HEIGHT + 18 * lanesUnder(labels, bottom) + 14;
+  const wide = Math.max(width, right, shape.least, ...labels.map((own) => own.right));
+  return { chain, items, places, labels, names, more, width: wide, height };
+}
+return { shapeFor, NODE_HEIGHT, LEAST_GAP, FOLD_WIDTH, TOP, SIGN_WIDTH, isPointing, arranged };
+})();
+
+// draw/arrows.js
+const $draw_arrows = (() => {
+const { said, tag, title } = $run_markup;
+const { linkTarget } = $run_state;
+const { FOLD_WIDTH, LEAST_GAP, NODE_HEIGHT, TOP } = $draw_places;
+const LINK_WIDTH = 24;
+
+function drawLink(state, name, places, event) {
+  const { link, reached } = state.nodes[name];
+  const target = linkTarget(link);
+  const from = places[name];
+  const to = places[target];
+  if (!to || from.folded || name === "tail" || (target === "head" && !reached)) return "";
+  const kind = event?.word === `${name}.link` ? "hot" : from.aside ? "out" : "in";
+  const isMarked = link.endsWith("*");
+  const x = from.x + from.width - (isMarked ? 1 : LINK_WIDTH / 2);
+  const y = from.y + NODE_HEIGHT / 2;
+  return tag(
+    "g",
+    { class: `link ${kind}${from.aside ? " aside" : ""}`, "data-part": `link ${name}`, "data-to": target },
+    title(`${name}.link: ${said(link)}`),
+    isMarked ? "" : tag("circle", { cx: x, cy: y, r: 4 }),
+    tag("path", { d: pathOf(from, to, x, y), "marker-end": `url(#tip-${kind})` }),
+  );
+}
+
+function pathOf(from, to, x1, y1) {
+  if (from === to) return pathAround(from, x1, y1);
+  if (from.aside && !to.aside) return pathUp(from, to, x1, y1);
+  const isNext = to.x > from.x && to.x - from.x < 2 * (from.width + LEAST_GAP);
+  if (from.aside && !isNext) return pathOver(from, to, x1, y1);
+  return `M${x1} ${y1} L${to.x - 3} ${to.y + NODE_HEIGHT / 2}`;
+}
+
+function bent(start, ...turns) {
+  const at = [...start];
+  const corners = turns.map((turn, index) => {
+    at[index % 2] = turn;
+    return ` L${at[0]} ${at[1]}`;
+  });
+  return `M${start[0]} ${start[1]}${corners.join("")}`;
+}
+
+const pathAround = (from, x1, y1) => bent([x1, y1], from.x + from.width + 10, from.y - 12, from.x + from.width - 12, from.y - 3);
+
+function pathUp(from, to, x1, y1) {
+  const beside = from.x + from.width + 8;
+  const under = from.y - 34 - 6 * from.lane;
+  const gap = to.x - (2 * to.gap) / 3 + ((7 * to.gap) / 48) * from.lane;
+  const y2 = to.y + NODE_HEIGHT - (to.folded ? 14 : 7) - 6 * from.lane;
+  return bent([x1, y1], beside, under, gap, y2, to.x - 3);
+}
+
+function pathOver(from, to, x1, y1) {
+  return bent([x1, y1], from.x + from.width + 8, from.y - 34 - 6 * from.lane, to.x + to.width - 46, to.y - 3);
+}
+
+const ARROW = { viewBox: "0 0 10 10", refX: 9, refY: 5, markerWidth: 11, markerHeight: 11, markerUnits: "userSpaceOnUse" };
+const drawTip = (kind) =>
+  tag("marker", { id: `tip-${kind}`, class: `tip ${kind}`, ...ARROW, orient: "auto" }, tag("path", { d: "M0 0 L10 5 L0 10 z" }));
+
+function drawFoldLink(item, next) {
+  const y = TOP + NODE_HEIGHT / 2;
+  const path = { d: `M${item.x + FOLD_WIDTH} ${y} L${next.x - 3} ${y}`, "marker-end": "url(#tip-in)" };
+  return tag("g", { class: "link in" }, tag("path", path));
+}
+return { LINK_WIDTH, drawLink, drawTip, drawFoldLink };
+})();
+
+// draw/list.js
+const $draw_list = (() => {
+const { LISTS } = $made_rows;
+const { callText, colourOf, keyText, label, said, tag, title } = $run_markup;
+const { ownerOf } = $run_state;
+const { NODE_REGISTERS } = $run_trace;
+const { drawFoldLink, drawLink, drawTip, LINK_WIDTH } = $draw_arrows;
+const { arranged, FOLD_WIDTH, isPointing, NODE_HEIGHT, shapeFor, TOP } = $draw_places;
+const LOCK_HEIGHT = 31; // of what stands above a node
+
 function kindOf(state, name, place) {
   if (!state.nodes[name].reached) return `own ${colourOf(ownerOf(state.trace, name))}`;
   return place.aside ? "out" : "in";
@@ -2969,96 +3119,6 @@ function drawFold(item) {
   );
 }
 
-function drawLink(state, name, places, event) {
-  const { link, reached } = state.nodes[name];
-  const target = linkTarget(link);
-  const from = places[name];
-  const to = places[target];
-  if (!to || from.folded || name === "tail" || (target === "head" && !reached)) return "";
-  const kind = event?.word === `${name}.link` ? "hot" : from.aside ? "out" : "in";
-  const isMarked = link.endsWith("*");
-  const x = from.x + from.width - (isMarked ? 1 : LINK_WIDTH / 2);
-  const y = from.y + NODE_HEIGHT / 2;
-  return tag(
-    "g",
-    { class: `link ${kind}${from.aside ? " aside" : ""}`, "data-part": `link ${name}`, "data-to": target },
-    title(`${name}.link: ${said(link)}`),
-    isMarked ? "" : tag("circle", { cx: x, cy: y, r: 4 }),
-    tag("path", { d: pathOf(from, to, x, y), "marker-end": `url(#tip-${kind})` }),
-  );
-}
-
-function pathOf(from, to, x1, y1) {
-  if (from === to) return pathAround(from, x1, y1);
-  if (from.aside && !to.aside) return pathUp(from, to, x1, y1);
-  const isNext = to.x > from.x && to.x - from.x < 2 * (from.width + LEAST_GAP);
-  if (from.aside && !isNext) return pathOver(from, to, x1, y1);
-  return `M${x1} ${y1} L${to.x - 3} ${to.y + NODE_HEIGHT / 2}`;
-}
-
-function bent(start, ...turns) {
-  const at = [...start];
-  const corners = turns.map((turn, index) => {
-    at[index % 2] = turn;
-    return ` L${at[0]} ${at[1]}`;
-  });
-  return `M${start[0]} ${start[1]}${corners.join("")}`;
-}
-
-const pathAround = (from, x1, y1) => bent([x1, y1], from.x + from.width + 10, from.y - 12, from.x + from.width - 12, from.y - 3);
-
-function pathUp(from, to, x1, y1) {
-  const beside = from.x + from.width + 8;
-  const under = from.y - 34 - 6 * from.lane;
-  const gap = to.x - (2 * to.gap) / 3 + ((7 * to.gap) / 48) * from.lane;
-  const y2 = to.y + NODE_HEIGHT - (to.folded ? 14 : 7) - 6 * from.lane;
-  return bent([x1, y1], beside, under, gap, y2, to.x - 3);
-}
-
-function pathOver(from, to, x1, y1) {
-  return bent([x1, y1], from.x + from.width + 8, from.y - 34 - 6 * from.lane, to.x + to.width - 46, to.y - 3);
-}
-
-function roomsUnder(state, items, shown, shape) {
-  const risen = new Set(shown.map((name) => linkTarget(state.nodes[name].link)));
-  const rooms = {};
-  items.forEach(({ name }, index) => {
-    const next = items[index + 1];
-    const isCrossed = next !== undefined && (next.folded ?? [next.name]).some((other) => risen.has(other));
-    rooms[name] = shape.node + (isCrossed ? 0 : shape.gap - 6);
-  });
-  return rooms;
-}
-
-function labelTexts(thread, registers, room) {
-  const texts = [];
-  for (const register of registers) {
-    const joined = `${texts[texts.length - 1]}, ${register}`;
-    if (texts.length > 0 && joined.length * SIGN_WIDTH <= room) texts[texts.length - 1] = joined;
-    else texts.push(`▲ t${thread} ${register}`);
-  }
-  return texts;
-}
-
-function pointerLabels(pointers, places, rooms) {
-  const labels = [];
-  const add = (thread, name, text) => {
-    const { x, y } = places[name];
-    const own = { thread, name, text, row: y, left: x, right: x + SIGN_WIDTH * text.length + 8, lane: 0 };
-    const isBeside = (other) => other.left >= own.right || own.left >= other.right;
-    const isInTheWay = (other) => other.row === own.row && other.lane === own.lane && !isBeside(other);
-    while (labels.some(isInTheWay)) own.lane++;
-    labels.push(own);
-  };
-  for (const { thread, at } of pointers) {
-    for (const name in at) {
-      if (!places[name] || places[name].folded) continue;
-      for (const text of labelTexts(thread, at[name], rooms[name] ?? places[name].width)) add(thread, name, text);
-    }
-  }
-  return labels;
-}
-
 function drawPointer({ thread, name, text, left, lane }, places) {
   const y = places[name].y + NODE_HEIGHT + 21 + 18 * lane;
   const named = { class: "pointer-of", "data-part": `sign ${text.split(",")[0]}`, "data-x": left, "data-y": y };
@@ -3070,10 +3130,6 @@ function drawListLock(state) {
   const lock = state.lock === "free" ? label({ x: 110, y: 20 }, "free") : drawLock(state.lock, 110, -2);
   return label({ class: "name", x: 16, y: 20 }, "the list's lock") + lock;
 }
-
-const ARROW = { viewBox: "0 0 10 10", refX: 9, refY: 5, markerWidth: 11, markerHeight: 11, markerUnits: "userSpaceOnUse" };
-const drawTip = (kind) =>
-  tag("marker", { id: `tip-${kind}`, class: `tip ${kind}`, ...ARROW, orient: "auto" }, tag("path", { d: "M0 0 L10 5 L0 10 z" }));
 const HATCH = { id: "hatch", width: 7, height: 7, patternUnits: "userSpaceOnUse", patternTransform: "rotate(45)" };
 const DEFINITIONS = tag(
   "defs",
@@ -3086,25 +3142,6 @@ const DEFINITIONS = tag(
   ),
   ...["in", "out", "hot"].map(drawTip),
 );
-
-function arranged(state, event, shape = WIDE) {
-  const chain = state.chain();
-  const pointers = pointersOf(state, event);
-  const important = importantNodes(state, event, pointers);
-  const items = foldedChain(chain, important);
-  const { places, width } = placesOfChain(items, shape);
-  const { shown, more } = nodesAside(state, chain, important);
-  const rooms = roomsUnder(state, items, shown, shape);
-  const lanesUnder = (labels, row) => Math.max(0, ...labels.filter((own) => own.row === row).map((own) => own.lane + 1));
-  const below = TOP + NODE_HEIGHT + 18 * lanesUnder(pointerLabels(pointers, places, rooms), TOP) + 62;
-  const right = placeAside(state, chain, shown, places, below);
-  const labels = pointerLabels(pointers, places, rooms);
-  const bottom = shown.length > 0 ? below : TOP;
-  const names = [...items.filter((item) => item.name).map((item) => item.name), ...shown];
-  const height = bottom + NODE_HEIGHT + 18 * lanesUnder(labels, bottom) + 14;
-  const wide = Math.max(width, right, shape.least, ...labels.map((own) => own.right));
-  return { chain, items, places, labels, names, more, width: wide, height };
-}
 
 function drawList(state, event, room, most = Infinity, least = { width: 0, height: 0 }, own = "") {
   const shape = shapeFor(room);
@@ -3130,12 +3167,6 @@ function drawList(state, event, room, most = Infinity, least = { width: 0, heigh
   return named + (more > 0 ? tag("p", { class: "note" }, `and ${more} more nodes that are not in the chain`) : "");
 }
 
-function drawFoldLink(item, next) {
-  const y = TOP + NODE_HEIGHT / 2;
-  const path = { d: `M${item.x + FOLD_WIDTH} ${y} L${next.x - 3} ${y}`, "marker-end": "url(#tip-in)" };
-  return tag("g", { class: "link in" }, tag("path", path));
-}
-
 function listInWords(chain, state) {
   const inside = chain.filter((name) => name !== "head" && name !== "tail").map((name) => state.nodes[name]);
   const keys = inside.map((node) => keyText(node.key) + (node.link.endsWith("*") ? " marked" : ""));
@@ -3155,7 +3186,7 @@ function threadInWords(state, held, thread, locks) {
   const has = own === undefined ? "" : `; t${thread} has ${own.join(" and ")}`;
   return `t${thread} ${callText(held.call)} at row ${held.pc}${at === "" ? "" : `: ${at}`}${has}`;
 }
-return { shapeFor, LOCK_HEIGHT, SIGN_WIDTH, arranged, drawList };
+return { LOCK_HEIGHT, drawList };
 })();
 
 // made/code.js
@@ -4069,10 +4100,12 @@ return { PHONE, isAtMap, isAtWork, goToPlace, showParts, services, setProgress, 
 // page/view.js
 const $page_view = (() => {
 const { LISTS } = $made_rows;
+const { drawContents, drawOrder } = $draw_contents;
 const { glide } = $draw_glide;
-const { drawCalls, drawContents, drawOrder, heightOfCalls, scaleOf } = $draw_history;
-const { arranged, drawList, shapeFor } = $draw_list;
+const { drawCalls, heightOfCalls, scaleOf } = $draw_history;
+const { drawList } = $draw_list;
 const { drawListing } = $draw_listing;
+const { arranged, shapeFor } = $draw_places;
 const { forgetRoom, keptHeight, roomOf } = $draw_room;
 const { drawTable } = $draw_table;
 const { drawThreads, MOST_ROWS } = $draw_threads;
@@ -4345,8 +4378,9 @@ const { LISTS } = $made_rows;
 const { readCheck, readReport, readShow } = $engine_answers;
 const { nameOfCall } = $run_judged;
 const { escaped } = $run_markup;
+const { isFailed, isLock } = $run_outcomes;
 const { scheduleOfTrace, titleOf } = $run_schedule_text;
-const { isFailed, isLock, momentAt, sentenceOf } = $run_sentences;
+const { momentAt, sentenceOf } = $run_sentences;
 const { State } = $run_state;
 const { eventsInCommon, isTrace, Trace } = $run_trace;
 const LACKING_THREADS = 2;
@@ -6217,6 +6251,80 @@ function showTaskOfBreak() {
 return { ORDER, numberOf, addressOfLevel, wordOf, whyWrong, titleOfLevel, drawBreakMap, fillBreaks, openLevel, showTaskOfBreak };
 })();
 
+// activities/break_win.js
+const $activities_break_win = (() => {
+const { LACKING } = $made_classics;
+const { BREAK_LEVELS } = $data_levels;
+const { byId, redraw } = $page_dom;
+const { askNow, now } = $page_now;
+const { departureOf } = $run_broken;
+const { escaped, tag } = $run_markup;
+const { keysInChain, promisedKeys } = $run_state;
+const { addressOfLevel, ORDER, wordOf } = $activities_break_map;
+const { brokenLines, isNamed } = $activities_broken_kept;
+const level = { lacks: null, hints: 0, wrong: new Set() };
+
+function drawDeparture(isBroken) {
+  const { trace } = now.run;
+  if (departed.trace !== trace) Object.assign(departed, { trace, isTold: false, found: null });
+  if (isBroken && isNamed(now.run.lacks) && !departed.isTold) Object.assign(departed, { isTold: true, found: departureOf(askNow, trace) });
+  const { found } = departed;
+  byId("break-departs").hidden = found === null;
+  if (found === null) return;
+  byId("break-event").textContent = `event ${found.event}`;
+  byId("break-event").dataset.event = found.event;
+  byId("break-here").innerHTML = found.here;
+  byId("break-whole").innerHTML = found.whole;
+}
+
+const departed = { trace: null, isTold: false, found: null }; // of the run that is shown
+
+function drawWin(trace, why) {
+  const { lacks, total, calls } = trace;
+  const { shortest } = BREAK_LEVELS[lacks];
+  byId("break-reason").textContent = why;
+  drawContradiction(trace);
+  const own = `${total} events, ${calls.length} ${calls.length === 1 ? "call" : "calls"}`;
+  const isShorter = shortest !== null && total < shortest[0];
+  const best = shortest === null ? "" : isShorter ? `That is shorter than the shortest one known, of ${shortest[0]} events.` : `The shortest one known has ${shortest[0]} events.`;
+  byId("break-count").innerHTML = `You did it with <b>${own}</b>. ${best}`;
+  const next = ORDER[ORDER.indexOf(lacks) + 1];
+  byId("break-next").hidden = next === undefined;
+  if (next !== undefined) byId("break-next").href = addressOfLevel(next);
+  byId("break-next").classList.toggle("primary", isNamed(lacks));
+  drawAsk(lacks);
+}
+
+function drawContradiction(trace) {
+  const promised = promisedKeys(trace);
+  const { state, count } = now.run;
+  state.moveTo(trace.total);
+  const has = keysInChain(state);
+  state.moveTo(count);
+  const setOf = (keys, others) => `{${keys.map((key) => (others.includes(key) ? key : tag("b", {}, key))).join(", ")}}`;
+  byId("break-promised").innerHTML = setOf(promised, has);
+  byId("break-has").innerHTML = setOf(has, promised);
+}
+
+function drawAsk(name) {
+  const kin = ORDER.filter((other) => LACKING[other] === LACKING[name]);
+  const words = [...new Set([...kin.map(wordOf), ...Object.keys(BREAK_LEVELS[name].others ?? {})])].sort();
+  const isTold = isNamed(name);
+  const button = (word) => {
+    const kind = isTold ? "right" : level.wrong.has(word) ? "wrong" : "";
+    const unable = kind === "" ? {} : { "aria-disabled": "true" };
+    return tag("button", { "data-word": word, class: kind, ...unable }, escaped(word));
+  };
+  redraw(byId("break-options"), words.filter((word) => !isTold || word === wordOf(name)).map(button).join(""));
+  const line = Object.fromEntries(brokenLines())[name];
+  const isKept = isTold && line !== undefined;
+  byId("break-line").innerHTML = isKept ? `Kept; you hand it in with the lessons: <code>${escaped(line)}</code>` : "";
+  if (isTold) byId("break-told").textContent = "Right. That check is missing.";
+  else if (level.wrong.size === 0) byId("break-told").textContent = "";
+}
+return { level, drawDeparture, drawWin };
+})();
+
 // run/recorded.js
 const $run_recorded = (() => {
 const { callsOfRecording, leavesKey, readJudge } = $engine_answers;
@@ -6648,9 +6756,9 @@ return { JUDGED, judging, drawJudging, beginJudging, listenToJudging };
 
 // activities/break_level.js
 const $activities_break_level = (() => {
-const { CLASSICS, LACKING } = $made_classics;
+const { CLASSICS } = $made_classics;
 const { BREAK_LEVELS, GRADES } = $data_levels;
-const { byId, redraw, setAble, setHidden } = $page_dom;
+const { byId, setAble, setHidden } = $page_dom;
 const { exampleText } = $page_example;
 const { askNow, change, goTo, now, show, tellLine } = $page_now;
 const { goByHand } = $page_play;
@@ -6659,13 +6767,12 @@ const { addressOf } = $run_address;
 const { departureOf, isTaskDone, NO_TASK, verdictOnLacking } = $run_broken;
 const { escaped, tag } = $run_markup;
 const { scheduleOfTrace, versionOf } = $run_schedule_text;
-const { keysInChain, promisedKeys } = $run_state;
 const { isTrace, Trace } = $run_trace;
-const { addressOfLevel, fillBreaks, numberOf, openLevel, ORDER, titleOfLevel, whyWrong, wordOf } = $activities_break_map;
+const { fillBreaks, numberOf, openLevel, titleOfLevel, whyWrong, wordOf } = $activities_break_map;
+const { drawDeparture, drawWin, level } = $activities_break_win;
 const { brokenLines, isNamed, isShownBreak, keepBrokenLine, keepNamed, noteShown } = $activities_broken_kept;
 const { beginJudging } = $activities_judging;
 const MOST_BROKEN = 1000; // events of a run that is judged
-const level = { lacks: null, hints: 0, wrong: new Set() };
 
 function judgeBreaking(trace) {
   if (trace.lacks === null || now.task.kind === "lesson") return;
@@ -6694,21 +6801,6 @@ function keepBroken(trace) {
   keepBrokenLine(trace.lacks, `break ${trace.lacks} ${address}`);
   fillBreaks();
 }
-
-function drawDeparture(isBroken) {
-  const { trace } = now.run;
-  if (departed.trace !== trace) Object.assign(departed, { trace, isTold: false, found: null });
-  if (isBroken && isNamed(now.run.lacks) && !departed.isTold) Object.assign(departed, { isTold: true, found: departureOf(askNow, trace) });
-  const { found } = departed;
-  byId("break-departs").hidden = found === null;
-  if (found === null) return;
-  byId("break-event").textContent = `event ${found.event}`;
-  byId("break-event").dataset.event = found.event;
-  byId("break-here").innerHTML = found.here;
-  byId("break-whole").innerHTML = found.whole;
-}
-
-const departed = { trace: null, isTold: false, found: null }; // of the run that is shown
 
 
 const TO_DO = "· Run the threads until no order of the calls explains their replies.";
@@ -6770,50 +6862,6 @@ function drawHints(name, isWon) {
   if (byId("break-hints").children.length !== items.length) byId("break-hints").innerHTML = items.join("");
 }
 
-function drawWin(trace, why) {
-  const { lacks, total, calls } = trace;
-  const { shortest } = BREAK_LEVELS[lacks];
-  byId("break-reason").textContent = why;
-  drawContradiction(trace);
-  const own = `${total} events, ${calls.length} ${calls.length === 1 ? "call" : "calls"}`;
-  const isShorter = shortest !== null && total < shortest[0];
-  const best = shortest === null ? "" : isShorter ? `That is shorter than the shortest one known, of ${shortest[0]} events.` : `The shortest one known has ${shortest[0]} events.`;
-  byId("break-count").innerHTML = `You did it with <b>${own}</b>. ${best}`;
-  const next = ORDER[ORDER.indexOf(lacks) + 1];
-  byId("break-next").hidden = next === undefined;
-  if (next !== undefined) byId("break-next").href = addressOfLevel(next);
-  byId("break-next").classList.toggle("primary", isNamed(lacks));
-  drawAsk(lacks);
-}
-
-function drawContradiction(trace) {
-  const promised = promisedKeys(trace);
-  const { state, count } = now.run;
-  state.moveTo(trace.total);
-  const has = keysInChain(state);
-  state.moveTo(count);
-  const setOf = (keys, others) => `{${keys.map((key) => (others.includes(key) ? key : tag("b", {}, key))).join(", ")}}`;
-  byId("break-promised").innerHTML = setOf(promised, has);
-  byId("break-has").innerHTML = setOf(has, promised);
-}
-
-function drawAsk(name) {
-  const kin = ORDER.filter((other) => LACKING[other] === LACKING[name]);
-  const words = [...new Set([...kin.map(wordOf), ...Object.keys(BREAK_LEVELS[name].others ?? {})])].sort();
-  const isTold = isNamed(name);
-  const button = (word) => {
-    const kind = isTold ? "right" : level.wrong.has(word) ? "wrong" : "";
-    const unable = kind === "" ? {} : { "aria-disabled": "true" };
-    return tag("button", { "data-word": word, class: kind, ...unable }, escaped(word));
-  };
-  redraw(byId("break-options"), words.filter((word) => !isTold || word === wordOf(name)).map(button).join(""));
-  const line = Object.fromEntries(brokenLines())[name];
-  const isKept = isTold && line !== undefined;
-  byId("break-line").innerHTML = isKept ? `Kept; you hand it in with the lessons: <code>${escaped(line)}</code>` : "";
-  if (isTold) byId("break-told").textContent = "Right. That check is missing.";
-  else if (level.wrong.size === 0) byId("break-told").textContent = "";
-}
-
 function answerAsk(word) {
   const name = now.run.lacks;
   if (word === wordOf(name)) keepNamed(name);
@@ -6856,8 +6904,8 @@ const { readFault } = $engine_answers;
 const { askList } = $run_broken;
 const { MOST_TRIED, scheduleOfDraft } = $run_draft;
 const { callText, chipOf, escaped } = $run_markup;
+const { isFailed, isLock, mono } = $run_outcomes;
 const { scheduleAndLine } = $run_schedule_text;
-const { isFailed, isLock, mono } = $run_sentences;
 const { isTrace, Trace } = $run_trace;
 const { askNow, now, tell } = $page_now;
 const { goOn } = $page_work;
@@ -7379,7 +7427,8 @@ return { ProgramFault, readProgram, programText, Sides };
 // activities/compare.js
 const $activities_compare = (() => {
 const { LISTS } = $made_rows;
-const { drawCalls, drawContents, scaleOf } = $draw_history;
+const { drawContents } = $draw_contents;
+const { drawCalls, scaleOf } = $draw_history;
 const { drawList, LOCK_HEIGHT } = $draw_list;
 const { LEAST } = $draw_room;
 const { byId, redraw } = $page_dom;
@@ -7570,16 +7619,10 @@ async function courseOfAddress(letters) {
 return { courseAddress, courseOfAddress };
 })();
 
-// run/check_trace.js
-const $run_check_trace = (() => {
-const { LACKING } = $made_classics;
-const { LISTS } = $made_rows;
-const { CALL_WORDS, firstOpeningNode, HEADER_LINES, KEY_REGISTERS, MOST_NUMBER, NODE_REGISTERS } = $run_trace;
-const MOST_THREADS = 64;
-const MOST_QUOTA = 16384;
-const MOST_OPENING = 1048576;
+// run/trace_pieces.js
+const $run_trace_pieces = (() => {
+const { firstOpeningNode, KEY_REGISTERS, MOST_NUMBER, NODE_REGISTERS } = $run_trace;
 const REPLY_WORDS = ["true", "false", "full", "nothing"]; // and at-X of a key X
-const REFUSALS = ["NoThread", "Busy", "Idle", "Lost"];
 
 class TraceFault extends Error {
   constructor(line, wanted) {
@@ -7689,6 +7732,19 @@ function takeChanges(pieces, trace) {
   if (pieces.isNext("used")) pieces.number(0, trace.quota, "count of slots");
   if (pieces.isNext("reply") && !pieces.isNext("none")) takeReply(pieces);
 }
+return { TraceFault, Pieces, isKey, takeWord, takeValue, takeReply, takeChanges };
+})();
+
+// run/check_trace.js
+const $run_check_trace = (() => {
+const { LACKING } = $made_classics;
+const { LISTS } = $made_rows;
+const { CALL_WORDS, HEADER_LINES, MOST_NUMBER } = $run_trace;
+const { isKey, Pieces, takeChanges, takeReply, takeValue, takeWord, TraceFault } = $run_trace_pieces;
+const MOST_THREADS = 64;
+const MOST_QUOTA = 16384;
+const MOST_OPENING = 1048576;
+const REFUSALS = ["NoThread", "Busy", "Idle", "Lost"];
 
 function takeBegin(pieces, number, thread, trace) {
   if (trace.open[thread] !== null) pieces.fail(`thread ${thread} begins a call and has one open`);
@@ -9513,5 +9569,5 @@ if (typeof document !== "undefined") startPage(); // in node there is none
 return {  };
 })();
 
-return Object.assign({}, $made_classics, $data_levels, $page_dom, $made_traces, $engine_answers, $run_trace, $run_faults, $run_markup, $run_judged, $run_schedule_text, $made_rows, $run_state, $run_sentences, $page_state, $page_now, $draw_glide, $draw_labels, $draw_history, $draw_list, $made_code, $draw_listing, $draw_room, $draw_table, $draw_threads, $page_seen, $page_places, $page_view, $page_example, $page_play, $run_broken, $run_draft, $run_moments, $course_goal_words, $course_course_text, $course_lesson, $made_book, $page_kept, $engine_engine, $engine_worker, $page_long_run, $page_run_text, $page_work, $run_address, $page_menu, $activities_broken_kept, $activities_break_map, $run_recorded, $draw_judged, $activities_judging, $activities_break_level, $page_steps, $page_moves, $page_keys, $run_seed, $page_address_of, $page_visit, $run_sides, $activities_compare, $course_course_link, $run_check_trace, $page_files, $activities_kept_lessons, $activities_learning, $activities_learn_map, $activities_courses, $course_hand_in, $activities_lessons, $activities_recorded, $data_book_code, $activities_watch, $activities_judge_map, $activities_read, $activities_open, $draw_code_column, $page_save_picture, $page_controls, $activities_place);
+return Object.assign({}, $made_classics, $data_levels, $page_dom, $made_traces, $engine_answers, $run_trace, $run_faults, $run_markup, $run_judged, $run_schedule_text, $made_rows, $run_state, $run_outcomes, $run_sentences, $page_state, $page_now, $draw_labels, $draw_history, $draw_contents, $draw_glide, $draw_places, $draw_arrows, $draw_list, $made_code, $draw_listing, $draw_room, $draw_table, $draw_threads, $page_seen, $page_places, $page_view, $page_example, $page_play, $run_broken, $run_draft, $run_moments, $course_goal_words, $course_course_text, $course_lesson, $made_book, $page_kept, $engine_engine, $engine_worker, $page_long_run, $page_run_text, $page_work, $run_address, $page_menu, $activities_broken_kept, $activities_break_map, $activities_break_win, $run_recorded, $draw_judged, $activities_judging, $activities_break_level, $page_steps, $page_moves, $page_keys, $run_seed, $page_address_of, $page_visit, $run_sides, $activities_compare, $course_course_link, $run_trace_pieces, $run_check_trace, $page_files, $activities_kept_lessons, $activities_learning, $activities_learn_map, $activities_courses, $course_hand_in, $activities_lessons, $activities_recorded, $data_book_code, $activities_watch, $activities_judge_map, $activities_read, $activities_open, $draw_code_column, $page_save_picture, $page_controls, $activities_place);
 })();

@@ -1,8 +1,8 @@
 // Break, a level: a story and three hints, the verdict on the schedule, and once the list is broken the question what it lacks. Only
 // when that is answered the page says where the whole list does something else. A break that was shown, and not found, does not count.
-import { CLASSICS, LACKING } from "../../made/classics.js";
+import { CLASSICS } from "../../made/classics.js";
 import { BREAK_LEVELS, GRADES } from "../data/levels.js";
-import { byId, redraw, setAble, setHidden } from "../page/dom.js";
+import { byId, setAble, setHidden } from "../page/dom.js";
 import { exampleText } from "../page/example.js";
 import { askNow, change, goTo, now, show, tellLine } from "../page/now.js";
 import { goByHand } from "../page/play.js";
@@ -11,14 +11,13 @@ import { addressOf } from "../run/address.js";
 import { departureOf, isTaskDone, NO_TASK, verdictOnLacking } from "../run/broken.js";
 import { escaped, tag } from "../run/markup.js";
 import { scheduleOfTrace, versionOf } from "../run/schedule_text.js";
-import { keysInChain, promisedKeys } from "../run/state.js";
 import { isTrace, Trace } from "../run/trace.js";
-import { addressOfLevel, fillBreaks, numberOf, openLevel, ORDER, titleOfLevel, whyWrong, wordOf } from "./break_map.js";
+import { fillBreaks, numberOf, openLevel, titleOfLevel, whyWrong, wordOf } from "./break_map.js";
+import { drawDeparture, drawWin, level } from "./break_win.js";
 import { brokenLines, isNamed, isShownBreak, keepBrokenLine, keepNamed, noteShown } from "./broken_kept.js";
 import { beginJudging } from "./judging.js";
 
 const MOST_BROKEN = 1000; // events of a run that is judged
-const level = { lacks: null, hints: 0, wrong: new Set() };
 
 // Judges the run of a broken list that is going to be shown, and keeps it where it breaks the list.
 export function judgeBreaking(trace) {
@@ -48,22 +47,6 @@ function keepBroken(trace) {
   keepBrokenLine(trace.lacks, `break ${trace.lacks} ${address}`);
   fillBreaks();
 }
-
-// What the list lacks is told by the comparison of its run with that of the whole list, once it is broken and named.
-function drawDeparture(isBroken) {
-  const { trace } = now.run;
-  if (departed.trace !== trace) Object.assign(departed, { trace, isTold: false, found: null });
-  if (isBroken && isNamed(now.run.lacks) && !departed.isTold) Object.assign(departed, { isTold: true, found: departureOf(askNow, trace) });
-  const { found } = departed;
-  byId("break-departs").hidden = found === null;
-  if (found === null) return;
-  byId("break-event").textContent = `event ${found.event}`;
-  byId("break-event").dataset.event = found.event;
-  byId("break-here").innerHTML = found.here;
-  byId("break-whole").innerHTML = found.whole;
-}
-
-const departed = { trace: null, isTold: false, found: null }; // of the run that is shown
 
 // ---- the state of a level
 
@@ -127,52 +110,6 @@ function drawHints(name, isWon) {
   setAble("break-hint", isLeft);
   const items = hints.slice(0, level.hints).map((hint) => tag("li", {}, escaped(hint)));
   if (byId("break-hints").children.length !== items.length) byId("break-hints").innerHTML = items.join("");
-}
-
-function drawWin(trace, why) {
-  const { lacks, total, calls } = trace;
-  const { shortest } = BREAK_LEVELS[lacks];
-  byId("break-reason").textContent = why;
-  drawContradiction(trace);
-  const own = `${total} events, ${calls.length} ${calls.length === 1 ? "call" : "calls"}`;
-  const isShorter = shortest !== null && total < shortest[0];
-  const best = shortest === null ? "" : isShorter ? `That is shorter than the shortest one known, of ${shortest[0]} events.` : `The shortest one known has ${shortest[0]} events.`;
-  byId("break-count").innerHTML = `You did it with <b>${own}</b>. ${best}`;
-  const next = ORDER[ORDER.indexOf(lacks) + 1];
-  byId("break-next").hidden = next === undefined;
-  if (next !== undefined) byId("break-next").href = addressOfLevel(next);
-  byId("break-next").classList.toggle("primary", isNamed(lacks));
-  drawAsk(lacks);
-}
-
-// What the replies promise, and what the list has: the keys that differ are told apart.
-function drawContradiction(trace) {
-  const promised = promisedKeys(trace);
-  const { state, count } = now.run;
-  state.moveTo(trace.total);
-  const has = keysInChain(state);
-  state.moveTo(count);
-  const setOf = (keys, others) => `{${keys.map((key) => (others.includes(key) ? key : tag("b", {}, key))).join(", ")}}`;
-  byId("break-promised").innerHTML = setOf(promised, has);
-  byId("break-has").innerHTML = setOf(has, promised);
-}
-
-// What it lacks is asked, of the checks of its list.
-function drawAsk(name) {
-  const kin = ORDER.filter((other) => LACKING[other] === LACKING[name]);
-  const words = [...new Set([...kin.map(wordOf), ...Object.keys(BREAK_LEVELS[name].others ?? {})])].sort();
-  const isTold = isNamed(name);
-  const button = (word) => {
-    const kind = isTold ? "right" : level.wrong.has(word) ? "wrong" : "";
-    const unable = kind === "" ? {} : { "aria-disabled": "true" };
-    return tag("button", { "data-word": word, class: kind, ...unable }, escaped(word));
-  };
-  redraw(byId("break-options"), words.filter((word) => !isTold || word === wordOf(name)).map(button).join(""));
-  const line = Object.fromEntries(brokenLines())[name];
-  const isKept = isTold && line !== undefined;
-  byId("break-line").innerHTML = isKept ? `Kept; you hand it in with the lessons: <code>${escaped(line)}</code>` : "";
-  if (isTold) byId("break-told").textContent = "Right. That check is missing.";
-  else if (level.wrong.size === 0) byId("break-told").textContent = "";
 }
 
 function answerAsk(word) {

@@ -1,6 +1,7 @@
 // Compare: two lists side by side, under one program of calls, with some programs to begin with.
 import { LISTS } from "../../made/rows.js";
-import { drawCalls, drawContents, scaleOf } from "../draw/history.js";
+import { drawContents } from "../draw/contents.js";
+import { drawCalls, scaleOf } from "../draw/history.js";
 import { drawList, LOCK_HEIGHT } from "../draw/list.js";
 import { LEAST } from "../draw/room.js";
 import { byId, redraw } from "../page/dom.js";

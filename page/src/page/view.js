@@ -1,9 +1,11 @@
 // Draws what the page shows of a moment: the sentence, the list, the history, the tables and the marks in the text.
 import { LISTS } from "../../made/rows.js";
+import { drawContents, drawOrder } from "../draw/contents.js";
 import { glide } from "../draw/glide.js";
-import { drawCalls, drawContents, drawOrder, heightOfCalls, scaleOf } from "../draw/history.js";
-import { arranged, drawList, shapeFor } from "../draw/list.js";
+import { drawCalls, heightOfCalls, scaleOf } from "../draw/history.js";
+import { drawList } from "../draw/list.js";
 import { drawListing } from "../draw/listing.js";
+import { arranged, shapeFor } from "../draw/places.js";
 import { forgetRoom, keptHeight, roomOf } from "../draw/room.js";
 import { drawTable } from "../draw/table.js";
 import { drawThreads, MOST_ROWS } from "../draw/threads.js";

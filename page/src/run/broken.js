@@ -8,8 +8,9 @@ import { LISTS } from "../../made/rows.js";
 import { readCheck, readReport, readShow } from "../engine/answers.js";
 import { nameOfCall } from "./judged.js";
 import { escaped } from "./markup.js";
+import { isFailed, isLock } from "./outcomes.js";
 import { scheduleOfTrace, titleOf } from "./schedule_text.js";
-import { isFailed, isLock, momentAt, sentenceOf } from "./sentences.js";
+import { momentAt, sentenceOf } from "./sentences.js";
 import { State } from "./state.js";
 import { eventsInCommon, isTrace, Trace } from "./trace.js";
 
