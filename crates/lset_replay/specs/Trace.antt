@@ -130,13 +130,9 @@ trace_after moment (stepped thread change reply) s = ended_on moment thread repl
 abbrev pub no_trace : Opening → Trace
 no_trace op = record { calls = []; under_way = replicate op.threads None; places = []; changes = opened_moments op.keys }
 
--- after the first k events, if `keep` says what is kept after each
-abbrev pub kept_by : (ℕ → Entry → Trace → Trace) → Opening → Log → ℕ → Trace
-kept_by keep op log zero = no_trace op
-kept_by keep op log (suc k) = keep (suc k) (log k) (kept_by keep op log k)
-
 abbrev pub trace_at : Opening → Log → ℕ → Trace
-trace_at = kept_by trace_after
+trace_at op log zero = no_trace op
+trace_at op log (suc k) = trace_after (suc k) (log k) (trace_at op log k)
 
 -- ---- what the code keeps
 

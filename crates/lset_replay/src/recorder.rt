@@ -1,8 +1,6 @@
-ghost use Rattle.std.specs.Prelude.{◌≡◌, ◌≢◌, ◌<◌, ◌≤◌, ℕ, [], ◌∷◌, ◌++◌, length, not, IfOk, OnOk, Some, None, slice_set, IsSomeAnd};
+ghost use Rattle.std.specs.Prelude.{◌≡◌, ◌<◌, ℕ, [], ◌∷◌, ◌++◌, length, not, IfOk, OnOk, Some, None, slice_set, IsSomeAnd};
 ghost use Rattle.std.specs.List.Sorted.{IsStrictlyIncreasing};
 ghost use Rattle.lset_words.specs.Words.{IsWithin};
-ghost use Rattle.lset_words.specs.declared.Key.{Key};
-ghost use Rattle.lset_words.specs.declared.Call.TheVariants.{Ceiling};
 ghost use Rattle.lset_history.specs.History.{MayBegin, with_begun, with_ended};
 ghost use Rattle.lset_history.specs.Changes.{moments_of, IsLaterThanAll, is_present_now, with_change};
 ghost use Rattle.lset_replay.specs.Trace.{
@@ -10,7 +8,6 @@ ghost use Rattle.lset_replay.specs.Trace.{
   place_at,
   changed_at,
   settled,
-  fit,
   fit_of,
   number_at,
   begun_call,
@@ -22,7 +19,8 @@ ghost use Rattle.lset_replay.specs.Trace.{
   MayRecord,
 };
 
-use crate::places::{Linearized, OpenCall, found_in, needs_key};
+use crate::fits::fit;
+use crate::places::{Linearized, OpenCall};
 use lset_history::{Changes, History, HistoryFault};
 use lset_steps::{Event, Told};
 use lset_words::{Call, Key, Reply};
@@ -70,38 +68,6 @@ impl Recorder {
             Some(open) => open,
             None => unreachable!(),
         }
-    }
-
-    /// Returns the first moment of a pending call, up to `last`, at which this reply is correct, if the call changes
-    /// nothing; `None` if there is none.
-    pub fn fit(&self, made: OpenCall, reply: Reply, last: u32) -> Option<u32>
-        requires { made.begun ≤ last }
-        ensures { result ≡ fit (moments_of self.now.changes) made reply last }
-    {
-        match made.call {
-            Call::Ceiling(key) => {
-                self.changes
-                    .first_ceiling(key.0, found_in(reply), made.begun, last)
-            }
-            Call::Add(_) | Call::Remove(_) | Call::Contains(_) => {
-                self.fit_by_key(made, reply, last)
-            }
-        }
-    }
-
-    /// The same of a call whose reply speaks of its own key alone.
-    fn fit_by_key(&self, made: OpenCall, reply: Reply, last: u32) -> Option<u32>
-        requires span { made.begun ≤ last }
-        requires own_key { (k : Key) → made.call ≢ Ceiling k }
-        ensures { result ≡ fit (moments_of self.now.changes) made reply last }
-    {
-        let (first, _looked) = self.changes.first(
-            made.call.key().0,
-            needs_key(made.call, reply),
-            made.begun,
-            last,
-        );
-        first
     }
 
     // Few events begin, change or end anything: what follows those lies outside the loop of the many that tell nothing.
@@ -172,7 +138,7 @@ impl Recorder {
         };
         let number = open.number as usize;
         if self.places[number].is_none() {
-            self.places[number] = Linearized::read(self.fit(open, reply, moment), reply);
+            self.places[number] = Linearized::read(fit(&self.changes, open, reply, moment), reply);
         }
         self.under_way[thread as usize] = None;
     }

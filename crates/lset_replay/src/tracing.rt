@@ -3,17 +3,16 @@
 ghost use Rattle.std.specs.List.Sorted.{IsStrictlyIncreasing};
 
 use crate::events::LineEvent;
+use crate::fault::RunFault;
 use crate::moments::Moments;
+use crate::places::OpenCall;
 use crate::traced::{CallEnd, Deed, TracedEvent};
-use lset_steps::{Action, ChainKey, Event, Local, Machine, StepFault, Told, World};
-use lset_words::{Call, MOST_THREADS};
+use lset_steps::{Action, ChainKey, Event, Local, Machine, Told, World};
+use lset_words::MOST_THREADS;
 use std::alloc::{AllocError, Global};
 
 /// A world whose events can be told: that of a list, or that of a broken one.
 pub trait Steps {
-    /// Why an event is refused.
-    type Fault: Copy;
-
     /// What thread `t` holds; `None` if there is no such thread.
     fn held(&self, t: u32) -> Option<Local>;
 
@@ -21,18 +20,16 @@ pub trait Steps {
     fn ahead(&self, t: u32) -> Option<(Action, u64)>;
 
     /// Makes an event, and says what it did. A refused event changes nothing.
-    fn make(&mut self, event: Event) -> Result<Told, Self::Fault>;
+    fn make(&mut self, event: Event) -> Result<Told, RunFault>;
 
     /// The keys from the head to the tail, each with whether its node is marked. Allocates; `AllocError` if that fails.
     fn met(&self) -> Result<Vec<ChainKey>, AllocError>;
 
-    /// The fault of an event with which no history goes on: a thread changes something or replies, and has no call pending. No list has it.
-    fn lost() -> Self::Fault;
+    /// The keys of the unmarked nodes among these, in increasing order. Allocates; `AllocError` if that fails.
+    fn keys(&self) -> Result<Vec<u32>, AllocError>;
 }
 
 impl<M: Machine> Steps for World<M> {
-    type Fault = StepFault;
-
     fn held(&self, t: u32) -> Option<Local> {
         self.holds(t)
     }
@@ -41,25 +38,23 @@ impl<M: Machine> Steps for World<M> {
         self.next(t)
     }
 
-    fn make(&mut self, event: Event) -> Result<Told, StepFault> {
-        self.step(event)
+    fn make(&mut self, event: Event) -> Result<Told, RunFault> {
+        Ok(self.step(event)?)
     }
 
     fn met(&self) -> Result<Vec<ChainKey>, AllocError> {
         self.chain()
     }
 
-    fn lost() -> StepFault {
-        StepFault::Idle
+    fn keys(&self) -> Result<Vec<u32>, AllocError> {
+        self.content()
     }
 }
 
-/// A pending call: its number, when it began, and when it changed the set, if it has.
+/// A pending call, and when it changed the set, if it has.
 #[derive(Clone, Copy)]
 struct Pending {
-    number: u32,
-    call: Call,
-    begun: u32,
+    open: OpenCall,
     changed: Option<u32>,
 }
 
@@ -77,7 +72,7 @@ fn is_node_word(word: u64) -> bool {
 /// Whether an event writes the key or the link of a node; any other leaves the chain as it was.
 fn writes_node(deed: Deed) -> bool {
     match deed {
-        Deed::Begin(_, _) | Deed::Access(Action::Load(_), _) => false,
+        Deed::Begin(_) | Deed::Access(Action::Load(_), _) => false,
         Deed::Access(Action::Store(word, _), _) => is_node_word(word),
         Deed::Access(Action::Exchange(word, old, _), seen) => seen == old && is_node_word(word),
     }
@@ -116,8 +111,13 @@ impl<W: Steps + Drop> Run<W> {
         &self.world
     }
 
-    /// Makes an event, and tells what it did; or, in the inner error, why it is refused. Allocates; `AllocError` if that fails.
-    pub fn make(&mut self, next: LineEvent) -> Result<Result<TracedEvent, W::Fault>, AllocError> {
+    /// The number of the last event, counted from 1.
+    pub fn last(&self) -> u32 {
+        self.moments.last()
+    }
+
+    /// Makes an event, and tells what it did; or, in the inner error, why it cannot be made. Allocates; `AllocError` if that fails.
+    pub fn make(&mut self, next: LineEvent) -> Result<Result<TracedEvent, RunFault>, AllocError> {
         let thread = thread_of(next.event);
         let ahead = self.look(next.event);
         let told = match self.world.make(next.event) {
@@ -126,10 +126,10 @@ impl<W: Steps + Drop> Run<W> {
         };
         self.moments.go_on(told.change)?;
         let (Some((before, deed)), Some(after)) = (ahead, self.world.held(thread)) else {
-            return Ok(Err(W::lost()));
+            return Ok(Err(RunFault::Lost));
         };
-        let Some(end) = self.follow(thread, deed, told) else {
-            return Ok(Err(W::lost()));
+        let Some((call, end)) = self.follow(thread, deed, told) else {
+            return Ok(Err(RunFault::Lost));
         };
         let chain = self.changed_chain(deed)?;
         Ok(Ok(TracedEvent {
@@ -137,6 +137,7 @@ impl<W: Steps + Drop> Run<W> {
             line: next.line,
             thread,
             deed,
+            call,
             before,
             after,
             change: told.change,
@@ -148,7 +149,7 @@ impl<W: Steps + Drop> Run<W> {
     /// What a thread holds before an event, and what the event will do, if it can be made.
     fn look(&self, event: Event) -> Option<(Local, Deed)> {
         let deed = match event {
-            Event::Begin(_, call) => Deed::Begin(call, self.calls),
+            Event::Begin(_, call) => Deed::Begin(call),
             Event::Go(thread) => {
                 let (action, seen) = self.world.ahead(thread)?;
                 Deed::Access(action, seen)
@@ -157,44 +158,45 @@ impl<W: Steps + Drop> Run<W> {
         Some((self.world.held(thread_of(event))?, deed))
     }
 
-    /// Follows what an event did to the calls: the end of one, if it ended one; `None` if the thread has not the call for it.
-    fn follow(&mut self, thread: u32, deed: Deed, told: Told) -> Option<Option<CallEnd>> {
+    /// Follows what an event did to the calls: the number of its call, and the end, if it ended that; `None` if there is no call for it.
+    fn follow(&mut self, thread: u32, deed: Deed, told: Told) -> Option<(u32, Option<CallEnd>)> {
         let moment = self.moments.last();
         let seat = self.pending.get_mut(thread as usize)?;
-        if let Deed::Begin(call, number) = deed {
+        if let Deed::Begin(call) = deed {
             if seat.is_some() {
                 return None;
             }
-            *seat = Some(Pending {
-                number,
+            let open = OpenCall {
+                number: self.calls,
                 call,
                 begun: moment,
+            };
+            *seat = Some(Pending {
+                open,
                 changed: None,
             });
             self.calls = self.calls.saturating_add(1);
-            return Some(None);
+            return Some((open.number, None));
         }
-        if told.change.is_none() && told.answer.is_none() {
-            return Some(None);
-        }
-        let mut open = (*seat)?;
+        let mut pending = (*seat)?;
+        let number = pending.open.number;
         if told.change.is_some() {
-            open.changed = Some(moment);
+            pending.changed = Some(moment);
+            *seat = Some(pending);
         }
-        *seat = Some(open);
         let Some(reply) = told.answer else {
-            return Some(None);
+            return Some((number, None));
         };
         *seat = None;
-        let effect = match open.changed {
+        let effect = match pending.changed {
             Some(moment) => moment,
-            None => self.moments.fit(open.call, reply, open.begun),
+            None => self.moments.fit(pending.open, reply),
         };
-        Some(Some(CallEnd {
-            call: open.number,
+        let end = CallEnd {
             reply,
             moment: effect,
-        }))
+        };
+        Some((number, Some(end)))
     }
 
     /// The chain after an event, if chains are asked for and it differs from the last one that was told.

@@ -3,11 +3,11 @@ ghost use Rattle.lset_words.specs.Words.{Opens};
 ghost use Rattle.lset_text.specs.declared.words.Version.TheVariants.{Two};
 ghost use Rattle.lset_schedule.specs.Plan.{opening_in, view};
 
-use broken_lists::{BrokenList, BrokenStepError, Listener, named, run_broken};
-use lset_replay::TracedEvent;
+use broken_lists::{BrokenList, broken_run, named};
+use lset_replay::{RunFault, calls_of};
 use lset_report::Report;
-use lset_schedule::{Cause, Schedule, read_schedule};
-use std::alloc::{AllocError, Global};
+use lset_schedule::{Cause, Schedule, Version, read_schedule};
+use std::alloc::Global;
 use std::io::Read;
 use tool_base::{LONGEST, LineCause, Trouble, ValueName, input_of};
 
@@ -40,22 +40,12 @@ pub fn schedule_of(alloc: Global, broken: BrokenList, bytes: &[u8]) -> Result<Sc
 }
 
 /// Returns the cause of the line about the event at which a run ends.
-pub fn cause_of(fault: BrokenStepError) -> LineCause {
+fn cause_of(fault: RunFault) -> LineCause {
     match fault {
-        BrokenStepError::NoThread => LineCause::NoThread,
-        BrokenStepError::Busy => LineCause::Busy,
-        BrokenStepError::Idle => LineCause::Idle,
-        BrokenStepError::Lost => LineCause::Lost,
-    }
-}
-
-/// Hears of events, and keeps nothing.
-#[derive(Drop)]
-struct Silent {}
-
-impl Listener for Silent {
-    fn hear(&mut self, _event: &TracedEvent) -> Result<(), AllocError> {
-        Ok(())
+        RunFault::NoThread => LineCause::NoThread,
+        RunFault::Busy => LineCause::Busy,
+        RunFault::Idle => LineCause::Idle,
+        RunFault::Lost => LineCause::Lost,
     }
 }
 
@@ -65,8 +55,16 @@ pub fn report_of(alloc: Global, name: &[u8], bytes: &[u8]) -> Result<Report, Tro
 {
     let broken = broken_of(name)?;
     let schedule = schedule_of(alloc, broken, bytes)?;
-    match run_broken(alloc, broken, &schedule, false, &mut Silent {})? {
-        Ok(report) => Ok(report),
-        Err((line, fault)) => Err(Trouble::Line(line, cause_of(fault))),
+    let run = broken_run(alloc, broken, &schedule, false)?;
+    let calls = calls_of(alloc, &schedule, run)?;
+    match calls.refused {
+        Some((line, fault)) => Err(Trouble::Line(line, cause_of(fault))),
+        None => Ok(Report {
+            version: Version::Two,
+            kind: schedule.kind,
+            history: calls.history,
+            order: calls.order,
+            keys: calls.keys,
+        }),
     }
 }

@@ -93,15 +93,15 @@ fn put_begin(out: &mut Chunk, call: Call, number: u32) {
 }
 
 /// Writes what was done, the row at which the thread is then, and the registers that are new.
-fn put_deed(out: &mut Chunk, deed: Deed, before: &Local, after: &Local) {
-    match deed {
-        Deed::Begin(call, number) => put_begin(out, call, number),
+fn put_deed(out: &mut Chunk, event: &TracedEvent) {
+    match event.deed {
+        Deed::Begin(call) => put_begin(out, call, event.call),
         Deed::Access(action, seen) => put_access(out, action, seen),
     }
     put(out, " pc ");
-    put_number(out, u64::from(after.pc));
-    if let Deed::Access(_, _) = deed {
-        put_changes(out, before, after);
+    put_number(out, u64::from(event.after.pc));
+    if let Deed::Access(_, _) = event.deed {
+        put_changes(out, &event.before, &event.after);
     }
 }
 
@@ -112,22 +112,13 @@ fn put_change(out: &mut Chunk, change: Option<(Key, bool)>) {
     }
 }
 
-fn put_end(out: &mut Chunk, end: Option<CallEnd>) {
-    if let Some(
-        CallEnd {
-            call,
-            reply,
-            moment,
-        },
-    ) = end
-    {
-        put(out, " answer ");
-        put_reply(out, reply);
-        put(out, " call ");
-        put_number(out, u64::from(call));
-        put(out, " at ");
-        put_number(out, u64::from(moment));
-    }
+fn put_end(out: &mut Chunk, call: u32, end: CallEnd) {
+    put(out, " answer ");
+    put_reply(out, end.reply);
+    put(out, " call ");
+    put_number(out, u64::from(call));
+    put(out, " at ");
+    put_number(out, u64::from(end.moment));
 }
 
 /// Appends the line of an event.
@@ -139,8 +130,10 @@ pub fn put_event(out: &mut Chunk, event: &TracedEvent) {
     put(out, " thread ");
     put_number(out, u64::from(event.thread));
     put(out, " ");
-    put_deed(out, event.deed, &event.before, &event.after);
+    put_deed(out, event);
     put_change(out, event.change);
-    put_end(out, event.end);
+    if let Some(end) = event.end {
+        put_end(out, event.call, end);
+    }
     put(out, "\n");
 }
