@@ -1,6 +1,6 @@
 -- The events of a schedule's lines: one line after another, and how many there are.
 use Rattle.std.proofs.Common.{◌≡◌, ℕ, zero, suc, drop, arith, ◌-◌, ◌+◌, ◌<◌, ◌≤◌, List, [], ◌∷◌, ◌++◌, replicate, length, get_or}
-use Rattle.std.proofs.Common.{refl, sym, subst, ap, ◌∙◌, add-one, length-append, length-drop, drop-cons}
+use Rattle.std.proofs.Common.{refl, sym, ap, ◌∙◌, add-one, length-append, length-drop, drop-cons, drop_of_length-le}
 use Rattle.std.specs.List.{sum_by}
 use Rattle.std.proofs.lemmas.List.Sums.{sum_by-cons}
 use Rattle.std.proofs.lemmas.List.{length-replicate, length-map}
@@ -8,9 +8,8 @@ use Rattle.lset_schedule.specs.declared.value.Line.{Line}
 use Rattle.lset_schedule.specs.declared.value.Line.TheVariants as line
 use Rattle.lset_schedule.specs.Plan.{event_count}
 use Rattle.lset_words.specs.declared.Call.TheVariants as call
-use Rattle.lset_steps.specs.Steps.{event_at}
 use Rattle.lset_replay.specs.declared.events.LineEvent.{LineEvent}
-use Rattle.lset_replay.specs.Events.{events_of_line, events_from, only_events, event_in, line_at}
+use Rattle.lset_replay.specs.Events.{events_of_line, events_from, only_events, event_in}
 use Rattle.lset_replay.specs.Follows.{ComesNext}
 
 length_of_line : (n : ℕ) (l : Line) → length (events_of_line n l) ≡ event_count l
@@ -63,15 +62,17 @@ rest_of n ls i times next = replicate times next ++ events_from (n + (i + 1)) (d
 
 module _ (n : ℕ) (ls : List Line) (i k times : ℕ) (next : LineEvent) where
   pub next_line : i < length ls → events_of_line (n + i) (get_or ls i no_line) ≡ replicate times next
-      → IsAhead (events_from n ls) k (events_from (n + i) (drop i ls)) → IsAhead (events_from n ls) k (rest_of n ls i times next)
+      → IsAhead (events_from n ls) k (events_from (n + i) (drop i ls)) → IsAhead (events_from n ls) k (rest_of n ls i (times - 0) next)
   next_line below line ahead = record {
     within = ahead.within;
     rest_is = ahead.rest_is ∙ ap (λ ks. events_from (n + i) ks) (drop-cons ls i no_line below)
         ∙ ap (λ es. es ++ events_from (n + i + 1) (drop (suc i) ls)) line
         ∙ (let e : n + i + 1 ≡ n + (i + 1) = omega arith in
         let f : suc i ≡ i + 1 = omega arith in
+        let t : times ≡ times - 0 = omega arith in
         ap (λ z. replicate times next ++ events_from z (drop (suc i) ls)) e
-        ∙ ap (λ z. replicate times next ++ events_from (n + (i + 1)) (drop z ls)) f);
+        ∙ ap (λ z. replicate times next ++ events_from (n + (i + 1)) (drop z ls)) f
+        ∙ ap (λ z. rest_of n ls i z next) t);
   }
 
   -- of so many events of the line, j are behind
@@ -94,12 +95,21 @@ module _ (n : ℕ) (ls : List Line) (i k times : ℕ) (next : LineEvent) where
       rest_is = ahead.rest_is ∙ ap (λ z. rest_of n ls i z next) (let e : times - j ≡ 0 = omega arith in e);
     }
 
--- no line is ahead
-pub all_done : (es : List LineEvent) (k : ℕ) → IsAhead es k [] → k ≡ length es
-all_done es k ahead =
-    let a : k ≤ length es = ahead.within in
-    let b : length (drop k es) ≡ length es - k = length-drop k es in
-    let c : length (drop k es) ≡ 0 = ap (λ (xs : List LineEvent). length xs) ahead.rest_is in
+-- before the first line
+pub none_behind : (n : ℕ) (ls : List Line) → IsAhead (events_from n ls) 0 (events_from (n + 0) (drop 0 ls))
+none_behind n ls = record {
+  within = omega arith;
+  rest_is = ap (λ z. events_from z ls) (let e : n ≡ n + 0 = omega arith in e);
+}
+
+-- and after the last one
+pub all_behind : (n : ℕ) (ls : List Line) (i k : ℕ) → length ls ≤ i
+    → IsAhead (events_from n ls) k (events_from (n + i) (drop i ls)) → k ≡ length (events_from n ls)
+all_behind n ls i k past ahead =
+    let a : k ≤ length (events_from n ls) = ahead.within in
+    let b : length (drop k (events_from n ls)) ≡ length (events_from n ls) - k = length-drop k (events_from n ls) in
+    let c : length (drop k (events_from n ls)) ≡ 0 = ap (λ (es : List LineEvent). length es) (ahead.rest_is
+    ∙ ap (λ ks. events_from (n + i) ks) (drop_of_length-le ls past)) in
     omega arith
 
 -- and one that comes is one of few

@@ -1,5 +1,5 @@
 -- From event to event of a run: the recorder is ready for each enabled one, and follows it.
-use Rattle.std.proofs.Common.{◌≡◌, ℕ, suc, ◌+◌, ◌<◌, ◌⊎◌, inl, inr, List, length, sym, refl, subst, ap, ◌∙◌, add-one, arith}
+use Rattle.std.proofs.Common.{◌≡◌, ℕ, suc, ◌+◌, ◌<◌, ◌⊎◌, inl, inr, List, sym, refl, subst, ap, ◌∙◌, add-one, arith}
 use Rattle.lset_words.specs.Account.{Account, Enters}
 use Rattle.lset_words.specs.Words.{Opening, sizes}
 use Rattle.lset_steps.specs.declared.Event.{Event}
@@ -12,7 +12,6 @@ use Rattle.lset_steps.specs.Worlds.{WorldState, Refused}
 use Rattle.lset_replay.specs.declared.events.LineEvent.{LineEvent}
 use Rattle.lset_replay.specs.declared.recorder.Recorder.{Recorder}
 use Rattle.lset_replay.specs.Events.{only_events}
-use Rattle.lset_replay.specs.declared.fault.ReplayFault.{ReplayFault}
 use Rattle.lset_replay.specs.Reports.{IsFirstRefused, IsRefusal, fault_at}
 use Rattle.lset_replay.specs.Trace.{trace_of, trace_after, entry_told, MayRecord, MayChange}
 use Rattle.lset_replay.specs.Follows.{HasFollowed, ComesNext}

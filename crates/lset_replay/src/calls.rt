@@ -4,11 +4,12 @@ ghost use Rattle.lset_schedule.specs.Plan.{opening_in, view};
 
 use crate::events::event_of;
 use crate::fault::RunFault;
-use crate::traced::{Deed, TracedEvent};
+use crate::traced::MadeEvent;
 use crate::tracing::{Run, Steps};
 use lset_history::History;
 use lset_report::{Pointed, order_of, points_of, sort_by_points};
 use lset_schedule::Schedule;
+use lset_steps::Event;
 use lset_words::{Placed, Point, Reply};
 use std::alloc::{AllocError, Global};
 
@@ -46,30 +47,32 @@ impl Calls {
         })
     }
 
-    /// Keeps what an event did. (A history takes each call of a run, if there is memory.)
-    fn keep(&mut self, event: &TracedEvent) -> Result<(), AllocError> {
-        let call = event.call;
-        let moment = event.moment;
-        if let Deed::Begin(begun) = event.deed {
+    /// Keeps what an event did to its call. (A history takes each call of a run, if there is memory.)
+    fn keep(&mut self, event: Event, made: MadeEvent) -> Result<(), AllocError> {
+        let Some(number) = made.call else {
+            return Ok(());
+        };
+        let moment = made.moment;
+        if let Event::Begin(thread, call) = event {
             self.places.push(None)?;
-            let Ok(_number) = self.history.begin(event.thread, begun, moment) else {
+            let Ok(_number) = self.history.begin(thread, call, moment) else {
                 return Err(AllocError);
             };
         }
-        if event.change.is_some() {
+        if made.change.is_some() {
             let change = true;
-            self.put(call, Reply::True, Point { moment, change });
+            self.put(number, Reply::True, Point { moment, change });
         }
-        let Some(end) = event.end else {
+        let Some(end) = made.end else {
             return Ok(());
         };
-        let Ok(()) = self.history.end(call, end.reply, moment) else {
+        let Ok(()) = self.history.end(number, end.reply, moment) else {
             return Err(AllocError);
         };
-        if let Some(None) = self.places.get(call as usize) {
+        if let Some(None) = self.places.get(number as usize) {
             let change = false;
             let moment = end.moment;
-            self.put(call, end.reply, Point { moment, change });
+            self.put(number, end.reply, Point { moment, change });
         }
         Ok(())
     }
@@ -106,8 +109,8 @@ fn make_all<W: Steps + Drop>(
     for line in &schedule.lines {
         let (next, times) = event_of(number, *line);
         for _done in 0..times {
-            match run.make(next)? {
-                Ok(told) => calls.keep(&told)?,
+            match run.step(next.event)? {
+                Ok(made) => calls.keep(next.event, made)?,
                 Err(fault) => return Ok(Some((next.line, fault))),
             }
         }

@@ -1,6 +1,6 @@
 ghost use Rattle.std.specs.Prelude.{◌≡◌, ◌<◌, ℕ, [], ◌∷◌, ◌++◌, length, not, IfOk, OnOk, Some, None, slice_set, IsSomeAnd};
-ghost use Rattle.std.specs.List.Sorted.{IsStrictlyIncreasing};
-ghost use Rattle.lset_words.specs.Words.{IsWithin};
+ghost use Rattle.lset_words.specs.Words.{Opens};
+ghost use Rattle.lset_schedule.specs.Plan.{opening_in, view};
 ghost use Rattle.lset_history.specs.History.{MayBegin, with_begun, with_ended};
 ghost use Rattle.lset_history.specs.Changes.{moments_of, IsLaterThanAll, is_present_now, with_change};
 ghost use Rattle.lset_replay.specs.Trace.{
@@ -22,6 +22,7 @@ ghost use Rattle.lset_replay.specs.Trace.{
 use crate::fits::fit;
 use crate::places::{Linearized, OpenCall};
 use lset_history::{Changes, History, HistoryFault};
+use lset_schedule::Schedule;
 use lset_steps::{Event, Told};
 use lset_words::{Call, Key, Reply};
 use std::alloc::{AllocError, Global};
@@ -37,24 +38,17 @@ pub struct Recorder {
 }
 
 impl Recorder {
-    /// Returns the recorder before any event of a run that opens with these keys, which must be in strictly increasing
-    /// order. Allocates; `AllocError` if that fails.
-    pub fn new(
-        alloc: Global,
-        threads: u32,
-        quota: u32,
-        opening: Vec<u32>,
-    ) -> Result<Recorder, AllocError>
-        requires within { IsWithin (record { threads = threads; quota = quota; opening = length opening.items }) }
-        requires rising { IsStrictlyIncreasing opening.items }
+    /// Returns the recorder before any event of a schedule. Allocates; `AllocError` if that fails.
+    pub fn new(alloc: Global, schedule: &Schedule) -> Result<Recorder, AllocError>
+        requires { Opens (opening_in (view schedule.now)) }
         ensures trace { IfOk result (λ r. trace_of r ≡ no_trace r.history.opening) }
-        ensures opening { IfOk result (λ r. r.history.opening
-            ≡ record { threads = threads; quota = quota; keys = opening.items }) }
+        ensures opening { IfOk result (λ r. r.history.opening ≡ opening_in (view schedule.now)) }
     {
+        let opening = schedule.opening.as_slice().to_vec(alloc)?;
         let changes = Changes::opened(alloc, &opening)?;
         Ok(Recorder {
-            history: History::opened(alloc, threads, quota, opening),
-            under_way: vec![in alloc; None; threads as usize]?,
+            history: History::opened(alloc, schedule.threads, schedule.quota, opening),
+            under_way: vec![in alloc; None; schedule.threads as usize]?,
             places: Vec::new(alloc),
             changes,
         })

@@ -74,9 +74,8 @@ fn replay_on<M: Machine>(alloc: Global, schedule: &Schedule) -> Result<Report, R
     has_account::<M>();
     listed_content::<M>();
     placement_explains_runs::<M>();
-    let opening = schedule.opening.to_vec(alloc)?;
     let mut world = world_of::<M>(alloc, schedule)?;
-    let mut recorder = Recorder::new(alloc, schedule.threads, schedule.quota, opening)?;
+    let mut recorder = Recorder::new(alloc, schedule)?;
     follow(
         &mut world,
         &mut recorder,

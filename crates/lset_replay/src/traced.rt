@@ -16,20 +16,26 @@ pub struct CallEnd {
     pub moment: u32,
 }
 
-/// An event of a run: its moment, which is its number, counted from 1; the number of its line in the schedule's text; its thread, what it
-/// did, the number of the call for which it did that, counted from 0, and the thread's state before and after; the key that it added
-/// (`true`) or removed (`false`), if it changed the set; the end of the call, if it ended it; and the chain after it, if chains are asked
-/// for and the event changed it.
-#[derive(Drop)]
-pub struct TracedEvent {
+/// What an event of a run did to the set and to its call: its moment, which is its number, counted from 1; its thread; the number of the
+/// call, counted from 0, if it began or ended that or changed the set for it; the key that it added (`true`) or removed (`false`), if it
+/// changed the set; and the end of the call, if it ended it.
+#[derive(Clone, Copy)]
+pub struct MadeEvent {
     pub moment: u32,
-    pub line: u64,
     pub thread: u32,
-    pub deed: Deed,
-    pub call: u32,
-    pub before: Local,
-    pub after: Local,
+    pub call: Option<u32>,
     pub change: Option<(Key, bool)>,
     pub end: Option<CallEnd>,
+}
+
+/// An event of a run as a trace tells it: the number of its line in the schedule's text; what it did, and the state of its thread before
+/// and after; and the chain after it, if chains are asked for and the event changed it.
+#[derive(Drop)]
+pub struct TracedEvent {
+    pub line: u64,
+    pub made: MadeEvent,
+    pub deed: Deed,
+    pub before: Local,
+    pub after: Local,
     pub chain: Option<Vec<ChainKey>>,
 }

@@ -6,9 +6,9 @@ use crate::events::LineEvent;
 use crate::fault::RunFault;
 use crate::moments::Moments;
 use crate::places::OpenCall;
-use crate::traced::{CallEnd, Deed, TracedEvent};
+use crate::traced::{CallEnd, Deed, MadeEvent, TracedEvent};
 use lset_steps::{Action, ChainKey, Event, Local, Machine, Told, World};
-use lset_words::MOST_THREADS;
+use lset_words::{Call, MOST_THREADS, Reply};
 use std::alloc::{AllocError, Global};
 
 /// A world whose events can be told: that of a list, or that of a broken one.
@@ -116,32 +116,35 @@ impl<W: Steps + Drop> Run<W> {
         self.moments.last()
     }
 
-    /// Makes an event, and tells what it did; or, in the inner error, why it cannot be made. Allocates; `AllocError` if that fails.
-    pub fn make(&mut self, next: LineEvent) -> Result<Result<TracedEvent, RunFault>, AllocError> {
-        let thread = thread_of(next.event);
-        let ahead = self.look(next.event);
-        let told = match self.world.make(next.event) {
+    /// Makes an event, and says what it did to the set and to its call; or, in the inner error, why it cannot be made. May allocate;
+    /// `AllocError` if that fails.
+    #[inline(always)]
+    pub fn step(&mut self, event: Event) -> Result<Result<MadeEvent, RunFault>, AllocError> {
+        let told = match self.world.make(event) {
             Ok(told) => told,
             Err(fault) => return Ok(Err(fault)),
         };
         self.moments.go_on(told.change)?;
-        let (Some((before, deed)), Some(after)) = (ahead, self.world.held(thread)) else {
-            return Ok(Err(RunFault::Lost));
+        Ok(self.follow(event, told).ok_or(RunFault::Lost))
+    }
+
+    /// Makes an event as `step` does, and tells what a trace has of it.
+    pub fn make(&mut self, next: LineEvent) -> Result<Result<TracedEvent, RunFault>, AllocError> {
+        let ahead = self.look(next.event);
+        let made = match self.step(next.event)? {
+            Ok(made) => made,
+            Err(fault) => return Ok(Err(fault)),
         };
-        let Some((call, end)) = self.follow(thread, deed, told) else {
+        let (Some((before, deed)), Some(after)) = (ahead, self.world.held(made.thread)) else {
             return Ok(Err(RunFault::Lost));
         };
         let chain = self.changed_chain(deed)?;
         Ok(Ok(TracedEvent {
-            moment: self.moments.last(),
             line: next.line,
-            thread,
+            made,
             deed,
-            call,
             before,
             after,
-            change: told.change,
-            end,
             chain,
         }))
     }
@@ -158,45 +161,62 @@ impl<W: Steps + Drop> Run<W> {
         Some((self.world.held(thread_of(event))?, deed))
     }
 
-    /// Follows what an event did to the calls: the number of its call, and the end, if it ended that; `None` if there is no call for it.
-    fn follow(&mut self, thread: u32, deed: Deed, told: Told) -> Option<(u32, Option<CallEnd>)> {
-        let moment = self.moments.last();
-        let seat = self.pending.get_mut(thread as usize)?;
-        if let Deed::Begin(call) = deed {
-            if seat.is_some() {
-                return None;
-            }
-            let open = OpenCall {
-                number: self.calls,
-                call,
-                begun: moment,
-            };
-            *seat = Some(Pending {
-                open,
-                changed: None,
-            });
-            self.calls = self.calls.saturating_add(1);
-            return Some((open.number, None));
-        }
-        let mut pending = (*seat)?;
-        let number = pending.open.number;
-        if told.change.is_some() {
-            pending.changed = Some(moment);
-            *seat = Some(pending);
-        }
-        let Some(reply) = told.answer else {
-            return Some((number, None));
+    /// Follows what an event did; `None` if its thread has no call for that.
+    #[inline(always)]
+    fn follow(&mut self, event: Event, told: Told) -> Option<MadeEvent> {
+        let mut made = MadeEvent {
+            moment: self.moments.last(),
+            thread: thread_of(event),
+            call: None,
+            change: told.change,
+            end: None,
         };
-        *seat = None;
-        let effect = match pending.changed {
+        match event {
+            Event::Begin(_, call) => made.call = Some(self.begin(made, call)?),
+            Event::Go(_) if told.change.is_none() && told.answer.is_none() => {}
+            Event::Go(_) => {
+                let seat = self.pending.get_mut(made.thread as usize)?;
+                let mut pending = (*seat)?;
+                made.call = Some(pending.open.number);
+                if told.change.is_some() {
+                    pending.changed = Some(made.moment);
+                }
+                *seat = Some(pending);
+                if let Some(reply) = told.answer {
+                    *seat = None;
+                    made.end = Some(self.end_of(pending, reply));
+                }
+            }
+        }
+        Some(made)
+    }
+
+    /// Begins a call, and gives its number; `None` if the thread has one pending.
+    fn begin(&mut self, made: MadeEvent, call: Call) -> Option<u32> {
+        let seat = self.pending.get_mut(made.thread as usize)?;
+        if seat.is_some() {
+            return None;
+        }
+        let number = self.calls;
+        let begun = made.moment;
+        *seat = Some(Pending {
+            open: OpenCall {
+                number,
+                call,
+                begun,
+            },
+            changed: None,
+        });
+        self.calls = number.saturating_add(1);
+        Some(number)
+    }
+
+    fn end_of(&self, pending: Pending, reply: Reply) -> CallEnd {
+        let moment = match pending.changed {
             Some(moment) => moment,
             None => self.moments.fit(pending.open, reply),
         };
-        let end = CallEnd {
-            reply,
-            moment: effect,
-        };
-        Some((number, Some(end)))
+        CallEnd { reply, moment }
     }
 
     /// The chain after an event, if chains are asked for and it differs from the last one that was told.

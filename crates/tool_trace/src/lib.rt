@@ -10,6 +10,3 @@ mod tool;
 
 pub use running::trace_of_run;
 pub use tool::{tool_trace, traced};
-
-/// Line 1 of a trace.
-const TITLE: &str = "listset-trace 1";

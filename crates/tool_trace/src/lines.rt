@@ -1,6 +1,5 @@
 //! The text of a trace as it is made, and where it goes.
 
-use crate::TITLE;
 use crate::chunks::{Chunk, is_full, put, put_number};
 use crate::events::put_event;
 use lset_replay::TracedEvent;
@@ -11,6 +10,9 @@ use std::alloc::{AllocError, Global};
 use std::io::Write;
 use tool_base::{Trouble, put as put_out};
 
+/// Line 1 of a trace.
+const TITLE: &str = "listset-trace 1";
+
 /// Where a text goes, piece by piece.
 pub trait Sink {
     /// Takes the next piece.
@@ -18,14 +20,9 @@ pub trait Sink {
 }
 
 /// A text in memory.
-#[derive(Drop)]
-pub struct Text {
-    pub bytes: Vec<u8>,
-}
-
-impl Sink for Text {
+impl Sink for Vec<u8> {
     fn take(&mut self, text: &str) -> Result<(), Trouble> {
-        Ok(self.bytes.extend_from_slice(text.as_bytes())?)
+        Ok(self.extend_from_slice(text.as_bytes())?)
     }
 }
 

@@ -2,7 +2,7 @@
 
 ghost use Rattle.lset_schedule.specs.Plan.{IsSchedule, view};
 
-use crate::lines::{Lines, Output, Sink, Text, head_of};
+use crate::lines::{Lines, Output, Sink, head_of};
 use lset_coarse::CoarseList;
 use lset_fine::FineList;
 use lset_lazy::LazyList;
@@ -78,14 +78,9 @@ fn trace_into<S: Sink>(
 pub fn trace_of(alloc: Global, schedule: &Schedule, chains: bool) -> Result<Answer, Trouble>
     requires { IsSchedule (view schedule.now) }
 {
-    let mut text = Text {
-        bytes: Vec::new(alloc),
-    };
+    let mut text = Vec::new(alloc);
     let status = trace_into(alloc, schedule, chains, &mut text)?;
-    Ok(Answer {
-        text: text.bytes,
-        status,
-    })
+    Ok(Answer { text, status })
 }
 
 /// Returns the trace of a run on a list that lacks a check, from its first event on.
@@ -95,14 +90,9 @@ pub fn trace_of_run<W: Steps + Drop>(
     lacks: &str,
     run: Run<W>,
 ) -> Result<Answer, Trouble> {
-    let mut text = Text {
-        bytes: head_of(alloc, schedule, Some(lacks))?.into_bytes(),
-    };
+    let mut text = head_of(alloc, schedule, Some(lacks))?.into_bytes();
     let status = trace(schedule, run, &mut text)?;
-    Ok(Answer {
-        text: text.bytes,
-        status,
-    })
+    Ok(Answer { text, status })
 }
 
 /// Writes the trace of a schedule, without chains, as its events are made, and returns the status: 1 if it ends at an event that is not

@@ -1,4 +1,4 @@
-use Rattle.std.proofs.Common.{◌≡◌, ℕ, suc, ◌≤◌, List, [], ◌∷◌, Option, Some, None, ap, subst, ◌∙◌, arith}
+use Rattle.std.proofs.Common.{ℕ, suc, ◌≤◌, List, [], ◌∷◌, Option, Some, None, ap, subst, ◌∙◌, arith}
 use Rattle.std.specs.Prelude.{All}
 use Rattle.std.proofs.lemmas.List.Elements.{All-nil, All-cons}
 use Rattle.lset_report.specs.declared.order.Pointed.{Pointed}
@@ -20,5 +20,5 @@ points_upto last number (Some p ∷ ps) h = All-cons (StandsThere last)
 
 pub returns : goal.returns
 returns c = λ last h. c.in_ok-order.ensures ∙ ap placed_in (c.deref.ensures.value
-    ∙ (subst (λ (xs : List Pointed). AreByPoints xs _) c.in_ok-pointed.ensures c.in_ok-sort_by_points.ensures).blocks last
+    ∙ (subst (λ (xs : List Pointed). AreByPoints xs c.sort_by_points.new.places.items) c.in_ok-pointed.ensures c.in_ok-sort_by_points.ensures).blocks last
     (points_upto last 0 c.args.places.now h))

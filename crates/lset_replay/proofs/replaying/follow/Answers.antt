@@ -1,9 +1,9 @@
-use Rattle.std.proofs.Common.{◌≡◌, ◌<◌, ◌≤◌, length, sym, subst, arith}
+use Rattle.std.proofs.Common.{◌<◌, subst, arith}
 use Rattle.lset_schedule.specs.declared.TheConstants.{MOST_EVENTS}
 use Rattle.lset_replay.specs.Events.{events_from}
-use Rattle.lset_replay.specs.Follows.{HasFollowed, ComesNext}
+use Rattle.lset_replay.specs.Follows.{HasFollowed}
 use Rattle.lset_replay.proofs.Followed.{tells_keys}
-use Rattle.lset_replay.proofs.EventLists.{few_behind, next_line, next_event, event_done, line_done, all_done}
+use Rattle.lset_replay.proofs.EventLists.{few_behind, next_line, next_event, event_done, line_done, none_behind, all_behind}
 use Rattle.lset_replay.proofs.EventSteps.{ready, followed, stopped}
 use Rattle.lset_replay.proofs.replaying.follow.Goals as goal
 
@@ -35,10 +35,7 @@ returns-in-Err-clause-refused g c =
     rw c.refusal.ensures (stopped g.M.Machine.table _ _ _ _ _ c.loop-done.invariant.followed _ there c.in-Err.cause c.in-Err.ensures.0)
 
 pub loop-index-init : goal.loop-index-init
-loop-index-init g c = record {
-  ahead = record { within = omega arith; rest_is = ? };
-  followed = c.requires.start;
-}
+loop-index-init g c = record { ahead = none_behind c.args.first c.args.lines.now; followed = c.requires.start }
 
 pub loop-done-init : goal.loop-done-init
 loop-done-init g c = record {
@@ -67,4 +64,7 @@ loop-index-preserved g c = record {
 }
 
 pub returns-clause-followed : goal.returns-clause-followed
-returns-clause-followed g c = ?
+returns-clause-followed g c = subst (λ m. HasFollowed g.M.Machine.table c.args.recorder.now.history.opening
+    (events_from c.args.first c.args.lines.now) m c.loop-index.world c.loop-index.recorder)
+    (all_behind c.args.first c.args.lines.now c.loop-index.index c.loop-index.events c.loop-index-test.false c.loop-index.invariant.ahead)
+    c.loop-index.invariant.followed
