@@ -47,11 +47,18 @@ impl Calls {
         })
     }
 
-    /// Keeps what an event did to its call. (A history takes each call of a run, if there is memory.)
+    /// Keeps what an event did to its call, if it did more than a step of it.
+    #[inline(always)]
     fn keep(&mut self, event: Event, made: MadeEvent) -> Result<(), AllocError> {
-        let Some(number) = made.call else {
-            return Ok(());
-        };
+        match made.call {
+            Some(number) => self.keep_turn(number, event, made),
+            None => Ok(()),
+        }
+    }
+
+    /// Keeps what an event did to the call of this number. (A history takes each call of a run, if there is memory.)
+    #[inline(never)]
+    fn keep_turn(&mut self, number: u32, event: Event, made: MadeEvent) -> Result<(), AllocError> {
         let moment = made.moment;
         if let Event::Begin(thread, call) = event {
             self.places.push(None)?;

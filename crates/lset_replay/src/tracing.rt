@@ -38,6 +38,7 @@ impl<M: Machine> Steps for World<M> {
         self.next(t)
     }
 
+    #[inline(always)]
     fn make(&mut self, event: Event) -> Result<Told, RunFault> {
         Ok(self.step(event)?)
     }
@@ -164,7 +165,7 @@ impl<W: Steps + Drop> Run<W> {
     /// Follows what an event did; `None` if its thread has no call for that.
     #[inline(always)]
     fn follow(&mut self, event: Event, told: Told) -> Option<MadeEvent> {
-        let mut made = MadeEvent {
+        let made = MadeEvent {
             moment: self.moments.last(),
             thread: thread_of(event),
             call: None,
@@ -172,27 +173,15 @@ impl<W: Steps + Drop> Run<W> {
             end: None,
         };
         match event {
-            Event::Begin(_, call) => made.call = Some(self.begin(made, call)?),
-            Event::Go(_) if told.change.is_none() && told.answer.is_none() => {}
-            Event::Go(_) => {
-                let seat = self.pending.get_mut(made.thread as usize)?;
-                let mut pending = (*seat)?;
-                made.call = Some(pending.open.number);
-                if told.change.is_some() {
-                    pending.changed = Some(made.moment);
-                }
-                *seat = Some(pending);
-                if let Some(reply) = told.answer {
-                    *seat = None;
-                    made.end = Some(self.end_of(pending, reply));
-                }
-            }
+            Event::Begin(_, call) => self.begin(made, call),
+            Event::Go(_) if told.change.is_none() && told.answer.is_none() => Some(made),
+            Event::Go(_) => self.turn(made, told),
         }
-        Some(made)
     }
 
-    /// Begins a call, and gives its number; `None` if the thread has one pending.
-    fn begin(&mut self, made: MadeEvent, call: Call) -> Option<u32> {
+    // Few events begin, change or end anything: what follows those lies outside the loop of the many that tell nothing.
+    #[inline(never)]
+    fn begin(&mut self, made: MadeEvent, call: Call) -> Option<MadeEvent> {
         let seat = self.pending.get_mut(made.thread as usize)?;
         if seat.is_some() {
             return None;
@@ -208,7 +197,30 @@ impl<W: Steps + Drop> Run<W> {
             changed: None,
         });
         self.calls = number.saturating_add(1);
-        Some(number)
+        Some(MadeEvent {
+            call: Some(number),
+            ..made
+        })
+    }
+
+    #[inline(never)]
+    fn turn(&mut self, made: MadeEvent, told: Told) -> Option<MadeEvent> {
+        let seat = self.pending.get_mut(made.thread as usize)?;
+        let mut pending = (*seat)?;
+        if told.change.is_some() {
+            pending.changed = Some(made.moment);
+        }
+        *seat = Some(pending);
+        let mut end = None;
+        if let Some(reply) = told.answer {
+            *seat = None;
+            end = Some(self.end_of(pending, reply));
+        }
+        Some(MadeEvent {
+            call: Some(pending.open.number),
+            end,
+            ..made
+        })
     }
 
     fn end_of(&self, pending: Pending, reply: Reply) -> CallEnd {

@@ -78,6 +78,7 @@ impl<S: Sink> Lines<'_, S> {
     }
 
     /// Adds the lines of an event.
+    #[inline(always)]
     pub fn add(&mut self, event: &TracedEvent) -> Result<(), Trouble> {
         self.pour_full()?;
         put_event(&mut self.chunk, event);
