@@ -6,10 +6,11 @@ ghost use Rattle.lset_schedule.specs.Plan.{opening_in, view};
 use broken_lists::{BrokenList, broken_run, named};
 use lset_replay::{RunFault, calls_of};
 use lset_report::Report;
-use lset_schedule::{Cause, Schedule, Version, read_schedule};
+use lset_schedule::{Schedule, Version, read_schedule};
+use lset_text::Cause;
 use std::alloc::Global;
 use std::io::Read;
-use tool_base::{LONGEST, LineCause, Trouble, ValueName, input_of};
+use tool_base::{LONGEST, Trouble, ValueName, input_of};
 
 /// The line of a schedule's text that names the list.
 const KIND_LINE: u64 = 2;
@@ -34,18 +35,18 @@ pub fn schedule_of(alloc: Global, broken: BrokenList, bytes: &[u8]) -> Result<Sc
     }
     let schedule = read_schedule(alloc, bytes)?;
     if schedule.kind != broken.kind() {
-        return Err(Trouble::Line(KIND_LINE, LineCause::Schedule(Cause::Kind)));
+        return Err(Trouble::Line(KIND_LINE, Cause::Kind));
     }
     Ok(schedule)
 }
 
 /// Returns the cause of the line about the event at which a run ends.
-fn cause_of(fault: RunFault) -> LineCause {
+fn cause_of(fault: RunFault) -> Cause {
     match fault {
-        RunFault::NoThread => LineCause::NoThread,
-        RunFault::Busy => LineCause::Busy,
-        RunFault::Idle => LineCause::Idle,
-        RunFault::Lost => LineCause::Lost,
+        RunFault::NoThread => Cause::NoThread,
+        RunFault::Busy => Cause::Busy,
+        RunFault::Idle => Cause::Idle,
+        RunFault::Lost => Cause::Lost,
     }
 }
 
