@@ -4,8 +4,9 @@ ghost use Rattle.lset_steps.specs.Rows.{IsSmall};
 use crate::flaws;
 use crate::lists::BrokenList;
 use crate::meeting::{chain_met, keys_of};
-use lset_replay::{RunFault, Steps};
+use lset_replay::Steps;
 use lset_steps::{Action, ChainKey, Event, Local, Told, opening_words};
+use lset_text::Cause;
 use lset_words::{Call, Layout, MOST_NODES, MOST_QUOTA, MOST_THREADS};
 use std::alloc::{AllocError, Global};
 
@@ -76,14 +77,11 @@ impl BrokenWorld {
     }
 
     /// Begins a call of a thread that has none pending.
-    fn begin(&mut self, thread: u32, call: Call) -> Result<Told, RunFault> {
+    fn begin(&mut self, thread: u32, call: Call) -> Result<Told, Cause> {
         let broken = self.broken;
-        let local = self
-            .locals
-            .get_mut(thread as usize)
-            .ok_or(RunFault::NoThread)?;
+        let local = self.locals.get_mut(thread as usize).ok_or(Cause::NoThread)?;
         if local.pc != 0 {
-            return Err(RunFault::Busy);
+            return Err(Cause::Busy);
         }
         *local = flaws::begun(broken, call, local);
         Ok(Told {
@@ -93,20 +91,17 @@ impl BrokenWorld {
     }
 
     /// Makes the next step of a thread.
-    fn go(&mut self, thread: u32) -> Result<Told, RunFault> {
+    fn go(&mut self, thread: u32) -> Result<Told, Cause> {
         let broken = self.broken;
-        let local = self
-            .locals
-            .get_mut(thread as usize)
-            .ok_or(RunFault::NoThread)?;
+        let local = self.locals.get_mut(thread as usize).ok_or(Cause::NoThread)?;
         if local.pc == 0 {
-            return Err(RunFault::Idle);
+            return Err(Cause::Idle);
         }
         if !is_small(local) {
-            return Err(RunFault::Lost);
+            return Err(Cause::Lost);
         }
         let action = flaws::next_action(broken, local);
-        let seen = sight(&self.words, action).ok_or(RunFault::Lost)?;
+        let seen = sight(&self.words, action).ok_or(Cause::Lost)?;
         write(&mut self.words, action, seen);
         let change = flaws::effect_of(broken, local, seen);
         let fed = flaws::fed_by(broken, local, seen);
@@ -132,7 +127,7 @@ impl Steps for BrokenWorld {
         Some((action, sight(&self.words, action)?))
     }
 
-    fn make(&mut self, event: Event) -> Result<Told, RunFault> {
+    fn make(&mut self, event: Event) -> Result<Told, Cause> {
         match event {
             Event::Begin(thread, call) => self.begin(thread, call),
             Event::Go(thread) => self.go(thread),

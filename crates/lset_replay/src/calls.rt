@@ -3,13 +3,13 @@ ghost use Rattle.lset_words.specs.Words.{Opens};
 ghost use Rattle.lset_schedule.specs.Plan.{opening_in, view};
 
 use crate::events::event_of;
-use crate::fault::RunFault;
 use crate::traced::MadeEvent;
 use crate::tracing::{Run, Steps};
 use lset_history::History;
 use lset_report::{Pointed, order_of, points_of, sort_by_points};
 use lset_schedule::Schedule;
 use lset_steps::Event;
+use lset_text::Cause;
 use lset_words::{Placed, Point, Reply};
 use std::alloc::{AllocError, Global};
 
@@ -26,7 +26,7 @@ pub struct RunCalls {
     /// How many events were made.
     pub events: u32,
     /// The number of the line of the event that cannot be made, and why.
-    pub refused: Option<(u64, RunFault)>,
+    pub refused: Option<(u64, Cause)>,
 }
 
 /// The calls so far, and of each that takes effect its place.
@@ -106,19 +106,19 @@ impl Calls {
     }
 }
 
-/// Makes the events of a schedule, up to the first that cannot be made: its line and the fault.
+/// Makes the events of a schedule, up to the first that cannot be made: its line and the cause.
 fn make_all<W: Steps + Drop>(
     schedule: &Schedule,
     run: &mut Run<W>,
     calls: &mut Calls,
-) -> Result<Option<(u64, RunFault)>, AllocError> {
+) -> Result<Option<(u64, Cause)>, AllocError> {
     let mut number = schedule.first_event_line();
     for line in &schedule.lines {
         let (next, times) = event_of(number, *line);
         for _done in 0..times {
             match run.step(next.event)? {
                 Ok(made) => calls.keep(next.event, made)?,
-                Err(fault) => return Ok(Some((next.line, fault))),
+                Err(cause) => return Ok(Some((next.line, cause))),
             }
         }
         number = number.saturating_add(1);

@@ -1,7 +1,6 @@
 ghost use Rattle.std.specs.Prelude.{◌≡◌};
 ghost use Rattle.lset_replay.specs.declared.fault.ReplayFault.TheVariants.{Memory};
 
-use lset_steps::StepFault;
 use std::alloc::AllocError;
 use thiserror::Error;
 
@@ -28,42 +27,5 @@ impl From<AllocError> for ReplayFault {
 
     fn from(_refused: AllocError) -> ReplayFault {
         ReplayFault::Memory
-    }
-}
-
-/// Why an event of a `Run` cannot be made.
-#[derive(Clone, Copy, Debug, PartialEq, Eq, Error)]
-pub enum RunFault {
-    #[error("no such thread")]
-    NoThread,
-    #[error("a call of the thread is open")]
-    Busy,
-    #[error("no call of the thread is open")]
-    Idle,
-    /// The step names no word of the table, the thread's numbers are too large, or no history goes on with it: only a broken
-    /// list comes to that.
-    #[error("the list is broken beyond running")]
-    Lost,
-}
-
-impl RunFault {
-    /// Returns the name of the fault, as the last line of a trace has it.
-    pub fn name(self) -> &'static str {
-        match self {
-            RunFault::NoThread => "NoThread",
-            RunFault::Busy => "Busy",
-            RunFault::Idle => "Idle",
-            RunFault::Lost => "Lost",
-        }
-    }
-}
-
-impl From<StepFault> for RunFault {
-    fn from(fault: StepFault) -> RunFault {
-        match fault {
-            StepFault::NoThread => RunFault::NoThread,
-            StepFault::Busy => RunFault::Busy,
-            StepFault::Idle => RunFault::Idle,
-        }
     }
 }

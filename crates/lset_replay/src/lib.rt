@@ -19,7 +19,7 @@ mod tracing;
 
 pub use calls::{RunCalls, calls_of};
 pub use events::{LineEvent, event_of};
-pub use fault::{ReplayFault, RunFault};
+pub use fault::ReplayFault;
 pub use replaying::replay;
 pub use start::run_of;
 pub use traced::{CallEnd, Deed, MadeEvent, TracedEvent};

@@ -3,11 +3,11 @@
 ghost use Rattle.std.specs.List.Sorted.{IsStrictlyIncreasing};
 
 use crate::events::LineEvent;
-use crate::fault::RunFault;
 use crate::moments::Moments;
 use crate::places::OpenCall;
 use crate::traced::{CallEnd, Deed, MadeEvent, TracedEvent};
-use lset_steps::{Action, ChainKey, Event, Local, Machine, Told, World};
+use lset_steps::{Action, ChainKey, Event, Local, Machine, StepFault, Told, World};
+use lset_text::Cause;
 use lset_words::{Call, MOST_THREADS, Reply};
 use std::alloc::{AllocError, Global};
 
@@ -19,8 +19,8 @@ pub trait Steps {
     /// The next access of thread `t` and the value that it will see; `None` if it makes none.
     fn ahead(&self, t: u32) -> Option<(Action, u64)>;
 
-    /// Makes an event, and says what it did. A refused event changes nothing.
-    fn make(&mut self, event: Event) -> Result<Told, RunFault>;
+    /// Makes an event, and says what it did. A refused event changes nothing: `NoThread`, `Busy`, `Idle` or, on a broken list alone, `Lost`.
+    fn make(&mut self, event: Event) -> Result<Told, Cause>;
 
     /// The keys from the head to the tail, each with whether its node is marked. Allocates; `AllocError` if that fails.
     fn met(&self) -> Result<Vec<ChainKey>, AllocError>;
@@ -39,8 +39,13 @@ impl<M: Machine> Steps for World<M> {
     }
 
     #[inline(always)]
-    fn make(&mut self, event: Event) -> Result<Told, RunFault> {
-        Ok(self.step(event)?)
+    fn make(&mut self, event: Event) -> Result<Told, Cause> {
+        match self.step(event) {
+            Ok(told) => Ok(told),
+            Err(StepFault::NoThread) => Err(Cause::NoThread),
+            Err(StepFault::Busy) => Err(Cause::Busy),
+            Err(StepFault::Idle) => Err(Cause::Idle),
+        }
     }
 
     fn met(&self) -> Result<Vec<ChainKey>, AllocError> {
@@ -120,24 +125,24 @@ impl<W: Steps + Drop> Run<W> {
     /// Makes an event, and says what it did to the set and to its call; or, in the inner error, why it cannot be made. May allocate;
     /// `AllocError` if that fails.
     #[inline(always)]
-    pub fn step(&mut self, event: Event) -> Result<Result<MadeEvent, RunFault>, AllocError> {
+    pub fn step(&mut self, event: Event) -> Result<Result<MadeEvent, Cause>, AllocError> {
         let told = match self.world.make(event) {
             Ok(told) => told,
-            Err(fault) => return Ok(Err(fault)),
+            Err(cause) => return Ok(Err(cause)),
         };
         self.moments.go_on(told.change)?;
-        Ok(self.follow(event, told).ok_or(RunFault::Lost))
+        Ok(self.follow(event, told).ok_or(Cause::Lost))
     }
 
     /// Makes an event as `step` does, and tells what a trace has of it.
-    pub fn make(&mut self, next: LineEvent) -> Result<Result<TracedEvent, RunFault>, AllocError> {
+    pub fn make(&mut self, next: LineEvent) -> Result<Result<TracedEvent, Cause>, AllocError> {
         let ahead = self.look(next.event);
         let made = match self.step(next.event)? {
             Ok(made) => made,
-            Err(fault) => return Ok(Err(fault)),
+            Err(cause) => return Ok(Err(cause)),
         };
         let (Some((before, deed)), Some(after)) = (ahead, self.world.held(made.thread)) else {
-            return Ok(Err(RunFault::Lost));
+            return Ok(Err(Cause::Lost));
         };
         let chain = self.changed_chain(deed)?;
         Ok(Ok(TracedEvent {

@@ -56,10 +56,10 @@ fn is_run_refused(alloc: Global, broken: BrokenList, seed: u64) -> Result<bool, 
     let schedule = read_schedule(alloc, text.as_bytes())?;
     let run = broken_run(alloc, broken, &schedule, false)?;
     let calls = calls_of(alloc, &schedule, run)?;
-    match calls.refused {
-        None => Ok(check_order(alloc, &calls.history, &calls.order, &calls.keys).is_err()),
-        Some((_line, fault)) => Err(fault.into()),
-    }
+    Ok(
+        calls.refused.is_none()
+            && check_order(alloc, &calls.history, &calls.order, &calls.keys).is_err(),
+    )
 }
 
 /// Whether some random run is refused.

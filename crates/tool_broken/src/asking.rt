@@ -4,7 +4,7 @@ ghost use Rattle.lset_text.specs.declared.words.Version.TheVariants.{Two};
 ghost use Rattle.lset_schedule.specs.Plan.{opening_in, view};
 
 use broken_lists::{BrokenList, broken_run, named};
-use lset_replay::{RunFault, calls_of};
+use lset_replay::calls_of;
 use lset_report::Report;
 use lset_schedule::{Schedule, Version, read_schedule};
 use lset_text::Cause;
@@ -40,16 +40,6 @@ pub fn schedule_of(alloc: Global, broken: BrokenList, bytes: &[u8]) -> Result<Sc
     Ok(schedule)
 }
 
-/// Returns the cause of the line about the event at which a run ends.
-fn cause_of(fault: RunFault) -> Cause {
-    match fault {
-        RunFault::NoThread => Cause::NoThread,
-        RunFault::Busy => Cause::Busy,
-        RunFault::Idle => Cause::Idle,
-        RunFault::Lost => Cause::Lost,
-    }
-}
-
 /// Runs a schedule, given as the bytes of its text, on the broken list of this name, and returns the report.
 pub fn report_of(alloc: Global, name: &[u8], bytes: &[u8]) -> Result<Report, Trouble>
     ensures { IfOk result (λ r. r.version ≡ Two) }
@@ -59,7 +49,7 @@ pub fn report_of(alloc: Global, name: &[u8], bytes: &[u8]) -> Result<Report, Tro
     let run = broken_run(alloc, broken, &schedule, false)?;
     let calls = calls_of(alloc, &schedule, run)?;
     match calls.refused {
-        Some((line, fault)) => Err(Trouble::Line(line, cause_of(fault))),
+        Some((line, cause)) => Err(Trouble::Line(line, cause)),
         None => Ok(Report {
             version: Version::Two,
             kind: schedule.kind,

@@ -36,7 +36,7 @@ pub fn picture_of_replay(alloc: Global, schedule: &Schedule) -> Result<Picture, 
 {
     let calls = on_list(schedule.kind, Running { alloc, schedule })?;
     let refused = match calls.refused {
-        Some((line, fault)) => Some((line, fault.name())),
+        Some((line, cause)) => Some((line, cause.name())),
         None => None,
     };
     Ok(Picture {

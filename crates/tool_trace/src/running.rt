@@ -30,8 +30,8 @@ fn trace<W: Steps + Drop, S: Sink>(
         for _done in 0..times {
             match run.make(next)? {
                 Ok(told) => lines.add(&told)?,
-                Err(fault) => {
-                    lines.end(Some((next.line, fault.name())))?;
+                Err(cause) => {
+                    lines.end(Some((next.line, cause.name())))?;
                     return Ok(1);
                 }
             }
