@@ -4,7 +4,8 @@ import { judgeBreaking, listenToBreaking, showBreaking } from "./activities/brea
 import { fillBreaks } from "./activities/break_map.js";
 import { drawCompare, listenToSides, pressForSides, showSides } from "./activities/compare.js";
 import { listenToCourses } from "./activities/courses.js";
-import { drawJudging, listenToJudging } from "./activities/judging.js";
+import { listenToJudging } from "./activities/judge_begin.js";
+import { drawJudging } from "./activities/judging.js";
 import { drawStrip } from "./activities/learn_map.js";
 import { learning, startLearning } from "./activities/learning.js";
 import { drawLesson, listenToLessons } from "./activities/lessons.js";
