@@ -372,10 +372,10 @@ const texts = new WeakMap();
 
 function keepHeight(box, of) {
   const key = `${of} ${innerWidth}`;
-  const before = heights.get(box);
-  if (before?.key !== key) box.style.minHeight = "";
-  const height = Math.max(box.offsetHeight, before?.key === key ? before.height : 0);
-  if (before?.key === key && before.height === height) return;
+  const isSame = heights.get(box)?.key === key;
+  if (!isSame) box.style.minHeight = "";
+  const height = box.offsetHeight;
+  if (isSame && height <= heights.get(box).height) return;
   heights.set(box, { key, height });
   box.style.minHeight = `${height}px`;
 }
@@ -4144,6 +4144,10 @@ function showList({ state, event }, wide) {
   byId("list").style.minHeight = isKept ? `${keptHeight(Number(byId("list").firstElementChild.getAttribute("height")), wide)}px` : "";
 }
 
+function keepHeights() {
+  for (const id of ["said", "order"]) keepHeight(byId(id), now.task.work);
+}
+
 function showBar(moment) {
   const { trace, count } = now.run;
   const { total } = trace;
@@ -4151,7 +4155,6 @@ function showBar(moment) {
   byId("title").textContent = `${name}, ${trace.threads} thread${trace.threads > 1 ? "s" : ""}`;
   byId("source").textContent = now.run.source;
   setHtml(byId("said"), sentenceOf(moment, hiddenOutcomes()));
-  keepHeight(byId("said"), now.task.work);
   const slider = byId("slider");
   Object.assign(slider, { max: total, value: count });
   slider.setAttribute("aria-valuetext", `event ${count} of ${total}: ${byId("said").textContent}`);
@@ -4194,7 +4197,6 @@ function showHistory(event, wide) {
   setHtml(byId("calls"), drawCalls(trace, scale));
   setHtml(byId("contents"), drawContents(trace, scale));
   setHtml(byId("order"), drawOrder(trace, count, hides));
-  keepHeight(byId("order"), now.task.work);
   drawnHistory.scale = scale;
   const box = byId("calls");
   if (event === null || scale.height <= ALL_LANES || box.scrollHeight <= box.clientHeight) return;
@@ -4265,7 +4267,7 @@ function showMarks() {
   byId("run").classList.toggle("stale", isStale);
   byId("run").textContent = isStale ? "Run the changes" : "Run";
 }
-return { showRun, showBar, drawnHistory, watchEditor, showMarks };
+return { showRun, keepHeights, showBar, drawnHistory, watchEditor, showMarks };
 })();
 
 // page/example.js
@@ -9494,7 +9496,7 @@ const { fillExamples, fillWorks, showQuestion } = $page_menu;
 const { drawMovesNow } = $page_moves;
 const { held, on, show, takeTrace } = $page_now;
 const { fitSlide, isAtMap, services, showParts } = $page_places;
-const { showBar, showMarks, showRun } = $page_view;
+const { keepHeights, showBar, showMarks, showRun } = $page_view;
 const { keepNow, keepSoon } = $page_visit;
 const { showHeader } = $page_work;
 const { Trace } = $run_trace;
@@ -9525,6 +9527,7 @@ function render(state, moment) {
   if (!isAtMap()) showRun(moment);
   showMarks();
   showSides();
+  keepHeights();
   keepSoon();
 }
 

@@ -22,7 +22,7 @@ import { fillExamples, fillWorks, showQuestion } from "./page/menu.js";
 import { drawMovesNow } from "./page/moves.js";
 import { held, on, show, takeTrace } from "./page/now.js";
 import { fitSlide, isAtMap, services, showParts } from "./page/places.js";
-import { showBar, showMarks, showRun } from "./page/view.js";
+import { keepHeights, showBar, showMarks, showRun } from "./page/view.js";
 import { keepNow, keepSoon } from "./page/visit.js";
 import { showHeader } from "./page/work.js";
 import { Trace } from "./run/trace.js";
@@ -56,6 +56,7 @@ function render(state, moment) {
   if (!isAtMap()) showRun(moment);
   showMarks();
   showSides();
+  keepHeights();
   keepSoon();
 }
 
