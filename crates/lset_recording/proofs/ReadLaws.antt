@@ -1,21 +1,20 @@
 -- How a text goes on from byte to byte and from line to line.
 use Rattle.std.proofs.Common.{◌≡◌, ◌≢◌, ℕ, zero, suc, ◌+◌, ◌<◌, ◌≤◌, inl, inr, Bool, true, false, eqb, List, [], ◌∷◌, ◌++◌, length, refl, sym, ap, subst, ◌∙◌}
 use Rattle.std.proofs.Common.{append_assoc, append-nil, arith, length-append, Result, Ok, Err, cond}
-use Rattle.std.specs.Prelude.{◌==◌, IfOk, IfErr, Option, Some, None}
-use Rattle.std.specs.List.{AllByRecursion}
+use Rattle.std.specs.Prelude.{IfOk, IfErr, Option, Some, None}
 use Rattle.std.specs.Str.{bytes_eq}
 use Rattle.std.proofs.lemmas.Bool.{lt-ltb}
-use Rattle.std.proofs.lemmas.List.Elements.{All-nil, recursion_from_All}
-use Rattle.std.proofs.lemmas.List.Sums.{sum_by-append, sum_by-cons}
+use Rattle.std.proofs.lemmas.List.Elements.{All-nil}
 use Rattle.std.proofs.lemmas.List.Splits.{slice_split_none, slice_split_at}
 use Rattle.lset_text.specs.Parts.{cut_at, Lacks}
 use Rattle.lset_text.specs.Kinds.{line_in}
 use Rattle.lset_text.specs.declared.words.Version.TheVariants.{One}
 use Rattle.lset_text.proofs.PartLaws.{some_part, Lacks-append}
 use Rattle.lset_text.proofs.WordLaws.{same_bytes}
-use Rattle.lset_recording.specs.declared.fault.RecordingCause.{RecordingCause}
-use Rattle.lset_recording.specs.declared.fault.RecordingCause.TheVariants as wrong
-use Rattle.lset_recording.specs.declared.fault.RecordingFault.{RecordingFault}
+use Rattle.lset_text.specs.declared.causes.Cause.{Cause}
+use Rattle.lset_text.specs.declared.causes.Cause.TheVariants as wrong
+use Rattle.lset_text.specs.declared.causes.LineFault.{LineFault}
+use Rattle.lset_text.specs.Causes.{fault}
 use Rattle.lset_recording.specs.declared.lines.Line.{Line}
 use Rattle.lset_recording.specs.declared.lines.Line.TheVariants as told
 use Rattle.lset_recording.specs.declared.lines.Section.{Section}
@@ -24,20 +23,20 @@ use Rattle.lset_recording.specs.declared.lines.TheConstants.{LONGEST_LINE}
 use Rattle.lset_recording.specs.declared.reader.RecordingReader.{RecordingReader}
 use Rattle.lset_recording.specs.declared.judging.RecordingAnswer.{RecordingAnswer}
 use Rattle.lset_recording.specs.Texts.{Recording, title}
-use Rattle.lset_recording.specs.Reading.{SoFar, IsTaken, IsRefused, Reads, Says, cause_if_long, ending, fault, first_line, kinds, causes, line_behind_title, line_told}
-use Rattle.lset_recording.specs.Kept.{IsAnswered, IsJudging, IsHeld, IsLineOf, IsRead, IsRefusedAt, newlines}
+use Rattle.lset_recording.specs.Reading.{SoFar, IsTaken, IsRefused, Reads, Says, cause_if_long, ending, kinds, line_behind_title, line_told}
+use Rattle.lset_recording.specs.Kept.{IsAnswered, IsJudging, IsHeld, IsRead, IsRefusedAt}
 
 -- ---- one whole line
 
 line_and : (line more : List ℕ) → Lacks 10 line → cut_at 10 (line ++ 10 ∷ more) ≡ line ∷ cut_at 10 more
 line_and line more lacks = slice_split_at (λ b. eqb b 10) line 10 more lacks refl
 
-reads_more : (n : ℕ) (s t : SoFar) (line : List ℕ) (parts : List (List ℕ)) (read : Result Recording RecordingFault) → 0 < length parts
+reads_more : (n : ℕ) (s t : SoFar) (line : List ℕ) (parts : List (List ℕ)) (read : Result Recording LineFault) → 0 < length parts
     → IsTaken s line t → Reads (n + 1) t parts read → Reads n s (line ∷ parts) read
 reads_more n s t line [] read some taken rest = absurd (omega arith)
 reads_more n s t line (y ∷ ys) read some taken rest = inl (t, taken, rest)
 
-reads_last : (n : ℕ) (s : SoFar) (line : List ℕ) (parts : List (List ℕ)) (cause : RecordingCause) → 0 < length parts
+reads_last : (n : ℕ) (s : SoFar) (line : List ℕ) (parts : List (List ℕ)) (cause : Cause) → 0 < length parts
     → IsRefused s line cause → Reads n s (line ∷ parts) (Err (fault n cause))
 reads_last n s line [] cause some refused = absurd (omega arith)
 reads_last n s line (y ∷ ys) cause some refused = inr (cause, refused, refl)
@@ -47,10 +46,10 @@ pub too_long : (s : SoFar) (line : List ℕ) → LONGEST_LINE < length line → 
 too_long s line many = inl (by s.section)
   where
     behind : (p : Section) → line_behind_title p line ≡ Err wrong.Line
-    behind p = ap (λ (b : Bool). cond b (Err wrong.Line) (line_in One causes (kinds p) line)) (lt-ltb LONGEST_LINE (length line) many)
+    behind p = ap (λ (b : Bool). cond b (Err wrong.Line) (line_in One wrong.Line (kinds p) line)) (lt-ltb LONGEST_LINE (length line) many)
 
     untitled : (b : Bool) → bytes_eq line title ≡ b
-        → ◌≡◌ {A = Result Line RecordingCause} (cond b (Ok told.Title) (Err wrong.Header)) (Err wrong.Header)
+        → ◌≡◌ {A = Result Line Cause} (cond b (Ok told.Title) (Err wrong.Header)) (Err wrong.Header)
     untitled true same = let long = ap length (same_bytes line title same) in absurd (omega (arith, long, many))
     untitled false same = refl
 
@@ -61,40 +60,15 @@ too_long s line many = inl (by s.section)
     by part.Keys = behind part.Keys
     by part.Done = behind part.Done
 
--- ---- newlines
-
-newlines_and : (bytes more : List ℕ) → newlines (bytes ++ more) ≡ newlines bytes + newlines more
-newlines_and bytes more = sum_by-append (λ (b : ℕ). cond (b == 10) 1 0) bytes more
-
-no_newlines : (bytes : List ℕ) → AllByRecursion (λ b. eqb b 10 ≡ false) bytes → newlines bytes ≡ 0
-no_newlines [] lacks = refl
-no_newlines (b ∷ bs) lacks =
-    let cons = sum_by-cons (λ (x : ℕ). cond (x == 10) 1 0) b bs in
-    let here : ◌≡◌ {A = ℕ} (cond (b == 10) 1 0) 0 = rw lacks.0 refl in
-    let others = no_newlines bs lacks.1 in
-    omega (arith, cons, here, others)
-
--- a newline of a piece ends a line of it
-pub line_of_piece : (bytes done line more : List ℕ) (n : ℕ) → n ≡ first_line + newlines (bytes ++ done)
-    → IsLineOf bytes (done ++ (line ++ 10 ∷ more)) n
-line_of_piece bytes done line more n at =
-    let before = newlines_and bytes done in
-    let all = newlines_and bytes (done ++ (line ++ 10 ∷ more)) in
-    let parts = newlines_and done (line ++ 10 ∷ more) in
-    let last = newlines_and line (10 ∷ more) in
-    let one : newlines (10 ∷ more) ≡ 1 + newlines more = sum_by-cons (λ (x : ℕ). cond (x == 10) 1 0) 10 more in
-    (omega (arith, at, before), omega (arith, at, before, all, parts, last, one))
-
 -- ---- the bytes so far
 
 -- where a text stands: what the lines above say is told, and some bytes of the next line are held
 pub record StandsAt (bytes held : List ℕ) (n : ℕ) (s : SoFar) : Type 0 where
   pub lacks : Lacks 10 held
-  pub goes : (more : List ℕ) (read : Result Recording RecordingFault) → Reads n s (cut_at 10 (held ++ more)) read → Says (bytes ++ more) read
-  pub counted : n ≡ first_line + newlines bytes
+  pub goes : (more : List ℕ) (read : Result Recording LineFault) → Reads n s (cut_at 10 (held ++ more)) read → Says (bytes ++ more) read
 
 pub stands : (bytes : List ℕ) (r : RecordingReader) (is : IsRead bytes r) → StandsAt bytes is.held r.judging.number is.told
-stands bytes r is = record { lacks = is.lacks; goes = is.goes; counted = is.counted }
+stands bytes r is = record { lacks = is.lacks; goes = is.goes }
 
 pub read_at : (bytes held : List ℕ) (s : SoFar) (r : RecordingReader) → StandsAt bytes held r.judging.number s → IsJudging s r.judging
     → IsHeld held r.line.items r.is_long → r.failed ≡ None → IsRead bytes r
@@ -105,7 +79,6 @@ read_at bytes held s r at judging line sound = record {
   lacks = at.lacks;
   line = line;
   goes = at.goes;
-  counted = at.counted;
   sound = sound;
 }
 
@@ -117,15 +90,10 @@ held_more bytes held more n s at lacks = record {
   goes = λ rest read h.
       subst (λ (t : List ℕ). Says t read) (sym (append_assoc bytes more rest))
       (at.goes (more ++ rest) read (subst (λ (t : List ℕ). Reads n s (cut_at 10 t) read) (append_assoc held more rest) h));
-  counted =
-      let and = newlines_and bytes more in
-      let none = no_newlines more (recursion_from_All (λ b. eqb b 10 ≡ false) more lacks) in
-      let was = at.counted in
-      omega (arith, and, none, was);
 }
 
 module _ (bytes held : List ℕ) (n : ℕ) (s : SoFar) (at : StandsAt bytes held n s) where
-  goes_by : (more : List ℕ) (read : Result Recording RecordingFault) → Reads n s (held ∷ cut_at 10 more) read
+  goes_by : (more : List ℕ) (read : Result Recording LineFault) → Reads n s (held ∷ cut_at 10 more) read
       → Says ((bytes ++ 10 ∷ []) ++ more) read
   goes_by more read h =
       subst (λ (t : List ℕ). Says t read) (sym (append_assoc bytes (10 ∷ []) more))
@@ -136,15 +104,10 @@ module _ (bytes held : List ℕ) (n : ℕ) (s : SoFar) (at : StandsAt bytes held
   line_taken t taken = record {
     lacks = All-nil (λ b. eqb b 10 ≡ false);
     goes = λ more read h. goes_by more read (reads_more n s t held (cut_at 10 more) read (some_part 10 more) taken h);
-    counted =
-        let and = newlines_and bytes (10 ∷ []) in
-        let one : newlines (10 ∷ []) ≡ 1 = refl in
-        let was = at.counted in
-        omega (arith, and, one, was);
   }
 
   -- and one that is refused
-  pub line_refused : (cause : RecordingCause) → IsRefused s held cause → (more : List ℕ)
+  pub line_refused : (cause : Cause) → IsRefused s held cause → (more : List ℕ)
       → Says ((bytes ++ 10 ∷ []) ++ more) (Err (fault n cause))
   line_refused cause refused more =
       goes_by more (Err (fault n cause)) (reads_last n s held (cut_at 10 more) cause (some_part 10 more) refused)
@@ -156,7 +119,7 @@ module _ (bytes held : List ℕ) (n : ℕ) (s : SoFar) (at : StandsAt bytes held
       (subst (IsHeld [] q.line.items) (sym short) (sym none)) sound
 
   -- the end of the text
-  pub at_end : (read : Result Recording RecordingFault) → read ≡ ending n s held → Says bytes read
+  pub at_end : (read : Result Recording LineFault) → read ≡ ending n s held → Says bytes read
   at_end read ends =
       subst (λ (t : List ℕ). Says t read) (append-nil bytes)
       (at.goes [] read
@@ -195,7 +158,7 @@ some_left n s [] some = absurd (omega (arith, some))
 some_left n s (b ∷ bs) some = refl
 
 module _ (r : RecordingReader) where
-  pub finished : (res : Result RecordingAnswer RecordingFault) → r.is_long ≡ false → r.line.items ≡ []
+  pub finished : (res : Result RecordingAnswer LineFault) → r.is_long ≡ false → r.line.items ≡ []
       → IfOk res (λ answer. (s : SoFar) → IsJudging s r.judging → (ending r.judging.number s [] ≡ Ok s.told) × IsAnswered s.told answer)
       → IfOk res (λ answer. (bytes : List ℕ) → IsRead bytes r → (c : Recording) × Says bytes (Ok c) × IsAnswered c answer)
   finished (Ok answer) short none said = λ bytes is.
@@ -207,7 +170,7 @@ module _ (r : RecordingReader) where
       )
   finished (Err e) short none said = tt
 
-  pub not_finished : (res : Result RecordingAnswer RecordingFault) → r.is_long ≡ false → r.line.items ≡ []
+  pub not_finished : (res : Result RecordingAnswer LineFault) → r.is_long ≡ false → r.line.items ≡ []
       → IfErr res (λ e. e.cause ≢ wrong.Memory → (s : SoFar) → IsJudging s r.judging → ending r.judging.number s [] ≡ Err e)
       → IfErr res (λ e. e.cause ≢ wrong.Memory → (bytes : List ℕ) → IsRead bytes r → Says bytes (Err e))
   not_finished (Ok answer) short none said = tt
@@ -215,15 +178,10 @@ module _ (r : RecordingReader) where
       at_end bytes is.held r.judging.number is.told (stands bytes r is) (Err e)
       (sym (said other is.told is.judging) ∙ ap (ending r.judging.number is.told) (nothing_held bytes r is short none))
 
-  pub line_of_end : (res : Result RecordingAnswer RecordingFault) → IfErr res (λ e. e.line ≡ r.judging.number)
-      → IfErr res (λ e. (bytes : List ℕ) → IsRead bytes r → e.line ≡ first_line + newlines bytes)
-  line_of_end (Ok answer) line = tt
-  line_of_end (Err e) line = λ bytes is. line ∙ is.counted
-
 -- ---- the lines of a piece
 
 -- a text that has a fault has it whatever comes
-pub refused_on : (bytes done line more : List ℕ) (e : RecordingFault) → IsRefusedAt (bytes ++ done ++ line ++ 10 ∷ []) e
+pub refused_on : (bytes done line more : List ℕ) (e : LineFault) → IsRefusedAt (bytes ++ done ++ line ++ 10 ∷ []) e
     → IsRefusedAt (bytes ++ (done ++ (line ++ 10 ∷ more))) e
 refused_on bytes done line more e refused other rest =
     subst (λ (t : List ℕ). Says t (Err e)) regrouped (refused other (more ++ rest))
@@ -233,9 +191,9 @@ refused_on bytes done line more e refused other rest =
 
 -- ---- after a fault
 
-pub none_failed : (failed : Option RecordingFault) (e : RecordingFault) → failed ≡ None → failed ≡ Some e → ⊥
+pub none_failed : (failed : Option LineFault) (e : LineFault) → failed ≡ None → failed ≡ Some e → ⊥
 none_failed failed e none some = cc
 
-pub one_failed : {X : Type 0} (failed : Option RecordingFault) (e f : RecordingFault) → failed ≡ Some e → failed ≡ Some f
-    → ◌≡◌ {A = Result X RecordingFault} (Err e) (Err f)
+pub one_failed : {X : Type 0} (failed : Option LineFault) (e f : LineFault) → failed ≡ Some e → failed ≡ Some f
+    → ◌≡◌ {A = Result X LineFault} (Err e) (Err f)
 one_failed failed e f one other = cc

@@ -6,10 +6,11 @@ ghost use Rattle.lset_schedule.specs.Plan.{opening_in, view};
 use broken_lists::{BrokenList, BrokenStepError, Listener, named, run_broken};
 use lset_replay::TracedEvent;
 use lset_report::Report;
-use lset_schedule::{Cause, Schedule, read_schedule};
+use lset_schedule::{Schedule, read_schedule};
+use lset_text::Cause;
 use std::alloc::{AllocError, Global};
 use std::io::Read;
-use tool_base::{LONGEST, LineCause, Trouble, ValueName, input_of};
+use tool_base::{LONGEST, Trouble, ValueName, input_of};
 
 /// The line of a schedule's text that names the list.
 const KIND_LINE: u64 = 2;
@@ -34,18 +35,18 @@ pub fn schedule_of(alloc: Global, broken: BrokenList, bytes: &[u8]) -> Result<Sc
     }
     let schedule = read_schedule(alloc, bytes)?;
     if schedule.kind != broken.kind() {
-        return Err(Trouble::Line(KIND_LINE, LineCause::Schedule(Cause::Kind)));
+        return Err(Trouble::Line(KIND_LINE, Cause::Kind));
     }
     Ok(schedule)
 }
 
 /// Returns the cause of the line about the event at which a run ends.
-pub fn cause_of(fault: BrokenStepError) -> LineCause {
+pub fn cause_of(fault: BrokenStepError) -> Cause {
     match fault {
-        BrokenStepError::NoThread => LineCause::NoThread,
-        BrokenStepError::Busy => LineCause::Busy,
-        BrokenStepError::Idle => LineCause::Idle,
-        BrokenStepError::Lost => LineCause::Lost,
+        BrokenStepError::NoThread => Cause::NoThread,
+        BrokenStepError::Busy => Cause::Busy,
+        BrokenStepError::Idle => Cause::Idle,
+        BrokenStepError::Lost => Cause::Lost,
     }
 }
 
