@@ -372,10 +372,10 @@ const texts = new WeakMap();
 
 function keepHeight(box, of) {
   const key = `${of} ${innerWidth}`;
-  const before = heights.get(box);
-  if (before?.key !== key) box.style.minHeight = "";
-  const height = Math.max(box.offsetHeight, before?.key === key ? before.height : 0);
-  if (before?.key === key && before.height === height) return;
+  const isSame = heights.get(box)?.key === key;
+  if (!isSame) box.style.minHeight = "";
+  const height = box.offsetHeight;
+  if (isSame && height <= heights.get(box).height) return;
   heights.set(box, { key, height });
   box.style.minHeight = `${height}px`;
 }
@@ -4144,6 +4144,10 @@ function showList({ state, event }, wide) {
   byId("list").style.minHeight = isKept ? `${keptHeight(Number(byId("list").firstElementChild.getAttribute("height")), wide)}px` : "";
 }
 
+function keepHeights() {
+  for (const id of ["said", "order"]) keepHeight(byId(id), now.task.work);
+}
+
 function showBar(moment) {
   const { trace, count } = now.run;
   const { total } = trace;
@@ -4151,7 +4155,6 @@ function showBar(moment) {
   byId("title").textContent = `${name}, ${trace.threads} thread${trace.threads > 1 ? "s" : ""}`;
   byId("source").textContent = now.run.source;
   setHtml(byId("said"), sentenceOf(moment, hiddenOutcomes()));
-  keepHeight(byId("said"), now.task.work);
   const slider = byId("slider");
   Object.assign(slider, { max: total, value: count });
   slider.setAttribute("aria-valuetext", `event ${count} of ${total}: ${byId("said").textContent}`);
@@ -4194,7 +4197,6 @@ function showHistory(event, wide) {
   setHtml(byId("calls"), drawCalls(trace, scale));
   setHtml(byId("contents"), drawContents(trace, scale));
   setHtml(byId("order"), drawOrder(trace, count, hides));
-  keepHeight(byId("order"), now.task.work);
   drawnHistory.scale = scale;
   const box = byId("calls");
   if (event === null || scale.height <= ALL_LANES || box.scrollHeight <= box.clientHeight) return;
@@ -4265,7 +4267,7 @@ function showMarks() {
   byId("run").classList.toggle("stale", isStale);
   byId("run").textContent = isStale ? "Run the changes" : "Run";
 }
-return { showRun, showBar, drawnHistory, watchEditor, showMarks };
+return { showRun, keepHeights, showBar, drawnHistory, watchEditor, showMarks };
 })();
 
 // page/example.js
@@ -6559,9 +6561,9 @@ const { CLASSICS } = $made_classics;
 const { drawJudged, drawOwnOrder, judgeScale, momentOfReport } = $draw_judged;
 const { byId, redraw } = $page_dom;
 const { keepUnder, keptUnder } = $page_kept;
-const { askNow, dispatch, exampleShown, held, isJudging, now, tell } = $page_now;
+const { askNow, dispatch, exampleShown, isJudging, now, tell } = $page_now;
 const { addressOf } = $run_address;
-const { exerciseOf, LEVELS, MOST_JUDGED, OwnAnswer, repliesOf, verdictOn, wordOfAnswer } = $run_judged;
+const { exerciseOf, LEVELS, OwnAnswer, repliesOf, verdictOn, wordOfAnswer } = $run_judged;
 const { callText, chipOf, escaped } = $run_markup;
 const JUDGED = "listset-judged"; // in the browser's storage: of each run and level the order that was right
 
@@ -6717,7 +6719,16 @@ function hintOfRun() {
   const changes = now.run.trace.changes.map(({ number }) => number);
   return changes.length === 0 ? "No event changes the set." : `The set changes at the events ${changes.join(", ")}.`;
 }
+return { JUDGED, judgePart, judging, drawJudging };
+})();
 
+// activities/judge_begin.js
+const $activities_judge_begin = (() => {
+const { byId } = $page_dom;
+const { dispatch, held, now, tell } = $page_now;
+const { LEVELS, MOST_JUDGED } = $run_judged;
+const { escaped } = $run_markup;
+const { judgePart, judging } = $activities_judging;
 function beginJudging() {
   const { trace } = now.run;
   if (held.engine === null) return tell("The replayer does not run in this browser: nothing can be judged.");
@@ -6751,7 +6762,7 @@ function listenToJudging() {
   bars.onpointerup = bars.onpointercancel = () => (judging.held = null);
   bars.onkeydown = (event) => judging.press(event);
 }
-return { JUDGED, judging, drawJudging, beginJudging, listenToJudging };
+return { beginJudging, listenToJudging };
 })();
 
 // activities/break_level.js
@@ -6771,7 +6782,7 @@ const { isTrace, Trace } = $run_trace;
 const { fillBreaks, numberOf, openLevel, titleOfLevel, whyWrong, wordOf } = $activities_break_map;
 const { drawDeparture, drawWin, level } = $activities_break_win;
 const { brokenLines, isNamed, isShownBreak, keepBrokenLine, keepNamed, noteShown } = $activities_broken_kept;
-const { beginJudging } = $activities_judging;
+const { beginJudging } = $activities_judge_begin;
 const MOST_BROKEN = 1000; // events of a run that is judged
 
 function judgeBreaking(trace) {
@@ -9004,8 +9015,8 @@ const { escaped } = $run_markup;
 const { drawBreakMap, openLevel } = $activities_break_map;
 const { openCompare } = $activities_compare;
 const { showCourseText, takeCourseOfAddress } = $activities_courses;
+const { beginJudging } = $activities_judge_begin;
 const { drawJudgeMap } = $activities_judge_map;
-const { beginJudging } = $activities_judging;
 const { drawLearnMap, openLesson } = $activities_learn_map;
 const { learning } = $activities_learning;
 const { drawReadMap } = $activities_read;
@@ -9467,7 +9478,8 @@ const { judgeBreaking, listenToBreaking, showBreaking } = $activities_break_leve
 const { fillBreaks } = $activities_break_map;
 const { drawCompare, listenToSides, pressForSides, showSides } = $activities_compare;
 const { listenToCourses } = $activities_courses;
-const { drawJudging, listenToJudging } = $activities_judging;
+const { listenToJudging } = $activities_judge_begin;
+const { drawJudging } = $activities_judging;
 const { drawStrip } = $activities_learn_map;
 const { learning, startLearning } = $activities_learning;
 const { drawLesson, listenToLessons } = $activities_lessons;
@@ -9484,7 +9496,7 @@ const { fillExamples, fillWorks, showQuestion } = $page_menu;
 const { drawMovesNow } = $page_moves;
 const { held, on, show, takeTrace } = $page_now;
 const { fitSlide, isAtMap, services, showParts } = $page_places;
-const { showBar, showMarks, showRun } = $page_view;
+const { keepHeights, showBar, showMarks, showRun } = $page_view;
 const { keepNow, keepSoon } = $page_visit;
 const { showHeader } = $page_work;
 const { Trace } = $run_trace;
@@ -9515,6 +9527,7 @@ function render(state, moment) {
   if (!isAtMap()) showRun(moment);
   showMarks();
   showSides();
+  keepHeights();
   keepSoon();
 }
 
@@ -9569,5 +9582,5 @@ if (typeof document !== "undefined") startPage(); // in node there is none
 return {  };
 })();
 
-return Object.assign({}, $made_classics, $data_levels, $page_dom, $made_traces, $engine_answers, $run_trace, $run_faults, $run_markup, $run_judged, $run_schedule_text, $made_rows, $run_state, $run_outcomes, $run_sentences, $page_state, $page_now, $draw_labels, $draw_history, $draw_contents, $draw_glide, $draw_places, $draw_arrows, $draw_list, $made_code, $draw_listing, $draw_room, $draw_table, $draw_threads, $page_seen, $page_places, $page_view, $page_example, $page_play, $run_broken, $run_draft, $run_moments, $course_goal_words, $course_course_text, $course_lesson, $made_book, $page_kept, $engine_engine, $engine_worker, $page_long_run, $page_run_text, $page_work, $run_address, $page_menu, $activities_broken_kept, $activities_break_map, $activities_break_win, $run_recorded, $draw_judged, $activities_judging, $activities_break_level, $page_steps, $page_moves, $page_keys, $run_seed, $page_address_of, $page_visit, $run_sides, $activities_compare, $course_course_link, $run_trace_pieces, $run_check_trace, $page_files, $activities_kept_lessons, $activities_learning, $activities_learn_map, $activities_courses, $course_hand_in, $activities_lessons, $activities_recorded, $data_book_code, $activities_watch, $activities_judge_map, $activities_read, $activities_open, $draw_code_column, $page_save_picture, $page_controls, $activities_place);
+return Object.assign({}, $made_classics, $data_levels, $page_dom, $made_traces, $engine_answers, $run_trace, $run_faults, $run_markup, $run_judged, $run_schedule_text, $made_rows, $run_state, $run_outcomes, $run_sentences, $page_state, $page_now, $draw_labels, $draw_history, $draw_contents, $draw_glide, $draw_places, $draw_arrows, $draw_list, $made_code, $draw_listing, $draw_room, $draw_table, $draw_threads, $page_seen, $page_places, $page_view, $page_example, $page_play, $run_broken, $run_draft, $run_moments, $course_goal_words, $course_course_text, $course_lesson, $made_book, $page_kept, $engine_engine, $engine_worker, $page_long_run, $page_run_text, $page_work, $run_address, $page_menu, $activities_broken_kept, $activities_break_map, $activities_break_win, $run_recorded, $draw_judged, $activities_judging, $activities_judge_begin, $activities_break_level, $page_steps, $page_moves, $page_keys, $run_seed, $page_address_of, $page_visit, $run_sides, $activities_compare, $course_course_link, $run_trace_pieces, $run_check_trace, $page_files, $activities_kept_lessons, $activities_learning, $activities_learn_map, $activities_courses, $course_hand_in, $activities_lessons, $activities_recorded, $data_book_code, $activities_watch, $activities_judge_map, $activities_read, $activities_open, $draw_code_column, $page_save_picture, $page_controls, $activities_place);
 })();

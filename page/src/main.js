@@ -4,7 +4,8 @@ import { judgeBreaking, listenToBreaking, showBreaking } from "./activities/brea
 import { fillBreaks } from "./activities/break_map.js";
 import { drawCompare, listenToSides, pressForSides, showSides } from "./activities/compare.js";
 import { listenToCourses } from "./activities/courses.js";
-import { drawJudging, listenToJudging } from "./activities/judging.js";
+import { listenToJudging } from "./activities/judge_begin.js";
+import { drawJudging } from "./activities/judging.js";
 import { drawStrip } from "./activities/learn_map.js";
 import { learning, startLearning } from "./activities/learning.js";
 import { drawLesson, listenToLessons } from "./activities/lessons.js";
@@ -21,7 +22,7 @@ import { fillExamples, fillWorks, showQuestion } from "./page/menu.js";
 import { drawMovesNow } from "./page/moves.js";
 import { held, on, show, takeTrace } from "./page/now.js";
 import { fitSlide, isAtMap, services, showParts } from "./page/places.js";
-import { showBar, showMarks, showRun } from "./page/view.js";
+import { keepHeights, showBar, showMarks, showRun } from "./page/view.js";
 import { keepNow, keepSoon } from "./page/visit.js";
 import { showHeader } from "./page/work.js";
 import { Trace } from "./run/trace.js";
@@ -55,6 +56,7 @@ function render(state, moment) {
   if (!isAtMap()) showRun(moment);
   showMarks();
   showSides();
+  keepHeights();
   keepSoon();
 }
 

@@ -15,7 +15,7 @@ import { isTrace, Trace } from "../run/trace.js";
 import { fillBreaks, numberOf, openLevel, titleOfLevel, whyWrong, wordOf } from "./break_map.js";
 import { drawDeparture, drawWin, level } from "./break_win.js";
 import { brokenLines, isNamed, isShownBreak, keepBrokenLine, keepNamed, noteShown } from "./broken_kept.js";
-import { beginJudging } from "./judging.js";
+import { beginJudging } from "./judge_begin.js";
 
 const MOST_BROKEN = 1000; // events of a run that is judged
 

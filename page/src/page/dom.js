@@ -38,10 +38,10 @@ const texts = new WeakMap();
 // A box keeps the height that it has had for one thing, so that what stands below it moves once at most.
 export function keepHeight(box, of) {
   const key = `${of} ${innerWidth}`;
-  const before = heights.get(box);
-  if (before?.key !== key) box.style.minHeight = "";
-  const height = Math.max(box.offsetHeight, before?.key === key ? before.height : 0);
-  if (before?.key === key && before.height === height) return;
+  const isSame = heights.get(box)?.key === key;
+  if (!isSame) box.style.minHeight = "";
+  const height = box.offsetHeight;
+  if (isSame && height <= heights.get(box).height) return;
   heights.set(box, { key, height });
   box.style.minHeight = `${height}px`;
 }

@@ -48,6 +48,11 @@ function showList({ state, event }, wide) {
   byId("list").style.minHeight = isKept ? `${keptHeight(Number(byId("list").firstElementChild.getAttribute("height")), wide)}px` : "";
 }
 
+// What may grow keeps its height. It is asked for once all is drawn, since each question has the whole page laid out.
+export function keepHeights() {
+  for (const id of ["said", "order"]) keepHeight(byId(id), now.task.work);
+}
+
 // The names, the question, the sentence and the bar above the picture.
 export function showBar(moment) {
   const { trace, count } = now.run;
@@ -56,7 +61,6 @@ export function showBar(moment) {
   byId("title").textContent = `${name}, ${trace.threads} thread${trace.threads > 1 ? "s" : ""}`;
   byId("source").textContent = now.run.source;
   setHtml(byId("said"), sentenceOf(moment, hiddenOutcomes()));
-  keepHeight(byId("said"), now.task.work);
   const slider = byId("slider");
   Object.assign(slider, { max: total, value: count });
   slider.setAttribute("aria-valuetext", `event ${count} of ${total}: ${byId("said").textContent}`);
@@ -101,7 +105,6 @@ function showHistory(event, wide) {
   setHtml(byId("calls"), drawCalls(trace, scale));
   setHtml(byId("contents"), drawContents(trace, scale));
   setHtml(byId("order"), drawOrder(trace, count, hides));
-  keepHeight(byId("order"), now.task.work);
   drawnHistory.scale = scale;
   const box = byId("calls");
   if (event === null || scale.height <= ALL_LANES || box.scrollHeight <= box.clientHeight) return;

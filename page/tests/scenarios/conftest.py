@@ -4,12 +4,13 @@
 
 import functools
 import http.server
+import json
 import pathlib
 import threading
 import time
 
 import pytest
-import webdriver
+import webdriver  # (with build/ in the path, by pytest.ini)
 
 PAGE = pathlib.Path(__file__).resolve().parents[2]
 SECONDS = 20  # in which something has to be seen
@@ -27,6 +28,10 @@ class Quiet(http.server.SimpleHTTPRequestHandler):
 
     def log_message(self, *words):
         pass
+
+    def end_headers(self):
+        self.send_header("Cache-Control", "no-store")
+        super().end_headers()
 
     def translate_path(self, path):
         if path.startswith("/slow.html"):
@@ -52,6 +57,11 @@ class Visitor(webdriver.Browser):
         self.go("about:blank")
         self.go(f"{self.place}/{file}{address}")
         self.wait("return document.body.dataset.ready === 'yes'")
+
+    def inside(self, text, *given):
+        """What some words mean with the names that the page's modules export, which a script from outside does not see."""
+        words = f"JSON.stringify(((...given) => {{ {text} }})(...{json.dumps(given)}) ?? null)"
+        return json.loads(self.script("return (window.wrappedJSObject ?? window).eval(arguments[0])", words))
 
     def wait(self, text, *given, seconds=SECONDS):
         """What some words mean in the page once that is no longer nothing or false."""

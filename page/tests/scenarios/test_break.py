@@ -1,7 +1,5 @@
 """Break: a level is won, its answer is not told, the contradiction is in sight."""
 
-WIN = "#list=coarse&threads=2&quota=2&opening=3.7&lacks=1"
-
 
 def ways(visitor):
     """A schedule that breaks level 1, found by the page's own hints: both walk, then both hang a node in."""
@@ -21,7 +19,7 @@ def ways(visitor):
 def test_a_won_level_keeps_its_answer_to_itself(visitor):
     assert ways(visitor)
     assert visitor.is_seen("#break-options button") and not visitor.is_seen("#break-line code")
-    name = visitor.script("return Object.keys(listsets.BREAK_LEVELS)[0]")
+    name = visitor.inside("return Object.keys(listsets.BREAK_LEVELS)[0]")
     assert f"break {name}" not in visitor.text("main")
 
 
@@ -62,7 +60,10 @@ def test_a_wrong_answer_is_told_and_the_right_one_kept(visitor):
 
 
 def test_a_self_loop_does_not_cross_its_key(visitor):
-    visitor.open("#break=1")
-    drawn = visitor.script("""const { Trace, State, momentAt, drawList } = listsets;
-        return true""")
-    assert drawn
+    visitor.open("#example=marked-in-chain&event=20")
+    corners = visitor.inside("""const { now, drawList } = listsets;
+        const name = now.run.state.chain()[1];
+        now.run.state.nodes[name].link = name;
+        document.body.innerHTML = drawList(now.run.state, null, 900);
+        return document.querySelector(`[data-part="link ${name}"] path`).getAttribute("d").split(" L").length""")
+    assert corners > 3

@@ -33,8 +33,8 @@ def opened(visitor, name, text):
 
 def test_files(visitor):
     visitor.open("#example=snip")
-    trace = visitor.script("return listsets.now.run.trace.text")
-    report = visitor.script("return listsets.askNow('listset_replay', listsets.now.run.text).text")
+    trace = visitor.inside("return listsets.now.run.trace.text")
+    report = visitor.inside("return listsets.askNow('listset_replay', listsets.now.run.text).text")
     opened(visitor, "own.trace", trace)
     assert "gives the same" in visitor.text("#source")
     opened(visitor, "wrong.trace", trace.replace("event 7 ", "event 07 "))

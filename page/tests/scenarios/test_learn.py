@@ -31,19 +31,9 @@ def test_no_button_leads_to_the_try_that_is_shown(visitor):
     assert visitor.event() > 0 and not visitor.is_seen("#lesson-go-on")
 
 
-def solved(visitor):
-    visitor.open("#learn=one-lock")
-    visitor.click("#lesson-judge")
-    visitor.click("#lesson-answer")
-    visitor.click("#lesson-open")
-    visitor.press("End")
-
-
 def test_a_solved_lesson_can_be_explored_on(visitor):
     visitor.open("#learn=one-lock")
-    words = "return listsets.BOOK.split('lesson ').find((it) => it.startsWith('one-lock'))"
-    assert visitor.script(words)
-    solution = visitor.script("return listsets.learning.panel.lesson.solution") + "begin 0 contains 5\n"
+    solution = visitor.inside("return listsets.learning.panel.lesson.solution") + "begin 0 contains 5\n"
     visitor.type("#schedule", solution)
     visitor.click("#run")
     visitor.press("End")

@@ -1,5 +1,7 @@
 """A student's work: schedules as text, undo, long runs, what is read aloud, and all of the examples."""
 
+import json
+
 HEADER = "listset-schedule 1\nlist {}\nthreads 2\nquota 4\n"
 
 
@@ -10,14 +12,14 @@ def run_text(visitor, text):
 
 def test_all_examples_go_to_their_end(visitor):
     visitor.open("#example=snip")
-    names = visitor.script("return listsets.examples().map(({ name }) => name)")
+    names = visitor.inside("return listsets.examples().map(({ name }) => name)")
     assert len(names) == 18
     for name in names:
         visitor.open(f"#example={name}")
         visitor.press("End")
         at, total = visitor.text("#where").split()[1::2]
         assert at == total and visitor.text("#fault") == "", name
-        found = visitor.script("""const { now, askNow } = listsets;
+        found = visitor.inside("""const { now, askNow } = listsets;
             const places = [...askNow("listset_replay", now.run.text).text.matchAll(/^place (\\d+) /gm)].map((it) => it[1]);
             return [places.join(), now.run.trace.order.map(({ id }) => id).join()]""")
         assert found[0] == found[1], name
@@ -64,7 +66,7 @@ def test_steps_to_the_end_and_to_a_lock(visitor):
 
 def test_a_million_events_can_be_cancelled(visitor):
     visitor.open("#example=snip&event=6")
-    run_text(visitor, HEADER.format("coarse") + "begin 0 add 5\ngo 0 4\nbegin 1 add 7\ngo 1 999988\n")
+    run_text(visitor, HEADER.format("coarse") + "begin 0 add 5\ngo 0 4\nbegin 1 add 7\ngo 1 2999988\n")
     assert visitor.is_seen("#long") and visitor.text("#where").startswith("event 6 of")
     visitor.click("#long-cancel")
     assert not visitor.is_seen("#long") and visitor.text("#fault").startswith("The run was cancelled")
@@ -86,7 +88,7 @@ def test_controls_have_names_and_ids_stand_once(visitor):
         visitor.open(address)
         nameless, twice = visitor.script("""const seen = [...document.querySelectorAll("button, select, input, textarea, a[href]")]
             .filter((it) => it.getClientRects().length > 0);
-            const nameOf = (it) => it.getAttribute("aria-label") ?? it.title + it.innerText + (it.labels?.[0]?.innerText ?? "");
+            const nameOf = (it) => it.getAttribute("aria-label") ?? it.title + it.textContent + (it.labels?.[0]?.textContent ?? "");
             const ids = [...document.querySelectorAll("[id]")].map(({ id }) => id);
             return [seen.filter((it) => nameOf(it).trim() === "").map((it) => it.id || it.outerHTML.slice(0, 80)),
               ids.filter((id, at) => ids.indexOf(id) < at)]""")
@@ -118,7 +120,7 @@ def test_one_is_judged(visitor):
     visitor.script("document.querySelector('#judge-level').focus()")
     visitor.choose("#judge-level", "points")
     for call, moment in enumerate((10, 23.5, 23, 36)):
-        visitor.script("""const { judging } = listsets; judging.place(judging.exercise.calls[arguments[0]], arguments[1])""", call, moment)
+        visitor.inside("""const { judging } = listsets; judging.place(judging.exercise.calls[given[0]], given[1])""", call, moment)
     visitor.click("#judge-ask")
     assert visitor.text("#judge-verdict").startswith("check says ok") or "in your order" in visitor.text("#judge-verdict")
     visitor.click("#judge-end")
@@ -132,9 +134,9 @@ def test_none_is_right_of_a_broken_list(visitor):
 
 def test_a_numbered_run_is_the_same_for_all(visitor, another):
     visitor.open("#seed=lazy.2.5.2.17")
-    text = visitor.script("return listsets.now.run.text")
+    text = visitor.inside("return listsets.now.run.text")
     another.open("#seed=lazy.2.5.2.17&judge")
-    assert another.script("return listsets.now.run.text") == text and another.is_seen("#judge-ask")
+    assert another.inside("return listsets.now.run.text") == text and another.is_seen("#judge-ask")
 
 
 def test_a_slow_network(visitor):
@@ -152,8 +154,9 @@ def test_the_engine_gives_the_programs_bytes(visitor, request):
     if request.config.getoption("--cases") is None:
         return
     visitor.open("#example=snip")
-    visitor.script("""const add = (src) => new Promise((done) => document.head.append(Object.assign(document.createElement("script"), { src, onload: done })));
+    visitor.inside("""const add = (src) => new Promise((done) => document.head.append(Object.assign(document.createElement("script"), { src, onload: done })));
         Promise.all([add("tests/cases.js"), fetch("cases.json").then((it) => it.json())])
-          .then(([, cases]) => compared(listsets.held.engine, cases)).then((result) => (window.result = result))""")
-    found = visitor.wait("return window.result ?? null", seconds=300)
+          .then(([, cases]) => compared(listsets.held.engine, cases)).then((result) => (document.body.dataset.result = JSON.stringify(result)));
+        return 1""")
+    found = json.loads(visitor.wait("return document.body.dataset.result ?? null", seconds=300))
     assert found["failed"] == [] and found["passed"] > 0

@@ -8,12 +8,13 @@ import json
 import os
 import pathlib
 import shutil
-import signal
 import socket
 import subprocess
 import tempfile
 import time
 import urllib.request
+
+import processes
 
 NEEDS = {"chromium": ("chromium-driver", ["chromedriver"]), "firefox": ("firefox-esr", ["firefox-esr", "firefox"]),
          "webkit": ("webkit2gtk-driver and xvfb", ["WebKitWebDriver"])}
@@ -44,10 +45,10 @@ def free_port():
 
 
 def started(words, folder):
-    """A process in a session of its own, with a folder for what it keeps."""
+    """A process that ends with this one, with a folder for what it keeps."""
     homes = {f"XDG_{it}_HOME": folder for it in ("CONFIG", "DATA", "CACHE")}
     silent = {"stdin": subprocess.DEVNULL, "stdout": subprocess.DEVNULL, "stderr": subprocess.DEVNULL}
-    return subprocess.Popen(words, **silent, start_new_session=True, env={**os.environ, **homes})
+    return subprocess.Popen([*processes.guarded(), *words], **silent, env={**os.environ, **homes})
 
 
 class OverHttp:
@@ -143,7 +144,7 @@ class Browser:
             self.at.command("end", {})
         except (Failed, OSError):
             pass
-        os.killpg(self.at.process.pid, signal.SIGTERM)
+        self.at.process.terminate()
         self.at.process.wait()
         self.folder.cleanup()
 
