@@ -1,4 +1,4 @@
-"""The judge in a test of one's own: the forms of examples/in-a-test, by their own tests, in each language that is installed.
+"""The judge in a test of one's own: the forms of judge/, by their own tests, in each language that is installed.
 
 A right set has to be `ok` there, and three wrong ones refused; what hangs or crashes is judged up to there; a long run is one recording,
 which the program judges again. The verdict counts the calls of all runs, and a run that fails is named. If there is no judge, or one that
@@ -15,7 +15,7 @@ import sys
 import pytest
 from harness.programs import QUICK_CARGO, TOP, ran, well
 
-FORMS = TOP / "examples" / "in-a-test"
+FORMS = TOP / "judge"
 SECONDS = 300  # for each run of tests
 JUNIT = pathlib.Path("/usr/share/java/junit-platform-console-standalone.jar")
 # What is no judge, and what a form has to say then: `{}` is its path.

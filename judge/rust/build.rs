@@ -6,7 +6,7 @@ fn main() {
     println!("cargo:rerun-if-env-changed=LISTSET_LIB");
     println!("cargo:rustc-check-cfg=cfg(linked)");
     let here = env::var("CARGO_MANIFEST_DIR").expect("cargo sets the folder of a crate");
-    let of_release = Path::new(&here).join("../../../../../../lib");
+    let of_release = Path::new(&here).join("../../../../../lib");
     let places = match env::var_os("LISTSET_LIB") {
         Some(given) => vec![PathBuf::from(given)],
         None => vec![Path::new(&here).join("lib"), of_release],
