@@ -4,6 +4,7 @@ package judge
 
 import (
 	"bytes"
+	"errors"
 	"fmt"
 	"io"
 	"os"
@@ -20,112 +21,112 @@ const fileName = "LISTSET_AREA"
 
 // child is a process that runs a test again, up to its Check, and makes runs there.
 type child struct {
-	*area
+	*run
 	process *exec.Cmd
 	errors  bytes.Buffer
 	over    chan bool
 }
 
 // inChild gives the caller of the Check of this name; in the process of its own it makes the runs, and does not come back.
-func inChild(name string, it *area, makeSet func() Set) (caller, error) {
+func inChild(name string, r *run) (caller, error) {
 	if os.Getenv(checkName) == name {
-		it.serve(makeSet)
+		r.serve()
 	}
 	file, err := os.CreateTemp("", "listset-")
 	if err == nil {
 		defer os.Remove(file.Name())
 		defer file.Close()
-		err = file.Truncate(int64(it.size()))
+		err = file.Truncate(int64(r.size()))
 	}
 	if err == nil {
-		err = it.share(file)
+		err = r.share(file)
 	}
 	if err != nil {
-		return nil, fmt.Errorf("there is no memory for the calls of a run: %v", err)
+		return nil, fmt.Errorf(sayNoMemory+": %v", err)
 	}
-	made := &child{area: it, over: make(chan bool)}
+	made := &child{run: r, over: make(chan bool)}
 	return made, made.start(name, file.Name())
 }
 
 // share has the run written down in a file that processes share.
-func (it *area) share(file *os.File) error {
-	memory, err := syscall.Mmap(int(file.Fd()), 0, it.size(), syscall.PROT_READ|syscall.PROT_WRITE, syscall.MAP_SHARED)
+func (r *run) share(file *os.File) error {
+	memory, err := syscall.Mmap(int(file.Fd()), 0, r.size(), syscall.PROT_READ|syscall.PROT_WRITE, syscall.MAP_SHARED)
 	if err == nil {
-		it.lay(memory)
+		r.lay(memory)
 	}
 	return err
 }
 
 // start starts the process, and waits until it has come to the Check.
-func (it *child) start(name, file string) error {
+func (c *child) start(name, file string) error {
 	test := name[:strings.LastIndex(name, "#")]
 	pieces := strings.Split(test, "/")
 	for i, piece := range pieces {
 		pieces[i] = "^" + regexp.QuoteMeta(piece) + "$"
 	}
-	it.process = exec.Command(os.Args[0], "-test.run="+strings.Join(pieces, "/"))
-	it.process.Env = append(os.Environ(), checkName+"="+name, fileName+"="+file)
-	it.process.Stderr = io.MultiWriter(&it.errors, os.Stderr) // (which has the stacks)
-	_, err := it.process.StdinPipe()                          // (this process holds its other end, and so ends that one)
+	c.process = exec.Command(os.Args[0], "-test.run="+strings.Join(pieces, "/"))
+	c.process.Env = append(os.Environ(), checkName+"="+name, fileName+"="+file)
+	c.process.Stderr = io.MultiWriter(&c.errors, os.Stderr) // (which has the stacks)
+	_, err := c.process.StdinPipe()                         // (this process holds its other end, and so ends that one)
 	if err == nil {
-		err = it.process.Start()
+		err = c.process.Start()
 	}
 	if err != nil {
-		return fmt.Errorf("no process could be started for the runs: %v", err)
+		return fmt.Errorf(sayNoProcess, err)
 	}
 	go func() {
-		it.process.Wait()
-		close(it.over)
+		c.process.Wait()
+		close(c.over)
 	}()
-	for atomic.LoadUint32(&it.isHere) == 0 {
-		if it.isOver() {
-			return fmt.Errorf("%s did not come to this Check again in a process of its own: set InProcess", test)
+	for atomic.LoadUint32(&c.isHere) == 0 {
+		if c.isOver() {
+			return errors.New(sayNotAgain)
 		}
 		time.Sleep(300 * time.Microsecond)
 	}
 	return nil
 }
 
-func (it *child) begin() {}
+func (c *child) begin() {}
 
-func (it *child) isOver() bool {
+func (c *child) isOver() bool {
 	select {
-	case <-it.over:
+	case <-c.over:
 		return true
 	default:
 		return false
 	}
 }
 
-func (it *child) hasEnded() bool { return atomic.LoadUint32(&it.at) == ended || it.isOver() }
+func (c *child) hasEnded() bool { return atomic.LoadUint32(&c.at) == ended || c.isOver() }
 
 // trouble is how the process ended, if it was too soon.
-func (it *child) trouble() string {
-	if atomic.LoadUint32(&it.at) == ended {
+func (c *child) trouble() string {
+	if atomic.LoadUint32(&c.at) == ended {
 		return ""
 	}
-	for _, line := range strings.Split(it.errors.String(), "\n") {
+	for _, line := range strings.Split(c.errors.String(), "\n") {
 		if strings.HasPrefix(line, "fatal error: ") || strings.HasPrefix(line, "panic: ") {
-			return "the set crashed: " + line
+			return fmt.Sprintf(sayCrashed, line)
 		}
 	}
-	if status := it.process.ProcessState; status.Exited() {
-		return fmt.Sprintf("the set ended its process with the status %d", status.ExitCode())
+	if status := c.process.ProcessState; status.Exited() {
+		return fmt.Sprintf(sayEndedSo, status.ExitCode())
 	}
-	return "the set crashed: " + it.process.ProcessState.String()
+	return fmt.Sprintf(sayCrashed, c.process.ProcessState)
 }
 
-func (it *child) stop() {
-	it.process.Process.Kill()
-	<-it.over
-	syscall.Munmap(it.memory)
+func (c *child) stop() {
+	c.process.Process.Kill()
+	<-c.over
+	syscall.Munmap(c.memory)
 }
 
 // serve makes the runs that another process asks for, as long as it is there.
-func (it *area) serve(make func() Set) {
+func (r *run) serve() {
 	file, err := os.OpenFile(os.Getenv(fileName), os.O_RDWR, 0)
 	if err == nil {
-		err = it.share(file)
+		err = r.share(file)
 	}
 	if err != nil {
 		os.Exit(1)
@@ -134,10 +135,12 @@ func (it *area) serve(make func() Set) {
 		io.Copy(io.Discard, os.Stdin)
 		os.Exit(1)
 	}()
-	for atomic.StoreUint32(&it.isHere, 1); ; {
-		for atomic.LoadUint32(&it.at) != going {
+	atomic.StoreUint32(&r.isHere, 1)
+	for {
+		for atomic.LoadUint32(&r.at) != going {
 			time.Sleep(100 * time.Microsecond)
 		}
-		it.callAll(make)
+		r.takeShape()
+		r.callAll()
 	}
 }

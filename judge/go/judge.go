@@ -10,44 +10,116 @@
 package judge
 
 import (
-	"bytes"
-	"errors"
 	"fmt"
-	"io"
 	"os"
-	"os/exec"
-	"path/filepath"
-	"sort"
-	"strings"
 	"sync"
-	"sync/atomic"
+	"time"
 )
 
-const mostCalls = 1000000000 // of all goroutines
-
-// Set is what is called from many goroutines at once.
-type Set interface {
-	Add(key uint32) bool
-	Remove(key uint32) bool
-	Contains(key uint32) bool
+// SetOf is what is called from many goroutines at once. A call panics with NotKnown if its outcome is not known, as after a time-out.
+type SetOf[K any] interface {
+	Add(key K) bool
+	Remove(key K) bool
+	Contains(key K) bool
 }
 
-// Options says how a set is called. Judge checks it before the first set is made.
+// Set is a set of numbers.
+type Set = SetOf[uint32]
+
+type notKnown struct{}
+
+// NotKnown is what a call panics with if its outcome is not known.
+var NotKnown any = notKnown{}
+
+// Options says how a set is called. They are checked before the first set is made.
 type Options struct {
-	Threads   int    // goroutines that call a set at once: 1 to 64
-	Calls     int    // of each goroutine: 1 or more, and 1,000,000,000 at most of all, which rest after each 20,000 until these are written
-	Keys      int    // calls are on the keys below this: 1 to 1,048,576. On few keys more calls meet
-	Pauses    int    // before how many of 100 calls a goroutine pauses, for some microseconds at most: 0 to 100
-	Runs      int    // fresh sets that are called: 1 to 1,000,000
-	Seed      int64  // what calls, keys and pauses of the first run are drawn from; the next run has the next seed
-	Seconds   int    // a run in which no call begins or ends for so long is ended: 1 to 3,600; 0 is 10
-	InProcess bool   // Check calls the set in this process, which then crashes with it (for a debugger, or for coverage)
-	Record    string // a folder that keeps the recording of each run; else that of a run that fails is kept, in the folder for temporary files
+	Threads       int    // goroutines that call a set at once: 1 to 64; 0, here and in the next two: by the presets of runs, in turn
+	Calls         int    // of each goroutine: 1 or more, and 1,000,000,000 at most of all, which rest after each 20,000 until these are written
+	Keys          int    // calls are on the keys of the numbers below this: 1 to 1,048,576; half of them on the first four
+	Pauses        int    // before how many of 100 calls a goroutine pauses, for some microseconds at most: 0 to 100
+	Runs          int    // sets that are called, or rows of fresh sets: 1 to 1,000,000
+	Seed          int64  // what calls, keys and pauses of the first run are drawn from; the next run has the next seed
+	Seconds       int    // a run in which no call begins or ends for so long is ended: 1 to 3,600
+	AtLeast       int    // the test fails if fewer of 100 calls overlap a change of their key
+	Adds          int    // the share of Add among the operations,
+	Removes       int    // that of Remove,
+	Finds         int    // and that of Contains
+	InProcess     bool   // Check calls the set in this process, which then crashes with it (for a debugger, or for coverage)
+	OpensWithKeys bool   // before the first call, Contains is asked of each key
+	Record        string // a folder that keeps the recording of each run; else that of a run that fails is kept, in the folder for temporary files
 }
 
-// Usual is 20 runs of 8 goroutines by 1,000 calls on 4 keys.
-func Usual() Options {
-	return Options{Threads: 8, Calls: 1000, Keys: 4, Pauses: 20, Runs: 20, Seed: 1, Seconds: 10}
+// DefaultOptions is 20 runs by the presets.
+func DefaultOptions() Options {
+	return Options{Pauses: 20, Runs: 20, Seed: 1, Seconds: 10, Adds: 1, Removes: 1, Finds: 1}
+}
+
+func (o Options) check() error {
+	atLeast1 := func(given int) int {
+		if given == 0 {
+			return 1
+		}
+		return given
+	}
+	given := []int{atLeast1(o.Threads), atLeast1(o.Threads) * atLeast1(o.Calls), atLeast1(o.Keys), o.Pauses, o.Runs, o.Seconds, o.AtLeast}
+	for i, its := range ranges {
+		if given[i] < its.least || given[i] > its.most {
+			return fmt.Errorf(sayRange, its.name, given[i], its.least, its.most)
+		}
+	}
+	if o.Adds < 0 || o.Removes < 0 || o.Finds < 0 || o.Adds+o.Removes+o.Finds == 0 {
+		return fmt.Errorf(sayRange, "adds plus removes plus finds", o.Adds+o.Removes+o.Finds, 1, 1000)
+	}
+	return nil
+}
+
+// shape is a run: the goroutines, the fresh sets one after another, the calls of each goroutine on each, the keys, and what their
+// numbers are multiples of.
+type shape struct {
+	name                              string
+	threads, sets, calls, keys, times int
+}
+
+type limits struct {
+	name        string
+	least, most int
+}
+
+// shapeOf is the preset of a seed, with what the options say.
+func (o Options) shapeOf(seed int64) shape {
+	count := int64(len(presets))
+	s := presets[((seed-1)%count+count)%count]
+	if o.Threads > 0 {
+		s.threads = o.Threads
+	}
+	if o.Keys > 0 {
+		s.keys, s.times = o.Keys, 1
+	}
+	if o.Calls > 0 {
+		s.calls, s.sets = o.Calls, 1
+	}
+	return s.fitted()
+}
+
+func (s shape) fitted() shape {
+	if most := manyPart / (s.threads * s.calls); s.sets > 1 && s.sets > most {
+		s.sets = most
+	}
+	if s.sets < 1 {
+		s.sets = 1
+	}
+	return s
+}
+
+// harder has more goroutines and fewer keys, where the options leave them open.
+func (o Options) harder(s shape) shape {
+	if o.Threads == 0 && s.threads <= 4 {
+		s.threads *= 2
+	}
+	if o.Keys == 0 && s.keys > 1 {
+		s.keys /= 2
+	}
+	return s.fitted()
 }
 
 // Verdict is what is known if some order explains each run: the calls, those that overlapped a change of their key, by the judge, and
@@ -57,31 +129,29 @@ type Verdict struct {
 	Judge             string
 }
 
-// few is what to do if so few calls met that `ok` says little; else it is empty.
-func (it Verdict) few() string {
-	if it.Overlapped*100 >= it.Calls*5 {
-		return ""
+func (v Verdict) isFew() bool { return v.Overlapped*100 < v.Calls*manyEnough }
+
+func (v Verdict) String() string {
+	few := ""
+	if v.isFew() {
+		few = "; " + sayFew
 	}
-	return "; that is few: take more threads, fewer keys or a machine that does less"
+	return fmt.Sprintf(sayOk, v.Calls, v.Overlapped) + few + "; judge: " + v.Judge
 }
 
-func (it Verdict) String() string {
-	return fmt.Sprintf("ok: %d calls, of which %d overlapped a change of their key%s; judge: %s", it.Calls, it.Overlapped, it.few(), it.Judge)
-}
-
-// Failed is a run that failed: what the judge said of it, the file that has its recording, and which judge it was.
+// Failed is a run that failed: its preset, what the judge said of it, the file that has its recording, and which judge it was.
 type Failed struct {
-	Seed              int64
-	Said, File, Judge string
+	Seed                    int64
+	Name, Said, File, Judge string
 }
 
-func (it *Failed) Error() string {
-	return fmt.Sprintf("seed %d: %s\nrecorded in %s; judge: %s", it.Seed, it.Said, it.File, it.Judge)
+func (f *Failed) Error() string {
+	return fmt.Sprintf(sayFailedRun, f.Seed, f.Name, f.Said, f.File, f.Judge)
 }
 
-// NotLinearizable is the error if no order explains the run of a seed. NotEnded is the error if the set crashed, hung or panicked in it,
-// which was judged up to there. Any other error means that nothing is known of the set: an option is out of range, no set could be made,
-// or there is no judge.
+// NotLinearizable is the error if no order explains a run. NotEnded is the error if the set crashed, hung or panicked in it, which was
+// judged up to there. Any other error means that nothing is known of the set: an option is out of range, no set could be made, too few
+// calls overlapped, or there is no judge.
 type NotLinearizable struct{ Failed }
 
 type NotEnded struct{ Failed }
@@ -95,22 +165,41 @@ type Test interface {
 	Fatal(...any)
 }
 
-// Check judges the sets that `make` makes, and fails a test with the first run that no order explains, or in which the set crashes or
-// hangs. It takes Usual or these options. The set has a process of its own, which runs the test from its begin up to this Check; its
+// Check judges the sets that `newSet` makes, and fails a test with a run that no order explains, or in which the set crashes or hangs.
+// It takes DefaultOptions, or one Options. The set has a process of its own, which runs the test from its begin up to this Check; its
 // other Checks do nothing there.
-func Check[S Set](t Test, make func() S, options ...Options) {
+func Check[S Set](t Test, newSet func() S, options ...Options) {
+	t.Helper()
+	check(t, func(int) (source, error) { return numbers(newSet), nil }, options)
+}
+
+// CheckKeys is Check for a set of other keys: `key` gives the key of a number, each another one.
+func CheckKeys[K comparable, S SetOf[K]](t Test, newSet func() S, key func(uint32) K, options ...Options) {
+	t.Helper()
+	check(t, func(keys int) (source, error) { return ofKeys(newSet, key, keys) }, options)
+}
+
+// Judge judges the sets that `newSet` makes, in this process.
+func Judge[S Set](newSet func() S, options Options) (Verdict, error) {
+	return judged(options, func(int) (source, error) { return numbers(newSet), nil }, nil)
+}
+
+func check(t Test, of func(keys int) (source, error), options []Options) {
 	t.Helper()
 	name := nameOf(t)
 	if mine, isChild := os.LookupEnv(checkName); isChild && mine != name {
 		return
 	}
-	how := append(options, Usual())[0]
-	verdict, err := judged(how, func(it *area) (caller, error) {
-		if how.InProcess {
-			return &here{it, func() Set { return make() }}, nil
-		}
-		return inChild(name, it, func() Set { return make() })
-	})
+	options = append(options, DefaultOptions())
+	if len(options) > 2 {
+		t.Fatal(fmt.Errorf("Check takes one Options, and was given %d", len(options)-1))
+		return
+	}
+	var childOf func(*run) (caller, error)
+	if !options[0].InProcess {
+		childOf = func(r *run) (caller, error) { return inChild(name, r) }
+	}
+	verdict, err := judged(options[0], of, childOf)
 	if err != nil {
 		t.Fatal(err)
 		return
@@ -141,307 +230,155 @@ func nameOf(t Test) string {
 	return fmt.Sprintf("%s#%d", name, checks[name])
 }
 
-// Judge judges the sets that `make` makes, in this process.
-func Judge[S Set](make func() S, how Options) (Verdict, error) {
-	return judged(how, func(it *area) (caller, error) { return &here{it, func() Set { return make() }}, nil })
+// source makes sets of numbers, and shows the key of a number.
+type source struct {
+	newSet  func() Set
+	shown   func(number uint32) string
+	isOwn   bool // the keys are given by the test
+	numbers int
 }
 
-// judged judges each run that a caller makes, up to the first that fails.
-func judged(how Options, callerOf func(*area) (caller, error)) (Verdict, error) {
-	if how.Seconds == 0 {
-		how.Seconds = Usual().Seconds
+func numbers[S Set](newSet func() S) source {
+	return source{newSet: func() Set { return newSet() }, shown: func(n uint32) string { return fmt.Sprint(n) }}
+}
+
+// keyed is a set of other keys, by their numbers.
+type keyed[K any] struct {
+	set  SetOf[K]
+	keys []K
+}
+
+func (k keyed[K]) Add(number uint32) bool      { return k.set.Add(k.keys[number]) }
+func (k keyed[K]) Remove(number uint32) bool   { return k.set.Remove(k.keys[number]) }
+func (k keyed[K]) Contains(number uint32) bool { return k.set.Contains(k.keys[number]) }
+
+func ofKeys[K comparable, S SetOf[K]](newSet func() S, key func(uint32) K, count int) (source, error) {
+	keys, seen := make([]K, count), map[K]int{}
+	for number := range keys {
+		keys[number] = key(uint32(number))
+		if old, is := seen[keys[number]]; is {
+			return source{}, fmt.Errorf(sayTwice, fmt.Sprintf("%#v", keys[number]), old, number)
+		}
+		seen[keys[number]] = number
 	}
-	if err := how.check(); err != nil {
-		return Verdict{}, err
+	made := func() Set { return keyed[K]{newSet(), keys} }
+	return source{newSet: made, shown: func(n uint32) string { return fmt.Sprintf("%#v", keys[n]) }, isOwn: true, numbers: count}, nil
+}
+
+// judged judges run after run, each in the process that `childOf` gives, or in this one.
+func judged(options Options, of func(keys int) (source, error), childOf func(*run) (caller, error)) (verdict Verdict, err error) {
+	if err = options.check(); err != nil {
+		return verdict, err
 	}
-	by, err := findJudge()
-	if err != nil {
-		return Verdict{}, err
+	t := &tester{options: options}
+	if t.source, err = of(options.mostKeys()); err != nil {
+		return verdict, err
 	}
-	it, verdict := newArea(how), Verdict{Judge: by.String()}
-	of, err := callerOf(it)
-	if err != nil {
-		return Verdict{}, err
+	t.run = newRun(options, t.source)
+	if childOf == nil {
+		t.caller = &here{t.run}
+	} else if t.caller, err = childOf(t.run); err != nil {
+		return verdict, err
 	}
-	defer of.stop()
-	for one := 0; err == nil && one < how.Runs; one++ {
-		err = it.judge(how.Seed+int64(one), of, by, &verdict)
+	defer t.caller.stop()
+	if t.by, err = findJudge(); err != nil {
+		return verdict, err
 	}
-	if err == nil && verdict.few() != "" {
+	return t.all()
+}
+
+// mostKeys is how many keys a run may have.
+func (o Options) mostKeys() (most int) {
+	for i := range presets {
+		if keys := o.shapeOf(int64(i + 1)).keys; keys > most {
+			most = keys
+		}
+	}
+	return most
+}
+
+// tester judges one run after another.
+type tester struct {
+	options Options
+	source  source
+	run     *run
+	caller  caller
+	by      *judgeFound
+}
+
+func (t *tester) all() (Verdict, error) {
+	verdict, until := Verdict{Judge: t.by.String()}, time.Now().Add(manyPatience*time.Second)
+	for i := 0; i < t.options.Runs; i++ {
+		seed := t.options.Seed + int64(i)
+		s := t.options.shapeOf(seed)
+		for tries := 0; tries <= manyHarder; tries++ {
+			found, err := t.judgedRun(seed, s)
+			if refused, is := err.(*NotLinearizable); is {
+				err = t.smallest(refused, found)
+			}
+			if err != nil {
+				return verdict, err
+			}
+			verdict.Calls, verdict.Overlapped = verdict.Calls+s.threads*s.sets*s.calls, verdict.Overlapped+found.overlapped
+			if found.overlapped*100 >= s.threads*s.sets*s.calls*manyEnough || time.Now().After(until) {
+				break
+			}
+			s = t.options.harder(s)
+		}
+	}
+	if verdict.isFew() {
 		fmt.Fprintln(os.Stderr, verdict) // (a test that passes may show no log)
 	}
-	return verdict, err
+	if verdict.Overlapped*100 < verdict.Calls*t.options.AtLeast {
+		return verdict, fmt.Errorf(sayTooFew, verdict.Overlapped, verdict.Calls, t.options.AtLeast)
+	}
+	return verdict, nil
 }
 
-// judge has a run made, and judges it as it is made.
-func (it *area) judge(seed int64, of caller, by *judgeFound, verdict *Verdict) error {
-	recording, err := newRecording(seed, it.Record, by)
+// smallest is, of the refusal and of further runs, the one that has the fewest calls, and two at least.
+func (t *tester) smallest(best *NotLinearizable, of judgement) error {
+	since, seed := time.Now(), best.Seed
+	for i := 0; i < manyFurther && of.rank() > manyReadable/2 && time.Since(since) < manyPatience*time.Second; i++ {
+		seed += int64(len(presets))
+		found, err := t.judgedRun(seed, t.options.shapeOf(seed))
+		if other, is := err.(*NotLinearizable); is {
+			if found.rank() < of.rank() {
+				best, other, of = other, best, found
+			}
+			t.dropped(other.File)
+		} else if ended, is := err.(*NotEnded); is {
+			t.dropped(ended.File)
+			break // (a process of its own that has ended makes no further run)
+		}
+	}
+	return best
+}
+
+func (t *tester) dropped(file string) {
+	if t.options.Record == "" {
+		os.Remove(file)
+	}
+}
+
+// judgedRun has a run made, and judges it as it is made.
+func (t *tester) judgedRun(seed int64, s shape) (judgement, error) {
+	recording, err := newRecording(seed, t.options.Record, t.by)
 	if err != nil {
-		return err
+		return judgement{}, err
 	}
 	defer recording.close()
-	it.begin(seed, of)
-	for part := 1; part <= it.parts && recording.trouble == ""; part++ {
+	t.run.begin(seed, s, t.caller)
+	for part := 1; part <= t.run.parts && recording.trouble == ""; part++ {
 		if part > 1 {
-			it.goOn()
+			t.run.goOn()
 		}
-		trouble, err := it.madePart(of)
+		trouble, err := t.run.madePart(t.caller)
 		if err == nil {
-			err = recording.write(it.text(part, trouble), trouble)
+			err = recording.write(t.run.text(part, trouble), trouble)
 		}
 		if err != nil {
-			return err
+			return judgement{}, err
 		}
 	}
-	overlapped, err := recording.judged()
-	verdict.Calls += it.Threads * it.Calls
-	verdict.Overlapped += overlapped
-	return err
-}
-
-func (it Options) check() error {
-	for _, option := range []struct {
-		name               string
-		given, least, most int
-	}{
-		{"Threads", it.Threads, 1, 64}, {"Calls", it.Calls, 1, mostCalls}, {"Threads times Calls", it.Threads * it.Calls, 1, mostCalls},
-		{"Keys", it.Keys, 1, 1048576}, {"Pauses", it.Pauses, 0, 100}, {"Runs", it.Runs, 1, 1000000}, {"Seconds", it.Seconds, 1, 3600},
-	} {
-		if option.given < option.least || option.given > option.most {
-			return fmt.Errorf("%s is %d, and has to be %d to %d", option.name, option.given, option.least, option.most)
-		}
-	}
-	return nil
-}
-
-// ---- a run, as it is judged
-
-type row struct {
-	thread     int
-	call       string
-	key        uint32
-	begin, end uint32 // 0 as long as there is none
-	reply      bool
-}
-
-func (it *row) line() string {
-	if it.end == 0 {
-		return fmt.Sprintf("call %d %s %d %d - -\n", it.thread, it.call, it.key, it.begin)
-	}
-	return fmt.Sprintf("call %d %s %d %d %d %t\n", it.thread, it.call, it.key, it.begin, it.end, it.reply)
-}
-
-// callsOfPart gives the calls of the part that was made, by their begins.
-func (it *area) callsOfPart() (found []row) {
-	before := atomic.LoadUint32(&it.before) // (calls that began by then are of parts before)
-	for i := range it.slots {
-		at := &it.slots[i]
-		row := row{thread: i / it.rows, end: atomic.LoadUint32(&at.end), begin: atomic.LoadUint32(&at.begin)}
-		if row.begin <= before {
-			continue
-		}
-		if row.end < row.begin {
-			row.end = 0 // (it is that of a part before)
-		}
-		row.call, row.key, row.reply = words[at.call], at.key, at.reply == 1
-		found = append(found, row)
-	}
-	sort.Slice(found, func(i, j int) bool { return found[i].begin < found[j].begin })
-	return found
-}
-
-// part is what a recording has of a part of a run, and its lines of the calls that have not ended.
-type part struct{ text, underWay string }
-
-// text is what a recording has of the part that was made, which is the last if there is trouble.
-func (it *area) text(number int, trouble string) part {
-	var text, underWay strings.Builder
-	if number == 1 {
-		text.WriteString("listset-calls 1\n" + linesOf("opening", it.opening))
-	}
-	for _, row := range it.callsOfPart() {
-		text.WriteString(row.line())
-		if row.end == 0 {
-			underWay.WriteString(row.line())
-		}
-	}
-	if trouble != "" {
-		text.WriteString("cut\n")
-	} else if number == it.parts {
-		text.WriteString(linesOf("key", it.left) + "end\n")
-	}
-	return part{text.String(), underWay.String()}
-}
-
-func linesOf(word string, there []byte) string {
-	var lines strings.Builder
-	for key, is := range there {
-		if is == 1 {
-			fmt.Fprintf(&lines, "%s %d\n", word, key)
-		}
-	}
-	return lines.String()
-}
-
-// recording is the text of a run: as it grows it is written into a file, and given to the judge.
-type recording struct {
-	seed    int64
-	file    *os.File
-	isKept  bool
-	by      *judgeFound
-	asked   asked
-	trouble string // how the run came to no end, and the calls under way, if it did not
-}
-
-func newRecording(seed int64, record string, by *judgeFound) (*recording, error) {
-	it, folder, err := &recording{seed: seed, isKept: record != "", by: by}, record, error(nil)
-	if it.isKept {
-		if err = os.MkdirAll(folder, 0o777); err == nil {
-			it.file, err = os.Create(filepath.Join(folder, fmt.Sprintf("seed-%d.calls", seed)))
-		}
-	} else {
-		folder = os.TempDir()
-		it.file, err = os.CreateTemp(folder, fmt.Sprintf("listset-seed-%d-*.calls", seed))
-	}
-	if err != nil {
-		return nil, fmt.Errorf("no file can be written in %s: name another folder by Record", folder)
-	}
-	if it.asked, err = by.ask(); err != nil {
-		it.close()
-	}
-	return it, err
-}
-
-// write writes a part of the run, and whether it came to no end there.
-func (it *recording) write(made part, trouble string) error {
-	if trouble != "" {
-		it.trouble = trouble + "\nunder way:\n" + made.underWay
-	}
-	it.asked.Write([]byte(made.text)) // (one that has ended reads no further)
-	_, err := it.file.WriteString(made.text)
-	return err
-}
-
-// judged is how many calls of the run overlapped a change of their key, by the judge; or the error says what is wrong with it.
-func (it *recording) judged() (int, error) {
-	overlapped, said, err := it.by.judged(it.asked.answer())
-	if err != nil || said == "" && it.trouble == "" {
-		return overlapped, err
-	}
-	it.isKept = true
-	failed := Failed{it.seed, said, it.file.Name(), it.by.String()}
-	if it.trouble == "" {
-		return 0, &NotLinearizable{failed}
-	}
-	if said == "" {
-		said = "some order explains the calls"
-	}
-	failed.Said = it.trouble + "up to there: " + said
-	return 0, &NotEnded{failed}
-}
-
-func (it *recording) close() {
-	it.file.Close()
-	if !it.isKept {
-		os.Remove(it.file.Name())
-	}
-}
-
-// ---- the judge
-
-// judgeFound is the judge underneath: its name, what it says of its proof, and how it is asked.
-type judgeFound struct {
-	name, proof string
-	ask         func() (asked, error)
-}
-
-// asked is a judge that is given a recording as it grows.
-type asked interface {
-	io.Writer
-	answer() (status int, said string)
-}
-
-// library is liblistset, in a test with the tag `listset` (library.go).
-var library *judgeFound
-
-func (it *judgeFound) String() string { return it.name + ", " + it.proof }
-
-func findJudge() (*judgeFound, error) {
-	if library != nil {
-		return library, nil
-	}
-	name, isNamed := os.LookupEnv("LISTSET")
-	if !isNamed {
-		name = "listset"
-	}
-	command := []string{name}
-	if strings.HasSuffix(name, ".js") {
-		command = []string{"node", name}
-	}
-	status, version := 127, ""
-	if it, err := start(append(command, "--version", "--long")); err == nil {
-		status, version = it.answer()
-	}
-	switch {
-	case status != 127:
-		ask := func() (asked, error) { return start(append(command, "judge", "-")) }
-		return &judgeFound{name, proofIn(version), ask}, nil
-	case len(command) > 1:
-		return nil, fmt.Errorf("node is not in PATH, which runs the %s that LISTSET names", name)
-	case isNamed:
-		return nil, fmt.Errorf("LISTSET names %s, which cannot be run: build listset, and name it there", name)
-	}
-	return nil, errors.New("there is no listset in PATH: build it, and put it there or name it by LISTSET")
-}
-
-// proofIn is the line in which a judge says whether it is proved.
-func proofIn(version string) string {
-	for _, line := range strings.Split(version, "\n") {
-		if strings.HasPrefix(line, "proof ") {
-			return line
-		}
-	}
-	return "proof unknown"
-}
-
-// program is a command, which is given its input as it grows.
-type program struct {
-	io.WriteCloser
-	made      *exec.Cmd
-	out, errs bytes.Buffer
-}
-
-func start(words []string) (it *program, err error) {
-	it = &program{made: exec.Command(words[0], words[1:]...)}
-	it.made.Stdout, it.made.Stderr = &it.out, &it.errs
-	if it.WriteCloser, err = it.made.StdinPipe(); err == nil {
-		err = it.made.Start()
-	}
-	return it, err
-}
-
-// answer gives the status of a command, and what it said.
-func (it *program) answer() (int, string) {
-	it.Close()
-	it.made.Wait()
-	said := strings.TrimSpace(it.out.String())
-	if said == "" {
-		said = strings.TrimSpace(it.errs.String())
-	}
-	return it.made.ProcessState.ExitCode(), said
-}
-
-// judged is how many calls of a recording overlapped a change of their key, and what the judge says if no order explains it.
-func (it *judgeFound) judged(status int, said string) (overlapped int, refused string, err error) {
-	if _, err := fmt.Sscanf(said, "ok %d calls\n%d of them", new(int), &overlapped); status == 0 && err == nil {
-		return overlapped, "", nil
-	}
-	if status == 1 && strings.HasPrefix(said, "not linearizable") {
-		return 0, said, nil
-	}
-	first := strings.SplitN(said, "\n", 2)[0]
-	if first == "" {
-		first = "nothing"
-	}
-	return 0, "", fmt.Errorf("%s gave no verdict, but said: %s. Take a newer listset", it.name, first)
+	return recording.judged(s.name, t.run.keyLine)
 }

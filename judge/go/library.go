@@ -20,14 +20,14 @@ func init() {
 // inLibrary is given a recording at its end.
 type inLibrary struct{ bytes.Buffer }
 
-func (it *inLibrary) answer() (int, string) {
+func (l *inLibrary) answer() (int, string) {
 	var status C.uint8_t
-	text := C.CBytes(it.Bytes())
+	text := C.CBytes(l.Bytes())
 	defer C.free(text)
 	room := make([]byte, 4096)
 	for {
 		at := (*C.char)(unsafe.Pointer(&room[0]))
-		length := int(C.listset_judge((*C.char)(text), C.size_t(it.Len()), at, C.size_t(len(room)), &status))
+		length := int(C.listset_judge((*C.char)(text), C.size_t(l.Len()), at, C.size_t(len(room)), &status))
 		if length <= len(room) {
 			return int(status), strings.TrimSpace(string(room[:length]))
 		}

@@ -10,9 +10,12 @@ listset.js, which node runs. If this process has one thread and can be forked, e
 crashes or hangs is judged up to there.
 """
 
+from __future__ import annotations
+
 import collections
 import contextlib
 import ctypes
+import dataclasses
 import functools
 import itertools
 import mmap
@@ -28,33 +31,102 @@ import tempfile
 import threading
 import time
 import warnings
+from typing import Any, Callable
 
-PART = 20_000  # calls of all threads from one rest to the next, at which they are written down
-MOST_CALLS = 1_000_000_000  # of all threads
+__all__ = ["Failed", "NoVerdict", "NotEnded", "NotLinearizable", "TooFew", "Verdict", "judge"]
+
 GOING, RESTING, STOPPING, ENDED = range(4)
 WORDS = ADD, REMOVE, CONTAINS = "add", "remove", "contains"
+NO, YES, UNKNOWN = range(3)
 OVERLAPPED = re.compile("ok [0-9]+ calls\n([0-9]+) of them")
+OF_KEY = re.compile("of key ([0-9]+) ")
+CALL = re.compile("call ([0-9]+) ([a-z]+) ([0-9]+) ([0-9]+) ([0-9]+|-) ([a-z]+|-)", re.M)
 Call = collections.namedtuple("Call", "begin end thread call key reply")
+# A run: the threads, the fresh sets one after another, the calls of each thread on each, the keys, what their numbers are multiples of
+Shape = collections.namedtuple("Shape", "name threads sets calls keys times")
+
+# made of words.json by judge/make_words: PART and MEET in calls, PATIENCE in seconds
+PRESETS = (
+    Shape("few keys", 4, 1, 2500, 4, 1),
+    Shape("fresh sets", 4, 40, 10, 4, 1),
+    Shape("multiples of 64", 4, 1, 2500, 8, 64),
+    Shape("one key", 3, 1, 2500, 1, 1),
+    Shape("multiples of 1,000", 8, 1, 1250, 8, 1000),
+    Shape("many keys", 4, 1, 2500, 1000, 1),
+)
+RANGES = (
+    ("threads", 1, 64),
+    ("threads times calls", 1, 1000000000),
+    ("keys", 1, 1048576),
+    ("pauses", 0, 100),
+    ("runs", 1, 1000000),
+    ("seconds", 1, 3600),
+    ("at_least", 0, 100),
+)
+PART = 20000
+LONGEST = 100
+HOT = 4
+ENOUGH = 5
+HARDER = 2
+FURTHER = 20
+PATIENCE = 3
+READABLE = 6
+MEET = 250
+AWAKE = 300000
+SLOW = 5
+OK = "ok: %s calls, of which %s overlapped a change of their key"
+FEW = "that is few: take more threads, fewer keys or a machine that does less"
+TOO_FEW = "%s of %s calls overlapped a change of their key, and at_least asks for %s of 100: take more threads, fewer keys or a machine that does less"
+FAILED_RUN = "seed %s (%s): %s\nrecorded in %s; judge: %s"
+RANGE = "%s is %s, and has to be %s to %s"
+TWICE = "the key function gives %s for %s and for %s: let it give each number a key of its own"
+HUNG = "the set hung: no call began or ended for %s s"
+CRASHED = "the set crashed: %s"
+ENDED_SO = "the set ended its process with the status %s"
+THREW = "a call of the set failed: %s"
+NOT_MADE = "the set could not be made: %s"
+UNDER_WAY = "%s\nunder way:\n%sup to there: %s"
+EXPLAINED = "some order explains the calls"
+COUNTED = "%s adds and %s removes of key %s answered true; it was %s at first, and is %s at the end"
+THERE = "there"
+NOT_THERE = "not there"
+KEY_IS = "key %s of the recording is %s"
+IN_SET = ", in the fresh set %s of the run"
+NO_FOLDER = "no file can be written in %s: name another folder by record"
+NO_MEMORY = "there is no memory for the calls of a run"
+NO_PROCESS = "no process could be started for a run: %s"
+NOT_AGAIN = "the test did not come to this judge again in a process of its own: set own_process to false"
+NO_NODE = "node is not in PATH, which runs the %s that LISTSET names"
+NO_NAMED = "LISTSET names %s, which cannot be run: build listset, and name it there"
+NO_JUDGE = "there is no listset in PATH: build it, and put it there or name it by LISTSET"
+NO_VERDICT = "%s gave no verdict, but said: %s. Take a newer listset"
+# end of what is made
 
 
-class Verdict(collections.namedtuple("Verdict", "calls overlapped judge")):
+@dataclasses.dataclass(frozen=True)
+class Verdict:
     """What is known if some order explains each run: the calls, those that overlapped a change of their key, by the judge, and which
     judge it was, with whether it says that it is proved. It prints itself."""
 
-    def few(self):
-        """What is to be done if so few calls met that `ok` says little; else nothing."""
-        return "; that is few: take more threads, fewer keys or a machine that does less" * (self.overlapped * 100 < self.calls * 5)
+    calls: int
+    overlapped: int
+    judge: str
 
-    def __str__(self):
-        return f"ok: {self.calls} calls, of which {self.overlapped} overlapped a change of their key{self.few()}; judge: {self.judge}"
+    @property
+    def is_few(self) -> bool:
+        """Whether so few calls met that `ok` says little."""
+        return self.overlapped * 100 < self.calls * ENOUGH
+
+    def __str__(self) -> str:
+        return f"{OK % (self.calls, self.overlapped)}{f'; {FEW}' * self.is_few}; judge: {self.judge}"
 
 
 class Failed(AssertionError):
     """What the judge said of the run of the seed `seed`, `said`; the file that has its recording, `file`."""
 
-    def __init__(self, seed, said, file, judge):
+    def __init__(self, seed: int, name: str, said: str, file: pathlib.Path, judge: Judge):
         self.seed, self.said, self.file = seed, said, file
-        super().__init__(f"seed {seed}: {said}\nrecorded in {file}; judge: {judge}")
+        super().__init__(FAILED_RUN % (seed, name, said, file, judge))
 
 
 class NotLinearizable(Failed):
@@ -65,62 +137,199 @@ class NotEnded(Failed):
     """The set crashed, hung or raised in the run, which was judged up to there."""
 
 
+class TooFew(AssertionError):
+    """Fewer calls overlapped a change of their key than `at_least` asks for."""
+
+
 class NoVerdict(Exception):
     """Nothing is known of the set: an option is out of range, no set could be made, it has not the three calls, or there is no judge."""
 
 
-def judge(make, *, threads=8, calls=1000, keys=4, pauses=20, runs=20, seed=1, seconds=10, own_process=True, record=None):
-    """The Verdict of so many sets that `make` makes; raises NotLinearizable of the first that no order explains, and NotEnded of one
-    that crashes or hangs.
+@dataclasses.dataclass(frozen=True)
+class Options:
+    threads: int | None
+    calls: int | None
+    keys: int | None
+    key: Callable[[int], Any] | None
+    pauses: int
+    runs: int
+    seed: int
+    seconds: int
+    at_least: int
+    shares: tuple[int, int, int]
+    own_process: bool
+    opens_with_keys: bool
+    record: str | os.PathLike | None
 
-    threads -- that call a set at once: 1 to 64
+    def check(self) -> None:
+        first = [1 if it is None else it for it in (self.threads, self.calls, self.keys)]
+        all_calls = first[0] * first[1] if all(isinstance(it, int) for it in first) else 1
+        given = (first[0], all_calls, first[2], self.pauses, self.runs, self.seconds, self.at_least)
+        for (name, least, most), it in zip(RANGES, given):
+            if not (isinstance(it, int) and least <= it <= most):
+                raise NoVerdict(RANGE % (name, it, least, most))
+        if min(self.shares) < 0 or not sum(self.shares):
+            raise NoVerdict(RANGE % ("adds plus removes plus finds", sum(self.shares), 1, 1000))
+
+    def shape_of(self, seed: int) -> Shape:
+        """The preset of a seed, with what these options say."""
+        it = PRESETS[(seed - 1) % len(PRESETS)]
+        it = it._replace(calls=it.calls if it.sets > 1 else it.calls // SLOW, threads=self.threads or it.threads)
+        if self.keys or self.key:
+            it = it._replace(keys=self.keys or it.keys, times=1)
+        return fitted(it._replace(calls=self.calls, sets=1) if self.calls else it)
+
+    def harder(self, it: Shape) -> Shape:
+        """With more threads and fewer keys, where these options leave them open."""
+        return fitted(it._replace(threads=self.threads or min(2 * it.threads, 8), keys=self.keys or max(it.keys // 2, 1)))
+
+    def keys_of(self, it: Shape) -> list:
+        keys = [(self.key or int)(number * it.times) for number in range(it.keys)]
+        seen = {}
+        for number, key in enumerate(keys):
+            if seen.setdefault(key, number) != number:
+                raise NoVerdict(TWICE % (repr(key), seen[key], number))
+        return keys
+
+
+def fitted(it: Shape) -> Shape:
+    return it._replace(sets=max(1, min(it.sets, PART // (it.threads * it.calls)))) if it.sets > 1 else it
+
+
+def judge(make: Callable[[], Any], *, threads: int | None = None, calls: int | None = None, keys: int | None = None,
+          key: Callable[[int], Any] | None = None, pauses: int = 20, runs: int = 20, seed: int = 1, seconds: int = 10, at_least: int = 0,
+          adds: int = 1, removes: int = 1, finds: int = 1, own_process: bool = True, opens_with_keys: bool = False,
+          record: str | os.PathLike | None = None) -> Verdict:
+    """The Verdict of so many sets that `make` makes; raises NotLinearizable of a run that no order explains, and NotEnded of one that
+    crashes or hangs.
+
+    threads -- that call a set at once: 1 to 64; by the presets of runs, in turn, where it is left out, as the next two
     calls -- of each thread: 1 or more, and 1,000,000,000 at most of all threads, which rest after each 20,000 until these are written
-    keys -- calls are on the keys below this: 1 to 1,048,576. On few keys more calls meet
+    keys -- calls are on the keys of the numbers below this: 1 to 1,048,576; half of them on the first four
+    key -- gives the key of a number, each another one
     pauses -- before how many of 100 lines of the set a thread lets others go on: 0 to 100
-    runs -- fresh sets that are called: 1 to 1,000,000
+    runs -- sets that are called, or rows of fresh sets: 1 to 1,000,000
     seed -- what calls, keys and pauses of the first run are drawn from; the next run has the next seed
     seconds -- a run in which no call begins or ends for so long is ended: 1 to 3,600
+    at_least -- TooFew is raised if fewer of 100 calls overlap a change of their key
+    adds, removes, finds -- the shares of the three operations
     own_process -- False: in this process, which then crashes with the set (for a debugger, or for coverage)
+    opens_with_keys -- True: before the first call, `contains` is asked of each key
     record -- a folder that keeps the recording of each run; else that of a run that fails is kept, in the folder for temporary files
+
+    A call that answers None has an outcome that is not known, as after a time-out.
     """
     __tracebackhide__ = True  # (pytest shows the line of the test alone)
-    check(threads=(threads, 1, 64), calls=(calls, 1, MOST_CALLS), keys=(keys, 1, 1_048_576), pauses=(pauses, 0, 100), runs=(runs, 1, 1_000_000))
-    check(**{"threads times calls": (threads * calls, 1, MOST_CALLS), "seconds": (seconds, 1, 3600)})
-    by, judged = Judge(), []
+    how = Options(threads, calls, keys, key, pauses, runs, seed, seconds, at_least, (adds, removes, finds), own_process, opens_with_keys, record)
+    how.check()
+    tester, count, overlapped, until = Tester(make, how), 0, 0, time.monotonic() + PATIENCE
     for one in range(seed, seed + runs):
-        is_own = own_process and hasattr(os, "fork") and threading.active_count() == 1
-        judged.append(judged_run(make, Run(threads, calls, keys, pauses, one, seconds), by, is_own, record))
-    verdict = Verdict(*map(sum, zip(*judged)), str(by))
-    if verdict.few():
+        shape = how.shape_of(one)
+        for tries in range(HARDER + 1):
+            found = tester.judged_run(one, shape)
+            count, overlapped = count + found.calls, overlapped + found.overlapped
+            if found.refused:
+                found = tester.smallest(found)
+            if found.failed:
+                raise found.failed
+            if found.overlapped * 100 >= found.calls * ENOUGH or time.monotonic() > until:
+                break
+            shape = how.harder(shape)
+    verdict = Verdict(count, overlapped, str(tester.by))
+    if overlapped * 100 < count * at_least:
+        raise TooFew(TOO_FEW % (overlapped, count, at_least))
+    if verdict.is_few:
         warnings.warn(str(verdict), RuntimeWarning, stacklevel=2)  # (a test that passes may show no verdict)
     return verdict
 
 
-def check(**judge_options):
-    for name, (given, least, most) in judge_options.items():
-        if not (isinstance(given, int) and least <= given <= most):
-            raise NoVerdict(f"{name} is {given}, and has to be {least} to {most}")
+Outcome = collections.namedtuple("Outcome", "seed calls overlapped refused failed")
 
 
-def judged_run(make, run, by, is_own, record):
-    """How many calls a run has, and how many of them overlapped a change of their key."""
-    __tracebackhide__ = True
-    with Recording(run.seed, by, record) as recording:
-        with contextlib.closing(run.in_child(make) if is_own else run.in_this(make)) as parts:
-            for trouble in parts:
-                run.read(trouble)
-                recording.write(run.text())
-                if run.trouble:
-                    break
-        overlapped, refused = recording.judged()
-        recording.is_kept |= bool(run.trouble or refused)
-    if run.trouble:
-        under_way = "".join(f"{line_of(it)}\n" for it in run.rows if not it.end)
-        said = f"{run.trouble}\nunder way:\n{under_way}up to there: {refused or 'some order explains the calls'}"
-        raise NotEnded(run.seed, said, recording.file, by)
-    if refused:
-        raise NotLinearizable(run.seed, refused, recording.file, by)
-    return run.threads * run.calls, overlapped
+class Tester:
+    """Judges one run after another of the sets that `make` makes."""
+
+    def __init__(self, make, how):
+        self.make, self.how, self.by = make, how, Judge()
+
+    def judged_run(self, seed: int, shape: Shape) -> Outcome:
+        run = Run(self.make, self.how, shape, seed)
+        is_own = self.how.own_process and hasattr(os, "fork") and threading.active_count() == 1
+        with Recording(seed, self.by, self.how.record) as recording:
+            with contextlib.closing(run.in_child() if is_own else run.in_this()) as parts:
+                for trouble in parts:
+                    run.read(trouble)
+                    recording.write(run.text())
+                    if run.trouble:
+                        break
+            overlapped, refused = recording.judged()
+            recording.is_kept |= bool(run.trouble or refused)
+        said = explained(refused, recording.file) + run.key_line(refused) if refused else ""
+        failed = NotLinearizable(seed, shape.name, said, recording.file, self.by) if refused else None
+        if run.trouble:
+            under_way = "".join(f"{line_of(it)}\n" for it in run.rows if not it.end and it.reply != UNKNOWN)
+            said = UNDER_WAY % (run.trouble, under_way, said or EXPLAINED)
+            refused, failed = "", NotEnded(seed, shape.name, said, recording.file, self.by)
+        return Outcome(seed, shape.threads * shape.sets * shape.calls, overlapped, refused, failed)
+
+    def smallest(self, found: Outcome) -> Outcome:
+        """Of the refusal and of further runs, the one that has the fewest calls, and two at least."""
+        since = time.monotonic()
+        for seed in range(found.seed + len(PRESETS), found.seed + (FURTHER + 1) * len(PRESETS), len(PRESETS)):
+            if rank(found) <= READABLE // 2 or time.monotonic() - since > PATIENCE:
+                break
+            other = self.judged_run(seed, self.how.shape_of(seed))
+            if other.refused and rank(other) < rank(found):
+                found, other = other, found
+            if other.failed and not self.how.record:
+                other.failed.file.unlink()
+        return found
+
+
+def calls_in(refused: str) -> int:
+    return len(CALL.findall(refused)) + 1000 * (" belong to these" in refused)
+
+
+def rank(found: Outcome) -> int:
+    return calls_in(found.refused) if calls_in(found.refused) > 1 else 999
+
+
+def explained(refused: str, file: pathlib.Path) -> str:
+    """What the judge says, with a picture; or, in place of many calls, what their count shows."""
+    counted = count_of(file, OF_KEY.search(refused)) if calls_in(refused) > READABLE else ""
+    if counted:
+        return "\n".join([*refused.split("\n")[:2], counted])
+    calls = CALL.findall(refused)
+    return "\n".join([refused, *picture_of(calls)]) if len(calls) > 1 else refused
+
+
+def count_of(file: pathlib.Path, key: re.Match | None) -> str:
+    """In words, that the calls of a key that answered true do not fit to how it was; else nothing."""
+    lines = file.read_text().split("\n")
+    calls = [it for it in CALL.findall("\n".join(lines)) if key and it[2] == key[1]]
+    if not calls or lines[-2] == "cut" or any(it[4] == "-" for it in calls):
+        return ""
+    adds, removes = (sum(it[1] == word and it[5] == "true" for it in calls) for word in (ADD, REMOVE))
+    was, left = (f"{word} {key[1]}" in lines for word in ("opening", "key"))
+    words = (adds, removes, key[1], THERE if was else NOT_THERE, THERE if left else NOT_THERE)
+    return "" if was + adds == left + removes else COUNTED % words
+
+
+def picture_of(calls: list) -> list[str]:
+    """The calls as bars, one below another, from their begins to their ends."""
+    last = 1 + max(int(it) for call in calls for it in call[3:5] if it != "-")
+    bars = [(int(begin), last if end == "-" else int(end), f"[{word} {key}", "" if end == "-" else f"{reply}]", f"thread {thread}")
+            for thread, word, key, begin, end, reply in calls]
+    places, place = {}, 0
+    for moment in sorted({it for bar in bars for it in bar[:2]}):
+        for begin, end, head, tail, _ in bars:
+            if end == moment:
+                place = max(place, places[begin] + len(head) + len(tail))
+        places[moment] = place
+        place += 1
+    wide = max(len(it[4]) for it in bars) + 2
+    return [f"{who:{wide}}{' ' * places[begin]}{head}{'-' * (places[end] - places[begin] - len(head) - len(tail) + 1)}{tail or '..'}"
+            for begin, end, head, tail, who in bars]
 
 
 class Recording:
@@ -135,7 +344,7 @@ class Recording:
             else:
                 self.to = tempfile.NamedTemporaryFile("w", prefix=f"listset-seed-{seed}-", suffix=".calls", dir=folder, delete=False)
         except OSError:
-            raise NoVerdict(f"no file can be written in {folder}: name another folder by record") from None
+            raise NoVerdict(NO_FOLDER % folder) from None
         self.file, self.by, self.asked = pathlib.Path(self.to.name), by, by.ask()
 
     def __enter__(self):
@@ -160,23 +369,24 @@ class Recording:
 
 
 class Run:
-    """The calls of one set in parts, of which `rows` has the last by their begins. They are written down as the run goes, in memory that
+    """The calls of sets in parts, of which `rows` has the last by their begins. They are written down as the run goes, in memory that
     a process of its own shares with this one."""
 
-    SLOT, COUNT = struct.Struct("=IIIBB"), struct.Struct("=I")  # of a call: begin, end or 0, key, word, reply; how far a thread is
-    WHY, RAISED = 240, "a call of the set raised "  # the bytes of what was raised, and how they begin if a call under way raised it
+    SLOT, COUNT = struct.Struct("=IIIIBB"), struct.Struct("=I")  # of a call: begin, end or 0, thread, key, word, reply; how far a thread is
+    WHY = 240  # the bytes of what was raised
 
-    def __init__(self, threads, calls, keys, pauses, seed, seconds):
-        self.threads, self.calls, self.keys, self.pauses, self.seed, self.seconds = threads, calls, keys, pauses, seed, seconds
-        self.tickets, self.there = itertools.count(1), threading.Barrier(threads + 1)
-        # of each thread the most calls of a part; the parts; how many were read
-        self.most = min(calls, PART // threads)
-        self.parts, self.part = -(-calls // self.most), 0
-        # what was raised; whether it goes on; how far each thread is, the looks, and the last moment of the parts before; of each key
-        # whether the set had it at first, and at the end; the calls
-        self.at_keys = self.WHY + 1 + (threads + 2) * self.COUNT.size
-        self.at_slots = self.at_keys + 2 * keys
-        self.slots = mmap.mmap(-1, self.at_slots + threads * self.most * self.SLOT.size)
+    def __init__(self, make, how, shape, seed):
+        self.make, self.how, self.shape, self.seed = make, how, shape, seed
+        self.keys, self.tickets, self.there = how.keys_of(shape), itertools.count(1), threading.Barrier(shape.threads + 1)
+        # of each thread the most calls of a part, and of a round; the parts; how many were read
+        self.most = shape.sets * shape.calls if shape.sets > 1 else min(shape.calls, PART // shape.threads)
+        self.per_round = shape.calls if shape.sets > 1 else self.most
+        self.parts, self.part = 1 if shape.sets > 1 else -(-shape.calls // self.most), 0
+        # what was raised; whether it goes on; how far each thread is, the looks, and the last moment of the parts before; of each key of
+        # each set whether it was there at first, and at the end; the calls
+        self.at_keys = self.WHY + 1 + (shape.threads + 2) * self.COUNT.size
+        self.at_slots = self.at_keys + 2 * shape.keys * shape.sets
+        self.slots = mmap.mmap(-1, self.at_slots + shape.threads * self.most * self.SLOT.size)
 
     def count(self, at, number):
         self.COUNT.pack_into(self.slots, self.WHY + 1 + at * self.COUNT.size, number)
@@ -198,23 +408,31 @@ class Run:
     def at(self, it):
         self.slots[self.WHY] = it
 
-    def make_and_call(self, make):
-        """Makes a set and calls it, to the end."""
-        words = "the set could not be made"
+    def made_and_called(self):
+        """Makes sets and calls them, to the end."""
+        before = sys.getswitchinterval()
+        started = [threading.Thread(target=self.call_in_rounds, args=(i,), daemon=True) for i in range(self.shape.threads)]
         try:
-            made, words = make(), "a call of the set failed"
-            self.call_from_threads(made)
+            sys.setswitchinterval(1e-6)
+            for it in started:
+                it.start()
+            self.lead()
+            for it in started:
+                it.join()
         except Exception as why:
-            self.fail(f"{words}: {why}")
+            self.fail(f"{type(why).__qualname__}: {why}")
+        finally:
+            sys.setswitchinterval(before)
+        self.set = self.replies_of = None  # (it may go wrong at its end)
         self.at = ENDED
 
-    def in_child(self, make):
+    def in_child(self):
         """Has the run made in a process of its own; gives, of each part in turn, how it came to no end, if it did not."""
         child, status = os.fork(), []
         if child == 0:
             try:
                 end_with_parent()
-                self.make_and_call(make)
+                self.made_and_called()
             finally:
                 os._exit(0)
 
@@ -230,9 +448,9 @@ class Run:
                 os.kill(child, signal.SIGKILL)
                 os.waitpid(child, 0)
 
-    def in_this(self, make):
+    def in_this(self):
         """The same in this process, where threads that hang stay."""
-        caller = threading.Thread(target=self.make_and_call, args=(make,), daemon=True)
+        caller = threading.Thread(target=self.made_and_called, daemon=True)
         caller.start()
         try:
             yield from self.made(lambda: not caller.is_alive())
@@ -244,19 +462,16 @@ class Run:
         for part in range(self.parts):
             if part:
                 self.at = GOING
-            yield "" if self.comes_to_end(lambda: self.at == RESTING or has_ended()) else self.hung()
+            yield "" if self.comes_to_end(lambda: self.at == RESTING or has_ended()) else HUNG % self.how.seconds
 
     def crash(self, status):
         """How the process of the run ended, if it was too soon or went wrong."""
         if not status:
             return ""
         if os.WIFSIGNALED(status[0]):
-            return f"the set crashed: {signal.Signals(os.WTERMSIG(status[0])).name}"
+            return CRASHED % signal.Signals(os.WTERMSIG(status[0])).name
         ended = os.WEXITSTATUS(status[0])  # (not 0 if the set ended its process while it was deleted)
-        return f"the set ended its process with the status {ended}" if ended or self.at != ENDED else ""
-
-    def hung(self):
-        return f"the set hung: no call began or ended for {self.seconds} s"
+        return ENDED_SO % ended if ended or self.at != ENDED else ""
 
     def comes_to_end(self, is_done):
         """Waits until it is done; False if no call begins or ends for too long before that."""
@@ -266,7 +481,7 @@ class Run:
             wait = min(2 * wait, 0.02)
             if (now := self.moved()) != seen:
                 seen, since = now, time.monotonic()
-            if time.monotonic() - since > self.seconds:
+            if time.monotonic() - since > self.how.seconds:
                 return False
         return True
 
@@ -274,99 +489,122 @@ class Run:
         """What changes as long as the run goes on."""
         return self.slots[self.WHY : self.at_keys]
 
-    def call_from_threads(self, made):
-        contains = made.contains if hasattr(made, CONTAINS) else made.__contains__
-        replies_of = made.add, made.remove, contains
-        before = sys.getswitchinterval()
-        self.look_up(contains, False)
-        sys.setswitchinterval(1e-6)
-        started = [threading.Thread(target=self.call_in_parts, args=(replies_of, i), daemon=True) for i in range(self.threads)]
+    def lead(self):
+        """Makes each set and has the threads call it; rests after each part until it has been read."""
+        sets, parts, keys = self.shape.sets, self.parts, self.shape.keys
         try:
-            for it in started:
-                it.start()
-            self.lead(contains)
-            for it in started:
-                it.join()
-        finally:
-            sys.setswitchinterval(before)
-
-    def lead(self, contains):
-        """Has the threads make each part, and rests after it until it has been read."""
-        try:
-            for part in range(self.parts):
-                if part and not self.goes_on():
+            for one in range(max(sets, parts)):
+                if one == 0 or sets > 1:
+                    self.make_set()
+                    if self.how.opens_with_keys:
+                        self.look_up(self.at_keys + one * keys)
+                elif not self.goes_on():
                     return
                 self.there.wait()  # none begins before all are there
                 self.there.wait()
-            self.look_up(contains, True)
+                if sets > 1 or one == parts - 1:
+                    self.look_up(self.at_keys + (sets + one * (sets > 1)) * keys)
         except threading.BrokenBarrierError:
             pass
         finally:
             self.there.abort()
+
+    def make_set(self):
+        self.set = self.replies_of = None
+        try:
+            made = self.set = self.make()
+            self.replies_of = made.add, made.remove, made.contains if hasattr(made, CONTAINS) else made.__contains__
+        except Exception as why:
+            self.fail(NOT_MADE % why)
+            raise
 
     def goes_on(self):
         self.at = RESTING
         while self.at == RESTING:
             time.sleep(0.0005)
-        self.count(self.threads + 1, next(self.tickets))
+        self.count(self.shape.threads + 1, next(self.tickets))
         return self.at == GOING
 
-    def look_up(self, contains, is_left):
-        for key in range(self.keys):
-            self.slots[self.at_keys + is_left * self.keys + key] = bool(contains(key))
-            self.count(self.threads, is_left * self.keys + key)
+    def look_up(self, to):
+        for number, key in enumerate(self.keys):
+            self.slots[to + number] = bool(self.replies_of[2](key))
+            self.count(self.shape.threads, to + number)
 
-    def call_in_parts(self, replies_of, thread):
+    def call_in_rounds(self, thread):
         """The calls of one thread."""
-        draw = random.Random(self.seed * 64 + thread)
+        draw, number = random.Random(self.seed * 64 + thread), thread
         try:
-            for done in range(0, self.calls, self.most):
+            for one, done in enumerate(range(0, max(self.shape.calls, self.shape.sets * self.per_round), self.per_round)):
                 self.there.wait()
-                self.call(replies_of, thread, min(self.most, self.calls - done), draw)
+                first = thread * self.most + (done if self.shape.sets > 1 else 0)
+                count = self.per_round if self.shape.sets > 1 else min(self.most, self.shape.calls - done)
+                number = self.call(range(first, first + count), one * self.shape.keys * (self.shape.sets > 1), thread, number, draw)
                 self.there.wait()
         except threading.BrokenBarrierError:
             pass
         except Exception as why:
-            self.fail(str(why) if isinstance(why, NoVerdict) else f"{self.RAISED}{type(why).__qualname__}: {why}")
+            self.fail(THREW % f"{type(why).__qualname__}: {why}")
             self.there.abort()
 
-    def call(self, replies_of, thread, calls, draw):
-        sys.settrace(pausing(self.pauses, random.Random(draw.random())) if self.pauses else None)
+    def call(self, places, of_set, thread, number, draw):
+        """Makes calls; gives the number of the thread, which is another one after a reply that is not known."""
+        before, keys, few = sys.gettrace(), self.shape.keys, min(HOT, self.shape.keys)
+        drawn = [word for word, share in enumerate(self.how.shares) for _ in range(share)]
+        if self.how.pauses:
+            sys.settrace(pausing(self.how.pauses, random.Random(draw.random()), before))
         try:
-            for at in range(thread * self.most, thread * self.most + calls):
-                word, key, at_slot = draw.randrange(3), draw.randrange(self.keys), self.at_slots + at * self.SLOT.size
+            for at in places:
+                word, key = draw.choice(drawn), draw.randrange(few if keys > 2 * HOT and draw.random() < 0.5 else keys)
+                at_slot, written = self.at_slots + at * self.SLOT.size, of_set + key
                 self.count(thread, at)
                 begin = next(self.tickets)  # (one step of the interpreter)
-                self.SLOT.pack_into(self.slots, at_slot, begin, 0, key, word, 0)
-                reply = replies_of[word](key)
-                self.SLOT.pack_into(self.slots, at_slot, begin, next(self.tickets), key, word, is_true(WORDS[word], reply))
+                self.SLOT.pack_into(self.slots, at_slot, begin, 0, number, written, word, NO)
+                reply = self.replies_of[word](self.keys[key])
+                reply = UNKNOWN if reply is None else YES if reply else NO
+                self.SLOT.pack_into(self.slots, at_slot, begin, next(self.tickets), number, written, word, reply)
+                number += self.shape.threads * (reply == UNKNOWN)
         finally:
-            sys.settrace(None)
+            if self.how.pauses:
+                sys.settrace(before)
+        return number
 
     def read(self, trouble):
         """Takes in what was written down."""
         why = self.slots[: self.WHY].rstrip(b"\0").decode(errors="replace")
-        if why and not why.startswith(self.RAISED):
-            raise NoVerdict(why)
         self.trouble, self.rows, self.part = why or trouble, [], self.part + 1
+        if self.trouble and not why.startswith(THREW % "") and not self.slots[self.at_slots]:
+            raise NoVerdict(why if why.startswith(NOT_MADE % "") else NOT_MADE % self.trouble)
         before = self.before()  # (calls that began by then are of parts before)
-        for at in range(self.threads * self.most):
-            begin, end, key, word, reply = self.SLOT.unpack_from(self.slots, self.at_slots + at * self.SLOT.size)
+        for at in range(self.shape.threads * self.most):
+            begin, end, thread, key, word, reply = self.SLOT.unpack_from(self.slots, self.at_slots + at * self.SLOT.size)
             if begin > before:
-                self.rows.append(Call(begin, end, at // self.most, WORDS[word], key, bool(reply)))
+                self.rows.append(Call(begin, 0 if reply == UNKNOWN else end, thread, WORDS[word], key, reply))
         self.rows.sort()
+        for word in (ADD, REMOVE):
+            replies = {it.reply for it in self.rows if it.call == word and (it.end or it.reply == UNKNOWN)}
+            if replies == {UNKNOWN}:
+                raise NoVerdict(f"each {word} answered None, and has to answer True or False")
 
     def text(self):
         """What the recording has of this part."""
         first, last = self.part == 1, self.trouble or self.part == self.parts
-        lines = ["listset-calls 1", *self.lines_of_keys("opening", False)] if first else []
+        lines = ["listset-calls 1", *self.lines_of_keys("opening", 0)] if first else []
         lines += map(line_of, self.rows)
         if last:
-            lines += ["cut"] if self.trouble else [*self.lines_of_keys("key", True), "end"]
+            lines += ["cut"] if self.trouble else [*self.lines_of_keys("key", 1), "end"]
         return "".join(f"{it}\n" for it in lines)
 
     def lines_of_keys(self, word, is_left):
-        return (f"{word} {key}" for key in range(self.keys) if self.slots[self.at_keys + is_left * self.keys + key])
+        keys = self.shape.keys * self.shape.sets
+        return (f"{word} {key}" for key in range(keys) if self.slots[self.at_keys + is_left * keys + key])
+
+    def key_line(self, refused):
+        """Which key of which set it is that the judge names, if its number does not say so."""
+        number = OF_KEY.search(refused)
+        one, at = divmod(int(number[1]) if number else 0, self.shape.keys)
+        if not number or one == 0 and self.shape.sets == 1 and repr(self.keys[at]) == number[1]:
+            return ""
+        return "\n" + KEY_IS % (number[1], repr(self.keys[at])) + (IN_SET % (one + 1) if self.shape.sets > 1 else "")
 
 
 def end_with_parent():
@@ -375,24 +613,27 @@ def end_with_parent():
 
 
 def line_of(it):
-    return f"call {it.thread} {it.call} {it.key} {it.begin} {f'{it.end} {str(it.reply).lower()}' if it.end else '- -'}"
+    return f"call {it.thread} {it.call} {it.key} {it.begin} {f'{it.end} {str(it.reply == YES).lower()}' if it.end else '- -'}"
 
 
-def is_true(call, reply):
-    if reply is None:
-        raise NoVerdict(f"{call} answered None, and has to answer True or False")
-    return bool(reply)
+def pausing(pauses, draw, before):
+    """A trace function that lets other threads go on, before so many of 100 lines of all code but this file's; the one before goes on."""
 
+    def of_frame(inner):
+        def at_line(frame, event, arg):
+            nonlocal inner
+            inner = inner and inner(frame, event, arg)
+            if event == "line" and draw.random() * 100 < pauses:
+                time.sleep(0)
+            return at_line
 
-def pausing(pauses, draw):
-    """A trace function that lets other threads go on, before so many of 100 lines of all code but this file's."""
-
-    def at_line(_, event, __):
-        if event == "line" and draw.random() * 100 < pauses:
-            time.sleep(0)
         return at_line
 
-    return lambda frame, _, __: at_line if frame.f_code.co_filename != __file__ else None
+    def at_call(frame, event, arg):
+        inner = before and before(frame, event, arg)
+        return inner if frame.f_code.co_filename == __file__ else of_frame(inner)
+
+    return at_call
 
 
 # ---- the judge
@@ -414,15 +655,14 @@ class Judge:
         return f"{self.name}, {self.proof}"
 
     def judged(self, status, said):
-        """How many calls of a recording overlapped a change of their key, and None; or 0, and what the judge says if no order explains
+        """How many calls of a recording overlapped a change of their key, and nothing; or 0, and what the judge says if no order explains
         it."""
         met = OVERLAPPED.match(said)
         if status == 0 and met:
-            return int(met[1]), None
+            return int(met[1]), ""
         if status == 1 and said.startswith("not linearizable"):
             return 0, said
-        first = said.partition("\n")[0] or "nothing"
-        raise NoVerdict(f"{self.name} gave no verdict, but said: {first}. Take a newer listset")
+        raise NoVerdict(NO_VERDICT % (self.name, said.partition("\n")[0] or "nothing"))
 
 
 class Library:
@@ -443,10 +683,11 @@ class Library:
 
 
 class Program:
-    """A program, which reads a recording as it grows."""
+    """A program, which reads a recording as it grows. (What `--version` says of a judge that it builds is for the user's eyes.)"""
 
     def __init__(self, words):
-        self.process = subprocess.Popen(words, stdin=subprocess.PIPE, stdout=subprocess.PIPE, stderr=subprocess.PIPE, text=True)
+        errors = None if "--version" in words else subprocess.PIPE
+        self.process = subprocess.Popen(words, stdin=subprocess.PIPE, stdout=subprocess.PIPE, stderr=errors, text=True)
 
     def write(self, text):
         with contextlib.suppress(BrokenPipeError):  # (one that has ended reads no further)
@@ -454,7 +695,7 @@ class Program:
 
     def answer(self):
         said, errors = self.process.communicate()
-        return self.process.returncode, (said or errors).strip()
+        return self.process.returncode, (said or errors or "").strip()
 
     def end(self):
         self.process.kill()
@@ -472,7 +713,4 @@ def program():
         status = 127
     if status != 127:
         return name, functools.partial(Program, [*words, "judge", "-"]), version
-    if len(words) > 1:
-        raise NoVerdict(f"node is not in PATH, which runs the {name} that LISTSET names")
-    where = f"LISTSET names {named}, which cannot be run: build listset, and name it there"
-    raise NoVerdict(where if named else "there is no listset in PATH: build it, and put it there or name it by LISTSET")
+    raise NoVerdict(NO_NODE % name if len(words) > 1 else NO_NAMED % named if named else NO_JUDGE)

@@ -3,6 +3,7 @@ use std::fmt;
 use std::io::{self, Write};
 use std::process::{Child, Command, Stdio};
 
+use crate::words::*;
 use crate::{no_verdict, Failure};
 
 /// The judge that is used, and what it says of its proof.
@@ -42,11 +43,12 @@ impl Judge {
         let name = named.clone().unwrap_or_else(|| "listset".to_string());
         let is_script = name.ends_with(".js");
         let command = if is_script { vec!["node".to_string(), name.clone()] } else { vec![name.clone()] };
-        match Asked::program(&command, &["--version", "--long"]).and_then(Asked::answer) {
+        // (what it says of a judge that it builds is for the user's eyes)
+        match Asked::program(&command, &["--version", "--long"], Stdio::inherit()).and_then(Asked::answer) {
             Ok((Some(127), _)) | Err(_) => no_verdict(match named {
-                Some(it) if is_script => format!("node is not in PATH, which runs the {it} that LISTSET names"),
-                Some(it) => format!("LISTSET names {it}, which cannot be run: build listset, and name it there"),
-                None => "there is no listset in PATH: build it, and put it there or name it by LISTSET".to_string(),
+                Some(it) if is_script => say(NO_NODE, &[&it]),
+                Some(it) => say(NO_NAMED, &[&it]),
+                None => NO_JUDGE.to_string(),
             }),
             Ok((_, version)) => Ok(Judge { name, proof: proof_in(&version), command }),
         }
@@ -56,7 +58,7 @@ impl Judge {
         if self.command.is_empty() {
             return Ok(Asked::Library(String::new()));
         }
-        Asked::program(&self.command, &["judge", "-"]).or_else(|fault| no_verdict(format!("{} cannot be run: {fault}", self.name)))
+        Asked::program(&self.command, &["judge", "-"], Stdio::piped()).or_else(|fault| no_verdict(format!("{} cannot be run: {fault}", self.name)))
     }
 
     pub fn judged(&self, asked: Asked) -> Result<Judged, Failure> {
@@ -66,16 +68,16 @@ impl Judge {
             (Some(1), _) if said.starts_with("not linearizable") => Ok(Judged::Refused(said)),
             _ => {
                 let first = said.lines().next().unwrap_or("nothing");
-                no_verdict(format!("{} gave no verdict, but said: {first}. Take a newer listset", self.name))
+                no_verdict(say(NO_VERDICT, &[&self.name, &first]))
             }
         }
     }
 }
 
 impl Asked {
-    fn program(command: &[String], words: &[&str]) -> io::Result<Asked> {
+    fn program(command: &[String], words: &[&str], errors: Stdio) -> io::Result<Asked> {
         let mut made = Command::new(&command[0]);
-        made.args(&command[1..]).args(words).stdin(Stdio::piped()).stdout(Stdio::piped()).stderr(Stdio::piped());
+        made.args(&command[1..]).args(words).stdin(Stdio::piped()).stdout(Stdio::piped()).stderr(errors);
         Ok(Asked::Program(made.spawn()?))
     }
 

@@ -1,6 +1,6 @@
 """Servers on the loopback, judged: `listset serve`, and Redis if it is installed; and a client that checks and then acts.
 
-python3 -m unittest test_servers
+python3 -m unittest discover -s tests -t tests
 """
 
 import os
@@ -13,7 +13,7 @@ import unittest
 import listset_judge
 import servers
 
-FEW = {"threads": 4, "calls": 250, "runs": 4}
+FEW = {"threads": 4, "calls": 250, "keys": 4, "runs": 4}
 SESSIONS = FEW["runs"] * (FEW["threads"] + 1)
 SECONDS = 30  # until a server listens, or ends
 
@@ -44,7 +44,7 @@ class Served(unittest.TestCase):
         self.addCleanup(server.wait, SECONDS)
         self.addCleanup(server.kill)
         port = int(server.stdout.readline().rpartition(":")[2])
-        verdict = listset_judge.judge(lambda: servers.Listset(port), **FEW)
+        verdict = listset_judge.judge(lambda: servers.Listset(port), opens_with_keys=True, **FEW)
         self.assertIn(f"sessions {SESSIONS}\n", server.communicate(timeout=SECONDS)[0])
         self.assertEqual(verdict.calls, 4000)
         self.assertGreater(verdict.overlapped, 0)
