@@ -2722,7 +2722,7 @@ function drawContent(part, scale) {
     { class: isNow ? "content now" : "content" },
     title(all),
     tag("rect", { x: left, y: 0, width: Math.max(right - left, 1), height: 24 }),
-    label({ x: left + 5, y: 17 }, text),
+    text === "" && isLast ? label({ x: scale.edge, y: 17, "text-anchor": "end", class: "over" }, all) : label({ x: left + 5, y: 17 }, text),
   );
 }
 
@@ -9068,8 +9068,10 @@ function openRun(wanted) {
     openSeed(wanted.seed, wanted.event);
   } else if (wanted.example !== null) {
     needExample(wanted.example);
-    const isShown = exampleShown() === wanted.example && now.run.isRun && (held.engine === null || now.task.work !== "");
-    if (isShown) goTo(wanted.event);
+    const isShown = exampleShown() === wanted.example && now.run.isRun;
+    const isBeforehand = isShown && now.task.work === "" && held.engine !== null; // from its trace, and the reader may have gone on
+    if (isBeforehand) pickExample(wanted.example, now.run.count);
+    else if (isShown) goTo(wanted.event);
     else pickExample(wanted.example, wanted.event);
   } else openLink(wanted);
   if (wanted.isJudged) beginJudging();
