@@ -1,10 +1,12 @@
 -- How a text goes on from byte to byte and from line to line.
 use Rattle.std.proofs.Common.{◌≡◌, ◌≢◌, ℕ, zero, suc, ◌+◌, ◌<◌, ◌≤◌, inl, inr, Bool, true, false, eqb, List, [], ◌∷◌, ◌++◌, length, refl, sym, ap, subst, ◌∙◌}
 use Rattle.std.proofs.Common.{append_assoc, append-nil, arith, length-append, Result, Ok, Err, cond}
-use Rattle.std.specs.Prelude.{IfOk, IfErr, Option, Some, None}
+use Rattle.std.specs.Prelude.{◌==◌, IfOk, IfErr, Option, Some, None}
+use Rattle.std.specs.List.{AllByRecursion}
 use Rattle.std.specs.Str.{bytes_eq}
 use Rattle.std.proofs.lemmas.Bool.{lt-ltb}
-use Rattle.std.proofs.lemmas.List.Elements.{All-nil}
+use Rattle.std.proofs.lemmas.List.Elements.{All-nil, recursion_from_All}
+use Rattle.std.proofs.lemmas.List.Sums.{sum_by-append, sum_by-cons}
 use Rattle.std.proofs.lemmas.List.Splits.{slice_split_none, slice_split_at}
 use Rattle.lset_text.specs.Parts.{cut_at, Lacks}
 use Rattle.lset_text.specs.Kinds.{line_in}
@@ -23,8 +25,8 @@ use Rattle.lset_recording.specs.declared.lines.TheConstants.{LONGEST_LINE}
 use Rattle.lset_recording.specs.declared.reader.RecordingReader.{RecordingReader}
 use Rattle.lset_recording.specs.declared.judging.RecordingAnswer.{RecordingAnswer}
 use Rattle.lset_recording.specs.Texts.{Recording, title}
-use Rattle.lset_recording.specs.Reading.{SoFar, IsTaken, IsRefused, Reads, Says, cause_if_long, ending, kinds, line_behind_title, line_told}
-use Rattle.lset_recording.specs.Kept.{IsAnswered, IsJudging, IsHeld, IsRead, IsRefusedAt}
+use Rattle.lset_recording.specs.Reading.{SoFar, IsTaken, IsRefused, Reads, Says, cause_if_long, ending, first_line, kinds, line_behind_title, line_told}
+use Rattle.lset_recording.specs.Kept.{IsAnswered, IsJudging, IsHeld, IsLineOf, IsRead, IsRefusedAt, newlines}
 
 -- ---- one whole line
 
@@ -60,15 +62,40 @@ too_long s line many = inl (by s.section)
     by part.Keys = behind part.Keys
     by part.Done = behind part.Done
 
+-- ---- newlines
+
+newlines_and : (bytes more : List ℕ) → newlines (bytes ++ more) ≡ newlines bytes + newlines more
+newlines_and bytes more = sum_by-append (λ (b : ℕ). cond (b == 10) 1 0) bytes more
+
+no_newlines : (bytes : List ℕ) → AllByRecursion (λ b. eqb b 10 ≡ false) bytes → newlines bytes ≡ 0
+no_newlines [] lacks = refl
+no_newlines (b ∷ bs) lacks =
+    let cons = sum_by-cons (λ (x : ℕ). cond (x == 10) 1 0) b bs in
+    let here : ◌≡◌ {A = ℕ} (cond (b == 10) 1 0) 0 = rw lacks.0 refl in
+    let others = no_newlines bs lacks.1 in
+    omega (arith, cons, here, others)
+
+-- a newline of a piece ends a line of it
+pub line_of_piece : (bytes done line more : List ℕ) (n : ℕ) → n ≡ first_line + newlines (bytes ++ done)
+    → IsLineOf bytes (done ++ (line ++ 10 ∷ more)) n
+line_of_piece bytes done line more n at =
+    let before = newlines_and bytes done in
+    let all = newlines_and bytes (done ++ (line ++ 10 ∷ more)) in
+    let parts = newlines_and done (line ++ 10 ∷ more) in
+    let last = newlines_and line (10 ∷ more) in
+    let one : newlines (10 ∷ more) ≡ 1 + newlines more = sum_by-cons (λ (x : ℕ). cond (x == 10) 1 0) 10 more in
+    (omega (arith, at, before), omega (arith, at, before, all, parts, last, one))
+
 -- ---- the bytes so far
 
 -- where a text stands: what the lines above say is told, and some bytes of the next line are held
 pub record StandsAt (bytes held : List ℕ) (n : ℕ) (s : SoFar) : Type 0 where
   pub lacks : Lacks 10 held
   pub goes : (more : List ℕ) (read : Result Recording LineFault) → Reads n s (cut_at 10 (held ++ more)) read → Says (bytes ++ more) read
+  pub counted : n ≡ first_line + newlines bytes
 
 pub stands : (bytes : List ℕ) (r : RecordingReader) (is : IsRead bytes r) → StandsAt bytes is.held r.judging.number is.told
-stands bytes r is = record { lacks = is.lacks; goes = is.goes }
+stands bytes r is = record { lacks = is.lacks; goes = is.goes; counted = is.counted }
 
 pub read_at : (bytes held : List ℕ) (s : SoFar) (r : RecordingReader) → StandsAt bytes held r.judging.number s → IsJudging s r.judging
     → IsHeld held r.line.items r.is_long → r.failed ≡ None → IsRead bytes r
@@ -79,6 +106,7 @@ read_at bytes held s r at judging line sound = record {
   lacks = at.lacks;
   line = line;
   goes = at.goes;
+  counted = at.counted;
   sound = sound;
 }
 
@@ -90,6 +118,11 @@ held_more bytes held more n s at lacks = record {
   goes = λ rest read h.
       subst (λ (t : List ℕ). Says t read) (sym (append_assoc bytes more rest))
       (at.goes (more ++ rest) read (subst (λ (t : List ℕ). Reads n s (cut_at 10 t) read) (append_assoc held more rest) h));
+  counted =
+      let and = newlines_and bytes more in
+      let none = no_newlines more (recursion_from_All (λ b. eqb b 10 ≡ false) more lacks) in
+      let was = at.counted in
+      omega (arith, and, none, was);
 }
 
 module _ (bytes held : List ℕ) (n : ℕ) (s : SoFar) (at : StandsAt bytes held n s) where
@@ -104,6 +137,11 @@ module _ (bytes held : List ℕ) (n : ℕ) (s : SoFar) (at : StandsAt bytes held
   line_taken t taken = record {
     lacks = All-nil (λ b. eqb b 10 ≡ false);
     goes = λ more read h. goes_by more read (reads_more n s t held (cut_at 10 more) read (some_part 10 more) taken h);
+    counted =
+        let and = newlines_and bytes (10 ∷ []) in
+        let one : newlines (10 ∷ []) ≡ 1 = refl in
+        let was = at.counted in
+        omega (arith, and, one, was);
   }
 
   -- and one that is refused
@@ -177,6 +215,11 @@ module _ (r : RecordingReader) where
   not_finished (Err e) short none said = λ other bytes is.
       at_end bytes is.held r.judging.number is.told (stands bytes r is) (Err e)
       (sym (said other is.told is.judging) ∙ ap (ending r.judging.number is.told) (nothing_held bytes r is short none))
+
+  pub line_of_end : (res : Result RecordingAnswer LineFault) → IfErr res (λ e. e.line ≡ r.judging.number)
+      → IfErr res (λ e. (bytes : List ℕ) → IsRead bytes r → e.line ≡ first_line + newlines bytes)
+  line_of_end (Ok answer) line = tt
+  line_of_end (Err e) line = λ bytes is. line ∙ is.counted
 
 -- ---- the lines of a piece
 

@@ -1,5 +1,5 @@
 -- What a reader of a recording keeps of the bytes so far.
-use Rattle.std.specs.Prelude.{◌≡◌, ◌≢◌, ℕ, ◌+◌, ◌<◌, ◌≤◌, ◌^◌, ◌⊎◌, Bool, true, false, List, [], ◌++◌, length, Option, Some, None, Contains, not}
+use Rattle.std.specs.Prelude.{◌≡◌, ◌≢◌, ℕ, ◌+◌, ◌<◌, ◌≤◌, ◌^◌, ◌⊎◌, Bool, true, false, List, [], ◌++◌, length, Option, Some, None, Contains, ◌==◌, not, count_by}
 use Rattle.std.specs.Prelude.{Result, Err}
 use Rattle.std.specs.List.Sorted.{IsStrictlyIncreasing}
 use Rattle.lset_words.specs.declared.history.CallRecord.{CallRecord}
@@ -73,6 +73,10 @@ abbrev pub IsHeld : List ℕ → List ℕ → Bool → Type 0
 IsHeld held kept false = held ≡ kept
 IsHeld held kept true = LONGEST_LINE < length held
 
+-- how many newlines bytes have
+abbrev pub newlines : List ℕ → ℕ
+newlines bytes = count_by (λ (b : ℕ). b == 10) bytes
+
 -- WHAT IS KEPT OF THE BYTES so far: whatever comes after them, the whole says what the rest says from here
 pub record IsRead (bytes : List ℕ) (r : RecordingReader) : Type 0 where
   pub told : SoFar
@@ -82,7 +86,12 @@ pub record IsRead (bytes : List ℕ) (r : RecordingReader) : Type 0 where
   pub line : IsHeld held r.line.items r.is_long
   pub goes : (more : List ℕ) (read : Result Recording LineFault) → Reads r.judging.number told (cut_at 10 (held ++ more)) read
       → Says (bytes ++ more) read
+  pub counted : r.judging.number ≡ first_line + newlines bytes
   pub sound : r.failed ≡ None
+
+-- the newline of a line is among the bytes of a piece, which come after others
+abbrev pub IsLineOf : List ℕ → List ℕ → ℕ → Type 0
+IsLineOf bytes piece line = (first_line + newlines bytes ≤ line) × (line < first_line + newlines (bytes ++ piece))
 
 -- the reader has returned a fault
 abbrev pub HasFailed : RecordingReader → LineFault → Type 0

@@ -243,6 +243,7 @@ impl Judging {
             → (ending self.number s [] ≡ Ok s.told) × IsAnswered s.told answer) }
         ensures refused { IfErr result (λ fault. fault.cause ≢ Cause.Memory → (s : SoFar) → IsJudging s self
             → ending self.number s [] ≡ Err fault) }
+        ensures line { IfErr result (λ fault. fault.line ≡ self.number) }
     {
         let (number, calls, cut_off) = (self.number, self.calls, self.cut_off);
         let overlapped = self.overlaps.count();

@@ -1,9 +1,9 @@
 ghost use Rattle.std.specs.Prelude.{◌≡◌, ◌≢◌, ◌+◌, ◌++◌, ◌∷◌, [], Ok, Err, IfOk, IfErr, OnOk, List, ℕ, IsTrue, MatchOption, false};
 ghost use Rattle.lset_text.specs.Causes.{fault};
 ghost use Rattle.lset_text.specs.Parts.{Lacks};
-ghost use Rattle.lset_recording.specs.Reading.{RecordingsAreRead, Says};
+ghost use Rattle.lset_recording.specs.Reading.{RecordingsAreRead, Says, first_line};
 ghost use Rattle.lset_recording.specs.Texts.{Recording};
-ghost use Rattle.lset_recording.specs.Kept.{HasFailed, IsAnswered, IsRead, IsRefusedAt};
+ghost use Rattle.lset_recording.specs.Kept.{HasFailed, IsAnswered, IsLineOf, IsRead, IsRefusedAt, newlines};
 
 use crate::judging::RecordingAnswer;
 use crate::kept::Judging;
@@ -76,6 +76,7 @@ impl RecordingReader {
     fn newline_in(&mut self) -> Result<(), LineFault>
         ensures taken { OnOk result ((bytes : List ℕ) → IsRead bytes self.old → IsRead (bytes ++ 10 ∷ []) self.new) }
         ensures refused { IfErr result (λ fault. (bytes : List ℕ) → IsRead bytes self.old → IsRefusedAt (bytes ++ 10 ∷ []) fault) }
+        ensures line { IfErr result (λ fault. fault.line ≡ self.old.judging.number) }
     {
         if self.is_long {
             return Err(self.fault(self.judging.cause_if_long()));
@@ -97,6 +98,7 @@ impl RecordingReader {
         ensures taken { OnOk result ((bytes : List ℕ) → IsRead bytes self.old → IsRead (bytes ++ line.now ++ 10 ∷ []) self.new) }
         ensures refused { IfErr result (λ fault. (bytes : List ℕ) → IsRead bytes self.old
             → IsRefusedAt (bytes ++ line.now ++ 10 ∷ []) fault) }
+        ensures line { IfErr result (λ fault. fault.line ≡ self.old.judging.number) }
     {
         match self.judging.read_line(line) {
             Ok(()) => Ok(()),
@@ -110,6 +112,7 @@ impl RecordingReader {
         ensures taken { OnOk result ((bytes : List ℕ) → IsRead bytes self.old → IsRead (bytes ++ line.now ++ 10 ∷ []) self.new) }
         ensures refused { IfErr result (λ fault. (bytes : List ℕ) → IsRead bytes self.old
             → IsRefusedAt (bytes ++ line.now ++ 10 ∷ []) fault) }
+        ensures line { IfErr result (λ fault. fault.line ≡ self.old.judging.number) }
     {
         if self.holds_none() {
             return self.whole_line_in(line);
@@ -122,6 +125,7 @@ impl RecordingReader {
     fn bytes_in(&mut self, piece: &[u8]) -> Result<(), LineFault>
         ensures taken { OnOk result ((bytes : List ℕ) → IsRead bytes self.old → IsRead (bytes ++ piece.now) self.new) }
         ensures refused { IfErr result (λ fault. (bytes : List ℕ) → IsRead bytes self.old → IsRefusedAt (bytes ++ piece.now) fault) }
+        ensures line { IfErr result (λ fault. (bytes : List ℕ) → IsRead bytes self.old → IsLineOf bytes piece.now fault.line) }
     {
         let mut rest = piece;
         while let Some((line, more)) = next_line(rest) {
@@ -138,12 +142,13 @@ impl RecordingReader {
     ///
     /// # Errors
     ///
-    /// The first fault of the text, whatever comes after these bytes; `Cause::Memory` if an allocation fails. After an error each further
-    /// call of `feed`, and `finish`, return that error.
+    /// The first fault of the text, whatever comes after these bytes; `Cause::Memory` if an allocation fails. Its line is one whose
+    /// newline is in the piece. After an error each further call of `feed`, and `finish`, return that error.
     #[tactic(auto, using(crate::proofs::ReadLaws::none_failed, crate::proofs::ReadLaws::one_failed))]
     pub fn feed(&mut self, piece: &[u8]) -> Result<(), LineFault>
         ensures taken { OnOk result ((bytes : List ℕ) → IsRead bytes self.old → IsRead (bytes ++ piece.now) self.new) }
         ensures refused { IfErr result (λ fault. (bytes : List ℕ) → IsRead bytes self.old → IsRefusedAt (bytes ++ piece.now) fault) }
+        ensures line { IfErr result (λ fault. (bytes : List ℕ) → IsRead bytes self.old → IsLineOf bytes piece.now fault.line) }
         ensures failed { IfErr result (HasFailed self.new) }
         ensures still { (fault : LineFault) → HasFailed self.old fault → result ≡ Err fault }
     {
@@ -165,6 +170,7 @@ impl RecordingReader {
             → (c : Recording) × Says bytes (Ok c) × IsAnswered c answer) }
         ensures refused { IfErr result (λ fault. fault.cause ≢ Cause.Memory → (bytes : List ℕ) → IsRead bytes self
             → Says bytes (Err fault)) }
+        ensures line { IfErr result (λ fault. (bytes : List ℕ) → IsRead bytes self → fault.line ≡ first_line + newlines bytes) }
     {
         if self.is_long || !self.line.as_slice().is_empty() {
             return Err(self.fault(Cause::NotEnded));
@@ -184,6 +190,7 @@ impl RecordingReader {
             → (c : Recording) × Says bytes (Ok c) × IsAnswered c answer) }
         ensures refused { IfErr result (λ fault. fault.cause ≢ Cause.Memory → (bytes : List ℕ) → IsRead bytes self
             → Says bytes (Err fault)) }
+        ensures line { IfErr result (λ fault. (bytes : List ℕ) → IsRead bytes self → fault.line ≡ first_line + newlines bytes) }
         ensures still { (fault : LineFault) → HasFailed self fault → result ≡ Err fault }
     {
         match self.failed {

@@ -221,15 +221,3 @@ items_lead {X = X} g state lines line none some before (x ∷ xs) each =
     let all = subst (λ (ys : List X). Leads g (state next) (lines (length before + 1) xs) (state ys)) grouped named in
     subst (λ (ls : List (List ℕ)). Leads g (state before) ls (state (before ++ x ∷ xs))) (sym (some (length before) x xs))
     (state next, each before xs x refl, all)
-
--- what each line that is taken keeps, all of them keep
-pub lines_keep : {S : Type 0} (g : Grammar S) (P : S → Type 0) → ((s t : S) (x : List ℕ) → P s → g.step s x ≡ Ok t → P t)
-    → ((s t : S) → g.ends s ≡ Ok t → s ≡ t)
-    → (line : ℕ) (s t : S) (parts : List (List ℕ)) → P s → lines_from g line s parts ≡ Ok t → P t
-unfolding lines_from
-lines_keep g P one same line s t [] holds is = subst P (same s t (map_fault_ok (fault line) (g.ends s) t is)) holds
-lines_keep g P one same line s t (x ∷ []) holds is = subst P (same s t (ended g line (eqb (length x) 0) s t is).1) holds
-lines_keep {S} g P one same line s t (x ∷ y ∷ more) holds is =
-    let next = bind_ok (map_fault (fault line) (g.step s x)) (λ (u : S). lines_from g (line + 1) u (y ∷ more)) t is in
-    lines_keep g P one same (line + 1) next.0 t (y ∷ more)
-    (one s next.0 x holds (map_fault_ok (fault line) (g.step s x) next.0 next.1)) next.2

@@ -36,10 +36,6 @@ pub push_before : {X : Type 0} (f a : List (List ℕ)) (line : X → List ℕ) (
     → f ++ map line (xs ++ x ∷ []) ++ a ≡ f ++ map line xs ++ a ++ line x ∷ []
 push_before f a line xs x none = rw (none, map_push line xs x) (simp (append-nil, append_assoc))
 
-pub push_before_two : {X : Type 0} (f a b : List (List ℕ)) (line : X → List ℕ) (xs : List X) (x : X) → a ≡ [] → b ≡ []
-    → f ++ map line (xs ++ x ∷ []) ++ a ++ b ≡ f ++ map line xs ++ a ++ b ++ line x ∷ []
-push_before_two f a b line xs x none no_more = rw (none, no_more, map_push line xs x) (simp (append-nil, append_assoc))
-
 -- ---- the section to which a text has come
 
 -- behind some items it is another

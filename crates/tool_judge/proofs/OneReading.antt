@@ -2,8 +2,9 @@
 use Rattle.std.proofs.Common.{◌≡◌, ℕ, ◌+◌, inl, inr, List, [], ◌∷◌, Result, Ok, Err, sym, ap, subst, ◌∙◌}
 use Rattle.lset_text.specs.declared.causes.Cause.{Cause}
 use Rattle.lset_text.specs.declared.causes.LineFault.{LineFault}
+use Rattle.lset_text.specs.Causes.{fault}
 use Rattle.lset_recording.specs.Texts.{Recording}
-use Rattle.lset_recording.specs.Reading.{SoFar, GoesOn, IsTaken, IsRefused, Reads, cause_of, fault, with_told}
+use Rattle.lset_recording.specs.Reading.{SoFar, GoesOn, IsTaken, IsRefused, Reads, cause_of, with_told}
 
 one_ok : {A E : Type 0} (r : Result A E) (x y : A) → r ≡ Ok x → r ≡ Ok y → x ≡ y
 one_ok r x y is other = cc

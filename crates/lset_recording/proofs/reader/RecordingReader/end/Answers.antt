@@ -6,7 +6,7 @@ use Rattle.lset_text.specs.Causes.{fault}
 use Rattle.lset_text.specs.declared.causes.Cause.TheVariants as wrong
 use Rattle.lset_recording.specs.Reading.{Says}
 use Rattle.lset_recording.specs.Kept.{IsHeld}
-use Rattle.lset_recording.proofs.ReadLaws.{stands, at_end, some_left, above_zero, finished, not_finished}
+use Rattle.lset_recording.proofs.ReadLaws.{stands, at_end, some_left, above_zero, finished, not_finished, line_of_end}
 use Rattle.lset_recording.proofs.reader.RecordingReader.end.Goals as goal
 use Rattle.lset_recording.proofs.reader.RecordingReader.end.Goals.{then-self-via-then-self, then-self-via-else-self+then-not-is_empty}
 
@@ -36,3 +36,9 @@ returns-clause-refused c =
     let none : c.args.self.line.items ≡ [] =
     sym c.as_slice.ensures.value ∙ nil_from_length c.as_slice.result.now (eqb-true _ _ (sym c.is_empty.ensures ∙ c.if-not-is_empty.false)) in
     not_finished c.args.self c.finish.result c.if-self.false none c.finish.ensures.refused
+
+pub returns-then-self-clause-line : goal.returns-then-self-clause-line
+returns-then-self-clause-line c = λ bytes is. ap (λ (e : LineFault). e.line) c.fault.ensures ∙ is.counted
+
+pub returns-clause-line : goal.returns-clause-line
+returns-clause-line c = line_of_end c.args.self c.finish.result c.finish.ensures.line

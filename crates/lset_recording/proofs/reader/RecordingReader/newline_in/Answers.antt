@@ -38,3 +38,9 @@ returns-in-Err-clause-refused c = λ bytes is other more.
     subst (λ (e : LineFault). Says ((bytes ++ 10 ∷ []) ++ more) (Err e)) (sym named)
     (line_refused bytes is.held r.judging.number is.told (stands bytes r is) cause
     (subst (λ l. IsRefused is.told l cause) line refused) more)
+
+pub returns-then-self-clause-line : goal.returns-then-self-clause-line
+returns-then-self-clause-line c = ap (λ (e : LineFault). e.line) c.fault.ensures
+
+pub returns-in-Err-clause-line : goal.returns-in-Err-clause-line
+returns-in-Err-clause-line c = ap (λ (e : LineFault). e.line) c.fault-in-Err.ensures ∙ c.in-Err.ensures.same

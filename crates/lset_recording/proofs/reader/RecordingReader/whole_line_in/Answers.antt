@@ -23,3 +23,6 @@ returns-in-Err-clause-refused c = λ bytes is other more.
     subst (λ (e : LineFault). Says ((bytes ++ line ++ 10 ∷ []) ++ more) (Err e)) (sym named)
     (line_refused (bytes ++ line) line r.judging.number is.told
     (whole_line bytes line r is c.requires.lacks c.requires.short c.requires.none) cause refused more)
+
+pub returns-in-Err-clause-line : goal.returns-in-Err-clause-line
+returns-in-Err-clause-line c = ap (λ (e : LineFault). e.line) c.fault.ensures ∙ c.in-Err.ensures.same
