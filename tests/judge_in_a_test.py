@@ -45,7 +45,7 @@ def built_rust(folder):
 
 def built_cpp(folder):
     warn = ["-Wall", "-Wextra", "-Wshadow", "-Wconversion", "-Werror"]
-    well("g++", "-O1", *warn, "-std=c++17", "-pthread", FORMS / "cpp/tests/sets.cpp", "-o", folder / "sets")
+    well("g++", "-O0", *warn, "-std=c++17", "-pthread", FORMS / "cpp/tests/sets.cpp", "-o", folder / "sets")
     return [folder / "sets"]
 
 
@@ -361,3 +361,13 @@ def test_a_jvm_that_cannot_be_given_the_set(room, once, program):
 def test_servers(room, program):
     words = [sys.executable, "-B", "-m", "unittest", "discover", "-s", FORMS / "python/tests", "-t", FORMS / "python/tests"]
     well(*words, cwd=room, env={**os.environ, "LISTSET": program, "TMPDIR": str(room), "PYTHONPATH": str(FORMS / "python")})
+
+
+@pytest.mark.needs("g++")
+def test_sets_of_libcds(room, program, lacking):
+    if not pathlib.Path("/usr/include/cds/init.h").exists():
+        lacking("libcds is not installed: Debian's package libcds-dev")
+    well("g++", "-O1", "-std=c++17", "-pthread", FORMS / "real-sets" / "libcds.cpp", "-lcds", "-o", room / "libcds")
+    said = well(room / "libcds", 1, env={**os.environ, "LISTSET": program, "TMPDIR": str(room)})
+    found = dict(re.findall("^([A-Za-z]+), test 1: (ok|seed)", said, re.M))
+    assert found.pop("SkipListSet") in ("ok", "seed") and set(found.values()) == {"ok"}, said  # (the first is seldom ok)

@@ -382,20 +382,15 @@ public final class Judge {
     private record Calls<S, K>(Make<? extends S> make, Keys<K> keys, Call<S, K> add, Call<S, K> remove, Call<S, K> contains) implements Serializable {
         private static final int NO = 0, YES = 1, UNKNOWN = 2;
 
-        /** The keys of the numbers; if none are given, the numbers and their multiples. */
+        /** The key of a number, each time made anew; if no function is given, a multiple of the number. */
         @SuppressWarnings("unchecked")
-        List<K> keysOf(int count, int times) {
-            List<K> made = new ArrayList<>();
-            for (int i = 0; i < count; i++) made.add(keys == null ? (K) Integer.valueOf(i * times) : keys.apply(i));
-            return made;
-        }
+        K key(int number, int times) { return keys == null ? (K) Integer.valueOf(number * times) : keys.apply(number); }
 
         void check(int count) {
             Map<K, Integer> seen = new HashMap<>();
-            List<K> made = keysOf(count, 1);
             for (int i = 0; i < count; i++) {
-                Integer old = seen.put(made.get(i), i);
-                if (old != null) throw new NoVerdict(TWICE.formatted(made.get(i), old, i));
+                Integer old = seen.put(key(i, 1), i);
+                if (old != null) throw new NoVerdict(TWICE.formatted(key(i, 1), old, i));
             }
         }
 
@@ -547,14 +542,12 @@ public final class Judge {
         private final Area area;
         private final Calls<S, K> calls;
         private final Shape of;
-        private final List<K> keys;
         private volatile S set;
 
         Play(Area area, Calls<S, K> calls, Shape of) {
             this.area = area;
             this.calls = calls;
             this.of = of;
-            keys = calls.keysOf(of.keys, of.times);
         }
 
         void all() {
@@ -596,7 +589,7 @@ public final class Judge {
 
         private void lookUp(int at) {
             for (int key = 0; key < of.keys; key++, area.next(Area.LOOKS)) {
-                area.memory.put(at + key, (byte) (calls.reply(set, 2, keys.get(key)) == Calls.YES ? 1 : 0));
+                area.memory.put(at + key, (byte) (calls.reply(set, 2, calls.key(key, of.times)) == Calls.YES ? 1 : 0));
             }
         }
 
@@ -623,7 +616,7 @@ public final class Judge {
             int key = draw.nextInt(of.keys > 2 * HOT && draw.nextBoolean() ? HOT : of.keys);
             area.memory.putInt(at + Area.THREAD, number).putInt(at + Area.CALL, call).putInt(at + Area.KEY, ofSet + key);
             for (int pause = draw.nextInt(100) < how.pauses ? draw.nextInt(LONGEST) : 0; pause > 0; pause--) area.get(Area.TICKETS);
-            K given = keys.get(key);
+            K given = calls.key(key, of.times);
             Area.INT.setRelease(area.memory, at + Area.BEGIN, area.next(Area.TICKETS));
             int reply = calls.reply(its, call, given);
             area.memory.putInt(at + Area.REPLY, reply);
@@ -835,7 +828,7 @@ public final class Judge {
         private String keyLine(String refused, Calls<?, ?> calls) {
             int number = Told.keyIn(refused);
             if (number < 0) return "";
-            String key = String.valueOf(calls.keysOf(shape.keys, shape.times).get(number % shape.keys));
+            String key = String.valueOf(calls.key(number % shape.keys, shape.times));
             String ofSet = shape.sets > 1 ? IN_SET.formatted(number / shape.keys + 1) : "";
             return key.equals("" + number) && ofSet.isEmpty() ? "" : "\n" + KEY_IS.formatted(number, key) + ofSet;
         }

@@ -183,13 +183,16 @@ class Options:
         """With more threads and fewer keys, where these options leave them open."""
         return fitted(it._replace(threads=self.threads or min(2 * it.threads, 8), keys=self.keys or max(it.keys // 2, 1)))
 
-    def keys_of(self, it: Shape) -> list:
-        keys = [(self.key or int)(number * it.times) for number in range(it.keys)]
+    def check_keys(self, it: Shape) -> None:
         seen = {}
-        for number, key in enumerate(keys):
+        for number in range(it.keys):
+            key = self.key_of(number, it)
             if seen.setdefault(key, number) != number:
                 raise NoVerdict(TWICE % (repr(key), seen[key], number))
-        return keys
+
+    def key_of(self, number: int, it: Shape) -> Any:
+        """The key of a number, each time made anew."""
+        return (self.key or int)(number * it.times)
 
 
 def fitted(it: Shape) -> Shape:
@@ -377,7 +380,8 @@ class Run:
 
     def __init__(self, make, how, shape, seed):
         self.make, self.how, self.shape, self.seed = make, how, shape, seed
-        self.keys, self.tickets, self.there = how.keys_of(shape), itertools.count(1), threading.Barrier(shape.threads + 1)
+        how.check_keys(shape)
+        self.tickets, self.there = itertools.count(1), threading.Barrier(shape.threads + 1)
         # of each thread the most calls of a part, and of a round; the parts; how many were read
         self.most = shape.sets * shape.calls if shape.sets > 1 else min(shape.calls, PART // shape.threads)
         self.per_round = shape.calls if shape.sets > 1 else self.most
@@ -526,8 +530,8 @@ class Run:
         return self.at == GOING
 
     def look_up(self, to):
-        for number, key in enumerate(self.keys):
-            self.slots[to + number] = bool(self.replies_of[2](key))
+        for number in range(self.shape.keys):
+            self.slots[to + number] = bool(self.replies_of[2](self.how.key_of(number, self.shape)))
             self.count(self.shape.threads, to + number)
 
     def call_in_rounds(self, thread):
@@ -554,12 +558,12 @@ class Run:
             sys.settrace(pausing(self.how.pauses, random.Random(draw.random()), before))
         try:
             for at in places:
-                word, key = draw.choice(drawn), draw.randrange(few if keys > 2 * HOT and draw.random() < 0.5 else keys)
-                at_slot, written = self.at_slots + at * self.SLOT.size, of_set + key
+                word, number_of_key = draw.choice(drawn), draw.randrange(few if keys > 2 * HOT and draw.random() < 0.5 else keys)
+                key, at_slot, written = self.how.key_of(number_of_key, self.shape), self.at_slots + at * self.SLOT.size, of_set + number_of_key
                 self.count(thread, at)
                 begin = next(self.tickets)  # (one step of the interpreter)
                 self.SLOT.pack_into(self.slots, at_slot, begin, 0, number, written, word, NO)
-                reply = self.replies_of[word](self.keys[key])
+                reply = self.replies_of[word](key)
                 reply = UNKNOWN if reply is None else YES if reply else NO
                 self.SLOT.pack_into(self.slots, at_slot, begin, next(self.tickets), number, written, word, reply)
                 number += self.shape.threads * (reply == UNKNOWN)
@@ -602,9 +606,9 @@ class Run:
         """Which key of which set it is that the judge names, if its number does not say so."""
         number = OF_KEY.search(refused)
         one, at = divmod(int(number[1]) if number else 0, self.shape.keys)
-        if not number or one == 0 and self.shape.sets == 1 and repr(self.keys[at]) == number[1]:
+        if not number or one == 0 and self.shape.sets == 1 and repr(self.how.key_of(at, self.shape)) == number[1]:
             return ""
-        return "\n" + KEY_IS % (number[1], repr(self.keys[at])) + (IN_SET % (one + 1) if self.shape.sets > 1 else "")
+        return "\n" + KEY_IS % (number[1], repr(self.how.key_of(at, self.shape))) + (IN_SET % (one + 1) if self.shape.sets > 1 else "")
 
 
 def end_with_parent():
