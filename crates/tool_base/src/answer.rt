@@ -3,7 +3,8 @@ ghost use Rattle.tool_base.specs.Tools.{Delivers, IsDelivered, AppendsFront, vie
 ghost use Rattle.tool_base.specs.Trouble.{trouble_text};
 
 use crate::streams::put;
-use crate::trouble::{LineCause, ServeName, Trouble, ValueName, WorkName};
+use crate::trouble::{ServeName, Trouble, ValueName, WorkName};
+use lset_text::Cause;
 use std::alloc::{AllocError, Global};
 use std::io::Write;
 
@@ -55,7 +56,7 @@ pub fn line_of_trouble(alloc: Global, trouble: Trouble) -> Result<Vec<u8>, Alloc
     }
 }
 
-fn line_of_cause(alloc: Global, line: u64, cause: LineCause) -> Result<Vec<u8>, AllocError>
+fn line_of_cause(alloc: Global, line: u64, cause: Cause) -> Result<Vec<u8>, AllocError>
     ensures { IfOk result (λ text. text.items ≡ trouble_text (Trouble.Line line cause)) }
 {
     let name = cause.name();

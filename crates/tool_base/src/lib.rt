@@ -21,7 +21,7 @@ pub use moments::{DEFAULT_WIDTH, MOST_MOMENT, MOST_WIDTH, Moments, read_moments,
 pub use number_lines::{put_keys, put_number};
 pub use replaying::{replayed, tool_replay};
 pub use streams::{InputFault, LONGEST, READ_SIZE, input_of, put};
-pub use trouble::{KeyCause, LineCause, ServeName, Trouble, ValueName, WorkName};
+pub use trouble::{ServeName, Trouble, ValueName, WorkName};
 pub use values::{
     MOST_CALLS_ASKED, MOST_KEYS_ASKED, MOST_SEED, RandomRequest, kind_at, number_at,
     read_random_request,

@@ -1,55 +1,15 @@
 ghost use Rattle.std.specs.Prelude.{◌≡◌};
-ghost use Rattle.tool_base.specs.Trouble.{of_input, of_schedule, of_replay, of_report, of_recording, status_of, name_of, serve_name, value_word, work_name};
+ghost use Rattle.tool_base.specs.Trouble.{of_input, of_line_fault, of_replay, status_of, serve_name, value_word, work_name};
 ghost use Rattle.tool_base.specs.declared.trouble.Trouble.TheVariants.{Memory};
 
 use crate::streams::InputFault;
-use lset_recording::{RecordingCause, RecordingFault};
 use lset_replay::ReplayFault;
-use lset_report::{ReportCause, ReportFault};
-use lset_schedule::{Cause, ScheduleFault};
-use std::alloc::AllocError;
+use lset_text::{Cause, LineFault};
+use std::alloc::{AllocError, AllocFailed};
 
 /// The word for the name of a broken list, with the names that there are.
 const LACKS: &str =
     "NAME: it is none of lock, second-lock, hand-over-hand, second-walk, same-node, marks-in-validation, mark-in-contains, mark-in-ceiling, mark, mark-in-add, mark-in-remove, mark-at-key or new-slot";
-
-/// Why a line of the keys with which a set opens is refused.
-#[derive(Clone, Copy)]
-pub enum KeyCause {
-    /// The line is not `key` and one further piece.
-    Line,
-    /// The key is no number up to 4294967295.
-    Number,
-    /// The keys up to and with this line are more than 1,048,576.
-    TooMany,
-    /// The key does not lie above the one before.
-    Opening,
-    /// The line has bytes and no newline.
-    NotEnded,
-}
-
-/// Why a line of an input is refused.
-#[derive(Clone, Copy)]
-pub enum LineCause {
-    /// The text is no schedule.
-    Schedule(Cause),
-    /// An event of the line names no thread.
-    NoThread,
-    /// A thread begins a call on the line and has one open.
-    Busy,
-    /// A thread makes a step on the line and has no call open.
-    Idle,
-    /// A broken list cannot make the event of the line.
-    Lost,
-    /// A thread does not get to where the line of a draft sends it.
-    Waits,
-    /// The text is no report.
-    Report(ReportCause),
-    /// The input is no recording of calls.
-    Recording(RecordingCause),
-    /// The input is not a list of keys in strictly increasing order.
-    Keys(KeyCause),
-}
 
 /// An argument or an option of a command.
 #[derive(Clone, Copy)]
@@ -111,7 +71,7 @@ pub enum Trouble {
     /// Memory was refused.
     Memory,
     /// A line of the input, counted from 1, is refused.
-    Line(u64, LineCause),
+    Line(u64, Cause),
     /// An argument or an option of the command line is missing or wrong.
     Bad(ValueName),
     /// The system gives no listening socket.
@@ -153,13 +113,13 @@ impl From<InputFault> for Trouble {
     }
 }
 
-impl From<ScheduleFault> for Trouble {
-    ghost from_gives = { λ e t. t ≡ of_schedule e };
+impl From<LineFault> for Trouble {
+    ghost from_gives = { λ e t. t ≡ of_line_fault e };
 
-    fn from(fault: ScheduleFault) -> Trouble {
+    fn from(fault: LineFault) -> Trouble {
         match fault.cause {
             Cause::Memory => Trouble::Memory,
-            cause => Trouble::Line(fault.line, LineCause::Schedule(cause)),
+            cause => Trouble::Line(fault.line, cause),
         }
     }
 }
@@ -169,32 +129,10 @@ impl From<ReplayFault> for Trouble {
 
     fn from(fault: ReplayFault) -> Trouble {
         match fault {
-            ReplayFault::NoThread(line) => Trouble::Line(line, LineCause::NoThread),
-            ReplayFault::Busy(line) => Trouble::Line(line, LineCause::Busy),
-            ReplayFault::Idle(line) => Trouble::Line(line, LineCause::Idle),
+            ReplayFault::NoThread(line) => Trouble::Line(line, Cause::NoThread),
+            ReplayFault::Busy(line) => Trouble::Line(line, Cause::Busy),
+            ReplayFault::Idle(line) => Trouble::Line(line, Cause::Idle),
             ReplayFault::Memory => Trouble::Memory,
-        }
-    }
-}
-
-impl From<ReportFault> for Trouble {
-    ghost from_gives = { λ e t. t ≡ of_report e };
-
-    fn from(fault: ReportFault) -> Trouble {
-        match fault.cause {
-            ReportCause::Memory => Trouble::Memory,
-            cause => Trouble::Line(fault.line, LineCause::Report(cause)),
-        }
-    }
-}
-
-impl From<RecordingFault> for Trouble {
-    ghost from_gives = { λ e t. t ≡ of_recording e };
-
-    fn from(fault: RecordingFault) -> Trouble {
-        match fault.cause {
-            RecordingCause::Memory => Trouble::Memory,
-            cause => Trouble::Line(fault.line, LineCause::Recording(cause)),
         }
     }
 }
@@ -207,59 +145,11 @@ impl From<AllocError> for Trouble {
     }
 }
 
-impl LineCause {
-    /// Returns the cause's name, as the line on standard error has it.
-    pub fn name(self) -> &'static str
-        ensures { result.now ≡ name_of self }
-    {
-        match self {
-            LineCause::NoThread => "NoThread",
-            LineCause::Busy => "Busy",
-            LineCause::Idle => "Idle",
-            LineCause::Lost => "Lost",
-            LineCause::Waits => "Waits",
-            LineCause::Schedule(cause) => match cause {
-                Cause::Header => "Header",
-                Cause::Kind => "Kind",
-                Cause::Threads => "Threads",
-                Cause::Quota => "Quota",
-                Cause::Event => "Event",
-                Cause::Number => "Number",
-                Cause::TooMany => "TooMany",
-                Cause::Opening => "Opening",
-                Cause::NotEnded => "NotEnded",
-                Cause::Memory => "Memory",
-            },
-            LineCause::Report(cause) => match cause {
-                ReportCause::Header => "Header",
-                ReportCause::Kind => "Kind",
-                ReportCause::Threads => "Threads",
-                ReportCause::Quota => "Quota",
-                ReportCause::Line => "Line",
-                ReportCause::Number => "Number",
-                ReportCause::TooMany => "TooMany",
-                ReportCause::Opening => "Opening",
-                ReportCause::History => "History",
-                ReportCause::NotEnded => "NotEnded",
-                ReportCause::Memory => "Memory",
-            },
-            LineCause::Recording(cause) => match cause {
-                RecordingCause::Header => "Header",
-                RecordingCause::Line => "Line",
-                RecordingCause::Number => "Number",
-                RecordingCause::Opening => "Opening",
-                RecordingCause::History => "History",
-                RecordingCause::NotEnded => "NotEnded",
-                RecordingCause::Memory => "Memory",
-            },
-            LineCause::Keys(cause) => match cause {
-                KeyCause::Line => "Line",
-                KeyCause::Number => "Number",
-                KeyCause::TooMany => "TooMany",
-                KeyCause::Opening => "Opening",
-                KeyCause::NotEnded => "NotEnded",
-            },
-        }
+impl<T: Drop> From<AllocFailed<T>> for Trouble {
+    ghost from_gives = { λ _ t. t ≡ Memory };
+
+    fn from(_refused: AllocFailed<T>) -> Trouble {
+        Trouble::Memory
     }
 }
 

@@ -3,13 +3,14 @@ ghost use Rattle.lset_words.specs.Words.{Opens};
 ghost use Rattle.lset_text.specs.declared.words.Version.TheVariants.{Two};
 ghost use Rattle.lset_schedule.specs.Plan.{opening_in, view};
 
-use broken_lists::{BrokenList, BrokenStepError, Listener, named, run_broken};
-use lset_replay::TracedEvent;
+use broken_lists::{BrokenList, broken_run, named};
+use lset_replay::calls_of;
 use lset_report::Report;
-use lset_schedule::{Cause, Schedule, read_schedule};
-use std::alloc::{AllocError, Global};
+use lset_schedule::{Schedule, Version, read_schedule};
+use lset_text::Cause;
+use std::alloc::Global;
 use std::io::Read;
-use tool_base::{LONGEST, LineCause, Trouble, ValueName, input_of};
+use tool_base::{LONGEST, Trouble, ValueName, input_of};
 
 /// The line of a schedule's text that names the list.
 const KIND_LINE: u64 = 2;
@@ -34,29 +35,9 @@ pub fn schedule_of(alloc: Global, broken: BrokenList, bytes: &[u8]) -> Result<Sc
     }
     let schedule = read_schedule(alloc, bytes)?;
     if schedule.kind != broken.kind() {
-        return Err(Trouble::Line(KIND_LINE, LineCause::Schedule(Cause::Kind)));
+        return Err(Trouble::Line(KIND_LINE, Cause::Kind));
     }
     Ok(schedule)
-}
-
-/// Returns the cause of the line about the event at which a run ends.
-pub fn cause_of(fault: BrokenStepError) -> LineCause {
-    match fault {
-        BrokenStepError::NoThread => LineCause::NoThread,
-        BrokenStepError::Busy => LineCause::Busy,
-        BrokenStepError::Idle => LineCause::Idle,
-        BrokenStepError::Lost => LineCause::Lost,
-    }
-}
-
-/// Hears of events, and keeps nothing.
-#[derive(Drop)]
-struct Silent {}
-
-impl Listener for Silent {
-    fn hear(&mut self, _event: &TracedEvent) -> Result<(), AllocError> {
-        Ok(())
-    }
 }
 
 /// Runs a schedule, given as the bytes of its text, on the broken list of this name, and returns the report.
@@ -65,8 +46,16 @@ pub fn report_of(alloc: Global, name: &[u8], bytes: &[u8]) -> Result<Report, Tro
 {
     let broken = broken_of(name)?;
     let schedule = schedule_of(alloc, broken, bytes)?;
-    match run_broken(alloc, broken, &schedule, false, &mut Silent {})? {
-        Ok(report) => Ok(report),
-        Err((line, fault)) => Err(Trouble::Line(line, cause_of(fault))),
+    let run = broken_run(alloc, broken, &schedule, false)?;
+    let calls = calls_of(alloc, &schedule, run)?;
+    match calls.refused {
+        Some((line, cause)) => Err(Trouble::Line(line, cause)),
+        None => Ok(Report {
+            version: Version::Two,
+            kind: schedule.kind,
+            history: calls.history,
+            order: calls.order,
+            keys: calls.keys,
+        }),
     }
 }

@@ -1,37 +1,9 @@
-use crate::asking::{broken_of, cause_of, input_for, schedule_of};
-use broken_lists::{BrokenList, Listener, run_broken};
-use lset_replay::TracedEvent;
-use lset_schedule::Schedule;
-use lset_text::{kind_word, put_openings};
-use std::alloc::{AllocError, Global};
+use crate::asking::{broken_of, input_for, schedule_of};
+use broken_lists::broken_run;
+use std::alloc::Global;
 use std::io::{Read, Write};
 use tool_base::{Answer, Trouble, deliver};
-use tool_trace::{EventLines, TITLE};
-
-/// Hears of events, and writes them into memory.
-#[derive(Drop)]
-struct Traced {
-    lines: EventLines,
-}
-
-impl Listener for Traced {
-    fn hear(&mut self, event: &TracedEvent) -> Result<(), AllocError> {
-        self.lines.add(event)
-    }
-}
-
-/// What the trace has before its first event: its header, in which the removed check comes after the list.
-fn head_of(alloc: Global, broken: BrokenList, schedule: &Schedule) -> Result<String, AllocError> {
-    let list = kind_word(schedule.kind);
-    let lacks = broken.name();
-    let threads = schedule.threads;
-    let quota = schedule.quota;
-    let mut head = format!(in alloc;
-        "{TITLE}\nlist {list}\nlacks {lacks}\nthreads {threads}\nquota {quota}\n"
-    )?;
-    put_openings(&mut head, &schedule.opening)?;
-    Ok(head)
-}
+use tool_trace::trace_of_run;
 
 /// Traces the run of a schedule, given as the bytes of its text, on the broken list of this name. The answer is a trace, as
 /// of `trace`, with a line `lacks NAME` below its list and, with `chains`, the chain after each event that changed it. Its
@@ -45,18 +17,8 @@ pub fn traced_broken(
 ) -> Result<Answer, Trouble> {
     let broken = broken_of(name)?;
     let schedule = schedule_of(alloc, broken, bytes)?;
-    let mut traced = Traced {
-        lines: EventLines::after(head_of(alloc, broken, &schedule)?),
-    };
-    let run = run_broken(alloc, broken, &schedule, chains, &mut traced)?;
-    let (end, status) = match run {
-        Ok(_) => (None, 0),
-        Err((line, fault)) => (Some((line, cause_of(fault).name())), 1),
-    };
-    Ok(Answer {
-        text: traced.lines.ended(end)?,
-        status,
-    })
+    let run = broken_run(alloc, broken, &schedule, chains)?;
+    trace_of_run(alloc, &schedule, broken.name(), run)
 }
 
 /// Does what `trace --lacks NAME` does: traces the run of the schedule on `input` on the broken list of this name, to

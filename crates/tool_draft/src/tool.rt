@@ -1,30 +1,9 @@
 use crate::expanding::schedule_of;
-use crate::fault::{DraftCause, DraftFault};
 use crate::reading::read_draft;
-use lset_schedule::{Cause, write_schedule};
-use lset_steps::StepFault;
+use lset_schedule::write_schedule;
 use std::alloc::Global;
 use std::io::{Read, Write};
-use tool_base::{Answer, LONGEST, LineCause, Trouble, deliver, input_of};
-
-fn line_cause(cause: DraftCause) -> LineCause {
-    match cause {
-        DraftCause::TooMany => LineCause::Schedule(Cause::TooMany),
-        DraftCause::Refused(StepFault::NoThread) => LineCause::NoThread,
-        DraftCause::Refused(StepFault::Busy) => LineCause::Busy,
-        DraftCause::Refused(StepFault::Idle) => LineCause::Idle,
-        DraftCause::Waits => LineCause::Waits,
-    }
-}
-
-impl From<DraftFault> for Trouble {
-    fn from(fault: DraftFault) -> Trouble {
-        match fault {
-            DraftFault::Line(number, cause) => Trouble::Line(number, line_cause(cause)),
-            DraftFault::Memory => Trouble::Memory,
-        }
-    }
-}
+use tool_base::{Answer, LONGEST, Trouble, deliver, input_of};
 
 fn schedule_text_of(alloc: Global, bytes: &[u8]) -> Result<Answer, Trouble> {
     let draft = read_draft(alloc, bytes)?;

@@ -6,6 +6,6 @@ mod request;
 mod text;
 mod tool;
 
-pub use keys::{KeysFault, read_keys};
+pub use keys::read_keys;
 pub use request::{MOST_PORT, MOST_SESSIONS_ASKED, ServeRequest, read_serve_request};
 pub use tool::{tool_serve, tool_serve_with};

@@ -10,10 +10,6 @@ pub enum Form {
     Svg,
 }
 
-fn form_of(svg: bool, width: u32) -> Form {
-    if svg { Form::Svg } else { Form::Text(width) }
-}
-
 /// Reads the options of `show`: whether `--svg` is on, and the values of `--from`, `--to` and `--width`, as `read_moments`
 /// and `read_width` read them. An SVG has no width, but a width that is given with it must be right too. The error names the
 /// first option that is wrong.
@@ -29,5 +25,6 @@ pub fn read_asked(
         from: moments.from,
         to: moments.to,
     };
-    Ok((form_of(svg, width), window))
+    let form = if svg { Form::Svg } else { Form::Text(width) };
+    Ok((form, window))
 }

@@ -17,7 +17,7 @@ pub fn traced(alloc: Global, bytes: &[u8], chains: bool) -> Result<Answer, Troub
         return Err(Trouble::TooLong);
     }
     let schedule = read_schedule(alloc, bytes)?;
-    Ok(trace_of(alloc, &schedule, chains)?)
+    trace_of(alloc, &schedule, chains)
 }
 
 fn traced_input<R: Read, W: Write>(
