@@ -2,9 +2,9 @@ ghost use Rattle.std.specs.Prelude.{◌≡◌, ◌++◌, ◌↔◌, [], IfOk, Is
 ghost use Rattle.clap.specs.Words.{FailsBy, app_of, fault_of, found_of, kind_of, new_app, new_rule, rows_of, rule_of, subcommand_of};
 ghost use Rattle.clap.specs.Walk.{first_of, texts};
 ghost use Rattle.clap.specs.declared.error.kind.ErrorKind.TheVariants.{OutOfMemory};
-ghost use Rattle.lset_command.specs.CommandLine.{choice_in, choice_of, command_named, file_app, file_of, first_value, path_of, six_values, serve_app};
-ghost use Rattle.lset_command.specs.CommandLine.{example_app, flag_rule, gen_app, option_rule, run_app, show_app, trace_app};
-ghost use Rattle.lset_command.specs.CommandLine.{IsApp, Makes, MakesWithArg, MakesWithSubcommand, MakesWithValue, is_on, is_option, listset, replay_app, options_in, options_of, rule_past_the_last, values_by, values_in};
+ghost use Rattle.lset_command.specs.CommandLine.{choice_in, choice_of, command_named, file_app, path_of, six_values, serve_app};
+ghost use Rattle.lset_command.specs.CommandLine.{example_app, flag_rule, option_rule, run_app, show_app, trace_app};
+ghost use Rattle.lset_command.specs.CommandLine.{IsApp, Makes, MakesWithArg, MakesWithSubcommand, MakesWithValue, is_on, is_option, listset, replay_app, options_in, options_of, values_by, values_in};
 
 use clap::error::ErrorKind;
 use clap::{Arg, ArgAction, ArgMatches, Error};
@@ -15,9 +15,6 @@ use std::alloc::{AllocError, Global};
 pub const VERSION: &str = "0.1.0\nRattle kit 13, logic dac8208d650f15bf";
 
 const KIND_HELP: &str = "List: coarse, fine, optimistic, lazy or lock-free";
-
-// The index of FILE among the arguments of `serve`, from 0.
-const SERVE_FILE: usize = 5;
 
 /// A command of the program.
 #[derive(Clone, Copy)]
@@ -50,6 +47,9 @@ pub enum Command {
 /// `None`.
 #[derive(Drop)]
 pub struct Options {
+    /// The argument FILE, which is among the values too. Without it `serve` reads nothing, and the other commands that have
+    /// it read standard input.
+    pub file: Option<String>,
     /// `show` draws an SVG.
     pub svg: bool,
     /// The first moment that `show` draws.
@@ -75,37 +75,12 @@ pub struct Words {
 }
 
 impl Words {
-    /// Returns the first of the arguments, if there is one.
-    pub fn first_value(&self) -> Option<&str>
-        ensures { option_map (λ value. value.now) result ≡ first_value (choice_in self.now) }
-    {
-        Some(self.values.first()?.as_str())
-    }
-
-    /// Returns the argument FILE of the command, if it was given: the first argument of `replay`, `judge`, `check`,
-    /// `show`, `trace` and `draft`, which read standard input without it, and the sixth of `serve`, which reads nothing
-    /// without it. The other commands read nothing, and have none.
-    pub fn file(&self) -> Option<&str>
-        ensures { option_map (λ path. path.now) result ≡ file_of (choice_in self.now) }
-    {
-        match self.command {
-            Command::Replay
-            | Command::Judge
-            | Command::Check
-            | Command::Show
-            | Command::Trace
-            | Command::Draft => self.first_value(),
-            Command::Serve => Some(self.values.get(SERVE_FILE)?.as_str()),
-            Command::Example | Command::Gen | Command::Run | Command::Faults => None,
-        }
-    }
-
     /// Returns the path of the file that the command reads, if it reads one. The argument `-` means standard input; a file
     /// of that name has the path `./-`.
     pub fn path(&self) -> Option<&str>
         ensures { option_map (λ path. path.now) result ≡ path_of (choice_in self.now) }
     {
-        let word = self.file()?;
+        let word = self.options.file.as_ref()?.as_str();
         if word == "-" { None } else { Some(word) }
     }
 }
@@ -150,14 +125,6 @@ fn lacks_option<'a>(alloc: Global) -> Arg<'a>
         "NAME",
         "Run a broken list, with one check removed: lock (coarse), second-lock, hand-over-hand (fine), second-walk, same-node (optimistic), marks-in-validation, mark-in-contains, mark-in-ceiling (lazy), mark, mark-in-add, mark-in-remove, mark-at-key, new-slot (lock-free)",
     )
-}
-
-// Any number of values past the last, of which help says nothing.
-fn values_past_the_last<'a>(alloc: Global) -> Arg<'a>
-    ensures rule { rule_of result ≡ rule_past_the_last }
-    ensures local { result.global ≡ false }
-{
-    Arg::new(alloc, "MORE").num_args(..).hide(true)
 }
 
 // The command with one more argument, if it was made. Those who add by this and the next have no `?`, on whose way out
@@ -371,17 +338,16 @@ fn serve_command<'a>(alloc: Global) -> Result<clap::Command<'a>, AllocError>
         "SESSIONS",
         "Number of client connections to serve before the end: 0 to 10000",
     );
-    let command = and_value(
+    and_value(
         alloc,
         command,
         "FILE",
         "File of the keys with which the set opens, as a server prints them; standard input if -, no keys if missing",
-    );
-    and_arg(command, values_past_the_last(alloc))
+    )
 }
 
 fn gen_command<'a>(alloc: Global) -> Result<clap::Command<'a>, AllocError>
-    ensures { Makes result gen_app }
+    ensures { Makes result (six_values (codes "gen")) }
 {
     random_command(
         alloc,
@@ -390,8 +356,7 @@ fn gen_command<'a>(alloc: Global) -> Result<clap::Command<'a>, AllocError>
         "listset gen KIND THREADS QUOTA CALLS KEYS SEED",
         "Example: listset gen optimistic 3 4 9 5 1 | listset replay",
         "Calls in all threads together, if 10000 events suffice: 0 to 10000",
-    )?
-    .arg(values_past_the_last(alloc))
+    )
 }
 
 fn run_command<'a>(alloc: Global) -> Result<clap::Command<'a>, AllocError>
@@ -409,8 +374,7 @@ fn run_command<'a>(alloc: Global) -> Result<clap::Command<'a>, AllocError>
         alloc,
         "LIVES",
         "Number of rounds, each on a set that opens with the keys of the round before: 1 to 100 [default: 1]",
-    ))?
-    .arg(values_past_the_last(alloc))
+    ))
 }
 
 fn replay_command<'a>(alloc: Global) -> Result<clap::Command<'a>, AllocError>
@@ -464,6 +428,9 @@ fn program_command<'a>(alloc: Global, faults_help: &'a str) -> Result<clap::Comm
 {
     let program = clap::Command::new(alloc, "listset")
         .about("Replay, judge, draw, run and serve concurrent list sets")
+        .after_help(
+            "listset --version --long also prints the commit, and whether the program is proved.",
+        )
         .version(VERSION)
         .no_binary_name(true)
         .bin_name("listset");
@@ -553,6 +520,7 @@ fn options_of(alloc: Global, found: &ArgMatches<'_>) -> Result<Options, AllocErr
     ensures { IfOk result (λ o. options_of o ≡ options_in (rows_of (found_of found.now))) }
 {
     Ok(Options {
+        file: option_text(alloc, found, "FILE")?,
         svg: is_on(found, "svg"),
         from: option_text(alloc, found, "from")?,
         to: option_text(alloc, found, "to")?,
@@ -568,6 +536,7 @@ fn no_options() -> Options
     ensures { options_of result ≡ options_in [] }
 {
     Options {
+        file: None,
         svg: false,
         from: None,
         to: None,
@@ -601,8 +570,8 @@ fn command_named(name: &str) -> Command
 /// Reads the command line, without the program's name, by `clap`.
 ///
 /// It takes what the help shows; nothing at all means `replay` without arguments. Arguments and options are returned as they
-/// were given, and are not judged here: some or all may be missing, and `gen`, `run` and `serve` may have more. An argument
-/// that begins with `-` and is longer needs `--` before it. `faults_help` becomes the help on `faults`. Allocates.
+/// were given, and are not judged here: some or all may be missing. An argument that begins with `-` and is longer needs `--`
+/// before it. `faults_help` becomes the help on `faults`. Allocates.
 ///
 /// # Errors
 ///
