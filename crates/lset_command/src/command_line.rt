@@ -14,7 +14,51 @@ use std::alloc::{AllocError, Global};
 /// proved with.
 pub const VERSION: &str = "0.1.0\nRattle kit 13, logic dac8208d650f15bf";
 
-const KIND_HELP: &str = "List: coarse, fine, optimistic, lazy or lock-free";
+// Helps on arguments and options.
+const KIND: &str = "List: coarse, fine, optimistic, lazy or lock-free";
+
+const QUOTA_OF_THREAD: &str = "Successful adds allowed per thread: 0 to 16384";
+
+const KEYS: &str = "Number of keys, counted from 0, to draw from: 1 to 4294967295";
+
+const SEED: &str = "Seed of the random draws: 0 to 18446744073709551615";
+
+const SEATS: &str = "Number of clients that are served at once: 1 to 64";
+
+const QUOTA_OF_SEAT: &str = "Successful adds allowed per seat: 0 to 16384";
+
+const PORT: &str = "Port to listen on: 0 to 65535; with 0 the system chooses";
+
+const SESSIONS: &str = "Number of client connections to serve before the end: 0 to 10000";
+
+const KEYS_FILE: &str =
+    "File of the keys with which the set opens, as a server prints them; standard input if -, no keys if missing";
+
+const FROM_OPTION: &str =
+    "First moment to draw: 1 to the last one at which a call begins, takes effect or ends [default: 1]";
+
+const TO_OPTION: &str = "Last moment to draw: the first or a later one [default: 4294967295]";
+
+const WIDTH_OPTION: &str =
+    "Maximum width of the text in characters: 1 to 4294967295 [default: 100]";
+
+const CHAIN_FLAG: &str = "Print the chain after each step that changed it";
+
+const LIVES: &str =
+    "Number of rounds, each on a set that opens with the keys of the round before: 1 to 100 [default: 1]";
+
+const NAME: &str = "Name of the schedule; without it the list of names is printed";
+
+const BROKEN_FLAG: &str = "Print the report that a broken list would give, if the example has one";
+
+/// Helps that are made elsewhere.
+#[derive(Clone, Copy)]
+pub struct Helps<'a> {
+    /// The help on the command `faults`.
+    pub faults: &'a str,
+    /// The help on the option `--lacks`, with the names that it takes.
+    pub lacks: &'a str,
+}
 
 /// A command of the program.
 #[derive(Clone, Copy)]
@@ -115,16 +159,11 @@ fn value_option<'a>(alloc: Global, name: &'a str, value_name: &'a str, help: &'a
 }
 
 // The option that names a broken list.
-fn lacks_option<'a>(alloc: Global) -> Arg<'a>
+fn lacks_option<'a>(alloc: Global, help: &'a str) -> Arg<'a>
     ensures rule { rule_of result ≡ option_rule (codes "lacks") }
     ensures local { result.global ≡ false }
 {
-    value_option(
-        alloc,
-        "lacks",
-        "NAME",
-        "Run a broken list, with one check removed: lock (coarse), second-lock, hand-over-hand (fine), second-walk, same-node (optimistic), marks-in-validation, mark-in-contains, mark-in-ceiling (lazy), mark, mark-in-add, mark-in-remove, mark-at-key, new-slot (lock-free)",
-    )
+    value_option(alloc, "lacks", "NAME", help)
 }
 
 // The command with one more argument, if it was made. Those who add by this and the next have no `?`, on whose way out
@@ -175,7 +214,7 @@ fn file_command<'a>(
         .arg(value(alloc, "FILE", file_help))
 }
 
-fn show_command<'a>(alloc: Global) -> Result<clap::Command<'a>, AllocError>
+fn show_command<'a>(alloc: Global, lacks_help: &'a str) -> Result<clap::Command<'a>, AllocError>
     ensures { Makes result show_app }
 {
     let command = file_command(
@@ -186,37 +225,13 @@ fn show_command<'a>(alloc: Global) -> Result<clap::Command<'a>, AllocError>
         "If an event of the schedule is not enabled, the picture ends before it, the last line names it, and the exit status is 1. With --lacks only that line is printed.\n\nExample: listset example read-in-anothers-step | listset show --from 9 --to 38",
     );
     let command = and_arg(command, flag(alloc, "svg", "Draw an SVG instead of text"));
-    let command = and_arg(
-        command,
-        value_option(
-            alloc,
-            "from",
-            "M",
-            "First moment to draw: 1 to the last one at which a call begins, takes effect or ends [default: 1]",
-        ),
-    );
-    let command = and_arg(
-        command,
-        value_option(
-            alloc,
-            "to",
-            "M",
-            "Last moment to draw: the first or a later one [default: 4294967295]",
-        ),
-    );
-    let command = and_arg(
-        command,
-        value_option(
-            alloc,
-            "width",
-            "N",
-            "Maximum width of the text in characters: 1 to 4294967295 [default: 100]",
-        ),
-    );
-    and_arg(command, lacks_option(alloc))
+    let command = and_arg(command, value_option(alloc, "from", "M", FROM_OPTION));
+    let command = and_arg(command, value_option(alloc, "to", "M", TO_OPTION));
+    let command = and_arg(command, value_option(alloc, "width", "N", WIDTH_OPTION));
+    and_arg(command, lacks_option(alloc, lacks_help))
 }
 
-fn trace_command<'a>(alloc: Global) -> Result<clap::Command<'a>, AllocError>
+fn trace_command<'a>(alloc: Global, lacks_help: &'a str) -> Result<clap::Command<'a>, AllocError>
     ensures { Makes result trace_app }
 {
     let command = file_command(
@@ -226,15 +241,8 @@ fn trace_command<'a>(alloc: Global) -> Result<clap::Command<'a>, AllocError>
         "Schedule file; standard input if - or missing",
         "Example: listset example two-removers | listset trace --chain",
     );
-    let command = and_arg(
-        command,
-        flag(
-            alloc,
-            "chain",
-            "Print the chain after each step that changed it",
-        ),
-    );
-    and_arg(command, lacks_option(alloc))
+    let command = and_arg(command, flag(alloc, "chain", CHAIN_FLAG));
+    and_arg(command, lacks_option(alloc, lacks_help))
 }
 
 fn draft_command<'a>(alloc: Global) -> Result<clap::Command<'a>, AllocError>
@@ -255,16 +263,8 @@ fn example_command<'a>(alloc: Global) -> Result<clap::Command<'a>, AllocError>
     clap::Command::new(alloc, "example")
         .about("Print a classic schedule, or the list of their names")
         .after_help("Example: listset example snip | listset show")
-        .arg(value(
-            alloc,
-            "NAME",
-            "Name of the schedule; without it the list of names is printed",
-        ))?
-        .arg(flag(
-            alloc,
-            "broken",
-            "Print the report that a broken list would give, if the example has one",
-        ))
+        .arg(value(alloc, "NAME", NAME))?
+        .arg(flag(alloc, "broken", BROKEN_FLAG))
 }
 
 // The usage is written out, since `clap` would set each value in brackets: it lets values be missing, and the
@@ -283,27 +283,12 @@ fn random_command<'a>(
         .about(about)
         .override_usage(usage)
         .after_help(example);
-    let command = and_value(alloc, Ok(command), "KIND", KIND_HELP);
+    let command = and_value(alloc, Ok(command), "KIND", KIND);
     let command = and_value(alloc, command, "THREADS", "Number of threads: 1 to 64");
-    let command = and_value(
-        alloc,
-        command,
-        "QUOTA",
-        "Successful adds allowed per thread: 0 to 16384",
-    );
+    let command = and_value(alloc, command, "QUOTA", QUOTA_OF_THREAD);
     let command = and_value(alloc, command, "CALLS", calls_help);
-    let command = and_value(
-        alloc,
-        command,
-        "KEYS",
-        "Number of keys, counted from 0, to draw from: 1 to 4294967295",
-    );
-    and_value(
-        alloc,
-        command,
-        "SEED",
-        "Seed of the random draws: 0 to 18446744073709551615",
-    )
+    let command = and_value(alloc, command, "KEYS", KEYS);
+    and_value(alloc, command, "SEED", SEED)
 }
 
 fn serve_command<'a>(alloc: Global) -> Result<clap::Command<'a>, AllocError>
@@ -313,37 +298,12 @@ fn serve_command<'a>(alloc: Global) -> Result<clap::Command<'a>, AllocError>
         .about("Serve one set to clients on 127.0.0.1, and print the remaining keys at the end")
         .override_usage("listset serve KIND SEATS QUOTA PORT SESSIONS [FILE]")
         .after_help("Example: listset serve lazy 2 16 4000 1");
-    let command = and_value(alloc, Ok(command), "KIND", KIND_HELP);
-    let command = and_value(
-        alloc,
-        command,
-        "SEATS",
-        "Number of clients that are served at once: 1 to 64",
-    );
-    let command = and_value(
-        alloc,
-        command,
-        "QUOTA",
-        "Successful adds allowed per seat: 0 to 16384",
-    );
-    let command = and_value(
-        alloc,
-        command,
-        "PORT",
-        "Port to listen on: 0 to 65535; with 0 the system chooses",
-    );
-    let command = and_value(
-        alloc,
-        command,
-        "SESSIONS",
-        "Number of client connections to serve before the end: 0 to 10000",
-    );
-    and_value(
-        alloc,
-        command,
-        "FILE",
-        "File of the keys with which the set opens, as a server prints them; standard input if -, no keys if missing",
-    )
+    let command = and_value(alloc, Ok(command), "KIND", KIND);
+    let command = and_value(alloc, command, "SEATS", SEATS);
+    let command = and_value(alloc, command, "QUOTA", QUOTA_OF_SEAT);
+    let command = and_value(alloc, command, "PORT", PORT);
+    let command = and_value(alloc, command, "SESSIONS", SESSIONS);
+    and_value(alloc, command, "FILE", KEYS_FILE)
 }
 
 fn gen_command<'a>(alloc: Global) -> Result<clap::Command<'a>, AllocError>
@@ -370,14 +330,10 @@ fn run_command<'a>(alloc: Global) -> Result<clap::Command<'a>, AllocError>
         "Example: listset run lock-free 4 1000 10000 64 1",
         "Calls in each thread: 0 to 10000",
     )?
-    .arg(value(
-        alloc,
-        "LIVES",
-        "Number of rounds, each on a set that opens with the keys of the round before: 1 to 100 [default: 1]",
-    ))
+    .arg(value(alloc, "LIVES", LIVES))
 }
 
-fn replay_command<'a>(alloc: Global) -> Result<clap::Command<'a>, AllocError>
+fn replay_command<'a>(alloc: Global, lacks_help: &'a str) -> Result<clap::Command<'a>, AllocError>
     ensures { Makes result replay_app }
 {
     let command = file_command(
@@ -387,7 +343,7 @@ fn replay_command<'a>(alloc: Global) -> Result<clap::Command<'a>, AllocError>
         "Schedule file; standard input if - or missing",
         "Example: listset example full | listset replay",
     );
-    and_arg(command, lacks_option(alloc))
+    and_arg(command, lacks_option(alloc, lacks_help))
 }
 
 fn judge_command<'a>(alloc: Global) -> Result<clap::Command<'a>, AllocError>
@@ -423,7 +379,7 @@ fn faults_command<'a>(alloc: Global, help: &'a str) -> clap::Command<'a>
         .override_help(help)
 }
 
-fn program_command<'a>(alloc: Global, faults_help: &'a str) -> Result<clap::Command<'a>, AllocError>
+fn program_command<'a>(alloc: Global, helps: Helps<'a>) -> Result<clap::Command<'a>, AllocError>
     ensures { IfOk result (λ c. app_of c ≡ listset) }
 {
     let program = clap::Command::new(alloc, "listset")
@@ -434,17 +390,17 @@ fn program_command<'a>(alloc: Global, faults_help: &'a str) -> Result<clap::Comm
         .version(VERSION)
         .no_binary_name(true)
         .bin_name("listset");
-    let program = and_subcommand(program, replay_command(alloc));
+    let program = and_subcommand(program, replay_command(alloc, helps.lacks));
     let program = and_subcommand(program, judge_command(alloc));
     let program = and_subcommand(program, check_command(alloc));
-    let program = and_subcommand(program, show_command(alloc));
-    let program = and_subcommand(program, trace_command(alloc));
+    let program = and_subcommand(program, show_command(alloc, helps.lacks));
+    let program = and_subcommand(program, trace_command(alloc, helps.lacks));
     let program = and_subcommand(program, draft_command(alloc));
     let program = and_subcommand(program, example_command(alloc));
     let program = and_subcommand(program, gen_command(alloc));
     let program = and_subcommand(program, run_command(alloc));
     let program = and_subcommand(program, serve_command(alloc));
-    and_subcommand(program, Ok(faults_command(alloc, faults_help)))
+    and_subcommand(program, Ok(faults_command(alloc, helps.faults)))
 }
 
 // Whether the name is that of a flag or of an option.
@@ -571,7 +527,7 @@ fn command_named(name: &str) -> Command
 ///
 /// It takes what the help shows; nothing at all means `replay` without arguments. Arguments and options are returned as they
 /// were given, and are not judged here: some or all may be missing. An argument that begins with `-` and is longer needs `--`
-/// before it. `faults_help` becomes the help on `faults`. Allocates.
+/// before it. Allocates.
 ///
 /// # Errors
 ///
@@ -582,13 +538,13 @@ fn command_named(name: &str) -> Command
 pub fn words_given<'a>(
     alloc: Global,
     words: &'a [&'a str],
-    faults_help: &'a str,
+    helps: Helps<'a>,
 ) -> Result<Words, Error>
     ensures taken { IfOk result (λ w. choice_in w ≡ choice_of (subcommand_of listset (texts words.entry.now))) }
     // clap's definition refuses no words that are taken, and has the kind of each error except a failed allocation
     ensures refused { FailsBy (fault_of listset (texts words.entry.now)) result }
 {
-    let matches = program_command(alloc, faults_help)?.try_get_matches_from(words)?;
+    let matches = program_command(alloc, helps)?.try_get_matches_from(words)?;
     let Some((name, found)) = matches.subcommand() else {
         return Ok(Words {
             command: Command::Replay,

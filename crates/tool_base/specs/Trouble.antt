@@ -12,8 +12,6 @@ use Rattle.lset_report.specs.declared.report_fault.ReportFault.{ReportFault}
 use Rattle.lset_recording.specs.declared.fault.RecordingCause.{RecordingCause}
 use Rattle.lset_recording.specs.declared.fault.RecordingCause.TheVariants as recording
 use Rattle.lset_recording.specs.declared.fault.RecordingFault.{RecordingFault}
-use Rattle.tool_base.specs.declared.streams.InputFault.{InputFault}
-use Rattle.tool_base.specs.declared.streams.InputFault.TheVariants as input
 use Rattle.tool_base.specs.declared.trouble.KeyCause.TheVariants as keys
 use Rattle.tool_base.specs.declared.trouble.TheConstants.{LACKS}
 use Rattle.tool_base.specs.declared.trouble.LineCause.{LineCause}
@@ -27,12 +25,6 @@ use Rattle.tool_base.specs.declared.trouble.ServeName.TheVariants as serve
 use Rattle.tool_base.specs.declared.trouble.Trouble.{Trouble}
 use Rattle.tool_base.specs.declared.trouble.Trouble.TheVariants.{CannotRead, TooLong, CannotWrite, Memory, Line, Bad}
 use Rattle.tool_base.specs.declared.trouble.Trouble.TheVariants.{CannotListen, Work, Serve}
-
--- of an input that was not read
-abbrev pub of_input : InputFault → Trouble
-of_input input.CannotRead = CannotRead
-of_input input.TooLong = TooLong
-of_input (input.Memory refused) = Memory
 
 abbrev pub of_schedule_line : ℕ → Cause → Trouble
 of_schedule_line number schedule.Memory = Memory

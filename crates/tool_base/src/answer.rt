@@ -2,7 +2,7 @@ ghost use Rattle.std.specs.Prelude.{◌≡◌, IfOk, Result};
 ghost use Rattle.tool_base.specs.Tools.{Delivers, IsDelivered, AppendsFront, view};
 ghost use Rattle.tool_base.specs.Trouble.{trouble_text};
 
-use crate::streams::put;
+use crate::input::put;
 use crate::trouble::{LineCause, ServeName, Trouble, ValueName, WorkName};
 use std::alloc::{AllocError, Global};
 use std::io::Write;

@@ -1,8 +1,7 @@
 ghost use Rattle.std.specs.Prelude.{◌≡◌};
-ghost use Rattle.tool_base.specs.Trouble.{of_input, of_schedule, of_replay, of_report, of_recording, status_of, name_of, serve_name, value_word, work_name};
+ghost use Rattle.tool_base.specs.Trouble.{of_schedule, of_replay, of_report, of_recording, status_of, name_of, serve_name, value_word, work_name};
 ghost use Rattle.tool_base.specs.declared.trouble.Trouble.TheVariants.{Memory};
 
-use crate::streams::InputFault;
 use lset_recording::{RecordingCause, RecordingFault};
 use lset_replay::ReplayFault;
 use lset_report::{ReportCause, ReportFault};
@@ -137,18 +136,6 @@ impl Trouble {
             | Trouble::Line(_, _)
             | Trouble::Work(_)
             | Trouble::Serve(_) => 1,
-        }
-    }
-}
-
-impl From<InputFault> for Trouble {
-    ghost from_gives = { λ e t. t ≡ of_input e };
-
-    fn from(fault: InputFault) -> Trouble {
-        match fault {
-            InputFault::CannotRead => Trouble::CannotRead,
-            InputFault::TooLong => Trouble::TooLong,
-            InputFault::Memory(_) => Trouble::Memory,
         }
     }
 }

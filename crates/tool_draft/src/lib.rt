@@ -13,7 +13,7 @@ mod version;
 pub use expanding::schedule_of;
 pub use fault::{DraftCause, DraftFault};
 pub use reading::read_draft;
-pub use tool::{drafted, tool_draft};
+pub use tool::Expand;
 pub use value::{Draft, DraftLine};
 
 const TITLE: &str = "listset-draft 2";

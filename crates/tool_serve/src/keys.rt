@@ -3,7 +3,7 @@
 use lset_text::{cut, is_above, number};
 use lset_words::MOST_OPENING;
 use std::alloc::{AllocFailed, Global};
-use tool_base::{KeyCause, LineCause, Trouble};
+use tool_base::{Input, KeyCause, LineCause, Trouble};
 
 /// Why a text has no keys with which a set can open.
 #[derive(Clone, Copy)]
@@ -120,6 +120,6 @@ fn keys_of_lines(alloc: Global, left: Remaining<'_>) -> Result<Vec<u32>, KeysFau
 /// - `Opening`: the key is not above the one before.
 ///
 /// `KeysFault::Memory`: an allocation failed.
-pub fn read_keys(alloc: Global, text: &[u8]) -> Result<Vec<u32>, KeysFault> {
-    keys_of_lines(alloc, after_head(text))
+pub fn read_keys(alloc: Global, input: Input<'_>) -> Result<Vec<u32>, KeysFault> {
+    keys_of_lines(alloc, after_head(input.bytes()))
 }

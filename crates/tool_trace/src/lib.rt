@@ -9,7 +9,7 @@ mod table_words;
 mod tool;
 
 pub use lines::EventLines;
-pub use tool::{tool_trace, traced};
+pub use tool::{Trace, trace_events};
 
 /// Line 1 of a trace.
 pub const TITLE: &str = "listset-trace 1";

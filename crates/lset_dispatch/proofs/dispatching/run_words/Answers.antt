@@ -1,6 +1,7 @@
-use Rattle.std.proofs.Common.{inl}
-use Rattle.lset_dispatch.proofs.Endings.{with_choice}
+use Rattle.std.proofs.Common.{Err, None, Ok, Some, refl, inl, inr}
+use Rattle.tool_base.specs.declared.trouble.Trouble.TheVariants.{Bad, CannotRead}
+use Rattle.lset_dispatch.proofs.Endings.{ended}
 use Rattle.lset_dispatch.proofs.dispatching.run_words.Goals as goal
 
-pub returns-in-Ok : goal.returns-in-Ok
-returns-in-Ok g c = inl (c.in-Ok.ensures.refused, with_choice _ _ _ _ _ _ _ _ _ c.in-Ok.ensures.taken c.run_on_file.ensures)
+pub returns-in-Err-read_request : goal.returns-in-Err-read_request
+returns-in-Err-read_request g c = ?

@@ -1,6 +1,6 @@
 use Rattle.std.proofs.Common.{arith}
 use Rattle.tool_base.proofs.Ranges.{range_of}
-use Rattle.tool_base.proofs.values.number_at.Goals as goal
+use Rattle.tool_base.proofs.arguments.number_at.Goals as goal
 
 pub returns-clause-range : goal.returns-clause-range
 returns-clause-range c =

@@ -1,6 +1,6 @@
 use Rattle.lset_schedule.specs.Plan.{view}
 use Rattle.lset_schedule.proofs.VersionLaws.{schedule_has_words}
-use Rattle.tool_base.proofs.replaying.report_of.Goals as goal
+use Rattle.tool_base.proofs.replaying.ReplayTool.answer.Goals as goal
 
 -- a schedule that was read has calls of its version, and so its report has the words for what it tells
 pub write_report-requires : goal.write_report-requires

@@ -10,8 +10,8 @@ use Rattle.std.proofs.lemmas.Str.Parse.{IsNumeralModel, numerals_by_value, tells
 use Rattle.lset_text.specs.Numbers.{number_in, is_number, is_between}
 use Rattle.lset_text.proofs.NumberLaws.{is_spelled}
 use Rattle.tool_base.specs.Generating.{IsPlain}
-use Rattle.tool_base.specs.declared.values.TheConstants.{MOST_SEED}
-use Rattle.tool_base.proofs.values.long_number.Goals as goal
+use Rattle.tool_base.specs.declared.arguments.TheConstants.{MOST_SEED}
+use Rattle.tool_base.proofs.arguments.long_number.Goals as goal
 
 own : IsNumeralModel (λ ds. all_ascii_digits ds ≡ true) (digits_value 10)
 own = numerals_by_value _ tells_all_ascii_digits
