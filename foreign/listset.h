@@ -115,7 +115,7 @@ enum {
   LISTSET_FULL = 2,     /* add: the key is not there, and the seat has used its quota */
   LISTSET_AT = 3,       /* ceiling: the key is in *at */
   LISTSET_NOTHING = 4,  /* ceiling: there is no key at or above this one */
-  LISTSET_NO_SEAT = 255 /* the seat is empty, or of a closed set */
+  LISTSET_NO_SEAT = 255 /* the seat is empty, or of a closed set; or the call has given up after 2^64 - 1 rounds, and the seat is lost */
 };
 
 /* faults; LISTSET_OK is none */

@@ -12,6 +12,7 @@ function defineMissing(prototype, methods) {
   }
 }
 
+/** @this {any} @param {number} index */
 function itemAt(index) {
   return this[index < 0 ? this.length + index : index];
 }
@@ -178,1339 +179,6 @@ const LACKING = {
 return { CLASSICS, LACKING };
 })();
 
-// made/rows.js
-const $made_rows = (() => {
-// The rows of the step tables, from docs/TABLES.md by page/build: for show alone, no state is computed from them.
-
-const LISTS = {
-  "coarse": {
-    "name": "CoarseList",
-    "registers": ["pred", "curr", "succ", "ckey"],
-    "adds": 5,
-    "removes": 8,
-    "calls": {
-      "add": {"rows": [1, 2, 3, 4, 5, 6, 7, 10], "registers": ["pred", "curr", "ckey"]},
-      "remove": {"rows": [1, 2, 3, 4, 8, 9, 10], "registers": ["pred", "curr", "succ", "ckey"]},
-      "contains": {"rows": [1, 2, 3, 4, 10], "registers": ["pred", "curr", "ckey"]},
-      "ceiling": {"rows": [1, 2, 3, 4, 10], "registers": ["pred", "curr", "ckey"]}
-    },
-    "rows": {
-      "1": {"step": "try list.lock", "then": "2", "book": "lock the list"},
-      "2": {
-        "step": "load head.link",
-        "then": "pred = head, curr = next(s); 3",
-        "book": "pred is the head, curr its next"
-      },
-      "3": {
-        "step": "load curr.key",
-        "then": "ckey = s; below K: 4; else decide",
-        "book": "test of the loop, then of the key",
-        "below": 4
-      },
-      "4": {
-        "step": "load curr.link",
-        "then": "pred = curr, curr = next(s); 3",
-        "book": "one node further"
-      },
-      "5": {"step": "store K in own.key", "then": "6", "book": "the new node's key"},
-      "6": {"step": "store curr in own.link", "then": "7", "book": "its next"},
-      "7": {"step": "store own in pred.link", "then": "+k, reply true; 10", "book": "link it in"},
-      "8": {"step": "load curr.link", "then": "succ = next(s); 9", "book": "read curr's next"},
-      "9": {"step": "store succ in pred.link", "then": "-k, reply true; 10", "book": "unlink curr"},
-      "10": {"step": "store 0 in list.lock", "then": "answers", "book": "unlock the list"}
-    }
-  },
-  "fine": {
-    "name": "FineList",
-    "registers": ["pred", "curr", "succ", "ckey"],
-    "adds": 7,
-    "removes": 10,
-    "calls": {
-      "add": {"rows": [1, 2, 3, 4, 5, 6, 7, 8, 9, 12, 13], "registers": ["pred", "curr", "ckey"]},
-      "remove": {"rows": [1, 2, 3, 4, 5, 6, 10, 11, 12, 13], "registers": ["pred", "curr", "succ", "ckey"]},
-      "contains": {"rows": [1, 2, 3, 4, 5, 6, 12, 13], "registers": ["pred", "curr", "ckey"]},
-      "ceiling": {"rows": [1, 2, 3, 4, 5, 6, 12, 13], "registers": ["pred", "curr", "ckey"]}
-    },
-    "rows": {
-      "1": {"step": "try head.lock", "then": "pred = head; 2", "book": "lock the head"},
-      "2": {"step": "load head.link", "then": "curr = next(s); 3", "book": "curr is its next"},
-      "3": {"step": "try curr.lock", "then": "4", "book": "lock curr, with pred still locked"},
-      "4": {
-        "step": "load curr.key",
-        "then": "ckey = s; below K: 5; else decide",
-        "book": "test of the loop, then of the key",
-        "below": 5
-      },
-      "5": {"step": "store 0 in pred.lock", "then": "6", "book": "unlock pred: hand over hand"},
-      "6": {
-        "step": "load curr.link",
-        "then": "pred = curr, curr = next(s); 3",
-        "book": "one node further"
-      },
-      "7": {"step": "store K in own.key", "then": "8", "book": "the new node's key"},
-      "8": {"step": "store curr in own.link", "then": "9", "book": "its next"},
-      "9": {"step": "store own in pred.link", "then": "+k, reply true; 12", "book": "link it in"},
-      "10": {"step": "load curr.link", "then": "succ = next(s); 11", "book": "read curr's next"},
-      "11": {"step": "store succ in pred.link", "then": "-k, reply true; 12", "book": "unlink curr"},
-      "12": {"step": "store 0 in curr.lock", "then": "13", "book": "unlock curr"},
-      "13": {"step": "store 0 in pred.lock", "then": "answers", "book": "unlock pred"}
-    }
-  },
-  "optimistic": {
-    "name": "OptimisticList",
-    "registers": ["pred", "curr", "succ", "node", "pkey", "ckey"],
-    "adds": 9,
-    "removes": 12,
-    "calls": {
-      "add": {
-        "rows": [1, 2, 3, 4, 5, 6, 7, 8, 9, 10, 11, 14, 15],
-        "registers": ["pred", "curr", "node", "pkey", "ckey"]
-      },
-      "remove": {
-        "rows": [1, 2, 3, 4, 5, 6, 7, 8, 12, 13, 14, 15],
-        "registers": ["pred", "curr", "succ", "node", "pkey", "ckey"]
-      },
-      "contains": {
-        "rows": [1, 2, 3, 4, 5, 6, 7, 8, 14, 15],
-        "registers": ["pred", "curr", "node", "pkey", "ckey"]
-      },
-      "ceiling": {
-        "rows": [1, 2, 3, 4, 5, 6, 7, 8, 14, 15],
-        "registers": ["pred", "curr", "node", "pkey", "ckey"]
-      }
-    },
-    "rows": {
-      "1": {
-        "step": "load head.link",
-        "then": "pred = head, pkey = 0, curr = next(s); 2",
-        "book": "start of an attempt"
-      },
-      "2": {
-        "step": "load curr.key",
-        "then": "ckey = s; below K: 3; else 4",
-        "book": "test of the loop",
-        "below": 3
-      },
-      "3": {
-        "step": "load curr.link",
-        "then": "pred = curr, pkey = ckey, curr = next(s); 2",
-        "book": "one node further"
-      },
-      "4": {"step": "try pred.lock", "then": "5", "book": "lock pred"},
-      "5": {
-        "step": "try curr.lock",
-        "then": "node = head; if pred is the head: 8; else 6",
-        "book": "lock curr; validate from the head"
-      },
-      "6": {"step": "load node.link", "then": "node = next(s); 7", "book": "one node further"},
-      "7": {
-        "step": "load node.key",
-        "then": "above pkey: reply none, 14; node is pred: 8; else 6",
-        "book": "has the walk reached pred, or passed it",
-        "invalid": 14
-      },
-      "8": {
-        "step": "load pred.link",
-        "then": "it leads to curr: decide on ckey; else reply none, 14",
-        "book": "does pred still lead to curr",
-        "invalid": 14
-      },
-      "9": {"step": "store K in own.key", "then": "10", "book": "the new node's key"},
-      "10": {"step": "store curr in own.link", "then": "11", "book": "its next"},
-      "11": {"step": "store own in pred.link", "then": "+k, reply true; 14", "book": "link it in"},
-      "12": {"step": "load curr.link", "then": "succ = next(s); 13", "book": "read curr's next"},
-      "13": {"step": "store succ in pred.link", "then": "-k, reply true; 14", "book": "unlink curr"},
-      "14": {"step": "store 0 in pred.lock", "then": "15", "book": "unlock pred"},
-      "15": {
-        "step": "store 0 in curr.lock",
-        "then": "without a reply: 1; else answers",
-        "book": "unlock curr; if not valid, try again",
-        "again": 1
-      }
-    }
-  },
-  "lazy": {
-    "name": "LazyList",
-    "registers": ["pred", "curr", "succ", "ckey"],
-    "adds": 8,
-    "removes": 11,
-    "calls": {
-      "add": {
-        "rows": [1, 2, 3, 4, 5, 6, 7, 8, 9, 10, 13, 14],
-        "registers": ["pred", "curr", "succ", "ckey"]
-      },
-      "remove": {"rows": [1, 2, 3, 4, 5, 6, 7, 11, 12, 13, 14], "registers": ["pred", "curr", "succ", "ckey"]},
-      "contains": {"rows": [20, 21, 22], "registers": ["curr"]},
-      "ceiling": {"rows": [23, 24, 25], "registers": ["curr", "ckey"]}
-    },
-    "rows": {
-      "1": {
-        "step": "load head.link",
-        "then": "pred = head, curr = next(s); 2",
-        "book": "start of an attempt"
-      },
-      "2": {
-        "step": "load curr.key",
-        "then": "ckey = s; below K: 3; else 4",
-        "book": "test of the loop",
-        "below": 3
-      },
-      "3": {
-        "step": "load curr.link",
-        "then": "pred = curr, curr = next(s); 2",
-        "book": "one node further"
-      },
-      "4": {"step": "try pred.lock", "then": "5", "book": "lock pred"},
-      "5": {"step": "try curr.lock", "then": "6", "book": "lock curr"},
-      "6": {
-        "step": "load pred.link",
-        "then": "curr, unmarked: 7; else reply none, 13",
-        "book": "pred is not marked, leads to curr",
-        "invalid": 13
-      },
-      "7": {
-        "step": "load curr.link",
-        "then": "marked: reply none, 13; else succ = next(s), decide on ckey",
-        "book": "curr is not marked",
-        "invalid": 13
-      },
-      "8": {"step": "store K in own.key", "then": "9", "book": "the new node's key"},
-      "9": {"step": "store curr in own.link", "then": "10", "book": "its next"},
-      "10": {"step": "store own in pred.link", "then": "+k, reply true; 13", "book": "link it in"},
-      "11": {"step": "store succ* in curr.link", "then": "-k; 12", "book": "mark curr: it is removed"},
-      "12": {"step": "store succ in pred.link", "then": "reply true; 13", "book": "unlink curr"},
-      "13": {"step": "store 0 in curr.lock", "then": "14", "book": "unlock curr"},
-      "14": {
-        "step": "store 0 in pred.lock",
-        "then": "without a reply: 1; else answers",
-        "book": "unlock pred; if not valid, try again",
-        "again": 1
-      },
-      "20": {
-        "step": "load curr.link",
-        "then": "curr = next(s); 21",
-        "book": "one node further, marked or not"
-      },
-      "21": {
-        "step": "load curr.key",
-        "then": "below K: 20; K: 22; else answers false",
-        "book": "test of the loop, then of the key",
-        "below": 20
-      },
-      "22": {
-        "step": "load curr.link",
-        "then": "marked: answers false; else answers true",
-        "book": "is the node of the key marked"
-      },
-      "23": {
-        "step": "load curr.link",
-        "then": "curr = next(s); 24",
-        "book": "one node further, marked or not"
-      },
-      "24": {
-        "step": "load curr.key",
-        "then": "ckey = s; below K: 23; the tail's: answers that there is none; else 25",
-        "book": "stop at the first key not below K",
-        "below": 23
-      },
-      "25": {
-        "step": "load curr.link",
-        "then": "marked: curr = head, 23; else answers the key of ckey",
-        "book": "if marked, start again",
-        "again": 23
-      }
-    }
-  },
-  "lock-free": {
-    "name": "LockFreeList",
-    "registers": ["pred", "curr", "succ", "ckey"],
-    "adds": 5,
-    "removes": 8,
-    "calls": {
-      "add": {"rows": [1, 2, 3, 4, 5, 6, 7], "registers": ["pred", "curr", "succ"]},
-      "remove": {"rows": [1, 2, 3, 4, 8, 9, 10], "registers": ["pred", "curr", "succ"]},
-      "contains": {"rows": [20, 21, 22], "registers": ["curr"]},
-      "ceiling": {"rows": [23, 24, 25], "registers": ["curr", "ckey"]}
-    },
-    "rows": {
-      "1": {"step": "load head.link", "then": "pred = head, curr = next(s); 2", "book": "start of find"},
-      "2": {
-        "step": "load curr.link",
-        "then": "succ = next(s); marked: 3; else 4",
-        "book": "read next and mark together"
-      },
-      "3": {
-        "step": "exchange pred.link from curr to succ",
-        "then": "success: curr = succ, 2; else 1",
-        "book": "snip the marked curr; if that fails, start again",
-        "again": 1
-      },
-      "4": {
-        "step": "load curr.key",
-        "then": "below K: pred = curr, curr = succ, 2; else decide",
-        "book": "test of the loop, then of the key",
-        "below": 2
-      },
-      "5": {"step": "store K in own.key", "then": "6", "book": "the new node's key"},
-      "6": {"step": "store curr in own.link", "then": "7", "book": "its next"},
-      "7": {
-        "step": "exchange pred.link from curr to own",
-        "then": "success: +k, answers true; else 1",
-        "book": "link it in; if that fails, start again, with the same slot",
-        "again": 1
-      },
-      "8": {"step": "load curr.link", "then": "succ = next(s); 9", "book": "read curr's next"},
-      "9": {
-        "step": "exchange curr.link from succ to succ*",
-        "then": "success: -k, 10; else 1",
-        "book": "mark curr: it is removed; if that fails, start again",
-        "again": 1
-      },
-      "10": {
-        "step": "exchange pred.link from curr to succ",
-        "then": "answers true whatever was seen",
-        "book": "one try to unlink it; else a later find does it"
-      },
-      "20": {
-        "step": "load curr.link",
-        "then": "curr = next(s); 21",
-        "book": "one node further, marked or not"
-      },
-      "21": {
-        "step": "load curr.key",
-        "then": "below K: 20; K: 22; else answers false",
-        "book": "test of the loop, then of the key",
-        "below": 20
-      },
-      "22": {
-        "step": "load curr.link",
-        "then": "marked: answers false; else answers true",
-        "book": "is the node of the key marked"
-      },
-      "23": {
-        "step": "load curr.link",
-        "then": "curr = next(s); 24",
-        "book": "one node further, marked or not"
-      },
-      "24": {
-        "step": "load curr.key",
-        "then": "ckey = s; below K: 23; the tail's: answers that there is none; else 25",
-        "book": "stop at the first key not below K",
-        "below": 23
-      },
-      "25": {
-        "step": "load curr.link",
-        "then": "marked: curr = head, 23; else answers the key of ckey",
-        "book": "if marked, start again",
-        "again": 23
-      }
-    }
-  }
-};
-return { LISTS };
-})();
-
-// page/dom.js
-const $page_dom = (() => {
-const byId = (id) => document.getElementById(id);
-
-function redraw(box, html) {
-  const before = box.contains(document.activeElement) ? document.activeElement : null;
-  const keyOf = (part) => JSON.stringify({ ...part.dataset, name: part.tagName });
-  const key = before === null ? "" : keyOf(before);
-  if (typeof html === "string") box.innerHTML = html;
-  else box.replaceChildren(...html);
-  if (before === null) return;
-  const parts = [...box.querySelectorAll("button, select, input, a, [tabindex]")];
-  const isOfSame = (part) => part.dataset.of !== undefined && part.dataset.of === before.dataset.of;
-  (parts.find((part) => keyOf(part) === key) ?? parts.find(isOfSame) ?? parts[0] ?? box).focus();
-}
-
-const setAble = (id, isAble) => byId(id).setAttribute("aria-disabled", String(!isAble));
-
-function setHidden(part, isHidden, other) {
-  if (isHidden && part === document.activeElement) other.focus();
-  part.hidden = isHidden;
-}
-return { byId, redraw, setAble, setHidden };
-})();
-
-// run/faults.js
-const $run_faults = (() => {
-const CAUSES = {
-  Header: 'line 1 must be "listset-schedule 1", or "listset-schedule 2", which has ceilings and opening keys',
-  Kind: 'line 2 must be "list" and one of coarse, fine, optimistic, lazy, lock-free; on a broken list, the kind of that list',
-  Threads: 'line 3 must be "threads" and a number from 1 to 64',
-  Quota: 'line 4 must be "quota" and a number from 0 to 16384',
-  Event:
-    'expected "begin T CALL K" or "go T N", with one space between; ' +
-    'in version 2 "opening K" is allowed too, above all events, and the call ceiling',
-  Number: "expected a number in range, without sign or leading zero: 5, not +5 or 05",
-  TooMany: "up to this line there are more than 1,000,000 events, or more than 1,048,576 opening keys",
-  Opening: "opening keys must increase; this one is not above the one before",
-  NotEnded: "the line does not end with a newline",
-  NoThread: "there is no such thread",
-  Busy: "the thread begins a call while it has one pending",
-  Idle: "the thread makes a step while it has no call pending",
-  Waits: "the thread does not get there within the steps that are tried: it may wait for a lock that another thread holds",
-  Lost: "the broken list's step would access a word outside its table",
-};
-
-const CAUSES_OF_CALLS = {
-  Header: 'line 1 must be "listset-calls 1"',
-  Line:
-    'expected "call T CALL K BEGIN END REPLY" in at most 128 bytes, with - - in place of END REPLY of a pending call; the calls are add, ' +
-    'remove and contains; "opening K" only above all calls, and only below them "key K" and "end", or "cut"',
-  Number: "a moment is not a number from 1 to 9223372036854775807, or another number not one from 0 to 4294967295",
-  Opening: "an opening key must be above the one before, and a key that is left above the one before",
-  History:
-    "the calls do not come in the order of their begins, or one does not end after its begin, or two have one moment, " +
-    "or a thread has two at a time",
-  NotEnded: 'the text must end with the line "end", or with "cut" if the recording was cut off',
-};
-return { CAUSES, CAUSES_OF_CALLS };
-})();
-
-// run/markup.js
-const $run_markup = (() => {
-const SIGNS = { "&": "&amp;", "<": "&lt;", ">": "&gt;", '"': "&quot;" };
-const escaped = (text) => String(text).replace(/[&<>"]/g, (sign) => SIGNS[sign]);
-
-function tag(name, attributes, ...content) {
-  const given = Object.entries(attributes).map(([attribute, value]) => ` ${attribute}="${escaped(value)}"`);
-  return `<${name}${given.join("")}>${content.join("")}</${name}>`;
-}
-
-const label = (attributes, text) => tag("text", attributes, escaped(text));
-const title = (text) => tag("title", {}, escaped(text));
-const colourOf = (thread) => `thread-${thread % 8}`;
-const chipOf = (thread) => tag("span", { class: `chip ${colourOf(thread)}` }, `t${thread}`);
-const keyText = (key) => String(key).replace("-inf", "−∞").replace("+inf", "+∞");
-const said = (value) => (value.endsWith("*") ? `${value.slice(0, -1)}, marked` : keyText(value));
-const counted = (count, word) => `${count} ${word}${count === 1 ? "" : "s"}`;
-const callText = (call) => `${call.operation}(${call.key})`;
-const openReply = "true"; // an open call that stands in the order has changed the set
-return { escaped, tag, label, title, colourOf, chipOf, keyText, said, counted, callText, openReply };
-})();
-
-// run/trace.js
-const $run_trace = (() => {
-const HEADER_LINES = 4;
-const END = "end\n"; // the last line, if no event is refused
-const NODE_REGISTERS = ["pred", "curr", "succ", "node"];
-const KEY_REGISTERS = ["pkey", "ckey"];
-const CALL_WORDS = ["add", "remove", "contains", "ceiling"];
-const MOST_NUMBER = 4294967295;
-
-const isTrace = (text) => text.startsWith("listset-trace");
-
-class Trace {
-  constructor(text, version = 1, before = null) {
-    const [, kind, lacks = null, threads, quota] =
-      /^listset-trace 1\nlist (\S+)\n(?:lacks (\S+)\n)?threads (\d+)\nquota (\d+)\n/.exec(text);
-    Object.assign(this, { text, version, kind, lacks, threads: Number(threads), quota: Number(quota) });
-    this.opening = [];
-    this.starts = []; // of each event, where its line begins
-    this.calls = [];
-    this.callsOf = Array.from({ length: this.threads }, () => []);
-    this.changes = []; // the events that change the set
-    this.starred = []; // the numbers of those whose line tells of a mark
-    this.refused = null;
-    this.before = before !== null && goesOn(this, before) ? before : null;
-    if (this.before === null) this.scan(0);
-    else this.takeOver();
-    if (this.opening.length > 0) this.version = 2;
-    this.order = orderOf(this.calls);
-  }
-
-  get total() {
-    return this.starts.length;
-  }
-
-  takeOver() {
-    const { opening, starts, calls, callsOf, changes, starred, text } = this.before;
-    const own = { opening, starts: [...starts], calls: [...calls], changes: [...changes], starred: [...starred] };
-    Object.assign(this, own, { callsOf: callsOf.map((some) => [...some]) });
-    this.scan(text.length - END.length);
-  }
-
-  scan(from) {
-    const { text } = this;
-    for (let at = from; at < text.length; ) {
-      const end = text.indexOf("\n", at);
-      const line = text.slice(at, end);
-      if (line.startsWith("event ")) this.note(line, this.starts.push(at));
-      else if (line.startsWith("opening ")) this.opening.push(Number(line.slice("opening ".length)));
-      else if (line.startsWith("refused ")) this.refused = { line: Number(line.split(" ")[2]), cause: line.split(" ")[3] };
-      at = end + 1;
-    }
-  }
-
-  note(line, number) {
-    if (line.includes("*")) this.starred.push(number);
-    if (line.includes(" begin ")) this.noteCall(line.split(" "), number);
-    const isChange = line.includes(" put ") || line.includes(" took ");
-    const isAnswer = line.includes(" answer ");
-    if (!isChange && !isAnswer) return;
-    const event = this.event(number);
-    if (isChange) {
-      this.changes.push(event);
-      Object.assign(event.call, { at: number, changes: true });
-    }
-    if (isAnswer) Object.assign(event.call, { at: event.at, ended: number, reply: event.answer });
-  }
-
-  noteCall([, , , , , thread, , operation, key], begun) {
-    const call = { id: this.calls.length, thread: Number(thread), operation, key: Number(key), begun };
-    if (operation === "ceiling") this.version = 2;
-    Object.assign(call, { ended: null, at: null, changes: false, reply: null });
-    this.calls.push(call);
-    this.callsOf[call.thread].push(call);
-  }
-
-  callAt(thread, number) {
-    const calls = this.callsOf[thread];
-    let [least, most] = [0, calls.length - 1];
-    while (least < most) {
-      const middle = (least + most + 1) >> 1;
-      if (calls[middle].begun <= number) least = middle;
-      else most = middle - 1;
-    }
-    return calls[least];
-  }
-
-  lineOf(number) {
-    const start = this.starts[number - 1];
-    return this.text.slice(start, this.text.indexOf("\n", start));
-  }
-
-  event(number) {
-    const pieces = this.lineOf(number).split(" ");
-    const event = { number, line: Number(pieces[3]), thread: Number(pieces[5]), deed: pieces[6], changes: {} };
-    event.call = this.callAt(event.thread, number);
-    let at = event.deed === "begin" ? 11 : 8;
-    if (event.deed !== "begin") event.word = pieces[7];
-    if (event.deed === "store") event.to = pieces[at++];
-    for (; pieces[at] !== "pc"; at += 2) event[pieces[at]] = pieces[at + 1];
-    for (; at < pieces.length; at += 2) tellIn(event, pieces[at], pieces[at + 1]);
-    return event;
-  }
-
-  events() {
-    return this.starts.map((_, index) => this.event(index + 1));
-  }
-}
-
-function tellIn(event, name, value) {
-  if (name === "answer") event.answer = value;
-  else if (name === "put" || name === "took" || name === "at") event[name] = Number(value);
-  else if (name === "pc" || name === "used") event.changes[name] = Number(value);
-  else if (name !== "call") event.changes[name] = value;
-}
-
-function goesOn({ text, version }, before) {
-  return before.version === version && before.text.endsWith(`\n${END}`) && text.startsWith(before.text.slice(0, -END.length));
-}
-
-const firstOpeningNode = (trace) => 2 + trace.threads * trace.quota;
-
-function eventsInCommon(one, other) {
-  const header = ({ kind, threads, quota, opening }) => [kind, threads, quota, ...opening].join();
-  if (header(one) !== header(other)) return 0;
-  const most = Math.min(one.total, other.total);
-  const deedOf = (trace, number) => trace.lineOf(number).replace(/^event \d+ line \d+/, "");
-  let count = 0;
-  while (count < most && deedOf(one, count + 1) === deedOf(other, count + 1)) count++;
-  return count;
-}
-
-function orderOf(calls) {
-  const placed = calls.filter((call) => call.at !== null);
-  return placed.sort((one, other) => one.at - other.at || Number(other.changes) - Number(one.changes) || one.id - other.id);
-}
-return { HEADER_LINES, NODE_REGISTERS, KEY_REGISTERS, CALL_WORDS, MOST_NUMBER, isTrace, Trace, firstOpeningNode, eventsInCommon };
-})();
-
-// run/judged.js
-const $run_judged = (() => {
-const { callText, openReply } = $run_markup;
-const { HEADER_LINES } = $run_trace;
-const MOST_JUDGED = 60; // events of a run that is judged
-
-const LEVELS = {
-  points: { name: "points alone", task: "The replies are shown. Where does each call take effect?", hidden: ["change", "effect"] },
-  replies: {
-    name: "replies and points",
-    task: "What does each call answer, and where does it take effect?",
-    hidden: ["change", "reply", "leftInChain", "effect"],
-  },
-  claim: {
-    name: "any order at all?",
-    task: "Can a set give these replies? Give an order that explains the report, or say that there is none.",
-    hidden: [],
-  },
-};
-
-function exerciseOf(text, level, isWhole = true) {
-  const lines = text.trimEnd().split("\n");
-  const linesOf = (word) => lines.filter((line) => line.startsWith(`${word} `));
-  const calls = linesOf("call").map(callOfLine);
-  return {
-    level,
-    isWhole,
-    calls,
-    places: linesOf("place").map((line) => line.split(" ").slice(1).join("-")),
-    reportText: text,
-    head: [...lines.slice(0, HEADER_LINES), ...linesOf("opening")],
-    callLines: linesOf("call"),
-    keyLines: linesOf("key"),
-    threads: Number(lines[2].split(" ")[1]),
-    last: Math.max(1, ...calls.flatMap((call) => [call.begun, call.ended ?? 0])),
-  };
-}
-
-function callOfLine(line) {
-  const [, id, thread, operation, key, begun, ended, reply = null] = line.split(" ");
-  const end = ended === "open" ? null : Number(ended);
-  return { id: Number(id), thread: Number(thread), operation, key: Number(key), begun: Number(begun), ended: end, reply };
-}
-
-const nameOfCall = (call) => `${callText(call)} of t${call.thread}`;
-const lastMoment = (exercise, call) => call.ended ?? exercise.last;
-
-function repliesOf(exercise, { operation }) {
-  if (operation === "add") return ["true", "false", "full"];
-  if (operation !== "ceiling") return ["true", "false"];
-  const named = [...exercise.head, ...exercise.callLines].map((line) => /^(?:opening|call \d+ \d+ add) (\d+)/.exec(line)?.[1]);
-  const keys = [...new Set(named.filter((key) => key !== undefined).map(Number))].sort((one, other) => one - other);
-  return ["nothing", ...keys.map((key) => `at-${key}`)];
-}
-
-class OwnAnswer {
-  constructor(exercise) {
-    this.exercise = exercise;
-    this.points = new Map(); // by the call's number: { at, turn }
-    this.replies = new Map();
-    this.turn = 0;
-    this.isNone = false;
-  }
-
-  place(call, at) {
-    const within = Math.min(Math.max(Math.round(2 * at) / 2, call.begun), lastMoment(this.exercise, call));
-    if (this.points.get(call.id)?.at !== within) this.points.set(call.id, { at: within, turn: this.turn++ });
-  }
-
-  take(call) {
-    this.points.delete(call.id);
-  }
-
-  say(call, reply) {
-    this.replies.set(call.id, reply);
-  }
-
-  replyOf(call) {
-    if (call.ended === null) return openReply;
-    return this.exercise.level === "replies" ? (this.replies.get(call.id) ?? null) : call.reply;
-  }
-
-  order() {
-    const calls = this.exercise.calls.filter(({ id }) => this.points.has(id));
-    const placed = calls.map((call) => ({ call, ...this.points.get(call.id) }));
-    placed.sort((one, other) => one.at - other.at || one.turn - other.turn);
-    return placed.map(({ call, at }) => ({ call, at, reply: this.replyOf(call) }));
-  }
-
-  unsaid() {
-    return this.exercise.calls.filter((call) => call.ended !== null && (!this.points.has(call.id) || this.replyOf(call) === null));
-  }
-}
-
-function reportOfAnswer(answer) {
-  const { head, callLines, keyLines } = answer.exercise;
-  const places = answer.order().map(({ call, reply }) => `place ${call.id} ${reply}`);
-  return [...head, ...callLines, ...places, ...keyLines, "end", ""].join("\n");
-}
-
-function verdictOn(ask, answer) {
-  const unsaid = answer.unsaid();
-  if (answer.isNone) return verdictOnClaim(ask, answer.exercise);
-  const nothing = { isRight: null, clash: null, report: null };
-  if (unsaid.length > 0) return { ...nothing, says: `Still missing: ${unsaid.map(nameOfCall).join(", ")}.` };
-  const report = reportOfAnswer(answer);
-  const checked = ask("listset_check", report).text.trim();
-  if (checked === "ok") return { isRight: true, clash: null, report, says: rightInWords(answer) };
-  if (!checked.startsWith("refused ")) return { ...nothing, says: `This order is not judged: ${checked}.` };
-  const told = ask("listset_show", report).text.split("\n").find((line) => line.startsWith("refused ")) ?? checked;
-  const clash = Number(/^refused \w+ (\d+)/.exec(checked)?.[1] ?? -1);
-  return { isRight: false, clash, report, says: faultInWords(answer, told) };
-}
-
-const ENDINGS = {
-  "not linearizable": "none",
-  "another order explains this report": "another",
-  "it is not known whether another order explains this report": "unknown",
-};
-
-function otherOrders({ status, text }) {
-  const lines = text.trimEnd().split("\n");
-  const at = lines.findIndex((line) => Object.hasOwn(ENDINGS, line));
-  if (at !== -1) return { kind: ENDINGS[lines[at]], lines: lines.slice(at + 1) };
-  return status === 0 ? { kind: "own", lines: [] } : { kind: "trouble", lines };
-}
-
-function verdictOnClaim(ask, { isWhole, reportText }) {
-  const said = (isRight, says) => ({ isRight, clash: null, report: null, says });
-  const there = "There is one: this is a run of a correct list, and each of those has an order (proved). Find it.";
-  if (isWhole) return said(false, there);
-  const { kind, lines } = otherOrders(ask("listset_show", reportText));
-  if (kind === "trouble") return said(null, `Whether there is none is not judged: ${lines[0]}.`);
-  if (kind === "none") return said(true, "Right: no order explains this report (proved). It comes from a broken list.");
-  if (kind === "unknown") return said(null, "This report comes from a broken list, and whether an order explains it is not known.");
-  return said(false, "There is one, although this report comes from a broken list. Find it.");
-}
-
-function rightInWords(answer) {
-  if (!answer.exercise.isWhole) return "check says ok: this order explains the report, so this schedule does not break the list.";
-  const own = answer.order().map(({ call, reply }) => `${call.id}-${reply}`);
-  const isSame = own.join() === answer.exercise.places.join();
-  const also = isSame ? "It is also the order of the replayer." : "The replayer has another one: both explain the run.";
-  return `check says ok: this order explains the run. ${also}`;
-}
-
-function faultInWords(answer, line) {
-  const order = answer.order();
-  const named = (id) => nameOfCall(answer.exercise.calls[Number(id)]);
-  const bySet = /^refused WrongReply (\d+): place (\d+) says (\S+), and .*?the set is (\{.*\}) and answers (\S+)$/.exec(line);
-  if (bySet !== null) {
-    const [, id, place, reply, set, other] = bySet;
-    const before = Number(place) === 1 ? "before your first call" : `after ${named(order[place - 2].call.id)} in your order`;
-    return `${named(id)} cannot answer ${reply} there: ${before} the set is ${set}, and it would answer ${other}.`;
-  }
-  const byRun = /^refused WrongReply (\d+): place \d+ says (\S+), and the history says/.exec(line);
-  if (byRun !== null) return `${named(byRun[1])} does not answer ${byRun[2]} in this run. Look at what it sees before it answers.`;
-  const early = /^refused TooEarly (\d+): it begins at (\d+) and stands before call (\d+), which ended at (\d+)$/.exec(line);
-  if (early !== null) {
-    const [, late, begun, first, ended] = early;
-    const stands = `in your order it comes before ${named(first)}, which ended at event ${ended}`;
-    return `${named(late)} begins at event ${begun}, and ${stands}.`;
-  }
-  const leaves = /^refused WrongSet: the order leaves (\{.*\}), and the keys are (\{.*\})$/.exec(line);
-  if (leaves !== null) return `Your order leaves the set ${leaves[1]}; at the end of this run it is ${leaves[2]}.`;
-  return line;
-}
-
-const wordOfAnswer = (answer) => (answer.isNone ? "none" : answer.order().map(({ call, reply }) => `${call.id}-${reply}`).join());
-
-function answerOfWord(exercise, word) {
-  const answer = new OwnAnswer(exercise);
-  if (word === "none") return Object.assign(answer, { isNone: true });
-  let at = 0;
-  for (const piece of word.split(",")) {
-    const [, id, reply] = /^(\d{1,5})-([a-z0-9-]+)$/.exec(piece) ?? [];
-    const call = exercise.calls[id];
-    if (call === undefined || answer.points.has(call.id)) return null;
-    at = Math.max(at, call.begun);
-    answer.points.set(call.id, { at, turn: answer.turn++ });
-    answer.say(call, reply);
-  }
-  return answer;
-}
-return { MOST_JUDGED, LEVELS, exerciseOf, nameOfCall, lastMoment, repliesOf, OwnAnswer, reportOfAnswer, verdictOn, otherOrders, wordOfAnswer, answerOfWord };
-})();
-
-// run/schedule_text.js
-const $run_schedule_text = (() => {
-const { HEADER_LINES } = $run_trace;
-const MOST_STEPS = 10000; // of one line
-
-const titleOf = (version) => `listset-schedule ${version}`;
-const versionOf = (schedule) => (schedule.startsWith(`${titleOf(2)}\n`) ? 2 : 1);
-
-function scheduleLines(trace, count) {
-  const lines = [titleOf(trace.version), `list ${trace.kind}`, `threads ${trace.threads}`, `quota ${trace.quota}`];
-  for (const key of trace.opening) lines.push(`opening ${key}`);
-  let [steps, before] = [0, null];
-  for (let number = 1; number <= count; number++) {
-    const event = trace.event(number);
-    const goesOn = before === event.line;
-    steps = goesOn ? steps + 1 : 1;
-    if (event.deed === "begin") lines.push(`begin ${event.thread} ${event.call.operation} ${event.call.key}`);
-    else if (goesOn) lines[lines.length - 1] = `go ${event.thread} ${steps}`;
-    else lines.push(`go ${event.thread} ${steps}`);
-    before = event.line;
-  }
-  return lines;
-}
-
-const scheduleOfTrace = (trace, count = trace.total) => [...scheduleLines(trace, count), ""].join("\n");
-
-function scheduleAndLine(trace, count, line, text = null) {
-  const isWhole = text !== null && count === trace.total && trace.refused === null;
-  const lines = isWhole ? text.trimEnd().split("\n") : scheduleLines(trace, count);
-  const last = lines[lines.length - 1].split(" ");
-  const added = line.split(" ");
-  const isPlain = last[0] === "go" && added[0] === "go" && last[1] === added[1] && Number(added[2]) > 0;
-  const joins = isPlain && Number(last[2]) + Number(added[2]) <= MOST_STEPS;
-  if (added[2] === "ceiling") lines[0] = titleOf(2);
-  if (joins) lines[lines.length - 1] = `go ${last[1]} ${Number(last[2]) + Number(added[2])}`;
-  else lines.push(line);
-  return lines.join("\n") + "\n";
-}
-
-function openingIn(schedule) {
-  const lines = schedule.split("\n").slice(HEADER_LINES);
-  const count = lines.findIndex((line) => !line.startsWith("opening "));
-  return lines.slice(0, count === -1 ? lines.length : count).map((line) => line.slice("opening ".length));
-}
-
-function withOpening(schedule, keys) {
-  const lines = schedule.split("\n");
-  lines.splice(HEADER_LINES, openingIn(schedule).length, ...keys.map((key) => `opening ${key}`));
-  if (keys.length > 0 && lines[0] === titleOf(1)) lines[0] = titleOf(2);
-  return lines.join("\n");
-}
-
-function eventsAsked(text) {
-  let count = 0;
-  for (const [, steps] of text.matchAll(/^(?:begin |go \d+ (\d+)$)/gm)) count += Number(steps ?? 1);
-  return count;
-}
-return { titleOf, versionOf, scheduleOfTrace, scheduleAndLine, openingIn, withOpening, eventsAsked };
-})();
-
-// run/state.js
-const $run_state = (() => {
-const { firstOpeningNode } = $run_trace;
-const BEGUN = { came: 0, pred: "head", curr: "head", succ: "head", node: "head", pkey: "-inf", ckey: "-inf", reply: "none" };
-const AT_REST = { pc: 0, used: 0, call: null, ...BEGUN };
-const linkTarget = (link) => link.replace("*", "");
-const keyNumber = (key) => (key === "-inf" ? -1 : key === "+inf" ? Infinity : Number(key));
-
-const MOST_UNDONE = 20000; // events that can be gone back; what lies further back is made again from the start
-
-class State {
-  constructor(trace) {
-    this.trace = trace;
-    this.begin();
-  }
-
-  begin() {
-    const { trace } = this;
-    this.count = 0;
-    this.lock = "free"; // the list's own lock
-    this.nodes = openingNodes(trace);
-    this.threads = Array.from({ length: trace.threads }, () => ({ ...AT_REST }));
-    this.undo = [];
-  }
-
-  goOn(trace) {
-    this.trace = trace;
-    return this;
-  }
-
-  moveTo(count) {
-    if (count < this.count - this.undo.length) this.begin();
-    while (this.count < count) this.apply(this.trace.event(++this.count), count - this.count < MOST_UNDONE);
-    while (this.count > count) {
-      this.count--;
-      for (const [holder, name, before] of this.undo.pop().reverse()) holder[name] = before;
-    }
-  }
-
-  apply(event, isKept) {
-    const done = [];
-    const set = (holder, name, value) => {
-      if (isKept) done.push([holder, name, holder[name]]);
-      holder[name] = value;
-    };
-    const thread = this.threads[event.thread];
-    if (event.deed === "begin") {
-      for (const name in BEGUN) set(thread, name, BEGUN[name]);
-      set(thread, "call", event.call);
-    } else set(thread, "came", thread.pc);
-    for (const name in event.changes) set(thread, name, event.changes[name]);
-    if (event.deed === "store" || (event.deed === "exchange" && event.saw === event.from)) this.write(event, set);
-    if (!isKept) this.undo = [];
-    else if (this.undo.push(done) > 2 * MOST_UNDONE) this.undo.splice(0, MOST_UNDONE);
-  }
-
-  write(event, set) {
-    const [owner, field] = event.word.split(".");
-    if (owner === "list") return set(this, field, event.to);
-    const node = (this.nodes[owner] ??= newNode());
-    set(node, field, event.to);
-    if (field !== "link" || !node.reached) return;
-    const target = (this.nodes[linkTarget(event.to)] ??= newNode());
-    if (!target.reached) set(target, "reached", true);
-  }
-
-  locks() {
-    const held = {};
-    const add = (lock, word) => lock !== "free" && (held[lock] ??= []).push(word);
-    add(this.lock, "list.lock");
-    const locked = Object.entries(this.nodes).filter(([, node]) => node.lock !== "free");
-    locked.sort(([, one], [, other]) => keyNumber(one.key) - keyNumber(other.key));
-    for (const [name, node] of locked) add(node.lock, `${name}.lock`);
-    return held;
-  }
-
-  chain() {
-    const found = new Set(["head"]);
-    for (let name = "head"; name !== "tail"; ) {
-      name = linkTarget(this.nodes[name].link);
-      if (found.has(name) || !(name in this.nodes)) break;
-      found.add(name);
-    }
-    return [...found];
-  }
-}
-
-function openingNodes(trace) {
-  const first = firstOpeningNode(trace);
-  const nameOf = (index) => (index < trace.opening.length ? `n${first + index}` : "tail");
-  const nodes = {
-    head: { key: "-inf", link: nameOf(0), lock: "free", reached: true },
-    tail: { key: "+inf", link: "tail", lock: "free", reached: true },
-  };
-  trace.opening.forEach((key, index) => {
-    nodes[nameOf(index)] = { key: String(key), link: nameOf(index + 1), lock: "free", reached: true };
-  });
-  return nodes;
-}
-
-const newNode = () => ({ key: "-inf", link: "head", lock: "free", reached: false });
-const isWritten = (node) => node.key !== "-inf" || node.link !== "head" || node.lock !== "free";
-const ownerOf = (trace, name) => Math.floor((Number(name.slice(1)) - 2) / trace.quota);
-
-function contentsIn(trace, first, last) {
-  const keys = new Set(trace.opening);
-  const part = (from) => ({ from, to: last + 1, keys: [...keys].sort((one, other) => one - other) });
-  const toggle = (event) => (event.put !== undefined ? keys.add(event.put) : keys.delete(event.took));
-  const before = trace.changes.filter((event) => event.number < first);
-  before.forEach(toggle);
-  const parts = [part(first)];
-  for (const event of trace.changes.slice(before.length)) {
-    if (event.number > last) break;
-    toggle(event);
-    parts[parts.length - 1].to = event.number;
-    parts.push(part(event.number));
-  }
-  return parts;
-}
-return { linkTarget, keyNumber, State, isWritten, ownerOf, contentsIn };
-})();
-
-// run/sentences.js
-const $run_sentences = (() => {
-const { LISTS } = $made_rows;
-const { callText, chipOf, keyText, said } = $run_markup;
-const { keyNumber, ownerOf } = $run_state;
-const { firstOpeningNode } = $run_trace;
-const isLock = (word) => word.endsWith(".lock");
-const mono = (text) => `<b class="mono">${text}</b>`;
-const isDone = (event) => event.deed === "store" || (event.deed === "exchange" && event.saw === event.from);
-const isFailed = (event) => event.deed === "exchange" && event.saw !== event.from;
-const ownerIn = (word) => word.split(".")[0];
-const isLinkOf = (event) => event.word?.endsWith(".link");
-
-const lockedBy = (word) => (word === "list.lock" ? "the list" : mono(ownerIn(word)));
-const lockNames = (words) => `the lock${words.length > 1 ? "s" : ""} of ${words.map(ownerIn).join(" and ")}`;
-const setsMark = (event) => isLinkOf(event) && event.to?.endsWith("*") === true;
-
-function deedText(event, row) {
-  const word = event.word && mono(event.word);
-  if (event.deed === "begin") return `begins ${callText(event.call)}.`;
-  if (event.deed === "load") return `reads ${word}: ${said(event.saw)}.`;
-  if (isLock(event.word)) return lockText(event, row);
-  const change = event.deed === "store" ? `${word} := ${said(event.to)}` : `${word}: ${said(event.from)} → ${said(event.to)}`;
-  const finds = isFailed(event) ? `, but finds ${said(event.saw)}` : "";
-  if (setsMark(event)) return `${isFailed(event) ? "tries to mark" : "marks"} ${mono(ownerIn(event.word))} (${change})${finds}.`;
-  if (event.deed === "store") return `sets ${word} to ${said(event.to)}.`;
-  return `${isFailed(event) ? "tries to change" : "changes"} ${word} from ${said(event.from)} to ${said(event.to)}${finds}.`;
-}
-
-function lockText(event, row) {
-  const name = lockedBy(event.word);
-  if (event.deed === "store") return `unlocks ${name}.`;
-  if (!isFailed(event)) return `locks ${name}.`;
-  const then = event.changes.pc === row ? "It will try again" : `It continues all the same, at row ${event.changes.pc}`;
-  return `tries to lock ${name}, but ${event.saw} holds it. ${then}.`;
-}
-
-function marksOf(trace) {
-  if (trace.marks !== undefined) return trace.marks;
-  trace.marks = new Map();
-  for (const event of trace.starred.map((number) => trace.event(number))) {
-    if (setsMark(event) && isDone(event)) trace.marks.set(ownerIn(event.word), event);
-  }
-  return trace.marks;
-}
-
-function wholeName({ trace, event }, name) {
-  const whose = isOpeningNode(trace, name) ? "the node of an opening key" : `${chipOf(ownerOf(trace, name))}'s node`;
-  const mark = marksOf(trace).get(name);
-  if (mark === undefined || mark.number > event.number) return `${name}</b>, ${whose}`;
-  return `${name}</b>, ${whose}, which ${chipOf(mark.thread)} marked at event ${mark.number}`;
-}
-
-function isInChain(state, key) {
-  return state.chain().some((name) => String(state.nodes[name].key) === String(key) && !state.nodes[name].link.endsWith("*"));
-}
-
-const OUTCOMES = {
-  change({ trace, state, event, held, hadKey }) {
-    const { put, took } = event;
-    const had = trace.lacks !== null && hadKey;
-    const hasNow = (key) => trace.lacks !== null && isInChain(state, key);
-    if (put !== undefined) {
-      if (had) return `<b>This should add ${put} to the set, but ${put} is in it already.</b>`;
-      if (trace.lacks === null || hasNow(put)) return `<b>This adds ${put} to the set</b>, in slot ${held.used} of ${trace.quota}.`;
-      return `<b>This should add ${put} to the set, but its node is not in the chain: ${put} is lost.</b>`;
-    }
-    if (took === undefined) return "";
-    if (trace.lacks !== null && !had) return `<b>This should remove ${took} from the set, but ${took} is not in it any more.</b>`;
-    return hasNow(took) ? `<b>This should remove ${took} from the set, but the chain still has it.</b>` : `<b>This removes ${took} from the set.</b>`;
-  },
-
-  mark({ state, event }) {
-    if (!setsMark(event) || !isDone(event)) return "";
-    const owner = ownerIn(event.word);
-    return state.chain().includes(owner) ? `${owner} is still in the chain.` : `${owner} is not in the chain any more.`;
-  },
-
-  unlink(moment) {
-    const { state, event, before, wasInChain } = moment;
-    const gone = before.curr;
-    if (!wasInChain || !isLinkOf(event) || !isDone(event) || gone === "tail" || gone === ownerIn(event.word)) return "";
-    if (state.nodes[gone].link.replace("*", "") !== event.to || state.chain().includes(gone)) return "";
-    return `<b>This unlinks ${wholeName(moment, gone)}.`;
-  },
-
-  leftInChain({ state, event, before }) {
-    if (!isFailed(event) || event.answer === undefined) return "";
-    if (!state.chain().includes(before.curr)) return `${before.curr} is not in the chain any more.`;
-    return `<b>${before.curr} stays in the chain, marked,</b> for a later walk to unlink.`;
-  },
-
-  validation({ event, held, row }) {
-    if (row?.invalid === undefined || held.pc !== row.invalid || held.reply !== "none") return "";
-    const owner = ownerIn(event.word);
-    let reason = `${owner} leads to ${said(event.saw)} now, not to ${held.curr}`;
-    if (event.saw.endsWith("*")) reason = `${owner} is marked`;
-    if (event.word.endsWith(".key")) reason = `the second walk is past the key of ${held.pred} and has not found it`;
-    return `<b>The validation fails:</b> ${reason}. It will unlock both nodes and start again.`;
-  },
-
-  valid({ held, row }) {
-    if (row?.invalid === undefined || !row.then.includes("decide on")) return "";
-    return held.pc === row.invalid && held.reply === "none" ? "" : "The validation succeeds.";
-  },
-
-  again({ event, held, row }) {
-    if (row?.again === undefined || held.pc !== row.again || event.answer !== undefined) return "";
-    const reason = event.saw?.endsWith("*") && event.deed === "load" ? `${ownerIn(event.word)} is marked: it` : "It";
-    return `<b>${reason} starts its walk again${/with the same slot/.test(row.book) ? ", with the same slot" : ""}.</b>`;
-  },
-
-  markMet({ trace, state, event, held, row }) {
-    if (event.deed !== "load" || !event.saw.endsWith("*") || [row?.invalid, row?.again].includes(held.pc)) return "";
-    const owner = ownerIn(event.word);
-    const where = state.chain().includes(owner) ? "and still" : "and no longer";
-    if (event.answer !== undefined) return `<b>${owner} is marked</b>, ${where} in the chain.`;
-    if (event.changes.curr !== undefined) return `${owner} is marked: the walk passes over it.`;
-    const next = LISTS[trace.kind].rows[held.pc]?.step ?? "";
-    if (next.startsWith("exchange pred.link")) return `<b>${owner} is marked:</b> the next step tries to unlink it.`;
-    if (!next.startsWith("exchange curr.link")) return "";
-    return `<b>${owner} is marked already:</b> the next step will fail.`;
-  },
-
-  walk({ trace, event, held, row }) {
-    if (event.deed !== "load" || row === undefined) return "";
-    if (row.below !== undefined) return walkAtKey(event, held);
-    if (row.then.includes("node = next(s)")) return `The second walk reaches ${held.node}.`;
-    if (row.then.includes("node is pred")) return secondWalkAtKey(held, row);
-    if (!row.then.includes("curr = next(s)")) return "";
-    const opening = isOpeningNode(trace, held.curr) ? ", the node of an opening key" : "";
-    return `The walk reaches ${held.curr}${opening}.`;
-  },
-
-  decision({ trace, event, held, before }) {
-    const { adds, removes } = LISTS[trace.kind];
-    if (event.answer !== undefined || held.reply !== "none" || before.pc === held.pc) return "";
-    const { operation, key } = held.call;
-    const found = event.word?.endsWith(".key") ? "The" : `${held.curr} ${operation === "add" ? "does not have" : "has"} the key ${key}: the`;
-    if (operation === "add" && held.pc === adds) return `${found} add goes ahead.`;
-    return operation === "remove" && held.pc === removes ? `${found} remove goes ahead.` : "";
-  },
-
-  reply({ trace, event }) {
-    const { reply } = event.changes;
-    if (reply === undefined || reply === "none" || event.answer !== undefined) return "";
-    const slots = { 0: "it has no slot", 1: "its one slot is used" }[trace.quota] ?? `its ${trace.quota} slots are used`;
-    const used = reply === "full" ? `: ${slots}` : "";
-    return `<b>It will answer ${reply}</b>${used}.`;
-  },
-
-  locks({ state, event }) {
-    if (!event.word || !isLock(event.word) || !isDone(event) || event.answer !== undefined) return "";
-    const own = state.locks()[`t${event.thread}`];
-    if (own === undefined) return "It holds no lock now.";
-    return event.deed === "exchange" && own.length === 1 ? "" : `It holds ${lockNames(own)}.`;
-  },
-};
-
-const isBelow = (saw, key) => keyNumber(saw) < Number(key);
-
-function walkAtKey(event, held) {
-  const owner = ownerIn(event.word);
-  const { key } = held.call;
-  if (isBelow(event.saw, key)) return `${keyText(event.saw)} is below ${key}: the walk continues.`;
-  if (event.saw === String(key)) return `<b>The walk stops at ${owner},</b> which has its key.`;
-  return `<b>The walk stops at ${owner},</b> the first with a key above ${key}.`;
-}
-
-function secondWalkAtKey(held, row) {
-  if (held.pc === row.invalid) return "";
-  if (held.node === held.pred) return `The second walk reaches pred, ${held.pred}.`;
-  return `This is not pred, ${held.pred}: the second walk continues.`;
-}
-
-const isOpeningNode = (trace, name) => /^n/.test(name) && Number(name.slice(1)) >= firstOpeningNode(trace);
-
-function effectText({ trace, event }, hidden) {
-  const { call } = event;
-  if (event.answer === undefined) return "";
-  const answers = `<b>${callText(call)} answers ${hidden.includes("reply") ? "… what?" : event.answer}</b>`;
-  const mayFitNowhere = trace.lacks !== null && !call.changes && call.at === event.number;
-  if (hidden.includes("effect") || mayFitNowhere) return hidden.includes("reply") ? answers : `${answers}.`;
-  if (call.at === event.number) return `${answers}, and takes effect here.`;
-  const other = trace.event(call.at).thread;
-  const whose = other === event.thread ? "" : `, <b>a step of t${other}</b>`;
-  return `${answers}; it took effect at event ${call.at}${whose}.`;
-}
-
-function openingText(trace) {
-  if (trace.opening.length === 0) return "Before the first event the list is empty, and every thread is idle.";
-  const some = trace.opening.slice(0, 20).join(", ");
-  return `Before the first event the set is {${some}${trace.opening.length > 20 ? ", …" : ""}}, and every thread is idle.`;
-}
-
-function momentAt(state, count) {
-  const { trace } = state;
-  const event = count > 0 ? trace.event(count) : null;
-  state.moveTo(Math.max(count - 1, 0));
-  const before = event === null ? null : { ...state.threads[event.thread] };
-  const changed = event?.put ?? event?.took;
-  const hadKey = trace.lacks !== null && changed !== undefined && isInChain(state, changed);
-  const wasInChain = trace.lacks === null || before === null || state.chain().includes(before.curr);
-  state.moveTo(count);
-  if (event === null) return { trace, state, event };
-  const row = event.deed === "begin" ? undefined : LISTS[trace.kind].rows[before.pc];
-  return { trace, state, event, before, hadKey, wasInChain, held: state.threads[event.thread], row };
-}
-
-function sentenceOf(moment, hidden = []) {
-  const { trace, event } = moment;
-  if (event === null) return `${openingText(trace)}${trace.total === 0 ? " Let one begin a call." : ""}`;
-  if (event.deed === "begin") return `${chipOf(event.thread)} ${deedText(event)}`;
-  const told = Object.keys(OUTCOMES).filter((name) => !hidden.includes(name));
-  const outcomes = told.map((name) => OUTCOMES[name](moment));
-  const parts = [chipOf(event.thread), deedText(event, moment.before.pc), ...outcomes, effectText(moment, hidden)];
-  return parts.filter((text) => text !== "").join(" ");
-}
-return { isLock, mono, isFailed, ownerIn, momentAt, sentenceOf };
-})();
-
-// page/now.js
-const $page_now = (() => {
-const { byId } = $page_dom;
-const { CAUSES } = $run_faults;
-const { LEVELS } = $run_judged;
-const { scheduleOfTrace } = $run_schedule_text;
-const { momentAt } = $run_sentences;
-const { State } = $run_state;
-const NO_ENGINE = "The replayer does not run in this browser: no schedule can be run, no report checked. A file of listset trace can be opened.";
-
-const page = {
-  engine: null,
-  trace: null,
-  state: null,
-  count: 0,
-  source: "",
-  text: "", // the schedule that was run last
-  isRun: false, // whether the trace is that of this text
-  faultLine: null, // of that text
-  example: "", // whose text that is
-  name: "", // under which a work is kept
-  begun: "", // the text with which the work began
-  lacks: null, // the name of the broken list on which it is run (run/broken.js), or null
-  verdict: null, // on the run of a broken list
-  exercise: null, // the one of "Judge yourself", while it is open
-  allThreads: false,
-  hides: true, // what is to come
-  view: null, // lecture, list or history, if only that is shown
-};
-
-const listeners = { shown: [], taken: [], ran: [], kept: [], recorded: [] };
-const on = (what, ...deeds) => listeners[what].push(...deeds);
-
-function announce(what, ...given) {
-  for (const deed of listeners[what]) deed(...given);
-}
-
-const show = () => announce("shown", momentAt(page.state, page.count));
-const isJudging = () => page.exercise !== null;
-const hiddenOutcomes = () => (isJudging() ? LEVELS[page.exercise.level].hidden : []);
-
-function goTo(count) {
-  page.count = Math.max(0, Math.min(page.trace.total, count));
-  tell("");
-  show();
-}
-
-function tell(text) {
-  byId("told").innerHTML = text;
-}
-
-function takeTrace(trace, at, source) {
-  const { refused } = trace;
-  const state = trace.before !== null && trace.before === page.trace ? page.state.goOn(trace) : new State(trace);
-  trace.before = null; // its text is not kept any longer
-  Object.assign(page, { trace, state, source, lacks: trace.lacks });
-  document.body.classList.toggle("breaking", trace.lacks !== null);
-  announce("taken", trace);
-  if (refused === null) tellFault(null, "", "", false);
-  else tellFault(refused.line, refused.cause, `line ${refused.line}: ${refused.cause}`, false);
-  goTo(typeof at === "function" ? at(trace) : at);
-}
-
-function takeScheduleOfTrace() {
-  page.text = page.begun = byId("schedule").value = scheduleOfTrace(page.trace);
-  byId("opening").value = page.trace.opening.join(" ");
-}
-
-function askNow(name, ...texts) {
-  if (page.engine === null) return { status: 1, text: NO_ENGINE };
-  try {
-    return page.engine.ask(name, ...texts);
-  } catch (fault) {
-    return { status: 1, text: fault.message };
-  }
-}
-
-function tellFault(line, cause, said, isOld = true) {
-  page.faultLine = line;
-  page.isRun = !isOld;
-  byId("stage").classList.toggle("old", isOld);
-  byId("old").hidden = !isOld;
-  byId("fault").textContent = cause in CAUSES ? `${said}: ${CAUSES[cause]}` : said;
-}
-
-function tellLine(text) {
-  const found = /^listset: line (\d+): (\w+)$/.exec(text);
-  if (found !== null) tellFault(Number(found[1]), found[2], text);
-  else tellFault(null, "", text);
-}
-return { NO_ENGINE, page, on, announce, show, isJudging, hiddenOutcomes, goTo, tell, takeTrace, takeScheduleOfTrace, askNow, tellFault, tellLine };
-})();
-
-// page/kept.js
-const $page_kept = (() => {
-const { byId } = $page_dom;
-const { announce, page } = $page_now;
-const KEPT = "listset-page-2";
-const KEPT_BEFORE = "listset-page"; // one text, as the page kept it before
-const MOST_WORKS = 60; // the oldest ones go
-
-function keptUnder(name) {
-  try {
-    return JSON.parse(localStorage.getItem(name));
-  } catch {
-    return null;
-  }
-}
-
-function keepUnder(name, value) {
-  try {
-    localStorage.setItem(name, JSON.stringify(value));
-    return true;
-  } catch {
-    return false;
-  }
-}
-
-const isText = (value) => typeof value === "string";
-const isWork = (kept) => typeof kept?.text === "string" && typeof kept.box === "string" && Number.isInteger(kept.count);
-
-const works = {
-  byName: new Map(),
-  isKept: true,
-
-  load() {
-    const kept = keptUnder(KEPT);
-    const before = keptUnder(KEPT_BEFORE);
-    const entries = Array.isArray(kept) ? kept : isWork(before) ? [["my schedule", before]] : [];
-    const isGood = (entry) => Array.isArray(entry) && typeof entry[0] === "string" && isWork(entry[1]);
-    this.byName = new Map(entries.filter(isGood));
-  },
-
-  set(name, work) {
-    this.byName.delete(name);
-    this.byName.set(name, work);
-    const names = [...this.byName.keys()];
-    for (const old of names.slice(0, Math.max(0, names.length - MOST_WORKS))) this.byName.delete(old);
-    this.isKept = keepUnder(KEPT, [...this.byName]);
-  },
-
-  nameOf(text, lacks = null) {
-    return [...this.byName].findLast(([, work]) => work.text === text && (work.lacks ?? null) === lacks)?.[0] ?? null;
-  },
-
-  newName(word) {
-    for (let number = 1; ; number++) {
-      const name = number === 1 ? word : `${word} ${number}`;
-      if (!this.byName.has(name)) return name;
-    }
-  },
-};
-
-function keepWork() {
-  const box = byId("schedule").value;
-  const isLookedAt = box === page.text && page.text === page.begun;
-  if (page.engine === null || page.text === "" || isLookedAt) return;
-  const before = works.byName.get(page.name);
-  if (before?.text === page.text && before.box === box && before.count === page.count) return;
-  works.set(page.name, { text: page.text, box, count: page.count, lacks: page.lacks });
-  announce("kept");
-}
-return { keptUnder, keepUnder, isText, works, keepWork };
-})();
-
-// activities/broken_kept.js
-const $activities_broken_kept = (() => {
-const { LACKING } = $made_classics;
-const { isText, keepUnder, keptUnder } = $page_kept;
-const { page } = $page_now;
-const BROKEN = "listset-broken";
-const SHOWN = "listset-shown-breaks";
-const NAMED = "listset-named-checks";
-
-const isBrokenLine = ([name, line]) => Object.hasOwn(LACKING, name) && isText(line);
-const brokenLines = () => Object.entries(keptUnder(BROKEN) ?? {}).filter(isBrokenLine);
-const keepBrokenLine = (name, line) => keepUnder(BROKEN, { ...keptUnder(BROKEN), [name]: line });
-const noteShown = (name, schedule) => keepUnder(SHOWN, { ...keptUnder(SHOWN), [name]: schedule });
-
-function isShownBreak(name, schedule) {
-  if (page.text === page.begun) return true;
-  const shown = keptUnder(SHOWN)?.[name];
-  return typeof shown === "string" && schedule.trimEnd().startsWith(shown.trimEnd());
-}
-
-const isNamed = (name) => (keptUnder(NAMED) ?? []).includes(name);
-const keepNamed = (name) => keepUnder(NAMED, [...new Set([...(keptUnder(NAMED) ?? []), name])]);
-return { brokenLines, keepBrokenLine, noteShown, isShownBreak, isNamed, keepNamed };
-})();
-
 // data/levels.js
 const $data_levels = (() => {
 const GRADES = ["Warm up", "One thread waits", "Look twice"];
@@ -1668,6 +336,51 @@ const LACKS_IN_WORDS = {
   "new-slot": "An add writes into the node of its last key.",
 };
 return { GRADES, BREAK_LEVELS, LACKS_IN_WORDS };
+})();
+
+// page/dom.js
+const $page_dom = (() => {
+/** @type {(id: string) => any} */
+const byId = (id) => document.getElementById(id);
+
+function redraw(box, html) {
+  /** @type {any} */
+  const before = box.contains(document.activeElement) ? document.activeElement : null;
+  const keyOf = (part) => JSON.stringify({ ...part.dataset, name: part.tagName });
+  const key = before === null ? "" : keyOf(before);
+  if (typeof html === "string") box.innerHTML = html;
+  else box.replaceChildren(...html);
+  if (before === null) return;
+  const same = [...box.querySelectorAll("button, select, input, a, [tabindex]")].find((part) => keyOf(part) === key);
+  (same ?? box.querySelector("button, a") ?? box).focus();
+}
+
+const setAble = (id, isAble) => byId(id).setAttribute("aria-disabled", String(!isAble));
+
+function setHidden(part, isHidden, other) {
+  if (part.hidden === isHidden) return;
+  if (isHidden && part.contains(document.activeElement)) other.focus();
+  part.hidden = isHidden;
+}
+
+function setHtml(box, html) {
+  if (texts.get(box) === html) return;
+  texts.set(box, html);
+  box.innerHTML = html;
+}
+const texts = new WeakMap();
+
+function keepHeight(box, of) {
+  const key = `${of} ${innerWidth}`;
+  const isSame = heights.get(box)?.key === key;
+  if (!isSame) box.style.minHeight = "";
+  const height = box.offsetHeight;
+  if (isSame && height <= heights.get(box).height) return;
+  heights.set(box, { key, height });
+  box.style.minHeight = `${height}px`;
+}
+const heights = new WeakMap();
+return { byId, redraw, setAble, setHidden, setHtml, keepHeight };
 })();
 
 // made/traces.js
@@ -2366,504 +1079,1430 @@ end
 return { EXAMPLES, TRACES };
 })();
 
-// page/example.js
-const $page_example = (() => {
-const { EXAMPLES } = $made_traces;
-const { byId } = $page_dom;
-const { announce, page } = $page_now;
-function exampleText(name) {
-  if (page.engine === null || name === "") return null;
-  const answer = page.engine.ask("listset_example", name);
-  return answer.status === 0 ? answer.text : null;
+// engine/answers.js
+const $engine_answers = (() => {
+const linesIn = (text) => text.trimEnd().split("\n");
+
+function callOfReport(line) {
+  const [, id, thread, operation, key, begun, ended, reply = null] = line.split(" ");
+  const end = ended === "open" ? null : Number(ended);
+  return { id: Number(id), thread: Number(thread), operation, key: Number(key), begun: Number(begun), ended: end, reply };
 }
 
-function chooseExample(name) {
-  page.example = name;
-  announce("kept");
-}
-
-const exampleNames = () => [...byId("example-options").children].map((option) => option.value);
-
-function fillExamples() {
-  const list = page.engine === null ? EXAMPLES : page.engine.ask("listset_examples", "").text;
-  for (const line of list.trimEnd().split("\n")) {
-    const [name, kind] = line.split(/ +/);
-    byId("example-options").append(new Option(`${name} (${kind})`, name));
-  }
-}
-return { exampleText, chooseExample, exampleNames, fillExamples };
-})();
-
-// engine/engine.js
-const $engine_engine = (() => {
-const FIRST_ROOM = 1 << 22; // bytes handed to the engine for its answer, at first
-const LARGE_MEMORY = 1 << 28; // past so many bytes an instance is not used again
-
-class Engine {
-  constructor(module, read = () => -1) {
-    this.module = module;
-    this.instance = null;
-    this.host = { env: { read: (input, at, count) => BigInt(read(input, this.piece(Number(at), Number(count)))) } };
-  }
-
-  piece(at, count) {
-    return new Uint8Array(this.instance.exports.memory.buffer, at, count);
-  }
-
-  static async start() {
-    const bytes = await engineBytes();
-    return new Engine(await WebAssembly.compile(bytes));
-  }
-
-  ask(name, ...texts) {
-    const encoder = new TextEncoder();
-    return this.askBytes(name, ...texts.map((text) => encoder.encode(text)));
-  }
-
-  askBytes(name, ...given) {
-    return this.answered((exports) => answerOf(exports, name, given));
-  }
-
-  judgeFrom(input) {
-    return this.answered((exports) => answerInRoom(exports, "listset_judge_from", [[input]], FIRST_ROOM));
-  }
-
-  answered(answer) {
-    if (this.instance === null || this.instance.exports.memory.buffer.byteLength > LARGE_MEMORY) {
-      this.instance = new WebAssembly.Instance(this.module, this.host);
-    }
-    try {
-      return answer(this.instance.exports);
-    } catch (fault) {
-      this.instance = null; // after a trap the memory is not looked at again
-      throw new Error(`the engine stopped: ${fault.message}`);
-    }
-  }
-}
-
-async function engineBytes() {
-  if (typeof ENGINE === "undefined" && location.protocol === "file:") await loadScript("engine.js");
-  if (typeof ENGINE !== "undefined") return Uint8Array.from(atob(ENGINE), (letter) => letter.charCodeAt(0));
-  const answer = await fetch("listset.wasm");
-  if (!answer.ok) throw new Error(`listset.wasm: ${answer.status} ${answer.statusText}`);
-  return answer.arrayBuffer();
-}
-
-function loadScript(src) {
-  return new Promise((done, fail) => {
-    const onerror = () => fail(new Error(`${src} is not beside the page`));
-    document.head.append(Object.assign(document.createElement("script"), { src, onload: done, onerror }));
-  });
-}
-
-function optionWords({ from, to, width }) {
-  return wordsOf([from, to, width].map((text) => (text === undefined ? "" : `=${text}`)));
-}
-
-function wordsOf(words) {
-  return words.join("\0");
-}
-
-function answerOf(engine, name, given) {
-  const texts = textsOf(engine, engine[name].length, given);
-  let answer = answerInRoom(engine, name, texts, FIRST_ROOM);
-  if (answer.bytes === null) answer = answerInRoom(engine, name, texts, answer.length);
-  texts.forEach(([block]) => engine.page_free(block));
-  if (answer.bytes === null) throw new Error("two answers to one text");
-  return { status: answer.status, text: new TextDecoder().decode(answer.bytes), bytes: answer.bytes };
-}
-
-function textsOf(engine, parameters, given) {
-  return Array.from({ length: (parameters - 3) / 2 }, (_, at) => {
-    const text = given[at] ?? new Uint8Array(0);
-    const block = blockOf(engine, text.length);
-    new Uint8Array(engine.memory.buffer, Number(block), text.length).set(text);
-    return [block, BigInt(text.length)];
-  });
-}
-
-function answerInRoom(engine, name, texts, room) {
-  const out = blockOf(engine, room);
-  const status = blockOf(engine, 1);
-  const count = Number(engine[name](...texts.flat(), out, BigInt(room), status));
-  const memory = engine.memory.buffer;
-  const bytes = count <= room ? new Uint8Array(memory, Number(out), count).slice() : null;
-  const said = new Uint8Array(memory, Number(status), 1)[0];
-  engine.page_free(out);
-  engine.page_free(status);
-  return { bytes, length: count, status: said };
-}
-
-function blockOf(engine, length) {
-  const block = engine.page_alloc(BigInt(Math.max(length, 1)));
-  if (!block) throw new Error("no memory");
-  return block;
-}
-return { FIRST_ROOM, LARGE_MEMORY, Engine, optionWords, wordsOf, answerOf, textsOf, answerInRoom, blockOf };
-})();
-
-// engine/worker.js
-const $engine_worker = (() => {
-const { answerInRoom, answerOf, blockOf, Engine, FIRST_ROOM, LARGE_MEMORY, textsOf } = $engine_engine;
-const EVENT_ROOM = 96; // bytes of a trace's line, so that the engine is asked once
-
-const workerText = (room) => `"use strict";
-const FIRST_ROOM = ${room};
-const LARGE_MEMORY = ${LARGE_MEMORY};
-${[Engine, answerOf, textsOf, answerInRoom, blockOf].join("\n")}
-onmessage = ({ data: { module, name, given } }) => {
-  try {
-    const { status, bytes } = new Engine(module).askBytes(name, given);
-    postMessage({ status, bytes }, [bytes.buffer]);
-  } catch (fault) {
-    postMessage({ status: 1, bytes: new TextEncoder().encode(fault.message) });
-  }
-};`;
-
-function askInWorker(module, name, text, events) {
-  const place = URL.createObjectURL(new Blob([workerText(FIRST_ROOM + EVENT_ROOM * events)], { type: "text/javascript" }));
-  const worker = new Worker(place);
-  const came = new Promise((done) => {
-    worker.onerror = () => done(null);
-    worker.onmessage = ({ data }) => done({ status: data.status, text: new TextDecoder().decode(data.bytes) });
-    worker.postMessage({ module, name, given: new TextEncoder().encode(text) });
-  });
-  const answer = came.finally(() => {
-    worker.terminate();
-    URL.revokeObjectURL(place);
-  });
-  return { worker, answer };
-}
-return { askInWorker };
-})();
-
-// page/long_run.js
-const $page_long_run = (() => {
-const { askInWorker } = $engine_worker;
-const { byId } = $page_dom;
-const { askNow, page, tellFault } = $page_now;
-const { eventsAsked } = $run_schedule_text;
-const MANY_EVENTS = 20000; // so many run beside the page, with a button to cancel that
-const LONG_TEXT = 200000; // characters of a report that has no picture here
-const longRun = { worker: null, timer: 0 };
-
-async function askLong(name, text, isOfRun = true) {
-  const events = eventsAsked(text);
-  if (text.length < LONG_TEXT && events < MANY_EVENTS) return askNow(name, text);
-  try {
-    const { worker, answer } = askInWorker(page.engine.module, name, text, events);
-    if (isOfRun) longRun.worker = worker;
-    const came = await answer;
-    if (came !== null) return came;
-  } catch {
-  }
-  await new Promise((done) => requestAnimationFrame(() => setTimeout(done)));
-  return askNow(name, text);
-}
-
-async function runLong(text, asked, take) {
-  stopLong();
-  const begun = Date.now();
-  const tellTime = () => {
-    const seconds = Math.round((Date.now() - begun) / 1000);
-    byId("long-said").textContent = `running ${asked.toLocaleString("en")} events: ${seconds} s`;
-  };
-  tellTime();
-  longRun.timer = setInterval(tellTime, 1000);
-  byId("long").hidden = false;
-  const answer = await askLong("listset_trace", text);
-  if (page.text !== text || byId("long").hidden) return;
-  stopLong();
-  take(answer);
-}
-
-function stopLong() {
-  clearInterval(longRun.timer);
-  longRun.worker?.terminate();
-  longRun.worker = null;
-  if (byId("long").contains(document.activeElement)) byId("slider").focus();
-  byId("long").hidden = true;
-}
-
-function cancelLong() {
-  stopLong();
-  tellFault(null, "", "The run was cancelled. Run begins it again.");
-}
-return { MANY_EVENTS, LONG_TEXT, askLong, runLong, stopLong, cancelLong };
-})();
-
-// page/play.js
-const $page_play = (() => {
-const { CLASSICS } = $made_classics;
-const { byId } = $page_dom;
-const { goTo, page, tell } = $page_now;
-const SPEEDS = { slow: 1600, medium: 700, fast: 200 }; // milliseconds of one event
-let playing = null;
-let playsTo = Infinity; // the event at which it stops by itself
-let says = { before: "", there: "" }; // and what is said until there, and there
-
-const wantsLessMotion = () => matchMedia("(prefers-reduced-motion: reduce)").matches;
-
-function showPlay() {
-  byId("play").textContent = playing === null ? "Play" : "Pause";
-  byId("play").setAttribute("aria-pressed", String(playing !== null));
-  byId("said").setAttribute("aria-live", playing === null ? "polite" : "off");
-}
-
-function stopPlay() {
-  clearInterval(playing);
-  playing = null;
-  showPlay();
-}
-
-function startPlay(last = Infinity, said = { before: "", there: "" }) {
-  [playsTo, says] = [last, said];
-  if (page.trace.total === 0) return;
-  if (page.count === page.trace.total) goTo(0);
-  playing = setInterval(playOn, SPEEDS[byId("speed").value]);
-  showPlay();
-}
-
-function playOn() {
-  goTo(page.count + 1);
-  tell(page.count === playsTo ? says.there : says.before);
-  if (page.count === page.trace.total || page.count === playsTo) stopPlay();
-}
-
-const togglePlay = () => (playing === null ? startPlay() : stopPlay());
-
-function changeSpeed() {
-  if (playing === null) return;
-  stopPlay();
-  startPlay();
-}
-
-function goByHand(count) {
-  stopPlay();
-  goTo(count);
-}
-
-function goToTurn(step) {
-  const turns = CLASSICS[page.example]?.turns ?? [];
-  const changes = (event) => event.put !== undefined || event.took !== undefined || event.answer !== undefined;
-  let count = page.count + step;
-  while (count > 0 && count < page.trace.total && !changes(page.trace.event(count)) && !turns.includes(count)) count += step;
-  goByHand(count);
-}
-return { wantsLessMotion, stopPlay, startPlay, togglePlay, changeSpeed, goByHand, goToTurn };
-})();
-
-// run/refusal.js
-const $run_refusal = (() => {
-function callOfLine(line) {
+function callOfRecording(line) {
   const [, thread, operation, key, begun, ended, reply] = line.split(" ");
   const isOpen = ended === "-";
   const moments = { begun: BigInt(begun), ended: isOpen ? null : BigInt(ended) };
   return { thread: Number(thread), operation, key: Number(key), ...moments, reply: isOpen ? null : reply };
 }
 
-function firstCalls(text, most) {
+function readReport(text) {
+  const lines = linesIn(text);
+  const linesOf = (word) => lines.filter((line) => line.startsWith(`${word} `));
+  const valuesOf = (word) => linesOf(word).map((line) => line.split(" ").slice(1));
+  return {
+    head: [...lines.slice(0, 4), ...linesOf("opening")],
+    threads: Number(lines[2].split(" ")[1]),
+    opening: valuesOf("opening").map(([key]) => Number(key)),
+    calls: linesOf("call").map(callOfReport),
+    callLines: linesOf("call"),
+    places: valuesOf("place").map(([call, reply]) => ({ call: Number(call), reply })),
+    keys: valuesOf("key").map(([key]) => Number(key)),
+    keyLines: linesOf("key"),
+  };
+}
+
+function callsOfRecording(text, most) {
   const calls = [];
   for (const [line] of text.matchAll(/^call .*$/gm)) {
     if (calls.length === most) break;
-    calls.push(callOfLine(line));
+    calls.push(callOfRecording(line));
   }
   return calls;
+}
+
+const leavesKey = (text, key) => new RegExp(`^key ${key}$`, "m").test(text);
+
+const readExamples = (text) =>
+  linesIn(text).map((line) => {
+    const [name, kind] = line.split(/ +/);
+    return { name, kind };
+  });
+
+function readFault(text) {
+  const says = text.trim();
+  const [, line = null, cause = null] = /line (\d+)(?: of the schedule is refused)?: (\w+)/i.exec(says) ?? [];
+  return { line: line === null ? null : Number(line), cause, says };
+}
+
+function readCheck(text) {
+  const says = text.trim();
+  if (says === "ok") return { kind: "ok", call: null, says };
+  const refused = /^refused \w+(?: (\d+))?/.exec(says);
+  if (refused === null) return { kind: "trouble", call: null, says };
+  return { kind: "refused", call: refused[1] === undefined ? null : Number(refused[1]), says };
+}
+
+const REFUSALS = [
+  { kind: "reply", form: /^refused WrongReply (\d+): place (\d+) says (\S+), and .*?the set is (\{.*\}) and answers (\S+)$/, names: ["call", "place", "reply", "set", "answers"] },
+  { kind: "run", form: /^refused WrongReply (\d+): place \d+ says (\S+), and the history says/, names: ["call", "reply"] },
+  { kind: "early", form: /^refused TooEarly (\d+): it begins at (\d+) and stands before call (\d+), which ended at (\d+)$/, names: ["call", "begun", "first", "ended"] },
+  { kind: "keys", form: /^refused WrongSet: the order leaves (\{.*\}), and the keys are (\{.*\})$/, names: ["set", "keys"] },
+];
+
+function readRefused(says) {
+  for (const { kind, form, names } of REFUSALS) {
+    const found = form.exec(says);
+    if (found !== null) return { kind, says, ...Object.fromEntries(names.map((name, at) => [name, found[at + 1]])) };
+  }
+  return { kind: "other", says };
+}
+
+const ENDINGS = {
+  "not linearizable": "none",
+  "another order explains this report": "another",
+  "it is not known whether another order explains this report": "unknown",
+};
+
+function readShow({ status, text }) {
+  const lines = linesIn(text);
+  const line = lines.find((one) => one.startsWith("refused "));
+  const refused = line === undefined ? null : readRefused(line);
+  const at = lines.findIndex((one) => Object.hasOwn(ENDINGS, one));
+  if (at === -1) return { kind: status === 0 ? "own" : "trouble", refused, why: null, says: lines[0] };
+  return { kind: ENDINGS[lines[at]], refused, why: readWhy(lines.slice(at + 1)), says: lines[at + 1] ?? "" };
 }
 
 const WHY = /^no order explains the calls of key (\d+) (up to|and leaves)/;
 const FROM = /^(?:at first|after the calls that ended by moment (\d+)) the key is (there|not there)/;
 
-function refusalIn(lines) {
+function readWhy(lines) {
   const [, key, what] = WHY.exec(lines[0]) ?? [];
   if (key === undefined) return null;
   const told = [];
   for (const line of lines) {
-    if (line.startsWith("call ")) told.at(-1).calls.push(callOfLine(line));
-    else told.push({ line, calls: [] });
+    if (line.startsWith("call ")) told.at(-1).calls.push(callOfRecording(line));
+    else told.push({ says: line, calls: [] });
   }
-  const [, since = null, is = null] = FROM.exec(told[1]?.line) ?? [];
-  const calls = told.find(({ line }) => line.startsWith("from there"))?.calls ?? [];
+  const [, since = null, is = null] = FROM.exec(told[1]?.says) ?? [];
+  const calls = told.find(({ says }) => says.startsWith("from there"))?.calls ?? [];
   return { key: Number(key), isLeft: what === "and leaves", since, is, calls, told };
 }
-return { firstCalls, refusalIn };
-})();
 
-// run/broken.js
-const $run_broken = (() => {
-const { LACKING } = $made_classics;
-const { LISTS } = $made_rows;
-const { exerciseOf, nameOfCall, otherOrders } = $run_judged;
-const { escaped } = $run_markup;
-const { refusalIn } = $run_refusal;
-const { scheduleOfTrace, titleOf } = $run_schedule_text;
-const { isFailed, isLock, momentAt, sentenceOf } = $run_sentences;
-const { State } = $run_state;
-const { eventsInCommon, isTrace, Trace } = $run_trace;
-const LACKING_THREADS = 2;
-const LACKING_QUOTA = 2;
-const LACKING_OPENING = [3, 7]; // what such a list opens with, until the reader changes that
-const EXPLAINED = "Not broken yet: some order explains this run.";
-const BY_POINTS = "Not by its linearization points: check refuses that order.";
-const OTHER = "Another order explains these replies.";
-const UNKNOWN = "Whether another order explains these replies is not known.";
-const UNEXPLAINED = "No order of these calls explains that (proved).";
-const TO_BREAK = "No order explains what the calls answer (proved)."; // the condition of a lesson
-
-const NO_TASK = "mark-in-contains";
-const isTaskDone = (lacks, { kind }) => kind === "broken" && lacks !== NO_TASK;
-
-const askList = (ask, name, lacks, ...texts) => (lacks === null ? ask(name, ...texts) : ask(`${name}_lacking`, lacks, ...texts));
-
-const lackingOf = (kind) => Object.keys(LACKING).filter((name) => LACKING[name] === kind);
-
-function titleOfLacking(name) {
-  const kind = LACKING[name];
-  const names = lackingOf(kind);
-  const which = names.length === 1 ? "" : ` ${names.indexOf(name) + 1}`;
-  return `${LISTS[kind].name}${which} lacks one check`;
-}
-
-function startOfLacking(name) {
-  const set = [titleOf(2), `list ${LACKING[name]}`, `threads ${LACKING_THREADS}`, `quota ${LACKING_QUOTA}`];
-  return [...set, ...LACKING_OPENING.map((key) => `opening ${key}`), ""].join("\n");
-}
-
-function verdictOnLacking(ask, lacks, schedule) {
-  const { status, text } = ask("listset_replay_lacking", lacks, schedule);
-  if (status !== 0) return { kind: "refused", says: `The schedule is refused: ${text.trim()}`, report: null };
-  const checked = ask("listset_check", text).text.trim();
-  if (checked === "ok") return { kind: "explained", says: EXPLAINED, report: text };
-  if (!checked.startsWith("refused ")) return { kind: "refused", says: `The run is not judged: ${checked}.`, report: null };
-  const { kind, lines } = otherOrders(ask("listset_show", text));
-  if (kind !== "none") return { kind: "points", says: `${BY_POINTS} ${kind === "another" ? OTHER : UNKNOWN}`, report: text };
-  return { kind: "broken", says: `Broken: ${whyNone(text, lines)}. ${UNEXPLAINED}`, report: text };
-}
-
-function whyNone(report, lines) {
-  const refusal = refusalIn(lines);
-  if (refusal === null) return lines[0];
-  const exercise = exerciseOf(report, "claim");
-  const { key, isLeft, since, is, calls } = refusal;
-  if (isLeft && isLost(exercise, key)) return `${key} was added once and never removed, and at the end the set does not have it`;
-  const left = exercise.keyLines.includes(`key ${key}`) ? "has it" : "does not have it";
-  const then = [...calls.map((call) => callInWords(exercise, call)), ...(isLeft ? [`at the end the set ${left}`] : [])].join(", ");
-  if (is === null) return then === "" ? lines[0] : then;
-  return `${key} is ${is} ${since === null ? "at first" : `after event ${since}`}, and then ${then}`;
-}
-
-function isLost({ calls, head, keyLines }, key) {
-  const count = (operation) => calls.filter((call) => call.operation === operation && call.reply === "true" && call.key === key).length;
-  const isThere = head.includes(`opening ${key}`) || keyLines.includes(`key ${key}`);
-  return count("add") === 1 && count("remove") === 0 && !isThere;
-}
-
-function callInWords({ calls }, { thread, begun }) {
-  const call = calls.find((one) => one.thread === thread && one.begun === Number(begun));
-  return `${nameOfCall(call)} ${call.ended === null ? "is open" : `answers ${call.reply}`}`;
-}
-
-function departureOf(ask, trace) {
-  const { text } = ask("listset_trace", scheduleOfTrace(trace));
-  if (!isTrace(text)) return null;
-  const whole = new Trace(text, trace.version);
-  const event = eventsInCommon(trace, whole) + 1;
-  if (event > trace.total) return null;
-  const rows = [trace, whole].map((one) => (event > one.total ? null : one.event(event).changes.pc));
-  const told = (one) => {
-    if (event > one.total) return "makes no such event.";
-    const goesOn = rows[0] === rows[1] ? "" : rowInWords(one, event);
-    return `${sentenceOf(momentAt(new State(one), event))}${goesOn}`;
-  };
-  return { event, here: told(trace), whole: told(whole) };
-}
-
-function rowInWords(trace, number) {
-  const event = trace.event(number);
-  const row = event.changes.pc;
-  const { step } = LISTS[trace.kind].rows[row] ?? { step: "which the correct list does not have" };
-  const isSaid = event.deed === "exchange" && isFailed(event) && isLock(event.word);
-  return row === 0 || isSaid ? "" : ` It continues at row ${row}, ${escaped(step)}.`;
-}
-return { EXPLAINED, TO_BREAK, NO_TASK, isTaskDone, askList, titleOfLacking, startOfLacking, verdictOnLacking, departureOf };
-})();
-
-// page/run_text.js
-const $page_run_text = (() => {
-const { byId } = $page_dom;
-const { works } = $page_kept;
-const { MANY_EVENTS, runLong, stopLong } = $page_long_run;
-const { announce, askNow, NO_ENGINE, page, takeTrace, tell, tellFault, tellLine } = $page_now;
-const { stopPlay } = $page_play;
-const { askList } = $run_broken;
-const { eventsAsked, openingIn, versionOf } = $run_schedule_text;
-const { isTrace, Trace } = $run_trace;
-function runText(text, at, told = "") {
-  stopPlay();
-  page.text = text;
-  byId("schedule").value = text;
-  byId("opening").value = openingIn(text).join(" ");
-  if (page.engine === null) return tellFault(null, "", NO_ENGINE);
-  const asked = eventsAsked(text);
-  if (asked >= MANY_EVENTS && page.lacks === null) return runLong(text, asked, (answer) => takeAnswer(answer, text, at, told));
-  stopLong();
-  takeAnswer(askList(askNow, "listset_trace", page.lacks, text), text, at, told);
-}
-
-function takeAnswer(answer, text, at, told) {
-  const source = page.lacks === null ? "run by the proved replayer" : "a run of a broken list";
-  if (isTrace(answer.text)) takeTrace(new Trace(answer.text, versionOf(text), page.trace), at, source);
-  else tellLine(answer.text.trim());
-  tell(works.isKept ? told : `${told} This browser keeps nothing: save the schedule before you leave the page.`);
-  announce("ran");
-}
-return { runText };
-})();
-
-// draw/glide.js
-const $draw_glide = (() => {
-const TIME = 260; // milliseconds
-const EASE = { duration: TIME, easing: "cubic-bezier(.2, .7, .2, 1)" };
-
-const wantsStill = () => matchMedia("(prefers-reduced-motion: reduce)").matches;
-
-function placesIn(box) {
-  const places = new Map();
-  for (const part of box.querySelectorAll("[data-part]")) {
-    const { x = "0", y = "0", to = "" } = part.dataset;
-    places.set(part.dataset.part, { x: Number(x), y: Number(y), to, d: part.querySelector("path")?.getAttribute("d") ?? "" });
+function readJudge(text) {
+  const [first, ...lines] = linesIn(text);
+  const count = /^ok (\d+) calls$/.exec(first)?.[1];
+  if (count !== undefined) {
+    const isCutOff = lines.some((line) => line.startsWith("the recording was cut off"));
+    return { kind: "ok", count: Number(count), isCutOff, remarks: lines };
   }
-  return places;
+  const why = first === "not linearizable" ? readWhy(lines) : null;
+  return why === null ? { kind: "fault", fault: readFault(first) } : { kind: "none", why };
 }
+return { readReport, callsOfRecording, leavesKey, readExamples, readFault, readCheck, readShow, readJudge };
+})();
 
-function glideArrow(part, before) {
-  const path = part.querySelector("path");
-  if (path === null || path.getAttribute("d") === before.d) return;
-  if (part.dataset.to === before.to) {
-    const forms = [before.d, path.getAttribute("d")].map((d) => ({ d: `path("${d}")` }));
-    path.animate(forms, EASE);
-  } else {
-    const length = path.getTotalLength();
-    const strokeDasharray = `${length} ${length}`;
-    path.animate([{ strokeDasharray, strokeDashoffset: length }, { strokeDasharray, strokeDashoffset: 0 }], EASE);
+// run/trace.js
+const $run_trace = (() => {
+const HEADER_LINES = 4;
+const END = "end\n"; // the last line, if no event is refused
+const NODE_REGISTERS = ["pred", "curr", "succ", "node"];
+const KEY_REGISTERS = ["pkey", "ckey"];
+const CALL_WORDS = ["add", "remove", "contains", "ceiling"];
+const MOST_NUMBER = 4294967295;
+
+const isTrace = (text) => text.startsWith("listset-trace");
+
+class Trace {
+  constructor(text, version = 1, before = null) {
+    const [, kind, lacks = null, threads, quota] =
+      /^listset-trace 1\nlist (\S+)\n(?:lacks (\S+)\n)?threads (\d+)\nquota (\d+)\n/.exec(text);
+    this.text = text;
+    this.version = version;
+    this.kind = kind;
+    this.lacks = lacks;
+    this.threads = Number(threads);
+    this.quota = Number(quota);
+    this.opening = [];
+    this.starts = []; // of each event, where its line begins
+    this.calls = [];
+    this.callsOf = Array.from({ length: this.threads }, () => []);
+    this.changes = []; // the events that change the set
+    this.starred = []; // the numbers of those whose line tells of a mark
+    this.refused = null;
+    this.before = before !== null && goesOn(this, before) ? before : null;
+    if (this.before === null) this.scan(0);
+    else this.takeOver();
+    if (this.opening.length > 0) this.version = 2;
+    this.order = orderOf(this.calls);
   }
-}
 
-function glide(box, draw, isNear) {
-  const before = isNear && !wantsStill() && !document.hidden ? placesIn(box) : null;
-  draw();
-  if (before === null || before.size === 0) return;
-  for (const part of box.querySelectorAll("[data-part]")) {
-    const was = before.get(part.dataset.part);
-    if (was === undefined) part.animate([{ opacity: 0 }, { opacity: 1 }], EASE);
-    else if (part.dataset.part.startsWith("link ")) glideArrow(part, was);
-    else {
-      const [dx, dy] = [was.x - Number(part.dataset.x), was.y - Number(part.dataset.y)];
-      if (dx !== 0 || dy !== 0) part.animate([{ translate: `${dx}px ${dy}px` }, { translate: "0 0" }], EASE);
+  get total() {
+    return this.starts.length;
+  }
+
+  takeOver() {
+    const { opening, starts, calls, callsOf, changes, starred, text } = this.before;
+    const own = { opening, starts: [...starts], calls: [...calls], changes: [...changes], starred: [...starred] };
+    Object.assign(this, own, { callsOf: callsOf.map((some) => [...some]) });
+    this.scan(text.length - END.length);
+  }
+
+  scan(from) {
+    const { text } = this;
+    for (let at = from; at < text.length; ) {
+      const end = text.indexOf("\n", at);
+      const line = text.slice(at, end);
+      if (line.startsWith("event ")) this.note(line, this.starts.push(at));
+      else if (line.startsWith("opening ")) this.opening.push(Number(line.slice("opening ".length)));
+      else if (line.startsWith("refused ")) this.refused = { line: Number(line.split(" ")[2]), cause: line.split(" ")[3] };
+      at = end + 1;
     }
   }
+
+  note(line, number) {
+    if (line.includes("*")) this.starred.push(number);
+    if (line.includes(" begin ")) this.noteCall(line.split(" "), number);
+    const isChange = line.includes(" put ") || line.includes(" took ");
+    const isAnswer = line.includes(" answer ");
+    if (!isChange && !isAnswer) return;
+    const event = this.event(number);
+    if (isChange) {
+      this.changes.push(event);
+      Object.assign(event.call, { at: number, changes: true });
+    }
+    if (isAnswer) Object.assign(event.call, { at: event.at, ended: number, reply: event.answer });
+  }
+
+  noteCall([, , , , , thread, , operation, key], begun) {
+    const call = { id: this.calls.length, thread: Number(thread), operation, key: Number(key), begun };
+    if (operation === "ceiling") this.version = 2;
+    Object.assign(call, { ended: null, at: null, changes: false, reply: null });
+    this.calls.push(call);
+    this.callsOf[call.thread].push(call);
+  }
+
+  callAt(thread, number) {
+    const calls = this.callsOf[thread];
+    let [least, most] = [0, calls.length - 1];
+    while (least < most) {
+      const middle = (least + most + 1) >> 1;
+      if (calls[middle].begun <= number) least = middle;
+      else most = middle - 1;
+    }
+    return calls[least];
+  }
+
+  lineOf(number) {
+    const start = this.starts[number - 1];
+    return this.text.slice(start, this.text.indexOf("\n", start));
+  }
+
+  event(number) {
+    const pieces = this.lineOf(number).split(" ");
+    const event = { number, line: Number(pieces[3]), thread: Number(pieces[5]), deed: pieces[6], changes: {} };
+    event.call = this.callAt(event.thread, number);
+    let at = event.deed === "begin" ? 11 : 8;
+    if (event.deed !== "begin") event.word = pieces[7];
+    if (event.deed === "store") event.to = pieces[at++];
+    for (; pieces[at] !== "pc"; at += 2) event[pieces[at]] = pieces[at + 1];
+    for (; at < pieces.length; at += 2) tellIn(event, pieces[at], pieces[at + 1]);
+    return event;
+  }
+
+  events() {
+    return this.starts.map((_, index) => this.event(index + 1));
+  }
 }
-return { glide };
+
+function tellIn(event, name, value) {
+  if (name === "answer") event.answer = value;
+  else if (name === "put" || name === "took" || name === "at") event[name] = Number(value);
+  else if (name === "pc" || name === "used") event.changes[name] = Number(value);
+  else if (name !== "call") event.changes[name] = value;
+}
+
+function goesOn({ text, version }, before) {
+  return before.version === version && before.text.endsWith(`\n${END}`) && text.startsWith(before.text.slice(0, -END.length));
+}
+
+const firstOpeningNode = (trace) => 2 + trace.threads * trace.quota;
+
+function eventsInCommon(one, other) {
+  const header = ({ kind, threads, quota, opening }) => [kind, threads, quota, ...opening].join();
+  if (header(one) !== header(other)) return 0;
+  const most = Math.min(one.total, other.total);
+  const deedOf = (trace, number) => trace.lineOf(number).replace(/^event \d+ line \d+/, "");
+  let count = 0;
+  while (count < most && deedOf(one, count + 1) === deedOf(other, count + 1)) count++;
+  return count;
+}
+
+function orderOf(calls) {
+  const placed = calls.filter((call) => call.at !== null);
+  return placed.sort((one, other) => one.at - other.at || Number(other.changes) - Number(one.changes) || one.id - other.id);
+}
+return { HEADER_LINES, NODE_REGISTERS, KEY_REGISTERS, CALL_WORDS, MOST_NUMBER, isTrace, Trace, firstOpeningNode, eventsInCommon };
+})();
+
+// run/faults.js
+const $run_faults = (() => {
+const CAUSES = {
+  Header: 'line 1 must be "listset-schedule 1", or "listset-schedule 2", which has ceilings and opening keys',
+  Kind: 'line 2 must be "list" and one of coarse, fine, optimistic, lazy, lock-free; on a broken list, the kind of that list',
+  Threads: 'line 3 must be "threads" and a number from 1 to 64',
+  Quota: 'line 4 must be "quota" and a number from 0 to 16384',
+  Event:
+    'expected "begin T CALL K" or "go T N", with one space between; ' +
+    'in version 2 "opening K" is allowed too, above all events, and the call ceiling',
+  Number: "expected a number in range, without sign or leading zero: 5, not +5 or 05",
+  TooMany: "up to this line there are more than 1,000,000 events, or more than 1,048,576 opening keys",
+  Opening: "opening keys must increase; this one is not above the one before",
+  NotEnded: "the line does not end with a newline",
+  NoThread: "there is no such thread",
+  Busy: "the thread begins a call while it has one pending",
+  Idle: "the thread makes a step while it has no call pending",
+  Waits: "the thread does not get there within the steps that are tried: it may wait for a lock that another thread holds",
+  Lost: "the broken list's step would access a word outside its table",
+};
+
+const CAUSES_OF_CALLS = {
+  Header: 'line 1 must be "listset-calls 1"',
+  Line:
+    'expected "call T CALL K BEGIN END REPLY" in at most 128 bytes, with - - in place of END REPLY of a pending call; the calls are add, ' +
+    'remove and contains; "opening K" only above all calls, and only below them "key K" and "end", or "cut"',
+  Number: "a moment is not a number from 1 to 9223372036854775807, or another number not one from 0 to 4294967295",
+  Opening: "an opening key must be above the one before, and a key that is left above the one before",
+  History:
+    "the calls do not come in the order of their begins, or one does not end after its begin, or two have one moment, " +
+    "or a thread has two at a time",
+  NotEnded: 'the text must end with the line "end", or with "cut" if the recording was cut off',
+};
+return { CAUSES, CAUSES_OF_CALLS };
+})();
+
+// run/markup.js
+const $run_markup = (() => {
+const SIGNS = { "&": "&amp;", "<": "&lt;", ">": "&gt;", '"': "&quot;" };
+const escaped = (text) => String(text).replace(/[&<>"]/g, (sign) => SIGNS[sign]);
+
+function tag(name, attributes, ...content) {
+  const given = Object.entries(attributes).map(([attribute, value]) => ` ${attribute}="${escaped(value)}"`);
+  return `<${name}${given.join("")}>${content.join("")}</${name}>`;
+}
+
+const label = (attributes, text) => tag("text", attributes, escaped(text));
+const title = (text) => tag("title", {}, escaped(text));
+const colourOf = (thread) => `thread-${thread % 8}`;
+const chipOf = (thread) => tag("span", { class: `chip ${colourOf(thread)}` }, `t${thread}`);
+const keyText = (key) => String(key).replace("-inf", "−∞").replace("+inf", "+∞");
+const said = (value) => (value.endsWith("*") ? `${value.slice(0, -1)}, marked` : keyText(value));
+const counted = (count, word) => `${count} ${word}${count === 1 ? "" : "s"}`;
+const callText = (call) => `${call.operation}(${call.key})`;
+const openReply = "true"; // an open call that stands in the order has changed the set
+return { escaped, tag, label, title, colourOf, chipOf, keyText, said, counted, callText, openReply };
+})();
+
+// run/judged.js
+const $run_judged = (() => {
+const { readCheck, readReport, readShow } = $engine_answers;
+const { callText, openReply } = $run_markup;
+const MOST_JUDGED = 60; // events of a run that is judged
+
+const LEVELS = {
+  points: { name: "points alone", task: "The replies are shown. Where does each call take effect?", hidden: ["change", "effect"] },
+  replies: {
+    name: "replies and points",
+    task: "What does each call answer, and where does it take effect?",
+    hidden: ["change", "reply", "leftInChain", "effect"],
+  },
+  claim: {
+    name: "any order at all?",
+    task: "Can a set give these replies? Give an order that explains the report, or say that there is none.",
+    hidden: [],
+  },
+};
+
+function exerciseOf(text, level, isWhole = true) {
+  const report = readReport(text);
+  const last = Math.max(1, ...report.calls.flatMap((call) => [call.begun, call.ended ?? 0]));
+  return { ...report, level, isWhole, reportText: text, last };
+}
+
+const nameOfCall = (call) => `${callText(call)} of t${call.thread}`;
+const lastMoment = (exercise, call) => call.ended ?? exercise.last;
+
+function repliesOf(exercise, { operation }) {
+  if (operation === "add") return ["true", "false", "full"];
+  if (operation !== "ceiling") return ["true", "false"];
+  const added = exercise.calls.filter((call) => call.operation === "add").map(({ key }) => key);
+  const keys = [...new Set([...exercise.opening, ...added])].sort((one, other) => one - other);
+  return ["nothing", ...keys.map((key) => `at-${key}`)];
+}
+
+class OwnAnswer {
+  constructor(exercise) {
+    this.exercise = exercise;
+    this.points = new Map(); // by the call's number: { at, turn }
+    this.replies = new Map();
+    this.turn = 0;
+    this.isNone = false;
+  }
+
+  place(call, at) {
+    const within = Math.min(Math.max(Math.round(2 * at) / 2, call.begun), lastMoment(this.exercise, call));
+    if (this.points.get(call.id)?.at !== within) this.points.set(call.id, { at: within, turn: this.turn++ });
+  }
+
+  take(call) {
+    this.points.delete(call.id);
+  }
+
+  say(call, reply) {
+    this.replies.set(call.id, reply);
+  }
+
+  replyOf(call) {
+    if (call.ended === null) return openReply;
+    return this.exercise.level === "replies" ? (this.replies.get(call.id) ?? null) : call.reply;
+  }
+
+  order() {
+    const calls = this.exercise.calls.filter(({ id }) => this.points.has(id));
+    const placed = calls.map((call) => ({ call, ...this.points.get(call.id) }));
+    placed.sort((one, other) => one.at - other.at || one.turn - other.turn);
+    return placed.map(({ call, at }) => ({ call, at, reply: this.replyOf(call) }));
+  }
+
+  unsaid() {
+    const lackOf = (call) => [this.points.has(call.id) ? "" : "point", this.replyOf(call) === null ? "reply" : ""].filter((it) => it !== "");
+    const lacking = this.exercise.calls.filter((call) => call.ended !== null && lackOf(call).length > 0);
+    return lacking.map((call) => `the ${lackOf(call).join(" and the ")} of ${nameOfCall(call)}`);
+  }
+}
+
+function reportOfAnswer(answer) {
+  const { head, callLines, keyLines } = answer.exercise;
+  const places = answer.order().map(({ call, reply }) => `place ${call.id} ${reply}`);
+  return [...head, ...callLines, ...places, ...keyLines, "end", ""].join("\n");
+}
+
+function verdictOn(ask, answer) {
+  const unsaid = answer.unsaid();
+  if (answer.isNone) return verdictOnClaim(ask, answer.exercise);
+  const nothing = { isRight: null, clash: null, report: null };
+  if (unsaid.length > 0) return { ...nothing, says: `Still missing: ${unsaid.join(", ")}.` };
+  const report = reportOfAnswer(answer);
+  const checked = readCheck(ask("listset_check", report).text);
+  if (checked.kind === "ok") return { isRight: true, clash: null, report, says: rightInWords(answer) };
+  if (checked.kind === "trouble") return { ...nothing, says: `This order is not judged: ${checked.says}.` };
+  const { refused } = readShow(ask("listset_show", report));
+  return { isRight: false, clash: checked.call, report, says: refused === null ? checked.says : faultInWords(answer, refused) };
+}
+
+function verdictOnClaim(ask, { isWhole, reportText }) {
+  const said = (isRight, says) => ({ isRight, clash: null, report: null, says });
+  const there = "There is one: this is a run of a correct list, and each of those has an order (proved). Find it.";
+  if (isWhole) return said(false, there);
+  const { kind, says } = readShow(ask("listset_show", reportText));
+  if (kind === "trouble") return said(null, `Whether there is none is not judged: ${says}.`);
+  if (kind === "none") return said(true, "Right: no order explains this report (proved). It comes from a broken list.");
+  if (kind === "unknown") return said(null, "This report comes from a broken list, and whether an order explains it is not known.");
+  return said(false, "There is one, although this report comes from a broken list. Find it.");
+}
+
+function rightInWords(answer) {
+  if (!answer.exercise.isWhole) return "check says ok: this order explains the report, so this schedule does not break the list.";
+  const own = answer.order().map(({ call, reply }) => `${call.id}-${reply}`);
+  const isSame = own.join() === answer.exercise.places.map(({ call, reply }) => `${call}-${reply}`).join();
+  const also = isSame ? "It is also the order of the replayer." : "The replayer has another one: both explain the run.";
+  return `check says ok: this order explains the run. ${also}`;
+}
+
+function faultInWords(answer, refused) {
+  const { call, place, reply, set, answers, begun, first, ended, keys } = refused;
+  const named = (id) => nameOfCall(answer.exercise.calls[Number(id)]);
+  if (refused.kind === "reply") {
+    const before = Number(place) === 1 ? "before your first call" : `after ${named(answer.order()[Number(place) - 2].call.id)} in your order`;
+    return `${named(call)} cannot answer ${reply} there: ${before} the set is ${set}, and it would answer ${answers}.`;
+  }
+  if (refused.kind === "run") return `${named(call)} does not answer ${reply} in this run. Look at what it sees before it answers.`;
+  if (refused.kind === "early") {
+    return `${named(call)} begins at event ${begun}, and in your order it comes before ${named(first)}, which ended at event ${ended}.`;
+  }
+  return refused.kind === "keys" ? `Your order leaves the set ${set}; at the end of this run it is ${keys}.` : refused.says;
+}
+
+const wordOfAnswer = (answer) => (answer.isNone ? "none" : answer.order().map(({ call, reply }) => `${call.id}-${reply}`).join());
+
+function answerOfWord(exercise, word) {
+  const answer = new OwnAnswer(exercise);
+  if (word === "none") return Object.assign(answer, { isNone: true });
+  let at = 0;
+  for (const piece of word.split(",")) {
+    const [, id, reply] = /^(\d{1,5})-([a-z0-9-]+)$/.exec(piece) ?? [];
+    const call = exercise.calls[id];
+    if (call === undefined || answer.points.has(call.id)) return null;
+    at = Math.max(at, call.begun);
+    answer.points.set(call.id, { at, turn: answer.turn++ });
+    answer.say(call, reply);
+  }
+  return answer;
+}
+return { MOST_JUDGED, LEVELS, exerciseOf, nameOfCall, lastMoment, repliesOf, OwnAnswer, reportOfAnswer, verdictOn, wordOfAnswer, answerOfWord };
+})();
+
+// run/schedule_text.js
+const $run_schedule_text = (() => {
+const { HEADER_LINES } = $run_trace;
+const MOST_STEPS = 10000; // of one line
+
+const titleOf = (version) => `listset-schedule ${version}`;
+const versionOf = (schedule) => (schedule.startsWith(`${titleOf(2)}\n`) ? 2 : 1);
+
+function scheduleLines(trace, count) {
+  const lines = [titleOf(trace.version), `list ${trace.kind}`, `threads ${trace.threads}`, `quota ${trace.quota}`];
+  for (const key of trace.opening) lines.push(`opening ${key}`);
+  let [steps, before] = [0, null];
+  for (let number = 1; number <= count; number++) {
+    const event = trace.event(number);
+    const goesOn = before === event.line;
+    steps = goesOn ? steps + 1 : 1;
+    if (event.deed === "begin") lines.push(`begin ${event.thread} ${event.call.operation} ${event.call.key}`);
+    else if (goesOn) lines[lines.length - 1] = `go ${event.thread} ${steps}`;
+    else lines.push(`go ${event.thread} ${steps}`);
+    before = event.line;
+  }
+  return lines;
+}
+
+const scheduleOfTrace = (trace, count = trace.total) => [...scheduleLines(trace, count), ""].join("\n");
+
+function scheduleAndLine(trace, count, line, text = null) {
+  const isWhole = text !== null && count === trace.total && trace.refused === null;
+  const lines = isWhole ? text.trimEnd().split("\n") : scheduleLines(trace, count);
+  const last = lines[lines.length - 1].split(" ");
+  const added = line.split(" ");
+  const isPlain = last[0] === "go" && added[0] === "go" && last[1] === added[1] && Number(added[2]) > 0;
+  const joins = isPlain && Number(last[2]) + Number(added[2]) <= MOST_STEPS;
+  if (added[2] === "ceiling") lines[0] = titleOf(2);
+  if (joins) lines[lines.length - 1] = `go ${last[1]} ${Number(last[2]) + Number(added[2])}`;
+  else lines.push(line);
+  return lines.join("\n") + "\n";
+}
+
+function openingIn(schedule) {
+  const lines = schedule.split("\n").slice(HEADER_LINES);
+  const count = lines.findIndex((line) => !line.startsWith("opening "));
+  return lines.slice(0, count === -1 ? lines.length : count).map((line) => line.slice("opening ".length));
+}
+
+function withOpening(schedule, keys) {
+  const lines = schedule.split("\n");
+  lines.splice(HEADER_LINES, openingIn(schedule).length, ...keys.map((key) => `opening ${key}`));
+  if (keys.length > 0 && lines[0] === titleOf(1)) lines[0] = titleOf(2);
+  return lines.join("\n");
+}
+
+function eventsAsked(text) {
+  let count = 0;
+  for (const [, steps] of text.matchAll(/^(?:begin |go \d+ (\d+)$)/gm)) count += Number(steps ?? 1);
+  return count;
+}
+return { titleOf, versionOf, scheduleOfTrace, scheduleAndLine, openingIn, withOpening, eventsAsked };
+})();
+
+// made/rows.js
+const $made_rows = (() => {
+// The rows of the step tables, from docs/TABLES.md by page/build: for show alone, no state is computed from them.
+
+const LISTS = {
+  "coarse": {
+    "name": "CoarseList",
+    "registers": ["pred", "curr", "succ", "ckey"],
+    "adds": 5,
+    "removes": 8,
+    "calls": {
+      "add": {"rows": [1, 2, 3, 4, 5, 6, 7, 10], "registers": ["pred", "curr", "ckey"]},
+      "remove": {"rows": [1, 2, 3, 4, 8, 9, 10], "registers": ["pred", "curr", "succ", "ckey"]},
+      "contains": {"rows": [1, 2, 3, 4, 10], "registers": ["pred", "curr", "ckey"]},
+      "ceiling": {"rows": [1, 2, 3, 4, 10], "registers": ["pred", "curr", "ckey"]}
+    },
+    "rows": {
+      "1": {"step": "try list.lock", "then": "2", "book": "lock the list"},
+      "2": {
+        "step": "load head.link",
+        "then": "pred = head, curr = next(s); 3",
+        "book": "pred is the head, curr its next"
+      },
+      "3": {
+        "step": "load curr.key",
+        "then": "ckey = s; below K: 4; else decide",
+        "book": "test of the loop, then of the key",
+        "below": 4
+      },
+      "4": {
+        "step": "load curr.link",
+        "then": "pred = curr, curr = next(s); 3",
+        "book": "one node further"
+      },
+      "5": {"step": "store K in own.key", "then": "6", "book": "the new node's key"},
+      "6": {"step": "store curr in own.link", "then": "7", "book": "its next"},
+      "7": {"step": "store own in pred.link", "then": "+k, reply true; 10", "book": "link it in"},
+      "8": {"step": "load curr.link", "then": "succ = next(s); 9", "book": "read curr's next"},
+      "9": {"step": "store succ in pred.link", "then": "-k, reply true; 10", "book": "unlink curr"},
+      "10": {"step": "store 0 in list.lock", "then": "answers", "book": "unlock the list"}
+    }
+  },
+  "fine": {
+    "name": "FineList",
+    "registers": ["pred", "curr", "succ", "ckey"],
+    "adds": 7,
+    "removes": 10,
+    "calls": {
+      "add": {"rows": [1, 2, 3, 4, 5, 6, 7, 8, 9, 12, 13], "registers": ["pred", "curr", "ckey"]},
+      "remove": {"rows": [1, 2, 3, 4, 5, 6, 10, 11, 12, 13], "registers": ["pred", "curr", "succ", "ckey"]},
+      "contains": {"rows": [1, 2, 3, 4, 5, 6, 12, 13], "registers": ["pred", "curr", "ckey"]},
+      "ceiling": {"rows": [1, 2, 3, 4, 5, 6, 12, 13], "registers": ["pred", "curr", "ckey"]}
+    },
+    "rows": {
+      "1": {"step": "try head.lock", "then": "pred = head; 2", "book": "lock the head"},
+      "2": {"step": "load head.link", "then": "curr = next(s); 3", "book": "curr is its next"},
+      "3": {"step": "try curr.lock", "then": "4", "book": "lock curr, with pred still locked"},
+      "4": {
+        "step": "load curr.key",
+        "then": "ckey = s; below K: 5; else decide",
+        "book": "test of the loop, then of the key",
+        "below": 5
+      },
+      "5": {"step": "store 0 in pred.lock", "then": "6", "book": "unlock pred: hand over hand"},
+      "6": {
+        "step": "load curr.link",
+        "then": "pred = curr, curr = next(s); 3",
+        "book": "one node further"
+      },
+      "7": {"step": "store K in own.key", "then": "8", "book": "the new node's key"},
+      "8": {"step": "store curr in own.link", "then": "9", "book": "its next"},
+      "9": {"step": "store own in pred.link", "then": "+k, reply true; 12", "book": "link it in"},
+      "10": {"step": "load curr.link", "then": "succ = next(s); 11", "book": "read curr's next"},
+      "11": {"step": "store succ in pred.link", "then": "-k, reply true; 12", "book": "unlink curr"},
+      "12": {"step": "store 0 in curr.lock", "then": "13", "book": "unlock curr"},
+      "13": {"step": "store 0 in pred.lock", "then": "answers", "book": "unlock pred"}
+    }
+  },
+  "optimistic": {
+    "name": "OptimisticList",
+    "registers": ["pred", "curr", "succ", "node", "pkey", "ckey"],
+    "adds": 9,
+    "removes": 12,
+    "calls": {
+      "add": {
+        "rows": [1, 2, 3, 4, 5, 6, 7, 8, 9, 10, 11, 14, 15],
+        "registers": ["pred", "curr", "node", "pkey", "ckey"]
+      },
+      "remove": {
+        "rows": [1, 2, 3, 4, 5, 6, 7, 8, 12, 13, 14, 15],
+        "registers": ["pred", "curr", "succ", "node", "pkey", "ckey"]
+      },
+      "contains": {
+        "rows": [1, 2, 3, 4, 5, 6, 7, 8, 14, 15],
+        "registers": ["pred", "curr", "node", "pkey", "ckey"]
+      },
+      "ceiling": {
+        "rows": [1, 2, 3, 4, 5, 6, 7, 8, 14, 15],
+        "registers": ["pred", "curr", "node", "pkey", "ckey"]
+      }
+    },
+    "rows": {
+      "1": {
+        "step": "load head.link",
+        "then": "pred = head, pkey = 0, curr = next(s); 2",
+        "book": "start of an attempt"
+      },
+      "2": {
+        "step": "load curr.key",
+        "then": "ckey = s; below K: 3; else 4",
+        "book": "test of the loop",
+        "below": 3
+      },
+      "3": {
+        "step": "load curr.link",
+        "then": "pred = curr, pkey = ckey, curr = next(s); 2",
+        "book": "one node further"
+      },
+      "4": {"step": "try pred.lock", "then": "5", "book": "lock pred"},
+      "5": {
+        "step": "try curr.lock",
+        "then": "node = head; if pred is the head: 8; else 6",
+        "book": "lock curr; validate from the head"
+      },
+      "6": {"step": "load node.link", "then": "node = next(s); 7", "book": "one node further"},
+      "7": {
+        "step": "load node.key",
+        "then": "above pkey: reply none, 14; node is pred: 8; else 6",
+        "book": "has the walk reached pred, or passed it",
+        "invalid": 14
+      },
+      "8": {
+        "step": "load pred.link",
+        "then": "it leads to curr: decide on ckey; else reply none, 14",
+        "book": "does pred still lead to curr",
+        "invalid": 14
+      },
+      "9": {"step": "store K in own.key", "then": "10", "book": "the new node's key"},
+      "10": {"step": "store curr in own.link", "then": "11", "book": "its next"},
+      "11": {"step": "store own in pred.link", "then": "+k, reply true; 14", "book": "link it in"},
+      "12": {"step": "load curr.link", "then": "succ = next(s); 13", "book": "read curr's next"},
+      "13": {"step": "store succ in pred.link", "then": "-k, reply true; 14", "book": "unlink curr"},
+      "14": {"step": "store 0 in pred.lock", "then": "15", "book": "unlock pred"},
+      "15": {
+        "step": "store 0 in curr.lock",
+        "then": "without a reply: 1; else answers",
+        "book": "unlock curr; if not valid, try again",
+        "again": 1
+      }
+    }
+  },
+  "lazy": {
+    "name": "LazyList",
+    "registers": ["pred", "curr", "succ", "ckey"],
+    "adds": 8,
+    "removes": 11,
+    "calls": {
+      "add": {
+        "rows": [1, 2, 3, 4, 5, 6, 7, 8, 9, 10, 13, 14],
+        "registers": ["pred", "curr", "succ", "ckey"]
+      },
+      "remove": {"rows": [1, 2, 3, 4, 5, 6, 7, 11, 12, 13, 14], "registers": ["pred", "curr", "succ", "ckey"]},
+      "contains": {"rows": [20, 21, 22], "registers": ["curr"]},
+      "ceiling": {"rows": [23, 24, 25], "registers": ["curr", "ckey"]}
+    },
+    "rows": {
+      "1": {
+        "step": "load head.link",
+        "then": "pred = head, curr = next(s); 2",
+        "book": "start of an attempt"
+      },
+      "2": {
+        "step": "load curr.key",
+        "then": "ckey = s; below K: 3; else 4",
+        "book": "test of the loop",
+        "below": 3
+      },
+      "3": {
+        "step": "load curr.link",
+        "then": "pred = curr, curr = next(s); 2",
+        "book": "one node further"
+      },
+      "4": {"step": "try pred.lock", "then": "5", "book": "lock pred"},
+      "5": {"step": "try curr.lock", "then": "6", "book": "lock curr"},
+      "6": {
+        "step": "load pred.link",
+        "then": "curr, unmarked: 7; else reply none, 13",
+        "book": "pred is not marked, leads to curr",
+        "invalid": 13
+      },
+      "7": {
+        "step": "load curr.link",
+        "then": "marked: reply none, 13; else succ = next(s), decide on ckey",
+        "book": "curr is not marked",
+        "invalid": 13
+      },
+      "8": {"step": "store K in own.key", "then": "9", "book": "the new node's key"},
+      "9": {"step": "store curr in own.link", "then": "10", "book": "its next"},
+      "10": {"step": "store own in pred.link", "then": "+k, reply true; 13", "book": "link it in"},
+      "11": {"step": "store succ* in curr.link", "then": "-k; 12", "book": "mark curr: it is removed"},
+      "12": {"step": "store succ in pred.link", "then": "reply true; 13", "book": "unlink curr"},
+      "13": {"step": "store 0 in curr.lock", "then": "14", "book": "unlock curr"},
+      "14": {
+        "step": "store 0 in pred.lock",
+        "then": "without a reply: 1; else answers",
+        "book": "unlock pred; if not valid, try again",
+        "again": 1
+      },
+      "20": {
+        "step": "load curr.link",
+        "then": "curr = next(s); 21",
+        "book": "one node further, marked or not"
+      },
+      "21": {
+        "step": "load curr.key",
+        "then": "below K: 20; K: 22; else answers false",
+        "book": "test of the loop, then of the key",
+        "below": 20
+      },
+      "22": {
+        "step": "load curr.link",
+        "then": "marked: answers false; else answers true",
+        "book": "is the node of the key marked"
+      },
+      "23": {
+        "step": "load curr.link",
+        "then": "curr = next(s); 24",
+        "book": "one node further, marked or not"
+      },
+      "24": {
+        "step": "load curr.key",
+        "then": "ckey = s; below K: 23; the tail's: answers that there is none; else 25",
+        "book": "stop at the first key not below K",
+        "below": 23
+      },
+      "25": {
+        "step": "load curr.link",
+        "then": "marked: curr = head, 23; else answers the key of ckey",
+        "book": "if marked, start again",
+        "again": 23
+      }
+    }
+  },
+  "lock-free": {
+    "name": "LockFreeList",
+    "registers": ["pred", "curr", "succ", "ckey"],
+    "adds": 5,
+    "removes": 8,
+    "calls": {
+      "add": {"rows": [1, 2, 3, 4, 5, 6, 7], "registers": ["pred", "curr", "succ"]},
+      "remove": {"rows": [1, 2, 3, 4, 8, 9, 10], "registers": ["pred", "curr", "succ"]},
+      "contains": {"rows": [20, 21, 22], "registers": ["curr"]},
+      "ceiling": {"rows": [23, 24, 25], "registers": ["curr", "ckey"]}
+    },
+    "rows": {
+      "1": {"step": "load head.link", "then": "pred = head, curr = next(s); 2", "book": "start of find"},
+      "2": {
+        "step": "load curr.link",
+        "then": "succ = next(s); marked: 3; else 4",
+        "book": "read next and mark together"
+      },
+      "3": {
+        "step": "exchange pred.link from curr to succ",
+        "then": "success: curr = succ, 2; else 1",
+        "book": "snip the marked curr; if that fails, start again",
+        "again": 1
+      },
+      "4": {
+        "step": "load curr.key",
+        "then": "below K: pred = curr, curr = succ, 2; else decide",
+        "book": "test of the loop, then of the key",
+        "below": 2
+      },
+      "5": {"step": "store K in own.key", "then": "6", "book": "the new node's key"},
+      "6": {"step": "store curr in own.link", "then": "7", "book": "its next"},
+      "7": {
+        "step": "exchange pred.link from curr to own",
+        "then": "success: +k, answers true; else 1",
+        "book": "link it in; if that fails, start again, with the same slot",
+        "again": 1
+      },
+      "8": {"step": "load curr.link", "then": "succ = next(s); 9", "book": "read curr's next"},
+      "9": {
+        "step": "exchange curr.link from succ to succ*",
+        "then": "success: -k, 10; else 1",
+        "book": "mark curr: it is removed; if that fails, start again",
+        "again": 1
+      },
+      "10": {
+        "step": "exchange pred.link from curr to succ",
+        "then": "answers true whatever was seen",
+        "book": "one try to unlink it; else a later find does it"
+      },
+      "20": {
+        "step": "load curr.link",
+        "then": "curr = next(s); 21",
+        "book": "one node further, marked or not"
+      },
+      "21": {
+        "step": "load curr.key",
+        "then": "below K: 20; K: 22; else answers false",
+        "book": "test of the loop, then of the key",
+        "below": 20
+      },
+      "22": {
+        "step": "load curr.link",
+        "then": "marked: answers false; else answers true",
+        "book": "is the node of the key marked"
+      },
+      "23": {
+        "step": "load curr.link",
+        "then": "curr = next(s); 24",
+        "book": "one node further, marked or not"
+      },
+      "24": {
+        "step": "load curr.key",
+        "then": "ckey = s; below K: 23; the tail's: answers that there is none; else 25",
+        "book": "stop at the first key not below K",
+        "below": 23
+      },
+      "25": {
+        "step": "load curr.link",
+        "then": "marked: curr = head, 23; else answers the key of ckey",
+        "book": "if marked, start again",
+        "again": 23
+      }
+    }
+  }
+};
+return { LISTS };
+})();
+
+// run/state.js
+const $run_state = (() => {
+const { firstOpeningNode } = $run_trace;
+const BEGUN = { came: 0, pred: "head", curr: "head", succ: "head", node: "head", pkey: "-inf", ckey: "-inf", reply: "none" };
+const AT_REST = { pc: 0, used: 0, call: null, ...BEGUN };
+const linkTarget = (link) => link.replace("*", "");
+const keyNumber = (key) => (key === "-inf" ? -1 : key === "+inf" ? Infinity : Number(key));
+
+const MOST_UNDONE = 20000; // events that can be gone back; what lies further back is made again from the start
+
+class State {
+  constructor(trace) {
+    this.trace = trace;
+    this.begin();
+  }
+
+  begin() {
+    const { trace } = this;
+    this.count = 0;
+    this.lock = "free"; // the list's own lock
+    this.nodes = openingNodes(trace);
+    this.threads = Array.from({ length: trace.threads }, () => ({ ...AT_REST }));
+    this.undo = [];
+  }
+
+  goOn(trace) {
+    this.trace = trace;
+    return this;
+  }
+
+  moveTo(count) {
+    if (count < this.count - this.undo.length) this.begin();
+    while (this.count < count) this.apply(this.trace.event(++this.count), count - this.count < MOST_UNDONE);
+    while (this.count > count) {
+      this.count--;
+      for (const [holder, name, before] of this.undo.pop().reverse()) holder[name] = before;
+    }
+  }
+
+  apply(event, isKept) {
+    const done = [];
+    const set = (holder, name, value) => {
+      if (isKept) done.push([holder, name, holder[name]]);
+      holder[name] = value;
+    };
+    const thread = this.threads[event.thread];
+    if (event.deed === "begin") {
+      for (const name in BEGUN) set(thread, name, BEGUN[name]);
+      set(thread, "call", event.call);
+    } else set(thread, "came", thread.pc);
+    for (const name in event.changes) set(thread, name, event.changes[name]);
+    if (event.deed === "store" || (event.deed === "exchange" && event.saw === event.from)) this.write(event, set);
+    if (!isKept) this.undo = [];
+    else if (this.undo.push(done) > 2 * MOST_UNDONE) this.undo.splice(0, MOST_UNDONE);
+  }
+
+  write(event, set) {
+    const [owner, field] = event.word.split(".");
+    if (owner === "list") return set(this, field, event.to);
+    const node = (this.nodes[owner] ??= newNode());
+    set(node, field, event.to);
+    if (field !== "link" || !node.reached) return;
+    const target = (this.nodes[linkTarget(event.to)] ??= newNode());
+    if (!target.reached) set(target, "reached", true);
+  }
+
+  locks() {
+    const held = {};
+    const add = (lock, word) => lock !== "free" && (held[lock] ??= []).push(word);
+    add(this.lock, "list.lock");
+    const locked = Object.entries(this.nodes).filter(([, node]) => node.lock !== "free");
+    locked.sort(([, one], [, other]) => keyNumber(one.key) - keyNumber(other.key));
+    for (const [name, node] of locked) add(node.lock, `${name}.lock`);
+    return held;
+  }
+
+  chain() {
+    const found = new Set(["head"]);
+    for (let name = "head"; name !== "tail"; ) {
+      name = linkTarget(this.nodes[name].link);
+      if (found.has(name) || !(name in this.nodes)) break;
+      found.add(name);
+    }
+    return [...found];
+  }
+}
+
+function openingNodes(trace) {
+  const first = firstOpeningNode(trace);
+  const nameOf = (index) => (index < trace.opening.length ? `n${first + index}` : "tail");
+  const nodes = {
+    head: { key: "-inf", link: nameOf(0), lock: "free", reached: true },
+    tail: { key: "+inf", link: "tail", lock: "free", reached: true },
+  };
+  trace.opening.forEach((key, index) => {
+    nodes[nameOf(index)] = { key: String(key), link: nameOf(index + 1), lock: "free", reached: true };
+  });
+  return nodes;
+}
+
+const newNode = () => ({ key: "-inf", link: "head", lock: "free", reached: false });
+const isWritten = (node) => node.key !== "-inf" || node.link !== "head" || node.lock !== "free";
+const ownerOf = (trace, name) => Math.floor((Number(name.slice(1)) - 2) / trace.quota);
+
+function contentsIn(trace, first, last) {
+  const keys = new Set(trace.opening);
+  const part = (from) => ({ from, to: last + 1, keys: [...keys].sort((one, other) => one - other) });
+  const toggle = (event) => (event.put !== undefined ? keys.add(event.put) : keys.delete(event.took));
+  const before = trace.changes.filter((event) => event.number < first);
+  before.forEach(toggle);
+  const parts = [part(first)];
+  for (const event of trace.changes.slice(before.length)) {
+    if (event.number > last) break;
+    toggle(event);
+    parts[parts.length - 1].to = event.number;
+    parts.push(part(event.number));
+  }
+  return parts;
+}
+
+const promisedKeys = (trace) => contentsIn(trace, trace.total + 1, trace.total + 1)[0].keys;
+
+function keysInChain(state) {
+  const inside = state.chain().filter((name) => name !== "head" && name !== "tail" && !state.nodes[name].link.endsWith("*"));
+  return inside.map((name) => Number(state.nodes[name].key));
+}
+return { linkTarget, keyNumber, State, isWritten, ownerOf, contentsIn, promisedKeys, keysInChain };
+})();
+
+// run/outcomes.js
+const $run_outcomes = (() => {
+const { LISTS } = $made_rows;
+const { chipOf, keyText, said } = $run_markup;
+const { keyNumber, ownerOf } = $run_state;
+const { firstOpeningNode } = $run_trace;
+const isLock = (word) => word.endsWith(".lock");
+const mono = (text) => `<b class="mono">${text}</b>`;
+const isDone = (event) => event.deed === "store" || (event.deed === "exchange" && event.saw === event.from);
+const isFailed = (event) => event.deed === "exchange" && event.saw !== event.from;
+const ownerIn = (word) => word.split(".")[0];
+const isLinkOf = (event) => event.word?.endsWith(".link");
+const lockNames = (words) => `the lock${words.length > 1 ? "s" : ""} of ${words.map(ownerIn).join(" and ")}`;
+const setsMark = (event) => isLinkOf(event) && event.to?.endsWith("*") === true;
+
+function marksOf(trace) {
+  if (trace.marks !== undefined) return trace.marks;
+  trace.marks = new Map();
+  for (const event of trace.starred.map((number) => trace.event(number))) {
+    if (setsMark(event) && isDone(event)) trace.marks.set(ownerIn(event.word), event);
+  }
+  return trace.marks;
+}
+
+function wholeName({ trace, event }, name) {
+  const whose = isOpeningNode(trace, name) ? "the node of an opening key" : `${chipOf(ownerOf(trace, name))}'s node`;
+  const mark = marksOf(trace).get(name);
+  if (mark === undefined || mark.number > event.number) return `${name}</b>, ${whose}`;
+  return `${name}</b>, ${whose}, which ${chipOf(mark.thread)} marked at event ${mark.number}`;
+}
+
+function hasInChain(state, key) {
+  return state.chain().some((name) => String(state.nodes[name].key) === String(key) && !state.nodes[name].link.endsWith("*"));
+}
+
+const OUTCOMES = {
+  change({ trace, state, event, held, hadKey }) {
+    const { put, took } = event;
+    const had = trace.lacks !== null && hadKey;
+    const hasNow = (key) => trace.lacks !== null && hasInChain(state, key);
+    if (put !== undefined) {
+      if (had) return `<b>This should add ${put} to the set, but ${put} is in it already.</b>`;
+      if (trace.lacks === null || hasNow(put)) return `<b>This adds ${put} to the set</b>, in slot ${held.used} of ${trace.quota}.`;
+      return `<b>This should add ${put} to the set, but its node is not in the chain: ${put} is lost.</b>`;
+    }
+    if (took === undefined) return "";
+    if (trace.lacks !== null && !had) return `<b>This should remove ${took} from the set, but ${took} is not in it any more.</b>`;
+    return hasNow(took) ? `<b>This should remove ${took} from the set, but the chain still has it.</b>` : `<b>This removes ${took} from the set.</b>`;
+  },
+
+  mark({ state, event }) {
+    if (!setsMark(event) || !isDone(event)) return "";
+    const owner = ownerIn(event.word);
+    return state.chain().includes(owner) ? `${owner} is still in the chain.` : `${owner} is not in the chain any more.`;
+  },
+
+  unlink(moment) {
+    const { state, event, before, wasInChain } = moment;
+    const gone = before.curr;
+    if (!wasInChain || !isLinkOf(event) || !isDone(event) || gone === "tail" || gone === ownerIn(event.word)) return "";
+    if (state.nodes[gone].link.replace("*", "") !== event.to || state.chain().includes(gone)) return "";
+    return `<b>This unlinks ${wholeName(moment, gone)}.`;
+  },
+
+  leftInChain({ state, event, before }) {
+    if (!isFailed(event) || event.answer === undefined) return "";
+    if (!state.chain().includes(before.curr)) return `${before.curr} is not in the chain any more.`;
+    return `<b>${before.curr} stays in the chain, marked,</b> for a later walk to unlink.`;
+  },
+
+  validation({ event, held, row }) {
+    if (row?.invalid === undefined || held.pc !== row.invalid || held.reply !== "none") return "";
+    const owner = ownerIn(event.word);
+    let reason = `${owner} leads to ${said(event.saw)} now, not to ${held.curr}`;
+    if (event.saw.endsWith("*")) reason = `${owner} is marked`;
+    if (event.word.endsWith(".key")) reason = `the second walk is past the key of ${held.pred} and has not found it`;
+    return `<b>The validation fails:</b> ${reason}. It will unlock both nodes and start again.`;
+  },
+
+  valid({ held, row }) {
+    if (row?.invalid === undefined || !row.then.includes("decide on")) return "";
+    return held.pc === row.invalid && held.reply === "none" ? "" : "The validation succeeds.";
+  },
+
+  again({ event, held, row }) {
+    if (row?.again === undefined || held.pc !== row.again || event.answer !== undefined) return "";
+    const reason = event.saw?.endsWith("*") && event.deed === "load" ? `${ownerIn(event.word)} is marked: it` : "It";
+    return `<b>${reason} starts its walk again${/with the same slot/.test(row.book) ? ", with the same slot" : ""}.</b>`;
+  },
+
+  markMet({ trace, state, event, held, row }) {
+    if (event.deed !== "load" || !event.saw.endsWith("*") || [row?.invalid, row?.again].includes(held.pc)) return "";
+    const owner = ownerIn(event.word);
+    const where = state.chain().includes(owner) ? "and still" : "and no longer";
+    if (event.answer !== undefined) return `<b>${owner} is marked</b>, ${where} in the chain.`;
+    if (event.changes.curr !== undefined) return `${owner} is marked: the walk passes over it.`;
+    const next = LISTS[trace.kind].rows[held.pc]?.step ?? "";
+    if (next.startsWith("exchange pred.link")) return `<b>${owner} is marked:</b> the next step tries to unlink it.`;
+    if (!next.startsWith("exchange curr.link")) return "";
+    return `<b>${owner} is marked already:</b> the next step will fail.`;
+  },
+
+  walk({ trace, event, held, row }) {
+    if (event.deed !== "load" || row === undefined) return "";
+    if (row.below !== undefined) return walkAtKey(event, held);
+    if (row.then.includes("node = next(s)")) return `The second walk reaches ${held.node}.`;
+    if (row.then.includes("node is pred")) return secondWalkAtKey(held, row);
+    if (!row.then.includes("curr = next(s)")) return "";
+    const opening = isOpeningNode(trace, held.curr) ? ", the node of an opening key" : "";
+    return `The walk reaches ${held.curr}${opening}.`;
+  },
+
+  decision({ trace, event, held, before }) {
+    const { adds, removes } = LISTS[trace.kind];
+    if (event.answer !== undefined || held.reply !== "none" || before.pc === held.pc) return "";
+    const { operation, key } = held.call;
+    const found = event.word?.endsWith(".key") ? "The" : `${held.curr} ${operation === "add" ? "does not have" : "has"} the key ${key}: the`;
+    if (operation === "add" && held.pc === adds) return `${found} add goes ahead.`;
+    return operation === "remove" && held.pc === removes ? `${found} remove goes ahead.` : "";
+  },
+
+  reply({ trace, event }) {
+    const { reply } = event.changes;
+    if (reply === undefined || reply === "none" || event.answer !== undefined) return "";
+    const slots = { 0: "it has no slot", 1: "its one slot is used" }[trace.quota] ?? `its ${trace.quota} slots are used`;
+    const used = reply === "full" ? `: ${slots}` : "";
+    return `<b>It will answer ${reply}</b>${used}.`;
+  },
+
+  locks({ state, event }) {
+    if (!event.word || !isLock(event.word) || !isDone(event) || event.answer !== undefined) return "";
+    const own = state.locks()[`t${event.thread}`];
+    if (own === undefined) return "It holds no lock now.";
+    return event.deed === "exchange" && own.length === 1 ? "" : `It holds ${lockNames(own)}.`;
+  },
+};
+
+const isBelow = (saw, key) => keyNumber(saw) < Number(key);
+
+function walkAtKey(event, held) {
+  const owner = ownerIn(event.word);
+  const { key } = held.call;
+  if (isBelow(event.saw, key)) return `${keyText(event.saw)} is below ${key}: the walk continues.`;
+  if (event.saw === String(key)) return `<b>The walk stops at ${owner},</b> which has its key.`;
+  return `<b>The walk stops at ${owner},</b> the first with a key above ${key}.`;
+}
+
+function secondWalkAtKey(held, row) {
+  if (held.pc === row.invalid) return "";
+  if (held.node === held.pred) return `The second walk reaches pred, ${held.pred}.`;
+  return `This is not pred, ${held.pred}: the second walk continues.`;
+}
+
+const isOpeningNode = (trace, name) => /^n/.test(name) && Number(name.slice(1)) >= firstOpeningNode(trace);
+return { isLock, mono, isFailed, ownerIn, setsMark, hasInChain, OUTCOMES };
+})();
+
+// run/sentences.js
+const $run_sentences = (() => {
+const { LISTS } = $made_rows;
+const { callText, chipOf, said } = $run_markup;
+const { hasInChain, isFailed, isLock, mono, OUTCOMES, ownerIn, setsMark } = $run_outcomes;
+const lockedBy = (word) => (word === "list.lock" ? "the list" : mono(ownerIn(word)));
+
+function deedText(event, row) {
+  const word = event.word && mono(event.word);
+  if (event.deed === "begin") return `begins ${callText(event.call)}.`;
+  if (event.deed === "load") return `reads ${word}: ${said(event.saw)}.`;
+  if (isLock(event.word)) return lockText(event, row);
+  const change = event.deed === "store" ? `${word} := ${said(event.to)}` : `${word}: ${said(event.from)} → ${said(event.to)}`;
+  const finds = isFailed(event) ? `, but finds ${said(event.saw)}` : "";
+  if (setsMark(event)) return `${isFailed(event) ? "tries to mark" : "marks"} ${mono(ownerIn(event.word))} (${change})${finds}.`;
+  if (event.deed === "store") return `sets ${word} to ${said(event.to)}.`;
+  return `${isFailed(event) ? "tries to change" : "changes"} ${word} from ${said(event.from)} to ${said(event.to)}${finds}.`;
+}
+
+function lockText(event, row) {
+  const name = lockedBy(event.word);
+  if (event.deed === "store") return `unlocks ${name}.`;
+  if (!isFailed(event)) return `locks ${name}.`;
+  const then = event.changes.pc === row ? "It will try again" : `It continues all the same, at row ${event.changes.pc}`;
+  return `tries to lock ${name}, but ${event.saw} holds it. ${then}.`;
+}
+
+function effectText({ trace, event }, hidden) {
+  const { call } = event;
+  if (event.answer === undefined) return "";
+  const answers = `<b>${callText(call)} answers ${hidden.includes("reply") ? "… what?" : event.answer}</b>`;
+  const mayFitNowhere = trace.lacks !== null && !call.changes && call.at === event.number;
+  if (hidden.includes("effect") || mayFitNowhere) return hidden.includes("reply") ? answers : `${answers}.`;
+  if (call.at === event.number) return `${answers}, and takes effect here.`;
+  const other = trace.event(call.at).thread;
+  const whose = other === event.thread ? "" : `, <b>a step of t${other}</b>`;
+  return `${answers}; it took effect at event ${call.at}${whose}.`;
+}
+
+function openingText(trace) {
+  if (trace.opening.length === 0) return "Before the first event the list is empty, and every thread is idle.";
+  const some = trace.opening.slice(0, 20).join(", ");
+  return `Before the first event the set is {${some}${trace.opening.length > 20 ? ", …" : ""}}, and every thread is idle.`;
+}
+
+function momentAt(state, count) {
+  const { trace } = state;
+  const event = count > 0 ? trace.event(count) : null;
+  state.moveTo(Math.max(count - 1, 0));
+  const before = event === null ? null : { ...state.threads[event.thread] };
+  const changed = event?.put ?? event?.took;
+  const hadKey = trace.lacks !== null && changed !== undefined && hasInChain(state, changed);
+  const wasInChain = trace.lacks === null || before === null || state.chain().includes(before.curr);
+  state.moveTo(count);
+  if (event === null) return { trace, state, event };
+  const row = event.deed === "begin" ? undefined : LISTS[trace.kind].rows[before.pc];
+  return { trace, state, event, before, hadKey, wasInChain, held: state.threads[event.thread], row };
+}
+
+function sentenceOf(moment, hidden = []) {
+  const { trace, event } = moment;
+  if (event === null) return `${openingText(trace)}${trace.total === 0 ? " Let one begin a call." : ""}`;
+  if (event.deed === "begin") return `${chipOf(event.thread)} ${deedText(event)}`;
+  const told = Object.keys(OUTCOMES).filter((name) => !hidden.includes(name));
+  const outcomes = told.map((name) => OUTCOMES[name](moment));
+  const parts = [chipOf(event.thread), deedText(event, moment.before.pc), ...outcomes, effectText(moment, hidden)];
+  return parts.filter((text) => text !== "").join(" ");
+}
+return { momentAt, sentenceOf };
+})();
+
+// page/state.js
+const $page_state = (() => {
+/**
+ * @typedef {"watch" | "learn" | "judge" | "break" | "compare" | "read"} Activity
+ * @typedef {{ activity: Activity, screen: "map" | "stage", view: "lecture" | "list" | "history" | null }} Place
+ * @typedef {object} Run  What was run: the text, its trace, the list without a check (or null), and the state after `count` events.
+ * @property {string} text
+ * @property {any} trace
+ * @property {any} state
+ * @property {number} count
+ * @property {string | null} lacks
+ * @property {string} source  who ran it, in words
+ * @property {boolean} isRun  whether the trace is that of the text
+ * @property {number | null} faultLine
+ * @typedef {"own" | "example" | "lesson" | "level" | "seed"} Kind
+ * @typedef {object} Task  What the run is for: of which kind, its id, the name under which tries are kept, and the text with which it begins.
+ * @property {Kind} kind
+ * @property {string} id
+ * @property {string} course  of a lesson
+ * @property {string} work
+ * @property {string} begun
+ * @property {any} verdict  on the run of a lesson or of a level
+ * @typedef {{ hides: boolean, allThreads: boolean, letters: boolean }} Prefs
+ * @typedef {{ place: Place, run: Run, task: Task, exercise: any, prefs: Prefs }} State
+ * @typedef {{ [name: string]: any, type: string }} Action
+ */
+
+const NO_TASK_YET = { kind: "own", id: "", course: "", work: "", begun: "", verdict: null };
+
+/** @returns {State} */
+const stateAtFirst = () => ({
+  place: { activity: "watch", screen: "stage", view: null },
+  run: { text: "", trace: null, state: null, count: 0, lacks: null, source: "", isRun: false, faultLine: null },
+  task: /** @type {Task} */ ({ ...NO_TASK_YET }),
+  exercise: null,
+  prefs: { hides: true, allThreads: false, letters: true },
+});
+
+const ACTIVITY_OF_TASK = /** @type {const} */ ({ lesson: "learn", level: "break" });
+
+/** The activity to which a run belongs. @param {State} state @returns {Activity} */
+function activityOfRun({ task, run, exercise }) {
+  if (exercise !== null) return "judge";
+  return ACTIVITY_OF_TASK[task.kind] ?? (run.lacks === null ? "watch" : "break");
+}
+
+/** Whether the run of an example, or of a number, is no longer that with which it began. @param {State} state */
+const isWhatIf = ({ task, run }) => (task.kind === "example" || task.kind === "seed") && run.text !== task.begun;
+
+/** The example that is shown as it is, or "". @param {State} state */
+const exampleIn = (state) => (state.task.kind === "example" && !isWhatIf(state) ? state.task.id : "");
+
+/** A run has the stage of its activity. @param {State} state @returns {State} */
+const onStage = (state) => ({ ...state, place: { ...state.place, activity: activityOfRun(state), screen: "stage" } });
+
+const within = (count, { total }) => Math.max(0, Math.min(total, count));
+
+/** @type {Record<string, (state: State, action: Action) => State>} */
+const MAKES = {
+  place: (state, { activity, screen }) => ({ ...state, place: { ...state.place, activity, screen } }),
+  view: (state, { view }) => ({ ...state, place: { ...state.place, view } }),
+  task: (state, { task, lacks = null }) =>
+    onStage({ ...state, task: { ...NO_TASK_YET, ...task }, run: { ...state.run, lacks }, exercise: null }),
+  text: (state, { text }) => ({ ...state, run: { ...state.run, text } }),
+  trace(state, { trace, state: ofTrace, source, count }) {
+    const isGood = trace.refused === null;
+    const faultLine = isGood ? null : trace.refused.line;
+    const run = { ...state.run, trace, state: ofTrace, source, lacks: trace.lacks, isRun: true, faultLine, count: within(count, trace) };
+    return { ...state, run, task: { ...state.task, verdict: null }, exercise: null };
+  },
+  begun: (state, { begun }) => ({ ...state, task: { ...state.task, begun } }),
+  source: (state, { source }) => ({ ...state, run: { ...state.run, source } }),
+  fault: (state, { line, isOld }) => ({ ...state, run: { ...state.run, faultLine: line, isRun: !isOld } }),
+  count: (state, { count }) => ({ ...state, run: { ...state.run, count: within(count, state.run.trace) } }),
+  verdict: (state, { verdict }) => ({ ...state, task: { ...state.task, verdict } }),
+  exercise: (state, { exercise }) => onStage({ ...state, exercise }),
+  prefs: (state, { type, ...given }) => ({ ...state, prefs: { ...state.prefs, ...given } }),
+};
+
+/** What an action makes of a state. @param {State} state @param {Action} action @returns {State} */
+function reduce(state, action) {
+  const make = MAKES[action.type];
+  if (make === undefined) throw new Error(`no action is called "${action.type}"`);
+  return make(state, action);
+}
+
+/** What an entry of the browser's history is: a place or a task, and not a step of its run. @param {State} state */
+const entryOf = ({ place, task, exercise }) =>
+  [place.activity, place.screen, place.view, ...(place.screen === "map" ? [] : [task.kind, task.id, task.course, exercise !== null])].join("\n");
+return { stateAtFirst, isWhatIf, exampleIn, reduce, entryOf };
+})();
+
+// page/now.js
+const $page_now = (() => {
+const { readFault } = $engine_answers;
+const { CAUSES } = $run_faults;
+const { LEVELS } = $run_judged;
+const { scheduleOfTrace } = $run_schedule_text;
+const { momentAt } = $run_sentences;
+const { State } = $run_state;
+const { byId } = $page_dom;
+const { exampleIn, isWhatIf, reduce, stateAtFirst } = $page_state;
+const NO_ENGINE = "The replayer does not run in this browser: no schedule can be run, no report checked. A file of listset trace can be opened.";
+
+/** @type {{ state: import("./state.js").State, engine: any, render: (state: any, moment: any) => void }} */
+const held = { state: stateAtFirst(), engine: null, render: () => {} };
+
+const now = {
+  get place() {
+    return held.state.place;
+  },
+  get run() {
+    return held.state.run;
+  },
+  get task() {
+    return held.state.task;
+  },
+  get exercise() {
+    return held.state.exercise;
+  },
+  get prefs() {
+    return held.state.prefs;
+  },
+};
+
+function change(type, given = {}) {
+  held.state = reduce(held.state, { ...given, type });
+}
+
+const show = () => held.render(held.state, momentAt(now.run.state, now.run.count));
+
+function dispatch(type, given) {
+  change(type, given);
+  show();
+}
+
+const listeners = { taken: [], ran: [], kept: [], recorded: [], course: [] };
+const on = (what, ...deeds) => listeners[what].push(...deeds);
+
+function announce(what, ...given) {
+  for (const deed of listeners[what]) deed(...given);
+}
+
+const isJudging = () => now.exercise !== null;
+const hiddenOutcomes = () => (isJudging() ? LEVELS[now.exercise.level].hidden : []);
+const exampleShown = () => exampleIn(held.state);
+const isForked = () => isWhatIf(held.state);
+
+function goTo(count) {
+  tell("");
+  dispatch("count", { count });
+}
+
+function tell(text) {
+  if (told.text === text && byId("told").innerHTML === told.html) return;
+  byId("told").innerHTML = text;
+  Object.assign(told, { text, html: byId("told").innerHTML });
+}
+const told = { text: "", html: "" };
+
+function takeTrace(trace, at, source) {
+  const { refused } = trace;
+  const state = trace.before !== null && trace.before === now.run.trace ? now.run.state.goOn(trace) : new State(trace);
+  trace.before = null; // its text is not kept any longer
+  change("trace", { trace, state, source, count: typeof at === "function" ? at(trace) : at });
+  announce("taken", trace);
+  tellFault(now.run.faultLine, refused?.cause ?? "", refused === null ? "" : `line ${refused.line}: ${refused.cause}`, false);
+  tell("");
+  show();
+}
+
+function takeScheduleOfTrace() {
+  const text = scheduleOfTrace(now.run.trace);
+  change("text", { text });
+  change("begun", { begun: text });
+  byId("schedule").value = text;
+  byId("opening").value = now.run.trace.opening.join(" ");
+}
+
+function askNow(name, ...texts) {
+  if (held.engine === null) return { status: 1, text: NO_ENGINE };
+  try {
+    return held.engine.ask(name, ...texts);
+  } catch (fault) {
+    return { status: 1, text: fault.message };
+  }
+}
+
+function tellFault(line, cause, said, isOld = true) {
+  change("fault", { line, isOld });
+  byId("stage").classList.toggle("old", isOld);
+  byId("old").hidden = !isOld;
+  byId("fault").textContent = cause in CAUSES ? `${said}: ${CAUSES[cause]}` : said;
+}
+
+const tellTrouble = (said) => (byId("fault").textContent = said);
+
+function tellLine(text) {
+  const { line, cause } = readFault(text);
+  tellFault(line, cause ?? "", text);
+}
+return { NO_ENGINE, held, now, change, show, dispatch, on, announce, isJudging, hiddenOutcomes, exampleShown, isForked, goTo, tell, takeTrace, takeScheduleOfTrace, askNow, tellFault, tellTrouble, tellLine };
 })();
 
 // draw/labels.js
@@ -2903,8 +2542,7 @@ return { ROW_HEIGHT, widthOf, placeLabels, SIGNS_IN_WORDS, signOf, labelWidth };
 
 // draw/history.js
 const $draw_history = (() => {
-const { callText, chipOf, colourOf, label, openReply, tag, title } = $run_markup;
-const { contentsIn } = $run_state;
+const { callText, colourOf, label, tag, title } = $run_markup;
 const { labelWidth, placeLabels, ROW_HEIGHT, signOf, SIGNS_IN_WORDS } = $draw_labels;
 const HISTORY_LEFT = 50;
 const HISTORY_RIGHT = 16;
@@ -3059,7 +2697,14 @@ function drawCalls(trace, scale) {
   const signs = scale.areWhole ? "" : label({ class: "note", x: 2, y: height - 4 }, SIGNS_IN_WORDS);
   return tag("svg", frame, ...lanes, drawCursor(scale, height, scale.y(0) - scale.bar / 2 - 2), ...stems, ...bars, ...points, signs);
 }
+return { HISTORY_LEFT, scaleOf, heightOfCalls, isReached, drawCursor, drawCalls };
+})();
 
+// draw/contents.js
+const $draw_contents = (() => {
+const { callText, chipOf, label, openReply, tag, title } = $run_markup;
+const { contentsIn } = $run_state;
+const { drawCursor, HISTORY_LEFT, isReached } = $draw_history;
 const KEY_WIDTH = 8; // pixels, of each character of the contents
 
 function drawContent(part, scale) {
@@ -3123,15 +2768,60 @@ function drawOrder(trace, count, hides = false) {
   const after = last < total ? `<li class="later">… ${total - last} more</li>` : "";
   return `<ol>${before}${items.join("")}${after}</ol>`;
 }
-return { HISTORY_LEFT, scaleOf, heightOfCalls, drawCalls, drawContents, drawOrder };
+return { drawContents, drawOrder };
 })();
 
-// draw/list.js
-const $draw_list = (() => {
+// draw/glide.js
+const $draw_glide = (() => {
+const TIME = 260; // milliseconds
+const EASE = { duration: TIME, easing: "cubic-bezier(.2, .7, .2, 1)" };
+
+const wantsStill = () => matchMedia("(prefers-reduced-motion: reduce)").matches;
+
+function placesIn(box) {
+  const places = new Map();
+  for (const part of box.querySelectorAll("[data-part]")) {
+    const { x = "0", y = "0", to = "" } = part.dataset;
+    places.set(part.dataset.part, { x: Number(x), y: Number(y), to, d: part.querySelector("path")?.getAttribute("d") ?? "" });
+  }
+  return places;
+}
+
+function glideArrow(part, before) {
+  const path = part.querySelector("path");
+  if (path === null || path.getAttribute("d") === before.d) return;
+  if (part.dataset.to === before.to) {
+    const forms = [before.d, path.getAttribute("d")].map((d) => ({ d: `path("${d}")` }));
+    path.animate(forms, EASE);
+  } else {
+    const length = path.getTotalLength();
+    const strokeDasharray = `${length} ${length}`;
+    path.animate([{ strokeDasharray, strokeDashoffset: length }, { strokeDasharray, strokeDashoffset: 0 }], EASE);
+  }
+}
+
+function glide(box, draw, isNear) {
+  const before = isNear && !wantsStill() && !document.hidden ? placesIn(box) : null;
+  draw();
+  if (before === null || before.size === 0) return;
+  for (const part of box.querySelectorAll("[data-part]")) {
+    const was = before.get(part.dataset.part);
+    if (was === undefined) part.animate([{ opacity: 0 }, { opacity: 1 }], EASE);
+    else if (part.dataset.part.startsWith("link ")) glideArrow(part, was);
+    else {
+      const [dx, dy] = [was.x - Number(part.dataset.x), was.y - Number(part.dataset.y)];
+      if (dx !== 0 || dy !== 0) part.animate([{ translate: `${dx}px ${dy}px` }, { translate: "0 0" }], EASE);
+    }
+  }
+}
+return { glide };
+})();
+
+// draw/places.js
+const $draw_places = (() => {
 const { LISTS } = $made_rows;
-const { callText, colourOf, keyText, label, said, tag, title } = $run_markup;
-const { ownerIn } = $run_sentences;
-const { isWritten, keyNumber, linkTarget, ownerOf } = $run_state;
+const { ownerIn } = $run_outcomes;
+const { isWritten, keyNumber, linkTarget } = $run_state;
 const { NODE_REGISTERS } = $run_trace;
 const WIDE = { node: 94, gap: 48, least: 420, scale: 0.8 };
 const COMPACT = { node: 76, gap: 32, least: 340, scale: 0.65 };
@@ -3139,11 +2829,9 @@ const NARROW = 480; // pixels
 const shapeFor = (room) => (room < NARROW ? COMPACT : WIDE);
 
 const NODE_HEIGHT = 54;
-const LINK_WIDTH = 24;
 const LEAST_GAP = 12; // between nodes that are not in the chain
 const FOLD_WIDTH = 84;
 const TOP = 58;
-const LOCK_HEIGHT = 31; // of what stands above a node
 const MOST_UNFOLDED = 14; // a longer chain is folded
 const MOST_ASIDE = 10; // nodes drawn that are not in the chain
 const MOST_POINTING = 6; // threads whose registers are drawn
@@ -3221,6 +2909,146 @@ function placeAside(state, chain, shown, places, y) {
   return taken.length === 0 ? 0 : Math.max(...taken) + width + 16;
 }
 
+function roomsUnder(state, items, shown, shape) {
+  const risen = new Set(shown.map((name) => linkTarget(state.nodes[name].link)));
+  const rooms = {};
+  items.forEach(({ name }, index) => {
+    const next = items[index + 1];
+    const isCrossed = next !== undefined && (next.folded ?? [next.name]).some((other) => risen.has(other));
+    rooms[name] = shape.node + (isCrossed ? 0 : shape.gap - 6);
+  });
+  return rooms;
+}
+
+function labelTexts(thread, registers, room) {
+  const texts = [];
+  for (const register of registers) {
+    const joined = `${texts[texts.length - 1]}, ${register}`;
+    if (texts.length > 0 && joined.length * SIGN_WIDTH <= room) texts[texts.length - 1] = joined;
+    else texts.push(`▲ t${thread} ${register}`);
+  }
+  return texts;
+}
+
+function pointerLabels(pointers, places, rooms) {
+  const labels = [];
+  const add = (thread, name, text) => {
+    const { x, y } = places[name];
+    const own = { thread, name, text, row: y, left: x, right: x + SIGN_WIDTH * text.length + 8, lane: 0 };
+    const isBeside = (other) => other.left >= own.right || own.left >= other.right;
+    const isInTheWay = (other) => other.row === own.row && other.lane === own.lane && !isBeside(other);
+    while (labels.some(isInTheWay)) own.lane++;
+    labels.push(own);
+  };
+  for (const { thread, at } of pointers) {
+    for (const name in at) {
+      if (!places[name] || places[name].folded) continue;
+      for (const text of labelTexts(thread, at[name], rooms[name] ?? places[name].width)) add(thread, name, text);
+    }
+  }
+  return labels;
+}
+
+function arranged(state, event, shape = WIDE) {
+  const chain = state.chain();
+  const pointers = pointersOf(state, event);
+  const important = importantNodes(state, event, pointers);
+  const items = foldedChain(chain, important);
+  const { places, width } = placesOfChain(items, shape);
+  const { shown, more } = nodesAside(state, chain, important);
+  const rooms = roomsUnder(state, items, shown, shape);
+  const lanesUnder = (labels, row) => Math.max(0, ...labels.filter((own) => own.row === row).map((own) => own.lane + 1));
+  const below = TOP + NODE_HEIGHT + 18 * lanesUnder(pointerLabels(pointers, places, rooms), TOP) + 62;
+  const right = placeAside(state, chain, shown, places, below);
+  const labels = pointerLabels(pointers, places, rooms);
+  const bottom = shown.length > 0 ? below : TOP;
+  const names = [...items.filter((item) => item.name).map((item) => item.name), ...shown];
+  const height = bottom + NODE_HEIGHT + 18 * lanesUnder(labels, bottom) + 14;
+  const wide = Math.max(width, right, shape.least, ...labels.map((own) => own.right));
+  return { chain, items, places, labels, names, more, width: wide, height };
+}
+return { shapeFor, NODE_HEIGHT, LEAST_GAP, FOLD_WIDTH, TOP, SIGN_WIDTH, isPointing, arranged };
+})();
+
+// draw/arrows.js
+const $draw_arrows = (() => {
+const { said, tag, title } = $run_markup;
+const { linkTarget } = $run_state;
+const { FOLD_WIDTH, LEAST_GAP, NODE_HEIGHT, TOP } = $draw_places;
+const LINK_WIDTH = 24;
+
+function drawLink(state, name, places, event) {
+  const { link, reached } = state.nodes[name];
+  const target = linkTarget(link);
+  const from = places[name];
+  const to = places[target];
+  if (!to || from.folded || name === "tail" || (target === "head" && !reached)) return "";
+  const kind = event?.word === `${name}.link` ? "hot" : from.aside ? "out" : "in";
+  const isMarked = link.endsWith("*");
+  const x = from.x + from.width - (isMarked ? 1 : LINK_WIDTH / 2);
+  const y = from.y + NODE_HEIGHT / 2;
+  return tag(
+    "g",
+    { class: `link ${kind}${from.aside ? " aside" : ""}`, "data-part": `link ${name}`, "data-to": target },
+    title(`${name}.link: ${said(link)}`),
+    isMarked ? "" : tag("circle", { cx: x, cy: y, r: 4 }),
+    tag("path", { d: pathOf(from, to, x, y), "marker-end": `url(#tip-${kind})` }),
+  );
+}
+
+function pathOf(from, to, x1, y1) {
+  if (from === to) return pathAround(from, x1, y1);
+  if (from.aside && !to.aside) return pathUp(from, to, x1, y1);
+  const isNext = to.x > from.x && to.x - from.x < 2 * (from.width + LEAST_GAP);
+  if (from.aside && !isNext) return pathOver(from, to, x1, y1);
+  return `M${x1} ${y1} L${to.x - 3} ${to.y + NODE_HEIGHT / 2}`;
+}
+
+function bent(start, ...turns) {
+  const at = [...start];
+  const corners = turns.map((turn, index) => {
+    at[index % 2] = turn;
+    return ` L${at[0]} ${at[1]}`;
+  });
+  return `M${start[0]} ${start[1]}${corners.join("")}`;
+}
+
+const pathAround = (from, x1, y1) => bent([x1, y1], from.x + from.width + 10, from.y - 12, from.x + from.width - 12, from.y - 3);
+
+function pathUp(from, to, x1, y1) {
+  const beside = from.x + from.width + 8;
+  const under = from.y - 34 - 6 * from.lane;
+  const gap = to.x - (2 * to.gap) / 3 + ((7 * to.gap) / 48) * from.lane;
+  const y2 = to.y + NODE_HEIGHT - (to.folded ? 14 : 7) - 6 * from.lane;
+  return bent([x1, y1], beside, under, gap, y2, to.x - 3);
+}
+
+function pathOver(from, to, x1, y1) {
+  return bent([x1, y1], from.x + from.width + 8, from.y - 34 - 6 * from.lane, to.x + to.width - 46, to.y - 3);
+}
+
+const ARROW = { viewBox: "0 0 10 10", refX: 9, refY: 5, markerWidth: 11, markerHeight: 11, markerUnits: "userSpaceOnUse" };
+const drawTip = (kind) =>
+  tag("marker", { id: `tip-${kind}`, class: `tip ${kind}`, ...ARROW, orient: "auto" }, tag("path", { d: "M0 0 L10 5 L0 10 z" }));
+
+function drawFoldLink(item, next) {
+  const y = TOP + NODE_HEIGHT / 2;
+  const path = { d: `M${item.x + FOLD_WIDTH} ${y} L${next.x - 3} ${y}`, "marker-end": "url(#tip-in)" };
+  return tag("g", { class: "link in" }, tag("path", path));
+}
+return { LINK_WIDTH, drawLink, drawTip, drawFoldLink };
+})();
+
+// draw/list.js
+const $draw_list = (() => {
+const { LISTS } = $made_rows;
+const { callText, colourOf, keyText, label, said, tag, title } = $run_markup;
+const { ownerOf } = $run_state;
+const { NODE_REGISTERS } = $run_trace;
+const { drawFoldLink, drawLink, drawTip, LINK_WIDTH } = $draw_arrows;
+const { arranged, FOLD_WIDTH, isPointing, NODE_HEIGHT, shapeFor, TOP } = $draw_places;
+const LOCK_HEIGHT = 31; // of what stands above a node
+
 function kindOf(state, name, place) {
   if (!state.nodes[name].reached) return `own ${colourOf(ownerOf(state.trace, name))}`;
   return place.aside ? "out" : "in";
@@ -3291,93 +3119,6 @@ function drawFold(item) {
   );
 }
 
-function drawLink(state, name, places, event) {
-  const { link, reached } = state.nodes[name];
-  const target = linkTarget(link);
-  const from = places[name];
-  const to = places[target];
-  if (!to || from.folded || name === "tail" || (target === "head" && !reached)) return "";
-  const kind = event?.word === `${name}.link` ? "hot" : from.aside ? "out" : "in";
-  const isMarked = link.endsWith("*");
-  const x = from.x + from.width - (isMarked ? 1 : LINK_WIDTH / 2);
-  const y = from.y + NODE_HEIGHT / 2;
-  return tag(
-    "g",
-    { class: `link ${kind}${from.aside ? " aside" : ""}`, "data-part": `link ${name}`, "data-to": target },
-    title(`${name}.link: ${said(link)}`),
-    isMarked ? "" : tag("circle", { cx: x, cy: y, r: 4 }),
-    tag("path", { d: pathOf(from, to, x, y), "marker-end": `url(#tip-${kind})` }),
-  );
-}
-
-function pathOf(from, to, x1, y1) {
-  if (from.aside && !to.aside) return pathUp(from, to, x1, y1);
-  const isNext = to.x > from.x && to.x - from.x < 2 * (from.width + LEAST_GAP);
-  if (from.aside && !isNext) return pathOver(from, to, x1, y1);
-  return `M${x1} ${y1} L${to.x - 3} ${to.y + NODE_HEIGHT / 2}`;
-}
-
-function bent(start, ...turns) {
-  const at = [...start];
-  const corners = turns.map((turn, index) => {
-    at[index % 2] = turn;
-    return ` L${at[0]} ${at[1]}`;
-  });
-  return `M${start[0]} ${start[1]}${corners.join("")}`;
-}
-
-function pathUp(from, to, x1, y1) {
-  const beside = from.x + from.width + 8;
-  const under = from.y - 34 - 6 * from.lane;
-  const gap = to.x - (2 * to.gap) / 3 + ((7 * to.gap) / 48) * from.lane;
-  const y2 = to.y + NODE_HEIGHT - (to.folded ? 14 : 7) - 6 * from.lane;
-  return bent([x1, y1], beside, under, gap, y2, to.x - 3);
-}
-
-function pathOver(from, to, x1, y1) {
-  return bent([x1, y1], from.x + from.width + 8, from.y - 34 - 6 * from.lane, to.x + to.width - 46, to.y - 3);
-}
-
-function roomsUnder(state, items, shown, shape) {
-  const risen = new Set(shown.map((name) => linkTarget(state.nodes[name].link)));
-  const rooms = {};
-  items.forEach(({ name }, index) => {
-    const next = items[index + 1];
-    const isCrossed = next !== undefined && (next.folded ?? [next.name]).some((other) => risen.has(other));
-    rooms[name] = shape.node + (isCrossed ? 0 : shape.gap - 6);
-  });
-  return rooms;
-}
-
-function labelTexts(thread, registers, room) {
-  const texts = [];
-  for (const register of registers) {
-    const joined = `${texts[texts.length - 1]}, ${register}`;
-    if (texts.length > 0 && joined.length * SIGN_WIDTH <= room) texts[texts.length - 1] = joined;
-    else texts.push(`▲ t${thread} ${register}`);
-  }
-  return texts;
-}
-
-function pointerLabels(pointers, places, rooms) {
-  const labels = [];
-  const add = (thread, name, text) => {
-    const { x, y } = places[name];
-    const own = { thread, name, text, row: y, left: x, right: x + SIGN_WIDTH * text.length + 8, lane: 0 };
-    const isBeside = (other) => other.left >= own.right || own.left >= other.right;
-    const isInTheWay = (other) => other.row === own.row && other.lane === own.lane && !isBeside(other);
-    while (labels.some(isInTheWay)) own.lane++;
-    labels.push(own);
-  };
-  for (const { thread, at } of pointers) {
-    for (const name in at) {
-      if (!places[name] || places[name].folded) continue;
-      for (const text of labelTexts(thread, at[name], rooms[name] ?? places[name].width)) add(thread, name, text);
-    }
-  }
-  return labels;
-}
-
 function drawPointer({ thread, name, text, left, lane }, places) {
   const y = places[name].y + NODE_HEIGHT + 21 + 18 * lane;
   const named = { class: "pointer-of", "data-part": `sign ${text.split(",")[0]}`, "data-x": left, "data-y": y };
@@ -3389,10 +3130,6 @@ function drawListLock(state) {
   const lock = state.lock === "free" ? label({ x: 110, y: 20 }, "free") : drawLock(state.lock, 110, -2);
   return label({ class: "name", x: 16, y: 20 }, "the list's lock") + lock;
 }
-
-const ARROW = { viewBox: "0 0 10 10", refX: 9, refY: 5, markerWidth: 11, markerHeight: 11, markerUnits: "userSpaceOnUse" };
-const drawTip = (kind) =>
-  tag("marker", { id: `tip-${kind}`, class: `tip ${kind}`, ...ARROW, orient: "auto" }, tag("path", { d: "M0 0 L10 5 L0 10 z" }));
 const HATCH = { id: "hatch", width: 7, height: 7, patternUnits: "userSpaceOnUse", patternTransform: "rotate(45)" };
 const DEFINITIONS = tag(
   "defs",
@@ -3405,25 +3142,6 @@ const DEFINITIONS = tag(
   ),
   ...["in", "out", "hot"].map(drawTip),
 );
-
-function arranged(state, event, shape = WIDE) {
-  const chain = state.chain();
-  const pointers = pointersOf(state, event);
-  const important = importantNodes(state, event, pointers);
-  const items = foldedChain(chain, important);
-  const { places, width } = placesOfChain(items, shape);
-  const { shown, more } = nodesAside(state, chain, important);
-  const rooms = roomsUnder(state, items, shown, shape);
-  const lanesUnder = (labels, row) => Math.max(0, ...labels.filter((own) => own.row === row).map((own) => own.lane + 1));
-  const below = TOP + NODE_HEIGHT + 18 * lanesUnder(pointerLabels(pointers, places, rooms), TOP) + 62;
-  const right = placeAside(state, chain, shown, places, below);
-  const labels = pointerLabels(pointers, places, rooms);
-  const bottom = shown.length > 0 ? below : TOP;
-  const names = [...items.filter((item) => item.name).map((item) => item.name), ...shown];
-  const height = bottom + NODE_HEIGHT + 18 * lanesUnder(labels, bottom) + 14;
-  const wide = Math.max(width, right, shape.least, ...labels.map((own) => own.right));
-  return { chain, items, places, labels, names, more, width: wide, height };
-}
 
 function drawList(state, event, room, most = Infinity, least = { width: 0, height: 0 }, own = "") {
   const shape = shapeFor(room);
@@ -3449,12 +3167,6 @@ function drawList(state, event, room, most = Infinity, least = { width: 0, heigh
   return named + (more > 0 ? tag("p", { class: "note" }, `and ${more} more nodes that are not in the chain`) : "");
 }
 
-function drawFoldLink(item, next) {
-  const y = TOP + NODE_HEIGHT / 2;
-  const path = { d: `M${item.x + FOLD_WIDTH} ${y} L${next.x - 3} ${y}`, "marker-end": "url(#tip-in)" };
-  return tag("g", { class: "link in" }, tag("path", path));
-}
-
 function listInWords(chain, state) {
   const inside = chain.filter((name) => name !== "head" && name !== "tail").map((name) => state.nodes[name]);
   const keys = inside.map((node) => keyText(node.key) + (node.link.endsWith("*") ? " marked" : ""));
@@ -3474,7 +3186,7 @@ function threadInWords(state, held, thread, locks) {
   const has = own === undefined ? "" : `; t${thread} has ${own.join(" and ")}`;
   return `t${thread} ${callText(held.call)} at row ${held.pc}${at === "" ? "" : `: ${at}`}${has}`;
 }
-return { shapeFor, LOCK_HEIGHT, SIGN_WIDTH, arranged, drawList };
+return { LOCK_HEIGHT, drawList };
 })();
 
 // made/code.js
@@ -4259,36 +3971,110 @@ function drawThreads(state, event, all, hidesReplies = false) {
 return { MOST_ROWS, drawThreads };
 })();
 
+// page/seen.js
+const $page_seen = (() => {
+const { isWhatIf } = $page_state;
+const isOneOf = (...names) => ({ activity }) => names.includes(activity);
+const isStage = ({ isMap, activity }) => !isMap && activity !== "compare";
+const onMapOf = (name) => ({ activity, isMap }) => isMap && activity === name;
+
+function factsOf(state, { hasEngine, isPhone = false }) {
+  const { place, run, task, exercise } = state;
+  return {
+    ...place,
+    isMap: place.screen === "map",
+    isPhone,
+    hasEngine,
+    kind: task.kind,
+    isWhatIf: isWhatIf(state),
+    isJudging: exercise !== null,
+    isClaim: exercise?.level === "claim",
+    isBroken: run.lacks !== null,
+    isRefuted: run.lacks !== null && task.verdict?.kind === "broken",
+  };
+}
+
+const isFull = ({ view }) => view === null;
+const isSlide = ({ view }) => view === "lecture";
+const isFree = ({ isClaim }) => !isClaim; // of a claim there is no run to step through
+
+const SEEN = {
+  top: isFull,
+  leave: ({ view }) => view !== null,
+  task: (facts) => isStage(facts) && (isFull(facts) || isSlide(facts)),
+  work: isStage,
+  workshop: (facts) => isStage(facts) && isFull(facts),
+  map: (facts) => isFull(facts) && ((facts.isMap && facts.activity !== "compare") || (facts.activity === "watch" && !facts.isPhone)),
+  "map-watch": ({ activity }) => activity === "watch",
+  "map-learn": onMapOf("learn"),
+  "map-judge": onMapOf("judge"),
+  "map-break": onMapOf("break"),
+  "map-read": isOneOf("read"),
+  "report-part": (facts) => isFull(facts) || facts.activity === "compare",
+  "sides-box": (facts) => facts.activity === "compare" && facts.hasEngine,
+  "question-box": ({ kind, isJudging }) => kind === "example" && !isJudging,
+  "what-if": (facts) => facts.isWhatIf && isFull(facts),
+  "seed-box": ({ kind }) => kind === "seed",
+  lessons: isOneOf("learn"),
+  "judge-head": isOneOf("judge"),
+  "break-box": ({ activity, isBroken }) => activity === "break" && isBroken,
+  "break-hints": isOneOf("break"),
+  "lesson-win": (facts) => facts.activity === "learn" && isFull(facts),
+  "moves-box": (facts) => facts.activity !== "judge" && isFull(facts) && facts.hasEngine,
+  past: ({ isJudging, view }) => !isJudging && view !== "list",
+  ticks: ({ isJudging }) => !isJudging,
+  judge: ({ isJudging }) => isJudging,
+  "judge-moments": ({ isClaim }) => isClaim,
+  "judge-note": isFree,
+  "judge-levels": ({ isBroken }) => !isBroken,
+  "report-box": ({ isJudging, hasEngine }) => !isJudging && hasEngine,
+  dock: isFree,
+  said: isFree,
+  list: (facts) => isFree(facts) && facts.view !== "history",
+  "key-help-box": isFree,
+  "threads-box": isFree,
+  "code-column": (facts) => isFree(facts) && (isFull(facts) || isSlide(facts)),
+  "listing-box": (facts) => !facts.isBroken && isFull(facts),
+  "table-box": isFull,
+  "legend-box": isFull,
+  told: isFull,
+  order: ({ isRefuted, view }) => !isRefuted && view === null,
+  "order-head": ({ isRefuted }) => !isRefuted,
+  "no-engine": ({ hasEngine }) => hasEngine === false,
+};
+return { factsOf, SEEN };
+})();
+
 // page/places.js
 const $page_places = (() => {
-const { byId } = $page_dom;
-const { isJudging, page } = $page_now;
-const where = { activity: "watch", screen: "stage" };
-const isAtMap = () => where.screen === "map";
-const isAtWork = () => where.activity === "learn" || where.activity === "break"; // there the moves stand below the picture
+const { byId, setHidden } = $page_dom;
+const { change, now, show } = $page_now;
+const { factsOf, SEEN } = $page_seen;
+const PHONE = 560; // pixels, as in the style sheets
+const isAtMap = () => now.place.screen === "map";
+const isAtWork = () => now.place.activity === "learn" || now.place.activity === "break"; // there the moves stand below the picture
 
 function goToPlace(activity, screen) {
-  Object.assign(where, { activity, screen });
-  Object.assign(document.body.dataset, { activity, screen });
+  change("place", { activity, screen });
+  show();
+}
+
+function showParts(state) {
+  const facts = factsOf(state, { hasEngine: services.hasEngine, isPhone: innerWidth <= PHONE });
+  for (const [id, isSeen] of Object.entries(SEEN)) setHidden(byId(id), !isSeen(facts), byId("skip"));
+  const { activity, screen, view } = state.place;
+  const key = [activity, screen, view, facts.hasEngine].join();
+  if (key === placed.key) return;
+  placed.key = key;
+  for (const part of document.querySelectorAll(".of-engine:not([id])")) part.hidden = !facts.hasEngine;
+  Object.assign(document.body.dataset, { activity, screen, view: view ?? "" });
   for (const link of document.querySelectorAll("nav [data-to]")) {
     if (link.dataset.to === activity) link.setAttribute("aria-current", "page");
     else link.removeAttribute("aria-current");
   }
 }
-
-function activityOfRun() {
-  if (isJudging()) return "judge";
-  if (/^lesson /.test(page.name)) return "learn";
-  return page.lacks === null ? "watch" : "break";
-}
-
-function leaveMap() {
-  if (isAtMap()) goToPlace(activityOfRun(), "stage");
-}
-
-function showStage() {
-  if (!isAtMap()) goToPlace(activityOfRun(), "stage");
-}
+const placed = { key: "" };
+const services = { hasEngine: true }; // until it is known that there is none
 
 function setProgress(id, done, total) {
   byId(id).textContent = `${done}/${total}`;
@@ -4302,31 +4088,31 @@ function slideZoom(width, height) {
   return Math.max(0.75, Math.min(3, width / 1280, height / 720));
 }
 
-const fitSlide = () => document.body.style.setProperty("--slide", slideZoom(innerWidth, innerHeight));
+const fitSlide = () => document.body.style.setProperty("--slide", String(slideZoom(innerWidth, innerHeight)));
 
 function setView(view) {
-  page.view = view;
+  change("view", { view });
   fitSlide();
-  document.body.classList.remove("view", "lecture", "list", "history");
-  if (view !== null) document.body.classList.add("view", view);
 }
-return { where, isAtMap, isAtWork, goToPlace, leaveMap, showStage, setProgress, slideZoom, fitSlide, setView };
+return { PHONE, isAtMap, isAtWork, goToPlace, showParts, services, setProgress, slideZoom, fitSlide, setView };
 })();
 
 // page/view.js
 const $page_view = (() => {
 const { LISTS } = $made_rows;
+const { drawContents, drawOrder } = $draw_contents;
 const { glide } = $draw_glide;
-const { drawCalls, drawContents, drawOrder, heightOfCalls, scaleOf } = $draw_history;
-const { arranged, drawList, shapeFor } = $draw_list;
+const { drawCalls, heightOfCalls, scaleOf } = $draw_history;
+const { drawList } = $draw_list;
 const { drawListing } = $draw_listing;
+const { arranged, shapeFor } = $draw_places;
 const { forgetRoom, keptHeight, roomOf } = $draw_room;
 const { drawTable } = $draw_table;
 const { drawThreads, MOST_ROWS } = $draw_threads;
-const { byId, setAble } = $page_dom;
-const { hiddenOutcomes, isJudging, page } = $page_now;
-const { isAtWork, slideZoom } = $page_places;
 const { momentAt, sentenceOf } = $run_sentences;
+const { byId, keepHeight, setAble, setHtml } = $page_dom;
+const { hiddenOutcomes, isJudging, now } = $page_now;
+const { isAtWork, slideZoom } = $page_places;
 const LINE_HEIGHT = 21;
 
 function showRun(moment) {
@@ -4343,7 +4129,7 @@ function showRun(moment) {
 const glided = { trace: null, count: 0, shape: null };
 
 function showList({ state, event }, wide) {
-  const { trace, count } = page;
+  const { trace, count } = now.run;
   if (wide === 0) return; // it is not there: a map is shown, or the history alone
   const shape = shapeFor(wide);
   if (glided.shape !== shape) forgetRoom(); // the page is as narrow as a phone now, or no longer
@@ -4354,36 +4140,21 @@ function showList({ state, event }, wide) {
   Object.assign(glided, { trace, count, shape });
   const draw = () => (byId("list").innerHTML = drawList(state, event, wide, listHeight(), room));
   glide(byId("list"), draw, isNear);
-  const isKept = isAtWork() && page.view === null;
+  const isKept = isAtWork() && now.place.view === null;
   byId("list").style.minHeight = isKept ? `${keptHeight(Number(byId("list").firstElementChild.getAttribute("height")), wide)}px` : "";
 }
 
-const MOST_MEASURED = 300; // events of a run whose sentences are measured
-const sentences = { trace: null, wide: 0 };
-
-function keepRoomForSentences(state, count) {
-  const box = byId("said");
-  const { trace } = page;
-  if (box.clientWidth === 0 || (sentences.trace === trace && sentences.wide === box.clientWidth)) return;
-  Object.assign(sentences, { trace, wide: box.clientWidth });
-  box.style.minHeight = "";
-  if (trace.total > MOST_MEASURED) return;
-  const lengthOf = (sentence) => sentence.replace(/<[^>]*>/g, "").length;
-  const all = Array.from({ length: trace.total + 1 }, (_, number) => sentenceOf(momentAt(state, number)));
-  state.moveTo(count);
-  box.innerHTML = all.reduce((one, other) => (lengthOf(other) > lengthOf(one) ? other : one));
-  box.style.minHeight = `${box.offsetHeight + 1}px`; // (that is rounded)
+function keepHeights() {
+  for (const id of ["said", "order"]) keepHeight(byId(id), now.task.work);
 }
 
 function showBar(moment) {
-  const { trace, count } = page;
+  const { trace, count } = now.run;
   const { total } = trace;
   const name = `${LISTS[trace.kind].name}${trace.lacks === null ? "" : " without one check"}`;
   byId("title").textContent = `${name}, ${trace.threads} thread${trace.threads > 1 ? "s" : ""}`;
-  document.title = `${page.example === "" ? page.name : page.example}, event ${count}: ${name}`;
-  byId("source").textContent = page.source;
-  keepRoomForSentences(moment.state, count);
-  byId("said").innerHTML = sentenceOf(moment, hiddenOutcomes());
+  byId("source").textContent = now.run.source;
+  setHtml(byId("said"), sentenceOf(moment, hiddenOutcomes()));
   const slider = byId("slider");
   Object.assign(slider, { max: total, value: count });
   slider.setAttribute("aria-valuetext", `event ${count} of ${total}: ${byId("said").textContent}`);
@@ -4393,15 +4164,16 @@ function showBar(moment) {
 }
 
 function showThreads(event) {
-  const many = page.trace.threads > MOST_ROWS;
-  byId("threads").innerHTML = drawThreads(page.state, event, page.allThreads, hiddenOutcomes().includes("reply"));
+  if (!byId("threads-box").open) return;
+  const many = now.run.trace.threads > MOST_ROWS;
+  byId("threads").innerHTML = drawThreads(now.run.state, event, now.prefs.allThreads, hiddenOutcomes().includes("reply"));
   byId("all-threads").hidden = !many;
-  byId("all-threads").textContent = page.allThreads ? "show only those with a pending call" : `show all ${page.trace.threads}`;
+  byId("all-threads").textContent = now.prefs.allThreads ? "show only those with a pending call" : `show all ${now.run.trace.threads}`;
 }
 
 function showTable(moment) {
-  const which = page.lacks === null ? "" : "the correct ";
-  byId("table-title").textContent = `Step table of ${which}${LISTS[page.trace.kind].name}`;
+  const which = now.run.lacks === null ? "" : "the correct ";
+  byId("table-title").textContent = `Step table of ${which}${LISTS[now.run.trace.kind].name}`;
   if (byId("table-box").open) byId("table").innerHTML = drawTable(moment);
 }
 
@@ -4415,35 +4187,26 @@ function showListing(moment) {
   if (y < box.scrollTop + 40 || y > box.scrollTop + box.clientHeight - 80) box.scrollTop = y - box.clientHeight / 2;
 }
 
+const drawnHistory = { scale: null }; // that of the history, for who clicks there
 const ALL_LANES = 400; // pixels: a history that is no higher does not scroll
 
 function showHistory(event, wide) {
-  const { trace, count, hides } = page;
+  const { trace, count } = now.run;
+  const { hides } = now.prefs;
   const scale = scaleOf(trace, count, Math.max(300, wide), hides);
-  byId("calls").innerHTML = drawCalls(trace, scale);
-  byId("contents").innerHTML = drawContents(trace, scale);
-  keepRoomForOrder(trace, wide);
-  byId("order").innerHTML = drawOrder(trace, count, hides);
-  page.scale = scale;
+  setHtml(byId("calls"), drawCalls(trace, scale));
+  setHtml(byId("contents"), drawContents(trace, scale));
+  setHtml(byId("order"), drawOrder(trace, count, hides));
+  drawnHistory.scale = scale;
   const box = byId("calls");
   if (event === null || scale.height <= ALL_LANES || box.scrollHeight <= box.clientHeight) return;
   const y = scale.y(event.thread);
   if (y < box.scrollTop + 20 || y > box.scrollTop + box.clientHeight - 20) box.scrollTop = y - box.clientHeight / 2;
 }
 
-const order = { trace: null, wide: 0 };
-
-function keepRoomForOrder(trace, wide) {
-  if (order.trace === trace && order.wide === wide) return;
-  Object.assign(order, { trace, wide });
-  byId("order").style.minHeight = "";
-  byId("order").innerHTML = drawOrder(trace, trace.total);
-  byId("order").style.minHeight = `${byId("order").offsetHeight}px`;
-}
-
 function listHeight() {
-  if (page.view === "list" || page.view === "history" || innerWidth <= 560) return Infinity;
-  if (page.view === "lecture") return slideHeight();
+  if (now.place.view === "list" || now.place.view === "history" || innerWidth <= 560) return Infinity;
+  if (now.place.view === "lecture") return slideHeight();
   const isLow = isJudging() || isAtWork();
   const below = byId("bar").clientHeight + heightBelowBar();
   return Math.max(isLow ? 190 : 260, innerHeight - byId("list").getBoundingClientRect().top - scrollY - below);
@@ -4451,10 +4214,10 @@ function listHeight() {
 
 function heightBelowBar() {
   if (isJudging()) return byId("judge").offsetHeight + 90;
-  return isAtWork() ? 90 + 42 * Math.min(page.trace.threads, 6) : 142 + callsHeight();
+  return isAtWork() ? 90 + 42 * Math.min(now.run.trace.threads, 6) : 142 + callsHeight();
 }
 
-const callsHeight = () => Math.min(ALL_LANES, heightOfCalls(page.trace, Math.max(300, byId("history").clientWidth)));
+const callsHeight = () => Math.min(ALL_LANES, heightOfCalls(now.run.trace, Math.max(300, byId("history").clientWidth)));
 
 function slideHeight() {
   const below = isJudging() ? byId("judge").offsetHeight + 16 : 66 + callsHeight();
@@ -4474,10 +4237,11 @@ function scrollToTouched(wide) {
 const editor = { isSeen: false };
 
 function watchEditor() {
+  /** @param {IntersectionObserverEntry[]} seen */
   const look = ([{ isIntersecting }]) => {
     editor.isSeen = isIntersecting;
-    if (!isIntersecting || page.trace === null) return;
-    scrollToLine(page.count > 0 ? page.trace.event(page.count) : null);
+    if (!isIntersecting || now.run.trace === null) return;
+    scrollToLine(now.run.count > 0 ? now.run.trace.event(now.run.count) : null);
     showMarks();
   };
   new IntersectionObserver(look).observe(byId("editor"));
@@ -4485,25 +4249,264 @@ function watchEditor() {
 
 function scrollToLine(event) {
   const box = byId("schedule");
-  if (!editor.isSeen || event === null || document.activeElement === box || box.value !== page.text) return;
+  if (!editor.isSeen || event === null || document.activeElement === box || box.value !== now.run.text) return;
   const y = LINE_HEIGHT * (event.line - 1);
   if (y < box.scrollTop || y > box.scrollTop + box.clientHeight - 2 * LINE_HEIGHT) box.scrollTop = y - box.clientHeight / 2;
 }
 
 function showMarks() {
   const box = byId("schedule");
-  const isStale = box.value !== page.text;
+  const isStale = box.value !== now.run.text;
   const top = editor.isSeen ? box.scrollTop : 0;
   const mark = (line, kind) => `<div class="${kind}" style="top:${6 + LINE_HEIGHT * (line - 1) - top}px"></div>`;
-  const event = page.count > 0 ? page.trace.event(page.count) : null;
+  const event = now.run.count > 0 ? now.run.trace.event(now.run.count) : null;
   const lines = [];
-  if (event !== null && page.isRun) lines.push(mark(event.line, "event"));
-  if (page.faultLine !== null) lines.push(mark(page.faultLine, "bad"));
+  if (event !== null && now.run.isRun) lines.push(mark(event.line, "event"));
+  if (now.run.faultLine !== null) lines.push(mark(now.run.faultLine, "bad"));
   byId("marks").innerHTML = isStale ? "" : lines.join("");
   byId("run").classList.toggle("stale", isStale);
   byId("run").textContent = isStale ? "Run the changes" : "Run";
 }
-return { showRun, showBar, watchEditor, showMarks };
+return { showRun, keepHeights, showBar, drawnHistory, watchEditor, showMarks };
+})();
+
+// page/example.js
+const $page_example = (() => {
+const { EXAMPLES, TRACES } = $made_traces;
+const { readExamples } = $engine_answers;
+const { Trace } = $run_trace;
+const { askNow, change, held, takeScheduleOfTrace, takeTrace } = $page_now;
+const { showMarks } = $page_view;
+const KEPT_BESIDE = "a trace that is kept beside the page";
+const known = { examples: null };
+
+function examples() {
+  if (held.engine === null) return readExamples(EXAMPLES);
+  known.examples ??= readExamples(askNow("listset_examples", "").text);
+  return known.examples;
+}
+
+const isExample = (name) => examples().some((one) => one.name === name);
+
+function exampleText(name) {
+  if (held.engine === null || name === "") return null;
+  const answer = askNow("listset_example", name);
+  return answer.status === 0 ? answer.text : null;
+}
+
+function openKept(name, count) {
+  change("task", { task: { kind: "example", id: name, work: "" } });
+  takeTrace(new Trace(TRACES[name]), count, KEPT_BESIDE);
+  takeScheduleOfTrace();
+  showMarks();
+}
+return { examples, isExample, exampleText, openKept };
+})();
+
+// page/play.js
+const $page_play = (() => {
+const { CLASSICS } = $made_classics;
+const { byId } = $page_dom;
+const { change, exampleShown, goTo, now, show, tell } = $page_now;
+const SPEEDS = { slow: 1600, medium: 700, fast: 200 }; // milliseconds of one event
+const NO_STOP = { event: Infinity, before: "", there: "" };
+const play = { timer: null, stop: NO_STOP }; // the event at which it stops by itself, and what is said until there, and there
+
+const wantsLessMotion = () => matchMedia("(prefers-reduced-motion: reduce)").matches;
+
+function showPlay() {
+  byId("play").textContent = play.timer === null ? "Play" : "Pause";
+  byId("play").setAttribute("aria-pressed", String(play.timer !== null));
+  byId("said").setAttribute("aria-live", play.timer === null ? "polite" : "off");
+}
+
+function pausePlay() {
+  clearInterval(play.timer);
+  play.timer = null;
+  showPlay();
+}
+
+function stopPlay() {
+  play.stop = NO_STOP;
+  pausePlay();
+}
+
+function startPlay(stop = NO_STOP) {
+  const { count, trace } = now.run;
+  if (trace.total === 0) return;
+  play.stop = stop;
+  if (count === trace.total) goTo(0);
+  play.timer = setInterval(playOn, SPEEDS[byId("speed").value]);
+  showPlay();
+}
+
+function playOn() {
+  const { stop } = play;
+  const count = now.run.count + 1;
+  const isThere = count === stop.event || count >= now.run.trace.total;
+  if (isThere) stopPlay();
+  change("count", { count });
+  tell(count === stop.event ? stop.there : stop.before);
+  show();
+}
+
+const togglePlay = () => (play.timer === null ? startPlay(play.stop) : pausePlay());
+
+function changeSpeed() {
+  if (play.timer === null) return;
+  pausePlay();
+  startPlay(play.stop);
+}
+
+function goByHand(count) {
+  stopPlay();
+  goTo(count);
+}
+
+function goToTurn(step) {
+  const turns = CLASSICS[exampleShown()]?.turns ?? [];
+  const changes = (event) => event.put !== undefined || event.took !== undefined || event.answer !== undefined;
+  let count = now.run.count + step;
+  while (count > 0 && count < now.run.trace.total && !changes(now.run.trace.event(count)) && !turns.includes(count)) count += step;
+  goByHand(count);
+}
+return { wantsLessMotion, stopPlay, startPlay, togglePlay, changeSpeed, goByHand, goToTurn };
+})();
+
+// run/broken.js
+const $run_broken = (() => {
+const { LACKING } = $made_classics;
+const { LISTS } = $made_rows;
+const { readCheck, readReport, readShow } = $engine_answers;
+const { nameOfCall } = $run_judged;
+const { escaped } = $run_markup;
+const { isFailed, isLock } = $run_outcomes;
+const { scheduleOfTrace, titleOf } = $run_schedule_text;
+const { momentAt, sentenceOf } = $run_sentences;
+const { State } = $run_state;
+const { eventsInCommon, isTrace, Trace } = $run_trace;
+const LACKING_THREADS = 2;
+const LACKING_QUOTA = 2;
+const LACKING_OPENING = [3, 7]; // what such a list opens with, until the reader changes that
+const EXPLAINED = "Not broken yet: some order explains this run.";
+const BY_POINTS = "Not by its linearization points: check refuses that order.";
+const OTHER = "Another order explains these replies.";
+const UNKNOWN = "Whether another order explains these replies is not known.";
+const UNEXPLAINED = "No order of these calls explains that (proved).";
+const TO_BREAK = "No order explains what the calls answer (proved)."; // the condition of a lesson
+
+const NO_TASK = "mark-in-contains";
+const isTaskDone = (lacks, { kind }) => kind === "broken" && lacks !== NO_TASK;
+
+const askList = (ask, name, lacks, ...texts) => (lacks === null ? ask(name, ...texts) : ask(`${name}_lacking`, lacks, ...texts));
+
+const lackingOf = (kind) => Object.keys(LACKING).filter((name) => LACKING[name] === kind);
+
+function titleOfLacking(name) {
+  const kind = LACKING[name];
+  const names = lackingOf(kind);
+  const which = names.length === 1 ? "" : ` ${names.indexOf(name) + 1}`;
+  return `${LISTS[kind].name}${which} lacks one check`;
+}
+
+function startOfLacking(name) {
+  const set = [titleOf(2), `list ${LACKING[name]}`, `threads ${LACKING_THREADS}`, `quota ${LACKING_QUOTA}`];
+  return [...set, ...LACKING_OPENING.map((key) => `opening ${key}`), ""].join("\n");
+}
+
+function verdictOnLacking(ask, lacks, schedule) {
+  const { status, text } = ask("listset_replay_lacking", lacks, schedule);
+  if (status !== 0) return { kind: "refused", says: `The schedule is refused: ${text.trim()}`, report: null };
+  const checked = readCheck(ask("listset_check", text).text);
+  if (checked.kind === "ok") return { kind: "explained", says: EXPLAINED, report: text };
+  if (checked.kind === "trouble") return { kind: "refused", says: `The run is not judged: ${checked.says}.`, report: null };
+  const shown = readShow(ask("listset_show", text));
+  if (shown.kind !== "none") return { kind: "points", says: `${BY_POINTS} ${shown.kind === "another" ? OTHER : UNKNOWN}`, report: text };
+  return { kind: "broken", says: `Broken: ${whyNone(text, shown)}. ${UNEXPLAINED}`, report: text };
+}
+
+function whyNone(text, { why, says }) {
+  if (why === null) return says;
+  const exercise = readReport(text);
+  const { key, isLeft, since, is, calls } = why;
+  if (isLeft && isLost(exercise, key)) return `${key} was added once and never removed, and at the end the set does not have it`;
+  const left = exercise.keys.includes(key) ? "has it" : "does not have it";
+  const then = [...calls.map((call) => callInWords(exercise, call)), ...(isLeft ? [`at the end the set ${left}`] : [])].join(", ");
+  if (is === null) return then === "" ? says : then;
+  return `${key} is ${is} ${since === null ? "at first" : `after event ${since}`}, and then ${then}`;
+}
+
+function isLost({ calls, opening, keys }, key) {
+  const count = (operation) => calls.filter((call) => call.operation === operation && call.reply === "true" && call.key === key).length;
+  const isThere = opening.includes(key) || keys.includes(key);
+  return count("add") === 1 && count("remove") === 0 && !isThere;
+}
+
+function callInWords({ calls }, { thread, begun }) {
+  const call = calls.find((one) => one.thread === thread && one.begun === Number(begun));
+  return `${nameOfCall(call)} ${call.ended === null ? "is open" : `answers ${call.reply}`}`;
+}
+
+function departureOf(ask, trace) {
+  const { text } = ask("listset_trace", scheduleOfTrace(trace));
+  if (!isTrace(text)) return null;
+  const whole = new Trace(text, trace.version);
+  const event = eventsInCommon(trace, whole) + 1;
+  if (event > trace.total) return null;
+  const rows = [trace, whole].map((one) => (event > one.total ? null : one.event(event).changes.pc));
+  const told = (one) => {
+    if (event > one.total) return "makes no such event.";
+    const goesOn = rows[0] === rows[1] ? "" : rowInWords(one, event);
+    return `${sentenceOf(momentAt(new State(one), event))}${goesOn}`;
+  };
+  return { event, here: told(trace), whole: told(whole) };
+}
+
+function rowInWords(trace, number) {
+  const event = trace.event(number);
+  const row = event.changes.pc;
+  const { step } = LISTS[trace.kind].rows[row] ?? { step: "which the correct list does not have" };
+  const isSaid = event.deed === "exchange" && isFailed(event) && isLock(event.word);
+  return row === 0 || isSaid ? "" : ` It continues at row ${row}, ${escaped(step)}.`;
+}
+return { EXPLAINED, TO_BREAK, NO_TASK, isTaskDone, askList, titleOfLacking, startOfLacking, verdictOnLacking, departureOf };
+})();
+
+// run/draft.js
+const $run_draft = (() => {
+const { isTrace, Trace } = $run_trace;
+const MOST_TRIED = 1000; // steps of a thread that does not come to where it is sent, to see for what it waits
+const DRAFT_LINE = /^go \d+ (?:out|to \d+)$/m;
+
+function scheduleOfDraft(ask, text, lacks = null) {
+  if (!DRAFT_LINE.test(text)) return { text, fault: null };
+  if (lacks !== null) return scheduleOfLackingDraft(ask, lacks, text);
+  const made = ask("listset_draft", text.replace(/^listset-(?:schedule|draft) [12]$/m, "listset-draft 2"));
+  return made.status === 0 ? { text: made.text, fault: null } : { text: null, fault: made.text.trim() };
+}
+
+function stepsOfLacking(ask, lacks, lines, thread, row) {
+  const fault = (cause) => ({ count: null, fault: `listset: line ${lines.length + 1}: ${cause}` });
+  const { text } = ask("listset_trace_lacking", lacks, `${[...lines, `go ${thread} ${MOST_TRIED}`].join("\n")}\n`);
+  if (!isTrace(text)) return { count: null, fault: text.trim() };
+  const steps = new Trace(text).events().filter(({ line }) => line === lines.length + 1);
+  const end = steps.findIndex(({ answer }) => answer !== undefined);
+  const at = row === undefined ? end : steps.findIndex(({ answer, changes }) => answer === undefined && changes.pc === Number(row));
+  if (at !== -1) return { count: at + 1, fault: null };
+  return fault(end !== -1 || steps.length === 0 ? "Idle" : "Waits");
+}
+
+function scheduleOfLackingDraft(ask, lacks, text) {
+  const lines = [];
+  for (const line of text.split("\n").slice(0, -1)) {
+    const asked = /^go (\d+) (?:out|to (\d+))$/.exec(line);
+    const { count, fault } = asked === null ? { count: null, fault: null } : stepsOfLacking(ask, lacks, lines, asked[1], asked[2]);
+    if (fault !== null) return { text: null, fault };
+    lines.push(asked === null ? line : `go ${asked[1]} ${count}`);
+  }
+  return { text: [...lines, ""].join("\n"), fault: null };
+}
+return { MOST_TRIED, scheduleOfDraft };
 })();
 
 // run/moments.js
@@ -4684,14 +4687,22 @@ function foundBy(line, run, bound) {
   return steps.filter(({ event }) => event.deed !== "begin" && (thread === null || event.thread === thread));
 }
 
-function canMeet(lines, run, bound = new Map(), at = 0) {
-  if (at === lines.length) return true;
-  const line = lines[at];
-  if (line.says !== undefined) return canMeet(lines, run, bound, at + 1);
-  if (line.isWhole !== undefined) return line.isWhole(run) && canMeet(lines, run, bound, at + 1);
-  const fits = foundBy(line, run, bound).filter((found) => line.tests.every((test) => test(found, run, bound)));
-  if (line.count !== null) return fits.length >= line.count && canMeet(lines, run, bound, at + 1);
-  return fits.some((found) => canMeet(lines, run, new Map(bound).set(line.name, found), at + 1));
+const MOST_WAYS = 100000; // to meet the lines of a goal, that are tried: some 0.2 s
+class TooManyWays extends Error {}
+
+function canMeet(lines, run) {
+  let left = MOST_WAYS;
+  const from = (at, bound) => {
+    if (at === lines.length) return true;
+    if (left-- === 0) throw new TooManyWays();
+    const line = lines[at];
+    if (line.says !== undefined) return from(at + 1, bound);
+    if (line.isWhole !== undefined) return line.isWhole(run) && from(at + 1, bound);
+    const fits = foundBy(line, run, bound).filter((found) => line.tests.every((test) => test(found, run, bound)));
+    if (line.count !== null) return fits.length >= line.count && from(at + 1, bound);
+    return fits.some((found) => from(at + 1, new Map(bound).set(line.name, found)));
+  };
+  return from(0, new Map());
 }
 
 function conditionsOf(goal, run) {
@@ -4742,14 +4753,14 @@ function nounOf({ sort, join, whose, clauses }, nouns) {
   if (join === undefined) return noun;
   return join === "of" ? `${noun} of thread ${whose}` : `${noun} in ${nouns.get(whose)}`;
 }
-return { GoalFault, CLAUSES, readGoal, conditionsOf };
+return { GoalFault, CLAUSES, readGoal, TooManyWays, conditionsOf };
 })();
 
 // course/course_text.js
 const $course_course_text = (() => {
 const { LACKING } = $made_classics;
-const { GoalFault, readGoal } = $course_goal_words;
 const { titleOf } = $run_schedule_text;
+const { GoalFault, readGoal } = $course_goal_words;
 const COURSE_TITLE = "listset-course 1";
 const MOST_COURSE = 1000000; // characters of a course
 const LESSON_WORDS = {
@@ -4786,7 +4797,11 @@ class CourseReader {
     this.block = null; // the part to which lines belong that begin with two spaces
     const lines = withoutIndent(text).map((line, index) => ({ line, number: index + 1 }));
     const [title, ...rest] = lines.filter(({ line }) => line !== "" && !line.startsWith("#"));
-    if (title?.line !== COURSE_TITLE) return this.fault(title?.number ?? 1, `expected "${COURSE_TITLE}" here`);
+    if (title?.line !== COURSE_TITLE) this.fault(title?.number ?? 1, `expected "${COURSE_TITLE}" here`);
+    else this.takeAll(title, rest);
+  }
+
+  takeAll(title, rest) {
     rest.forEach(({ line, number }) => this.take(line, number));
     if (this.name === "") this.fault(title.number, 'expected the line "course NAME" below it');
     if (this.lessons.length === 0) this.fault(title.number, "there is no lesson below");
@@ -4891,53 +4906,17 @@ function lessonText({ list, threads, quota, opening }, lines) {
 return { COURSE_TITLE, readCourse, lessonText };
 })();
 
-// run/draft.js
-const $run_draft = (() => {
-const { isTrace, Trace } = $run_trace;
-const MOST_TRIED = 1000; // steps of a thread that does not come to where it is sent, to see for what it waits
-const DRAFT_LINE = /^go \d+ (?:out|to \d+)$/m;
-
-function scheduleOfDraft(ask, text, lacks = null) {
-  if (!DRAFT_LINE.test(text)) return { text, fault: null };
-  if (lacks !== null) return scheduleOfLackingDraft(ask, lacks, text);
-  const made = ask("listset_draft", text.replace(/^listset-(?:schedule|draft) [12]$/m, "listset-draft 2"));
-  return made.status === 0 ? { text: made.text, fault: null } : { text: null, fault: made.text.trim() };
-}
-
-function stepsOfLacking(ask, lacks, lines, [thread, row]) {
-  const fault = (cause) => ({ count: null, fault: `listset: line ${lines.length + 1}: ${cause}` });
-  const { text } = ask("listset_trace_lacking", lacks, `${[...lines, `go ${thread} ${MOST_TRIED}`].join("\n")}\n`);
-  if (!isTrace(text)) return { count: null, fault: text.trim() };
-  const steps = new Trace(text).events().filter(({ line }) => line === lines.length + 1);
-  const end = steps.findIndex(({ answer }) => answer !== undefined);
-  const at = row === undefined ? end : steps.findIndex(({ answer, changes }) => answer === undefined && changes.pc === Number(row));
-  if (at !== -1) return { count: at + 1, fault: null };
-  return fault(end !== -1 || steps.length === 0 ? "Idle" : "Waits");
-}
-
-function scheduleOfLackingDraft(ask, lacks, text) {
-  const lines = [];
-  for (const line of text.split("\n").slice(0, -1)) {
-    const asked = /^go (\d+) (?:out|to (\d+))$/.exec(line);
-    const { count, fault } = asked === null ? { count: null, fault: null } : stepsOfLacking(ask, lacks, lines, asked.slice(1));
-    if (fault !== null) return { text: null, fault };
-    lines.push(asked === null ? line : `go ${asked[1]} ${count}`);
-  }
-  return { text: [...lines, ""].join("\n"), fault: null };
-}
-return { MOST_TRIED, scheduleOfDraft };
-})();
-
 // course/lesson.js
 const $course_lesson = (() => {
-const { lessonText, readCourse } = $course_course_text;
-const { conditionsOf } = $course_goal_words;
+const { readFault } = $engine_answers;
 const { askList, TO_BREAK, verdictOnLacking } = $run_broken;
 const { scheduleOfDraft } = $run_draft;
 const { CAUSES } = $run_faults;
 const { Run } = $run_moments;
 const { eventsAsked, versionOf } = $run_schedule_text;
 const { HEADER_LINES, isTrace, Trace } = $run_trace;
+const { lessonText, readCourse } = $course_course_text;
+const { conditionsOf, TooManyWays } = $course_goal_words;
 const MOST_EVENTS = 1000; // of a solution
 const OTHER_SET = "The list, the number of threads, the quota and the opening keys are to be those of the lesson.";
 
@@ -4959,9 +4938,25 @@ function judged(ask, lesson, schedule) {
   const { trace, fault } = runOfSchedule(ask, schedule, lesson.lacks);
   if (trace === null) return unjudged(`${fault[0].toUpperCase()}${fault.slice(1)}.`);
   const run = new Run(trace);
-  const conditions = conditionsOfLesson(ask, lesson, schedule, run);
+  const conditions = withinBound(() => conditionsOfLesson(ask, lesson, schedule, run));
+  if (conditions === null) return unjudged("This run is not judged: there are too many ways in which it could meet the goal.");
   const isSolved = conditions.every(({ isMet }) => isMet);
-  return { isSolved, reason: null, conditions, deadEnd: isSolved ? null : deadEndIn(lesson, run) };
+  return { isSolved, reason: null, conditions, deadEnd: isSolved ? null : withinBound(() => deadEndIn(lesson, run)) };
+}
+
+function withinBound(search) {
+  try {
+    return search();
+  } catch (fault) {
+    if (!(fault instanceof TooManyWays)) throw fault;
+    return null;
+  }
+}
+
+function isBounded(ask, { list, threads, goal }) {
+  const { text, status } = ask("listset_gen", [list, Math.max(threads, 2), 4, 6, 3, 1].join("\0"));
+  const { trace } = status === 0 ? runOfSchedule(ask, text, null) : { trace: null };
+  return trace === null || withinBound(() => conditionsOf(goal, new Run(trace))) !== null;
 }
 
 const conditionTexts = ({ goal, lacks }) =>
@@ -4989,7 +4984,10 @@ function troubleOf(ask, lesson) {
   lesson.begun = start.text;
   const begin = runOfSchedule(ask, start.text, lesson.lacks);
   if (begin.trace === null) return refusedLine(lesson, "start", begin.fault);
-  const met = conditionsOfLesson(ask, lesson, start.text, new Run(begin.trace));
+  if (!isBounded(ask, lesson)) {
+    return { line: lesson.line, says: "there are too many ways to meet its goal: name fewer steps, or say more of each" };
+  }
+  const met = withinBound(() => conditionsOfLesson(ask, lesson, start.text, new Run(begin.trace))) ?? [{ isMet: false }];
   if (met.every(({ isMet }) => isMet)) return { line: lesson.line, says: "its start meets the goal already" };
   lesson.solution = null;
   if (lesson.answer.length === 0) return null;
@@ -5003,8 +5001,8 @@ function troubleOf(ask, lesson) {
 }
 
 function refusedLine(lesson, part, fault) {
-  const [, number, cause] = /line (\d+)(?: of the schedule is refused)?: (\w+)/i.exec(fault) ?? [];
-  const given = lesson.events[Number(number) - HEADER_LINES - lesson.opening.length - 1];
+  const { line, cause } = readFault(fault);
+  const given = lesson.events[line - HEADER_LINES - lesson.opening.length - 1];
   if (given === undefined || !(cause in CAUSES)) return { line: lesson.line, says: `its ${part} is refused: ${fault}` };
   return { line: given.number, says: `its ${part} is refused at "${given.line}": ${CAUSES[cause]}` };
 }
@@ -5018,1603 +5016,6 @@ function triedCourse(ask, text) {
   return { name, lessons, text, faults: faults.sort((one, other) => one.line - other.line) };
 }
 return { MOST_EVENTS, OTHER_SET, setOf, unjudged, judged, conditionTexts, missingIn, triedCourse };
-})();
-
-// page/work.js
-const $page_work = (() => {
-const { forgetRoom } = $draw_room;
-const { byId, setAble } = $page_dom;
-const { chooseExample, exampleText } = $page_example;
-const { keepWork, works } = $page_kept;
-const { setOf } = $course_lesson;
-const { askNow, page, tellLine } = $page_now;
-const { leaveMap } = $page_places;
-const { runText } = $page_run_text;
-const { showMarks } = $page_view;
-const { titleOfLacking } = $run_broken;
-const { scheduleOfDraft } = $run_draft;
-const { eventsAsked, scheduleAndLine, withOpening } = $run_schedule_text;
-const { eventsInCommon } = $run_trace;
-const work = { before: [], after: [] }; // the schedules before, for Undo, and those that were undone, for Redo
-
-function present() {
-  const { text, count, example, name, begun, lacks } = page;
-  return { text, count, example, name, begun, lacks };
-}
-
-function showUndo() {
-  setAble("undo", work.before.length > 0);
-  setAble("redo", work.after.length > 0);
-}
-
-function forgetBefore() {
-  work.before = [];
-  showUndo();
-}
-
-function keepBefore() {
-  if (page.text !== "") work.before.push(present());
-  work.after = [];
-  showUndo();
-}
-
-function exchangeWork(from, others) {
-  const wanted = page.engine === null ? undefined : from.pop();
-  if (wanted === undefined) return;
-  others.push(present());
-  showUndo();
-  takeName(wanted.name, wanted.begun, wanted.lacks);
-  chooseExample(wanted.example);
-  runText(wanted.text, wanted.count);
-}
-
-const undo = () => exchangeWork(work.before, work.after);
-const redo = () => exchangeWork(work.after, work.before);
-
-function takeName(name, begun, lacks = null) {
-  keepWork();
-  forgetRoom();
-  Object.assign(page, { name, begun, lacks });
-  leaveMap();
-}
-
-function openText(text, at, name = works.newName("my schedule"), told = "", lacks = null) {
-  keepWork();
-  keepBefore();
-  takeName(name, text, lacks);
-  chooseExample("");
-  runText(text, at, told);
-}
-
-function openWork(name) {
-  const { text, box, count, lacks = null } = works.byName.get(name);
-  openText(text, count, name, "", lacks);
-  page.begun = "";
-  if (box !== text) byId("schedule").value = box;
-  showMarks();
-}
-
-const newSchedule = (list, threads, quota) =>
-  openText(`listset-schedule 1\nlist ${list}\nthreads ${threads}\nquota ${quota}\n`, 0, works.newName("my schedule"));
-
-function runBox() {
-  const box = byId("schedule").value;
-  const { text, fault } = scheduleOfDraft(askNow, box === "" || box.endsWith("\n") ? box : `${box}\n`, page.lacks);
-  if (fault !== null) return tellLine(fault);
-  const { trace, count } = page;
-  if (text !== page.text) keepBefore();
-  if (text !== exampleText(page.example)) chooseExample("");
-  if (/^lesson /.test(page.name) && setOf(text) !== setOf(page.text)) leaveLesson(text);
-  const at = (made) => (made.refused === null ? Math.min(count, eventsInCommon(trace, made)) : made.total);
-  runText(text, at);
-}
-
-function leaveLesson(text) {
-  byId("schedule").value = page.text;
-  takeName(works.newName("my schedule"), text, page.lacks);
-}
-
-function runWithOpening() {
-  const keys = byId("opening").value.split(/[\s,]+/).filter((key) => key !== "");
-  byId("schedule").value = withOpening(byId("schedule").value, keys);
-  runBox();
-}
-
-function goOn(line, count = 1, told = "") {
-  const text = scheduleAndLine(page.trace, page.count, line, page.isRun ? page.text : null);
-  const at = page.count + count;
-  keepBefore();
-  chooseExample("");
-  runText(text, at, told);
-}
-
-function showHeader(trace) {
-  byId("new-list").value = trace.kind;
-  byId("new-threads").value = trace.threads;
-  byId("new-quota").value = trace.quota;
-}
-
-function openLacking(name, schedule, told = "") {
-  openText(schedule, eventsAsked(schedule), works.newName(titleOfLacking(name)), told, name);
-}
-return { work, forgetBefore, keepBefore, undo, redo, takeName, openText, openWork, newSchedule, runBox, runWithOpening, goOn, showHeader, openLacking };
-})();
-
-// page/menu.js
-const $page_menu = (() => {
-const { CLASSICS } = $made_classics;
-const { TRACES } = $made_traces;
-const { byId, redraw } = $page_dom;
-const { chooseExample, exampleText } = $page_example;
-const { keepWork, works } = $page_kept;
-const { isJudging, page, takeScheduleOfTrace, takeTrace } = $page_now;
-const { runText } = $page_run_text;
-const { showMarks } = $page_view;
-const { keepBefore, openLacking, openWork, takeName } = $page_work;
-const { startOfLacking } = $run_broken;
-const { tag } = $run_markup;
-const { eventsAsked } = $run_schedule_text;
-const { Trace } = $run_trace;
-const WORK = "work: ";
-
-function fillWorks() {
-  const options = [...works.byName].reverse().map(([name, { text }]) => {
-    const [, list] = text.split("\n");
-    return new Option(`${name} (${list?.slice("list ".length)}): ${eventsAsked(text)} events`, `${WORK}${name}`);
-  });
-  byId("work-options").replaceChildren(...options);
-  byId("work-options").hidden = options.length === 0 || page.engine === null;
-  const chosen = page.example === "" ? `${WORK}${page.name}` : page.example;
-  const isThere = page.example !== "" || works.byName.has(page.name);
-  byId("nothing-kept").textContent = page.name; // what was opened, and not changed yet
-  byId("examples").value = isThere ? chosen : "";
-}
-
-function chooseInList(value) {
-  if (value.startsWith(WORK)) openWork(value.slice(WORK.length));
-  else if (value.startsWith(BREAK)) openLacking(value.slice(BREAK.length), startOfLacking(value.slice(BREAK.length)));
-  else if (value !== "") pickExample(value, 0);
-}
-
-function pickExample(name, count) {
-  if (page.engine === null) return pickKept(name, count);
-  const text = exampleText(name);
-  keepWork();
-  keepBefore();
-  takeName(works.newName(`from ${name}`), text);
-  chooseExample(name);
-  runText(text, count);
-}
-
-function pickKept(name, count) {
-  chooseExample(name);
-  takeTrace(new Trace(TRACES[name]), count, "a trace that is kept beside the page");
-  takeScheduleOfTrace();
-  showMarks();
-}
-
-function showQuestion() {
-  const classic = CLASSICS[page.example];
-  byId("question-box").hidden = classic === undefined;
-  byId("see-broken").hidden = page.engine === null || !(classic?.lacks.length > 0);
-  const box = byId("turns-box");
-  if (classic === undefined || box.dataset.example !== page.example) {
-    box.open = byId("without-box").open = false;
-    box.dataset.example = page.example;
-  }
-  const { total } = page.trace;
-  const turns = box.open && !isJudging() ? (classic?.turns ?? []) : [];
-  const place = (event) => `left: calc(8px + (100% - 16px) * ${event / total})`;
-  byId("ticks").innerHTML = turns.map((event) => `<i style="${place(event)}"></i>`).join("");
-  if (classic === undefined) return;
-  byId("question").textContent = classic.question;
-  byId("turns-on").textContent = classic.turnsOn;
-  byId("without").textContent = classic.without;
-  const here = (event) => (event === page.count ? { "aria-current": "true" } : {});
-  redraw(byId("turns"), turns.map((event) => tag("button", { "data-event": event, ...here(event) }, event)).join(" "));
-}
-const BREAK = "break: ";
-return { fillWorks, chooseInList, pickExample, pickKept, showQuestion, BREAK };
-})();
-
-// run/address.js
-const $run_address = (() => {
-const { LACKING } = $made_classics;
-const { LISTS } = $made_rows;
-const LONGEST_ADDRESS = 30000; // characters; a longer schedule has no address
-const SHORT_WORDS = { begin: "b", go: "g" };
-const LONG_WORDS = { b: "begin", g: "go" };
-const SHORT_EVENT = String.raw`(b\d+\.[a-z]+\.\d+|g\d+\.\d+)`;
-const ADDRESS_PARTS = {
-  example: /^[a-z-]+$/,
-  list: /^[A-Za-z-]+$/,
-  threads: /^\d+$/,
-  quota: /^\d+$/,
-  version: /^\d+$/,
-  opening: /^\d+(\.\d+)*$/,
-  s: new RegExp(`^(${SHORT_EVENT}(,${SHORT_EVENT})*)?$`),
-  event: /^\d+$/,
-  lacks: /^(\d+|[A-Za-z-]+)$/,
-  view: /^(lecture|list|history)$/,
-  course: /^[A-Za-z0-9_-]+$/,
-  sides: /^(coarse|fine|optimistic|lazy|lock-free)\.(coarse|fine|optimistic|lazy|lock-free)$/,
-  calls: /^(\d\d?\.[a-z]+\.\d+(,|$))+$/,
-  turns: /^(\d\d?(\.\d\d?)*)?$/,
-  watch: /^$/,
-  learn: /^[a-z0-9-]*$/,
-  judge: /^$/,
-  break: /^\d*$/,
-  compare: /^$/,
-  read: /^$/,
-  seed: /^(coarse|fine|optimistic|lazy|lock-free)\.\d{1,2}\.\d{1,2}\.\d{1,2}\.\d{1,9}$/,
-};
-
-class AddressFault extends Error {}
-
-const neededVersion = (lines) => (lines.some((line) => /^(opening |begin \d+ ceiling )/.test(line)) ? 2 : 1);
-
-function addressOf(text, event, lacks = null) {
-  if (text.length > 2 * LONGEST_ADDRESS) return null; // an address has more than half of the letters
-  const [title, list, threads, quota, ...lines] = text.split("\n").slice(0, -1);
-  const isOpening = (line) => line.startsWith("opening ");
-  const opening = lines.filter(isOpening).map((line) => line.slice("opening ".length));
-  const events = lines.filter((line) => !isOpening(line)).map(shortLine);
-  const version = title?.split(" ")[1];
-  const parts = [`list=${list?.split(" ")[1]}`, `threads=${threads?.split(" ")[1]}`, `quota=${quota?.split(" ")[1]}`];
-  if (version !== String(neededVersion(lines))) parts.push(`version=${version}`);
-  if (opening.length > 0) parts.push(`opening=${opening.join(".")}`);
-  parts.push(`s=${events.join()}`, `event=${event}`);
-  if (lacks !== null) parts.push(`lacks=${Object.keys(LACKING).indexOf(lacks) + 1}`);
-  const address = `#${parts.join("&")}`;
-  return address.length <= LONGEST_ADDRESS && isAddressOf(address, text) ? address : null;
-}
-
-const shortLine = (line) => {
-  const [word, ...values] = line.split(" ");
-  return `${SHORT_WORDS[word] ?? word}${values.join(".")}`;
-};
-
-const longLine = (short) => `${LONG_WORDS[short[0]]} ${short.slice(1).replaceAll(".", " ")}`;
-
-function isAddressOf(address, text) {
-  try {
-    return readAddress(address).text === text;
-  } catch (fault) {
-    if (!(fault instanceof AddressFault)) throw fault;
-    return false;
-  }
-}
-
-const exampleAddress = (name, event) => `#example=${name}&event=${event}`;
-
-function readAddress(hash) {
-  const { view = null, course = null, lacks: which, seed = null, ...rest } = partsOf(hash);
-  const { place, isJudged, parts } = placeOf(rest, seed);
-  const lacks = which === undefined ? null : lackingNamed(which, parts);
-  const own = { view, course, sides: null, lacks, place, seed, isJudged };
-  const named = { example: parts.example ?? null, text: null, event: Number(parts.event ?? 0), ...own };
-  if (parts.sides !== undefined) return { ...named, sides: parts };
-  const ofSchedule = Object.keys(parts).filter((name) => name !== "event" && name !== "example");
-  if (named.example !== null && ofSchedule.length > 0) {
-    throw new AddressFault(`the address names an example, and has "${ofSchedule[0]}" too`);
-  }
-  if (ofSchedule.length > 0) named.text = textOfParts(parts);
-  return named;
-}
-
-function lackingNamed(which, { list, example }) {
-  const names = Object.keys(LACKING);
-  const lacks = names.includes(which) ? which : names[which - 1];
-  if (lacks === undefined) {
-    throw new AddressFault(`there is no broken list "${which}": expected 1 to ${names.length}, or a name that "listset show --help" prints`);
-  }
-  if (list === LACKING[lacks]) return lacks;
-  const named = list !== undefined ? `list=${list}` : example !== undefined ? `example=${example}` : "no list";
-  throw new AddressFault(`lacks=${which} is a broken ${LISTS[LACKING[lacks]].name}, and the address has ${named}`);
-}
-
-function placeOf(parts, seed) {
-  const isRun = seed !== null || parts.example !== undefined || parts.list !== undefined;
-  const name = ["watch", "learn", "judge", "break", "compare", "read"].find((one) => parts[one] !== undefined);
-  if (name === undefined) return { place: null, isJudged: false, parts };
-  const { [name]: value, ...others } = parts;
-  const isJudged = name === "judge" && isRun;
-  return { place: isJudged ? null : [name, value], isJudged, parts: others };
-}
-
-function partsOf(hash) {
-  const parts = {};
-  for (const [name, value] of new URLSearchParams(hash.replace(/^#/, ""))) {
-    if (!Object.hasOwn(ADDRESS_PARTS, name)) throw new AddressFault(`the address has a part "${name}", which is none`);
-    if (name in parts) throw new AddressFault(`the address has "${name}" twice`);
-    if (!ADDRESS_PARTS[name].test(value)) throw new AddressFault(`"${value.slice(0, 60)}" is no ${name} of an address`);
-    parts[name] = value;
-  }
-  return parts;
-}
-
-function textOfParts(parts) {
-  const missing = ["list", "threads", "quota"].find((name) => parts[name] === undefined);
-  if (missing !== undefined) throw new AddressFault(`the address has no "${missing}"`);
-  const opening = (parts.opening?.split(".") ?? []).map((key) => `opening ${key}`);
-  const events = (parts.s ? parts.s.split(",") : []).map(longLine);
-  const lines = [...opening, ...events];
-  const title = `listset-schedule ${parts.version ?? neededVersion(lines)}`;
-  return [title, `list ${parts.list}`, `threads ${parts.threads}`, `quota ${parts.quota}`, ...lines, ""].join("\n");
-}
-
-const warningOf = (link) =>
-  link.startsWith("file:") ? " Others cannot open it, since it leads to a file on this computer: copy it from a page on a web server." : "";
-return { LONGEST_ADDRESS, AddressFault, addressOf, longLine, exampleAddress, readAddress, warningOf };
-})();
-
-// activities/break_map.js
-const $activities_break_map = (() => {
-const { LACKING } = $made_classics;
-const { LISTS } = $made_rows;
-const { brokenLines } = $activities_broken_kept;
-const { BREAK_LEVELS, GRADES, LACKS_IN_WORDS } = $data_levels;
-const { byId } = $page_dom;
-const { BREAK } = $page_menu;
-const { page } = $page_now;
-const { setProgress } = $page_places;
-const { forgetBefore, openLacking } = $page_work;
-const { AddressFault } = $run_address;
-const { startOfLacking, titleOfLacking } = $run_broken;
-const { escaped, tag } = $run_markup;
-const ORDER = Object.keys(BREAK_LEVELS);
-const counted = ORDER.filter((name) => BREAK_LEVELS[name].grade < GRADES.length);
-const numberOf = (name) => ORDER.indexOf(name) + 1;
-const addressOfLevel = (name) => `#break=${numberOf(name)}`;
-const wordOf = (name) => BREAK_LEVELS[name].lacks ?? LACKS_IN_WORDS[name];
-
-function whyWrong(name, word) {
-  const why = BREAK_LEVELS[name].others?.[word] ?? "that is not so in this list";
-  return `No: ${why}. Look for the line of the code that this list executes differently.`;
-}
-
-function titleOfLevel(name) {
-  const grade = GRADES[BREAK_LEVELS[name].grade];
-  return grade === undefined ? "To think about" : `Level ${numberOf(name)} of ${counted.length} · ${grade}`;
-}
-
-function drawBreakMap() {
-  const broken = new Set(brokenLines().map(([name]) => name));
-  setProgress("nav-break", counted.filter((name) => broken.has(name)).length, counted.length);
-  const card = (name) => {
-    const isDone = broken.has(name);
-    const { grade, story } = BREAK_LEVELS[name];
-    const number = isDone ? "✓" : grade < GRADES.length ? numberOf(name) : "?";
-    const parts = [tag("span", { class: "number" }, number), tag("b", {}, LISTS[LACKING[name]].name)];
-    const words = tag("small", {}, escaped(isDone ? wordOf(name) : story));
-    return tag("li", {}, tag("a", { href: addressOfLevel(name), class: isDone ? "done" : "" }, ...parts, words));
-  };
-  const group = (title, names) => `<h2>${title}</h2>${tag("ol", { class: "cards" }, ...names.map(card))}`;
-  const groups = GRADES.map((title, grade) => group(title, ORDER.filter((name) => BREAK_LEVELS[name].grade === grade)));
-  const rest = group("To think about", ORDER.filter((name) => !counted.includes(name)));
-  byId("map-break").innerHTML = `<h1>Break a list</h1><p class="lead">Each of these lists lacks one check of the correct list. Choose the steps of the
-    threads until no order of the calls explains their replies. Then say which check is missing.</p>${groups.join("")}${rest}`;
-}
-
-function fillBreaks() {
-  const broken = new Set(brokenLines().map(([name]) => name));
-  const textOf = (name) => `${broken.has(name) ? "✓ " : ""}${titleOfLacking(name)}`;
-  byId("break-options-list").replaceChildren(...Object.keys(LACKING).map((name) => new Option(textOf(name), `${BREAK}${name}`)));
-  drawBreakMap();
-}
-
-function openLevel(number) {
-  const name = ORDER[number - 1];
-  if (name === undefined) throw new AddressFault(`there is no level ${number}`);
-  openLacking(name, startOfLacking(name));
-  forgetBefore();
-  return true;
-}
-
-function showTaskOfBreak() {
-  const at = ORDER.indexOf(page.lacks);
-  const to = (index) => (ORDER[index] === undefined ? null : addressOfLevel(ORDER[index]));
-  return { before: to(at - 1), all: ["#break", "All levels"], next: to(at + 1) };
-}
-return { ORDER, numberOf, addressOfLevel, wordOf, whyWrong, titleOfLevel, drawBreakMap, fillBreaks, openLevel, showTaskOfBreak };
-})();
-
-// run/recorded.js
-const $run_recorded = (() => {
-const { CAUSES_OF_CALLS } = $run_faults;
-const { nameOfCall } = $run_judged;
-const { firstCalls, refusalIn } = $run_refusal;
-const RECORDED_EXAMPLE = `listset-calls 1
-opening 8
-call 0 add 5 1 4 true
-call 1 add 5 2 3 true
-call 2 remove 8 5 6 true
-key 5
-end
-`;
-
-const MOST_DRAWN = 40; // calls of a right recording
-
-const withNewline = (text) => (text === "" || text.endsWith("\n") ? text : `${text}\n`);
-
-const recordedInWords = (call) =>
-  call.ended === null
-    ? `${nameOfCall(call)}, begun at ${call.begun}, is pending`
-    : `${nameOfCall(call)} answers ${call.reply}, from ${call.begun} to ${call.ended}`;
-
-const sentence = (line) => `${line[0].toUpperCase()}${line.slice(1)}.`;
-
-function okInWords(count, lines) {
-  const calls = count === 1 ? "this one call" : `these ${count.toLocaleString("en")} calls`;
-  const isCutOff = lines.some((line) => line.startsWith("the recording was cut off"));
-  const keys = isCutOff ? ", whatever keys it leaves" : " and leaves the keys";
-  return `Linearizable: an order explains ${calls}${keys}. It says nothing of other runs.`;
-}
-
-function verdictOfOk(count, lines, text) {
-  const drawn = count > MOST_DRAWN ? [`the first ${MOST_DRAWN} calls are drawn`] : [];
-  return {
-    kind: "ok",
-    says: okInWords(count, lines),
-    reasons: [...lines, ...drawn].map(sentence),
-    calls: firstCalls(text, MOST_DRAWN),
-    from: null,
-  };
-}
-
-function verdictOfRefusal({ key, isLeft, since, is, told }, text) {
-  const reasons = told.map(({ line, calls }) => sentence([line, calls.map(recordedInWords).join("; ")].join(" ").trim()));
-  const has = new RegExp(`^key ${key}$`, "m").test(text) ? "has it" : "does not have it";
-  return {
-    kind: "none",
-    says: `Not linearizable: no order at all explains these calls${isLeft ? " and leaves the keys" : ""}.`,
-    reasons: isLeft ? [...reasons, `At the end the set ${has}.`] : reasons,
-    calls: told.flatMap(({ calls }) => calls),
-    from: since === null ? null : { moment: BigInt(since), says: `the key is ${is}` },
-  };
-}
-
-function troubleInWords(line) {
-  const cause = /^listset: line \d+: (\w+)$/.exec(line)?.[1];
-  return Object.hasOwn(CAUSES_OF_CALLS, cause) ? `${line}: ${CAUSES_OF_CALLS[cause]}.` : line;
-}
-
-function verdictOnCalls(answer, text) {
-  const [first, ...lines] = answer.trimEnd().split("\n");
-  const count = /^ok (\d+) calls$/.exec(first)?.[1];
-  if (count !== undefined) return verdictOfOk(Number(count), lines, text);
-  const refusal = first === "not linearizable" ? refusalIn(lines) : null;
-  if (refusal !== null) return verdictOfRefusal(refusal, text);
-  return { kind: "fault", says: troubleInWords(first), reasons: [], calls: [], from: null };
-}
-return { RECORDED_EXAMPLE, withNewline, recordedInWords, verdictOnCalls };
-})();
-
-// draw/judged.js
-const $draw_judged = (() => {
-const { placeLabels, ROW_HEIGHT, signOf, widthOf } = $draw_labels;
-const { lastMoment, nameOfCall } = $run_judged;
-const { callText, chipOf, colourOf, escaped, label, tag, title } = $run_markup;
-const { recordedInWords } = $run_recorded;
-const JUDGE_LEFT = 50;
-const JUDGE_RIGHT = 20;
-const JUDGE_BAR = 30;
-const JUDGE_BELOW = 8; // pixels between a bar and the labels of the next lane
-const MOST_ROWS = 3; // of labels
-const SLOT_WIDTH = 60; // of the words of a point
-
-const leftOf = ({ begun }, { x, step }) => x(begun) - step / 2;
-const rightOf = (call, { x, step, last }) => x(call.ended ?? last) + step / 2;
-
-function widthOfCall(call) {
-  if (call.ended === null) return widthOf(callText(call), OPEN);
-  const replies = [call.reply ?? "", ...(call.operation === "ceiling" ? ["nothing"] : ["false"])];
-  return Math.max(...replies.map((reply) => widthOf(callText(call), reply)));
-}
-
-function judgeScale({ last, threads, calls }, width) {
-  const step = (width - JUDGE_LEFT - JUDGE_RIGHT) / last;
-  const across = { step, last, x: (moment) => JUDGE_LEFT + (moment - 0.5) * step };
-  const labels = new Map();
-  for (let thread = 0; thread < threads; thread++) {
-    const own = calls.filter((call) => call.thread === thread).sort((one, other) => one.begun - other.begun);
-    const items = own.map((call) => ({ left: leftOf(call, across), right: rightOf(call, across), wide: widthOfCall(call) }));
-    placeLabels(items, { start: 2, edge: width, mostRows: MOST_ROWS }).forEach((place, at) => labels.set(own[at].id, place));
-  }
-  const above = ROW_HEIGHT * Math.max(1, ...[...labels.values()].map((place) => (place?.row ?? 0) + 1)) + 4;
-  const lane = above + JUDGE_BAR + JUDGE_BELOW;
-  return {
-    ...across,
-    width,
-    labels,
-    height: 4 + threads * lane,
-    y: (thread) => 2 + thread * lane + above + JUDGE_BAR / 2,
-    momentAt: (x) => (x - JUDGE_LEFT) / step + 0.5,
-  };
-}
-
-const momentInWords = (at) => (Number.isInteger(at) ? `at ${at}` : `after ${Math.floor(at)}`);
-
-function drawJudgedLane(scale, place, thread = place) {
-  const y = scale.y(place);
-  const badge = tag("rect", { x: 2, y: y - 10, width: 38, height: 20, rx: 4 }) + label({ x: 21, y: y + 5 }, `t${thread}`);
-  const lane = { class: "lane", x1: JUDGE_LEFT - 6, x2: scale.width - JUDGE_RIGHT, y1: y, y2: y };
-  return tag("line", lane) + tag("g", { class: `badge ${colourOf(thread)}` }, badge);
-}
-
-const OPEN = "(pending)";
-const saidOf = (call, answer) => (call.ended === null ? OPEN : (answer.replyOf(call) ?? "?"));
-
-function drawJudgedCall(call, { answer, exercise, verdict, scale }) {
-  const y = scale.y(call.thread);
-  const point = answer.points.get(call.id);
-  const reply = saidOf(call, answer);
-  const isClash = verdict?.clash === call.id;
-  const where = point === undefined ? "not placed yet" : momentInWords(point.at);
-  const slider = {
-    role: "slider",
-    tabindex: 0,
-    "data-call": call.id,
-    "aria-label": `where ${nameOfCall(call)}, ${reply === "?" ? "its reply not said yet" : reply}, takes effect`,
-    "aria-valuemin": call.begun,
-    "aria-valuemax": lastMoment(exercise, call),
-    "aria-valuenow": point?.at ?? call.begun,
-    "aria-valuetext": `${where}${isClash ? ", and clashes there" : ""}`,
-    class: `bar own ${colourOf(call.thread)}${isClash ? " clash" : ""}${call.ended === null ? " open" : ""}`,
-  };
-  const bar = drawJudgedBar(call, reply, scale, y);
-  return tag("g", slider, bar, point === undefined ? "" : drawOwnPoint(call, point.at, y, scale));
-}
-
-function drawJudgedBar(call, reply, scale, y) {
-  const [left, right] = [leftOf(call, scale), rightOf(call, scale)];
-  const rect = { x: left, y: y - JUDGE_BAR / 2, width: Math.max(right - left, 12), height: JUDGE_BAR, rx: 4 };
-  const { x, row } = scale.labels.get(call.id) ?? { x: left, row: null };
-  const above = { class: "call", x, y: y - JUDGE_BAR / 2 - 5 - ROW_HEIGHT * (row ?? 0) };
-  const words = row === null ? signOf(call) : callText(call) + tag("tspan", { class: "reply" }, ` ${escaped(reply)}`);
-  return tag("rect", rect) + tag("text", above, words);
-}
-
-const frameOf = ({ width, height }) => ({ width, height, viewBox: `0 0 ${width} ${height}` });
-
-function drawRecorded(calls, from, width) {
-  const inOrder = (numbers) => [...new Set(numbers)].sort((one, other) => (one < other ? -1 : 1));
-  const threads = inOrder(calls.map(({ thread }) => thread));
-  const ends = calls.flatMap(({ begun, ended }) => (ended === null ? [begun] : [begun, ended]));
-  const moments = inOrder(from === null ? ends : [...ends, from.moment]);
-  const momentOf = (at) => (at === null ? null : moments.indexOf(at) + 1);
-  const laneOf = ({ thread }) => threads.indexOf(thread);
-  const placed = calls.map((call, id) => ({ ...call, id, thread: laneOf(call), begun: momentOf(call.begun), ended: momentOf(call.ended) }));
-  const scale = judgeScale({ calls: placed, last: moments.length + 1, threads: threads.length }, width);
-  const bars = placed.map((call) => {
-    const bar = drawJudgedBar(call, call.reply ?? OPEN, scale, scale.y(call.thread));
-    const still = { class: `bar own still ${colourOf(threads[call.thread])}${call.ended === null ? " open" : ""}` };
-    return tag("g", still, title(recordedInWords(calls[call.id])), bar);
-  });
-  const lanes = threads.map((thread, at) => drawJudgedLane(scale, at, thread));
-  const below = from === null ? 0 : ROW_HEIGHT;
-  const frame = { ...frameOf({ ...scale, height: scale.height + below }), role: "img", "aria-label": calls.map(nameOfCall).join(", ") };
-  return tag("svg", frame, ...lanes, from === null ? "" : drawFrom(from.says, scale, momentOf(from.moment)), ...bars);
-}
-
-function drawFrom(says, { x, step, width, height }, moment) {
-  const at = x(moment) + step / 2;
-  const anchor = at > width / 2 ? { x: at - 6, "text-anchor": "end" } : { x: at + 6 };
-  const words = label({ class: "note", y: height + ROW_HEIGHT - 4, ...anchor }, says);
-  return tag("line", { class: "cursor", x1: at, x2: at, y1: 0, y2: height + ROW_HEIGHT }) + words;
-}
-
-function drawOwnPoint(call, at, y, scale) {
-  const x = scale.x(at);
-  const stem = tag("line", { x1: x, x2: x, y1: y - 15, y2: y + 15 });
-  const beside = x + SLOT_WIDTH > scale.width ? { x: x - 11, "text-anchor": "end" } : { x: x + 11 };
-  const words = label({ ...beside, y: y + 5 }, momentInWords(at));
-  return tag("g", { class: `point own ${colourOf(call.thread)}` }, stem, tag("circle", { cx: x, cy: y, r: 8 }), words);
-}
-
-function drawJudged(judged) {
-  const { exercise, scale, moment } = judged;
-  const lanes = Array.from({ length: exercise.threads }, (_, thread) => drawJudgedLane(scale, thread));
-  const at = exercise.level === "claim" ? moment : judged.count;
-  const line = { class: "cursor", x1: scale.x(at), x2: scale.x(at), y1: 0, y2: scale.height };
-  const frame = { ...frameOf(scale), role: "group", "aria-label": "the calls, each with a point to place" };
-  const calls = exercise.calls.map((call) => drawJudgedCall(call, judged));
-  return tag("svg", frame, ...lanes, at === 0 ? "" : tag("line", line), ...calls);
-}
-
-function drawOwnOrder(answer) {
-  const { calls } = answer.exercise;
-  const placed = answer.order().map(({ call, at, reply }) => {
-    return `<li>${chipOf(call.thread)} ${callText(call)} <b>${escaped(reply ?? "?")}</b> <small>${momentInWords(at)}</small></li>`;
-  });
-  const others = calls.filter(({ id }) => !answer.points.has(id)).map((call) => {
-    return `<li class="later">${chipOf(call.thread)} ${callText(call)} <small>not placed yet</small></li>`;
-  });
-  return `<ol>${placed.join("")}${others.join("")}</ol>`;
-}
-
-function momentOfReport({ calls, last }, moment) {
-  if (moment === 0) return `Before the first of ${last} moments.`;
-  const begun = calls.find((call) => call.begun === moment);
-  const ended = calls.find((call) => call.ended === moment);
-  if (begun !== undefined) return `Moment ${moment}: ${chipOf(begun.thread)} begins ${callText(begun)}.`;
-  if (ended !== undefined) return `Moment ${moment}: ${chipOf(ended.thread)} ${callText(ended)} answers <b>${ended.reply}</b>.`;
-  const open = calls.filter((call) => call.begun < moment && (call.ended ?? Infinity) > moment);
-  const names = open.map((call) => `${callText(call)} of ${chipOf(call.thread)}`);
-  return `Moment ${moment}: a step. ${names.length === 0 ? "No call is pending." : `Pending: ${names.join(", ")}.`}`;
-}
-return { judgeScale, drawRecorded, drawJudged, drawOwnOrder, momentOfReport };
-})();
-
-// activities/judging.js
-const $activities_judging = (() => {
-const { CLASSICS } = $made_classics;
-const { drawJudged, drawOwnOrder, judgeScale, momentOfReport } = $draw_judged;
-const { byId, redraw } = $page_dom;
-const { keepUnder, keptUnder } = $page_kept;
-const { askNow, isJudging, page, show, tell } = $page_now;
-const { addressOf } = $run_address;
-const { exerciseOf, LEVELS, MOST_JUDGED, OwnAnswer, repliesOf, verdictOn, wordOfAnswer } = $run_judged;
-const { callText, chipOf, escaped } = $run_markup;
-const JUDGED = "listset-judged"; // in the browser's storage: of each run and level the order that was right
-
-const HALF_STEPS = { ArrowLeft: -0.5, ArrowDown: -0.5, ArrowRight: 0.5, ArrowUp: 0.5 };
-const SLIDER_KEYS = { ...HALF_STEPS, PageDown: -5, PageUp: 5, Home: -Infinity, End: Infinity };
-const judgePart = (name) => byId(`judge-${name}`);
-
-class Judging {
-  begin(level) {
-    if (page.lacks !== null) return this.take(exerciseOf(page.verdict.report, "claim", false));
-    const broken = page.example === "" ? null : askNow("listset_broken_example", page.example);
-    const isBroken = level === "claim" && broken?.status === 0 && Math.random() < 0.5;
-    const report = isBroken ? broken : askNow("listset_replay", page.text);
-    if (report.status === 0) this.take(exerciseOf(report.text, level, !isBroken));
-    else tell(`This run cannot be judged: ${escaped(report.text.trim())}.`);
-  }
-
-  take(exercise) {
-    page.exercise = exercise;
-    Object.assign(this, { exercise, answer: new OwnAnswer(exercise) });
-    Object.assign(this, { held: null, verdict: null, tries: 0, moment: 0, told: LEVELS[exercise.level].task });
-    document.body.classList.toggle("claim", exercise.level === "claim");
-    document.body.classList.add("judging");
-    if (page.lacks === null) judgePart("level").value = exercise.level;
-    show();
-  }
-
-  end() {
-    page.exercise = null;
-    document.body.classList.remove("judging", "claim");
-  }
-
-
-  callAt(event) {
-    const id = event.target.closest("[data-call]")?.dataset.call;
-    return id === undefined ? null : this.exercise.calls[Number(id)];
-  }
-
-  grasp(event) {
-    const call = this.callAt(event);
-    if (call === null) return;
-    event.preventDefault();
-    judgePart("bars").setPointerCapture(event.pointerId);
-    this.held = call;
-    this.drag(event);
-  }
-
-  drag(event) {
-    const left = judgePart("bars").firstElementChild.getBoundingClientRect().left;
-    this.place(this.held, this.scale.momentAt(event.clientX - left));
-  }
-
-  place(call, at) {
-    this.answer.place(call, at);
-    this.changed();
-    judgePart("bars").querySelector(`[data-call="${call.id}"]`).focus();
-  }
-
-  press(event) {
-    const call = this.callAt(event);
-    const by = SLIDER_KEYS[event.key];
-    if (call === null || event.ctrlKey || event.altKey || event.metaKey) return;
-    if (event.key === "Delete" || event.key === "Backspace") {
-      this.answer.take(call);
-      this.changed();
-    } else if (by === undefined) return;
-    else this.place(call, this.answer.points.has(call.id) ? this.answer.points.get(call.id).at + by : call.begun);
-    event.preventDefault();
-  }
-
-  say(call, reply) {
-    this.answer.say(call, reply);
-    this.changed();
-  }
-
-  changed() {
-    this.verdict = null;
-    this.draw();
-  }
-
-  judge(isNone) {
-    this.answer.isNone = isNone;
-    this.verdict = verdictOn(askNow, this.answer);
-    if (this.verdict.isRight === false) this.tries++;
-    if (this.verdict.isRight && this.exercise.isWhole) this.keep();
-    this.answer.isNone = false;
-    this.draw();
-    judgePart("verdict").scrollIntoView({ block: "nearest" });
-  }
-
-  keep() {
-    const run = page.example === "" ? addressOf(page.text, page.count) : page.example;
-    this.line = `judge ${run} ${this.exercise.level} ${wordOfAnswer(this.answer)}`;
-    if (run !== null) keepUnder(JUDGED, { ...keptUnder(JUDGED), [`${run} ${this.exercise.level}`]: this.line });
-  }
-
-
-  draw() {
-    const { level, calls } = this.exercise;
-    this.count = page.count;
-    this.scale = judgeScale(this.exercise, Math.max(300, judgePart("bars").clientWidth));
-    judgePart("task").textContent = this.told;
-    judgePart("none").hidden = level !== "claim";
-    redraw(judgePart("bars"), drawJudged(this));
-    const asked = level === "replies" ? calls.filter((call) => call.ended !== null) : [];
-    redraw(judgePart("replies"), asked.map((call) => this.replyBox(call)));
-    judgePart("order").innerHTML = drawOwnOrder(this.answer);
-    this.drawMoment();
-    this.drawVerdict();
-  }
-
-  replyBox(call) {
-    const choice = document.createElement("select");
-    choice.dataset.call = call.id;
-    choice.append(new Option("?", ""), ...repliesOf(this.exercise, call).map((reply) => new Option(reply, reply)));
-    choice.value = this.answer.replies.get(call.id) ?? "";
-    choice.onchange = () => this.say(call, choice.value === "" ? undefined : choice.value);
-    const box = document.createElement("label");
-    box.innerHTML = `${chipOf(call.thread)} ${callText(call)} answers `;
-    box.append(choice);
-    return box;
-  }
-
-  drawMoment() {
-    const slider = judgePart("moment");
-    const said = momentOfReport(this.exercise, this.moment);
-    Object.assign(slider, { max: this.exercise.last, value: this.moment });
-    slider.setAttribute("aria-valuetext", said.replace(/<[^>]*>/g, ""));
-    judgePart("said").innerHTML = said;
-  }
-
-  drawVerdict() {
-    const { verdict, tries } = this;
-    const kind = { true: "right", false: "wrong" }[verdict?.isRight] ?? "";
-    judgePart("verdict").className = kind;
-    judgePart("verdict").textContent = verdict?.says ?? "";
-    judgePart("tries").textContent = tries === 0 ? "" : `${tries} ${tries === 1 ? "try" : "tries"} refused`;
-    judgePart("hint").textContent = kind === "wrong" && tries >= 2 && this.exercise.level !== "claim" ? hintOfRun() : "";
-    const isKept = kind === "right" && this.exercise.isWhole;
-    judgePart("line").innerHTML = isKept ? `Kept; you hand it in with the lessons: <code>${escaped(this.line)}</code>` : "";
-    const drawn = verdict?.report == null ? "" : askNow("listset_show_svg", verdict.report).text;
-    judgePart("picture-box").hidden = !drawn.startsWith("<svg ");
-    judgePart("picture").innerHTML = judgePart("picture-box").hidden ? "" : drawn;
-  }
-}
-
-const judging = new Judging();
-const drawJudging = () => isJudging() && judging.draw();
-
-function endJudging() {
-  if (!isJudging()) return;
-  judging.end();
-  if (byId("judge").contains(document.activeElement)) byId("judge-begin").focus();
-}
-
-function hintOfRun() {
-  const turns = CLASSICS[page.example]?.turns;
-  if (turns !== undefined) return `The deciding events: ${turns.join(", ")}.`;
-  const changes = page.trace.changes.map(({ number }) => number);
-  return changes.length === 0 ? "No event changes the set." : `The set changes at the events ${changes.join(", ")}.`;
-}
-
-function beginJudging() {
-  const { trace } = page;
-  if (page.engine === null) return tell("The replayer does not run in this browser: nothing can be judged.");
-  if (!page.isRun || trace.refused !== null) return tell("A run with a refused event cannot be judged: delete the red line of the schedule first.");
-  if (trace.calls.length === 0) return tell("There is no call to judge yet.");
-  if (trace.total > MOST_JUDGED) return tell(`A run of at most ${MOST_JUDGED} events can be judged; this one has ${trace.total}.`);
-  if (page.lacks !== null && page.verdict.report === null) return tell(escaped(page.verdict.says));
-  tell("");
-  judging.begin(judgePart("level").value);
-  judgePart("level").focus();
-}
-
-function listenToJudging() {
-  byId("judge-begin").onclick = beginJudging;
-  judgePart("level").append(...Object.entries(LEVELS).map(([level, { name }]) => new Option(name, level)));
-  judgePart("level").value = "replies";
-  judgePart("level").onchange = judgePart("again").onclick = () => judging.begin(judgePart("level").value);
-  judgePart("ask").onclick = () => judging.judge(false);
-  judgePart("none").onclick = () => judging.judge(true);
-  judgePart("moment").oninput = () => {
-    judging.moment = Number(judgePart("moment").value);
-    judging.draw();
-  };
-  judgePart("end").onclick = () => {
-    endJudging();
-    show();
-  };
-  const bars = judgePart("bars");
-  bars.onpointerdown = (event) => judging.grasp(event);
-  bars.onpointermove = (event) => judging.held !== null && judging.drag(event);
-  bars.onpointerup = bars.onpointercancel = () => (judging.held = null);
-  bars.onkeydown = (event) => judging.press(event);
-}
-return { JUDGED, judging, drawJudging, endJudging, beginJudging, listenToJudging };
-})();
-
-// activities/break_level.js
-const $activities_break_level = (() => {
-const { CLASSICS, LACKING } = $made_classics;
-const { addressOfLevel, fillBreaks, numberOf, openLevel, ORDER, titleOfLevel, whyWrong, wordOf } = $activities_break_map;
-const { brokenLines, isNamed, isShownBreak, keepBrokenLine, keepNamed, noteShown } = $activities_broken_kept;
-const { beginJudging } = $activities_judging;
-const { BREAK_LEVELS, GRADES } = $data_levels;
-const { byId, redraw, setAble, setHidden } = $page_dom;
-const { exampleText } = $page_example;
-const { askNow, goTo, page, tellLine } = $page_now;
-const { goByHand } = $page_play;
-const { openLacking } = $page_work;
-const { addressOf } = $run_address;
-const { departureOf, isTaskDone, NO_TASK, verdictOnLacking } = $run_broken;
-const { escaped, tag } = $run_markup;
-const { scheduleOfTrace, versionOf } = $run_schedule_text;
-const { isTrace, Trace } = $run_trace;
-const MOST_BROKEN = 1000; // events of a run that is judged
-const level = { lacks: null, trace: null, hints: 0, wrong: new Set() };
-
-function showBreaking() {
-  const { trace } = page;
-  byId("break-box").hidden = trace.lacks === null;
-  document.body.classList.remove("won");
-  if (trace.lacks === null) byId("break-win").hidden = true;
-  if (trace.lacks === null) return;
-  if (level.trace === trace) return drawLevel(trace, page.verdict);
-  level.trace = trace;
-  page.verdict = verdictOfRun(trace);
-  if (isTaskDone(trace.lacks, page.verdict)) keepBroken(trace);
-  drawBreaking(trace, page.verdict);
-}
-
-function verdictOfRun(trace) {
-  if (trace.refused !== null) return { kind: "refused", says: "The schedule is refused: take the red line out first." };
-  if (trace.total > MOST_BROKEN) return { kind: "refused", says: `Judged are at most ${MOST_BROKEN} events: this run has ${trace.total}.` };
-  return verdictOnLacking(askNow, trace.lacks, scheduleOfTrace(trace));
-}
-
-function keepBroken(trace) {
-  const schedule = scheduleOfTrace(trace);
-  const address = addressOf(schedule, trace.total);
-  const isKept = brokenLines().some(([name]) => name === trace.lacks);
-  if (address === null || isKept || isShownBreak(trace.lacks, schedule)) return;
-  keepBrokenLine(trace.lacks, `break ${trace.lacks} ${address}`);
-  fillBreaks();
-}
-
-function drawBreaking(trace, verdict) {
-  const { lacks } = trace;
-  drawDeparture(verdict.kind === "broken");
-  drawLevel(trace, verdict);
-  document.body.classList.toggle("refuted", verdict.kind === "broken");
-  const line = Object.fromEntries(brokenLines())[lacks];
-  byId("break-line").innerHTML = line === undefined ? "" : `Kept; you hand it in with the lessons: <code>${escaped(line)}</code>`;
-}
-
-function drawDeparture(isBroken) {
-  const found = isBroken && isNamed(page.lacks) ? departureOf(askNow, page.trace) : null;
-  byId("break-departs").hidden = found === null;
-  if (found === null) return;
-  byId("break-event").textContent = `event ${found.event}`;
-  byId("break-event").dataset.event = found.event;
-  byId("break-here").innerHTML = found.here;
-  byId("break-whole").innerHTML = found.whole;
-}
-
-
-const TO_DO = "· Run the threads until no order of the calls explains their replies.";
-const HOLDS = "Not broken yet.";
-const won = (says, why) => ({ kind: "won", says, why });
-const holds = (says, why = "") => ({ kind: "holds", says, why });
-
-function stateOf(trace, verdict) {
-  const { lacks } = trace;
-  const isPoints = verdict.kind === "points";
-  const isBroken = verdict.kind === "broken";
-  if (verdict.kind === "refused") return holds(verdict.says);
-  if (isBroken && isShownBreak(lacks, scheduleOfTrace(trace))) return stateOfShown(verdict);
-  if (isPoints && lacks === NO_TASK) {
-    return holds("Refused by its linearization points, and not broken.", "Another order explains these replies. Why is there always one?");
-  }
-  if (isBroken) return won("Broken!", reasonOf(verdict));
-  const isAnswered = trace.calls.some(({ ended }) => ended !== null);
-  if (!isAnswered) return { kind: "", says: "No call has ended yet.", why: "Let a thread begin a call, and step on." };
-  const explained = "Some order explains all replies so far.";
-  return holds(HOLDS, isPoints ? verdict.says.replace("Not by its points: check refuses", "check refuses") : explained);
-}
-
-const reasonOf = ({ says }) => says.replace(/^Broken: /, "").replace(/the set (has|does not have) it/, "the list $1 it");
-
-function stateOfShown(verdict) {
-  if (page.count < page.trace.total) return { kind: "shown", says: "Step on, and watch.", why: "At the end the page says why it is broken." };
-  const why = `${reasonOf(verdict)} This schedule was shown to you and does not count: find one of your own.`;
-  return { kind: "shown", says: "Broken, as shown.", why };
-}
-
-
-function drawLevel(trace, verdict) {
-  const name = trace.lacks;
-  if (level.lacks !== name) Object.assign(level, { lacks: name, hints: 0, wrong: new Set() });
-  const { story, grade } = BREAK_LEVELS[name];
-  const shown = stateOf(trace, verdict);
-  const isWon = shown.kind === "won";
-  byId("break-story").textContent = story;
-  byId("break-title").textContent = titleOfLevel(name);
-  byId("break-question").textContent = GRADES[grade] === undefined ? "" : TO_DO;
-  byId("break-state").className = shown.kind;
-  if (byId("break-verdict").textContent !== shown.says) byId("break-verdict").textContent = shown.says; // a reader hears it once
-  byId("break-why").textContent = shown.why;
-  byId("break-judge").hidden = verdict.kind !== "points";
-  drawHints(name, isWon);
-  byId("break-win").hidden = !isWon;
-  document.body.classList.toggle("won", isWon);
-  if (isWon) drawWin(trace);
-}
-
-function drawHints(name, isWon) {
-  const { hints } = BREAK_LEVELS[name];
-  const isLeft = level.hints < hints.length;
-  setHidden(byId("break-hint"), isWon, byId("break-again"));
-  byId("break-hint").textContent = isLeft ? `Hint ${level.hints + 1} of ${hints.length}` : "No more hints";
-  setAble("break-hint", isLeft);
-  const items = hints.slice(0, level.hints).map((hint) => tag("li", {}, escaped(hint)));
-  if (byId("break-hints").children.length !== items.length) byId("break-hints").innerHTML = items.join("");
-}
-
-function drawWin({ lacks, total, calls }) {
-  const { shortest } = BREAK_LEVELS[lacks];
-  const own = `${total} events, ${calls.length} ${calls.length === 1 ? "call" : "calls"}`;
-  const isShorter = shortest !== null && total < shortest[0];
-  const best = shortest === null ? "" : isShorter ? `That is shorter than the shortest one known, of ${shortest[0]} events.` : `The shortest one known has ${shortest[0]} events.`;
-  byId("break-count").innerHTML = `You did it with <b>${own}</b>. ${best}`;
-  const next = ORDER[ORDER.indexOf(lacks) + 1];
-  byId("break-next").hidden = next === undefined;
-  if (next !== undefined) byId("break-next").href = addressOfLevel(next);
-  byId("break-next").classList.toggle("primary", isNamed(lacks));
-  drawAsk(lacks);
-}
-
-function drawAsk(name) {
-  const kin = ORDER.filter((other) => LACKING[other] === LACKING[name]);
-  const words = [...new Set([...kin.map(wordOf), ...Object.keys(BREAK_LEVELS[name].others ?? {})])].sort();
-  const isTold = isNamed(name);
-  const button = (word) => {
-    const kind = isTold ? "right" : level.wrong.has(word) ? "wrong" : "";
-    const unable = kind === "" ? {} : { "aria-disabled": "true" };
-    return tag("button", { "data-word": word, class: kind, ...unable }, escaped(word));
-  };
-  redraw(byId("break-options"), words.filter((word) => !isTold || word === wordOf(name)).map(button).join(""));
-  if (isTold) byId("break-told").textContent = "Right. That check is missing.";
-  else if (level.wrong.size === 0) byId("break-told").textContent = "";
-}
-
-function answerAsk(word) {
-  const name = page.lacks;
-  if (word === wordOf(name)) keepNamed(name);
-  else level.wrong.add(word);
-  drawBreaking(page.trace, page.verdict);
-  if (!isNamed(name)) byId("break-told").textContent = whyWrong(name, word);
-}
-
-
-function openWithoutCheck() {
-  const [name] = CLASSICS[page.example].lacks;
-  const example = exampleText(page.example);
-  const { text } = askNow("listset_trace_lacking", name, example);
-  if (!isTrace(text)) return tellLine(text.trim());
-  const schedule = scheduleOfTrace(new Trace(text, versionOf(example)));
-  noteShown(name, schedule);
-  openLacking(name, schedule, "The same schedule, on a list without the check. Press Step.");
-  const departs = departureOf(askNow, page.trace);
-  if (departs !== null) goTo(departs.event - 1);
-}
-
-function listenToBreaking() {
-  byId("see-broken").onclick = openWithoutCheck;
-  byId("break-judge").onclick = beginJudging;
-  byId("break-event").onclick = () => goByHand(Number(byId("break-event").dataset.event));
-  byId("break-again").onclick = () => openLevel(numberOf(page.lacks));
-  byId("break-options").onclick = ({ target }) => target.dataset.word !== undefined && answerAsk(target.dataset.word);
-  byId("break-hint").onclick = () => {
-    level.hints = Math.min(level.hints + 1, BREAK_LEVELS[page.lacks].hints.length);
-    drawLevel(page.trace, page.verdict);
-    byId("break-hints").scrollIntoView({ block: "nearest" });
-  };
-}
-return { showBreaking, listenToBreaking };
-})();
-
-// page/steps.js
-const $page_steps = (() => {
-const { askNow, page, tell } = $page_now;
-const { goOn } = $page_work;
-const { askList } = $run_broken;
-const { MOST_TRIED, scheduleOfDraft } = $run_draft;
-const { callText, chipOf, escaped } = $run_markup;
-const { scheduleAndLine } = $run_schedule_text;
-const { isFailed, isLock, mono } = $run_sentences;
-const { isTrace, Trace } = $run_trace;
-const isAtRest = (thread) => page.state.threads[thread].pc === 0;
-const tellRest = (thread) => tell(`${chipOf(thread)} is idle: let it begin a call first, with its buttons below.`);
-
-function oneStep(thread) {
-  if (isAtRest(thread)) tellRest(thread);
-  else goOn(`go ${thread} 1`);
-}
-
-function stepsToEnd(thread, told = `ended ${callText(page.state.threads[thread].call ?? {})}`) {
-  if (isAtRest(thread)) return tellRest(thread);
-  const { count, fault } = stepsOfDraft(`go ${thread} out`);
-  if (count === null) stepsToLock(thread, fault, "its call has not ended");
-  else goOn(`go ${thread} ${count}`, count, `${chipOf(thread)} ${told}.`);
-}
-
-function stepsToRow(thread, row) {
-  if (isAtRest(thread)) return tellRest(thread);
-  const { count, fault } = stepsOfDraft(`go ${thread} to ${row}`);
-  if (count !== null) goOn(`go ${thread} ${count}`, count, `${chipOf(thread)} is at row ${row}.`);
-  else if (fault.endsWith(": Idle")) stepsToEnd(thread, `ended its call before it came to row ${row}`);
-  else stepsToLock(thread, fault, `it has not come to row ${row}`);
-}
-
-function stepsOfDraft(line) {
-  const { text, fault } = scheduleOfDraft(askNow, scheduleAndLine(page.trace, page.count, line), page.lacks);
-  return fault === null ? { count: Number(text.trimEnd().split(" ").at(-1)), fault } : { count: null, fault };
-}
-
-function stepsToLock(thread, fault, notYet) {
-  const text = scheduleAndLine(page.trace, page.count, `go ${thread} ${MOST_TRIED}`);
-  const answer = askList(askNow, "listset_trace", page.lacks, text);
-  if (!fault.endsWith(": Waits") || !isTrace(answer.text)) {
-    return tell(`No step was made: ${escaped(fault)}.`);
-  }
-  const events = new Trace(answer.text).events().slice(page.count);
-  const waits = waitsAt(events);
-  const line = waits < events.length ? waitingText(thread, events[waits]) : `${chipOf(thread)} made ${events.length} steps`;
-  if (waits === 0) tell(`${line}, and ${notYet}.`);
-  else goOn(`go ${thread} ${waits}`, waits, `${line}, and ${notYet}.`);
-}
-
-function waitsAt(events) {
-  let first = events.length;
-  while (first > 0 && isFailed(events[first - 1]) && isLock(events[first - 1].word)) first--;
-  return first;
-}
-
-const waitingText = (thread, event) =>
-  `${chipOf(thread)} waits at row ${event.changes.pc} for the lock ${mono(event.word)}, which ${chipOf(Number(event.saw.slice(1)))} holds`;
-return { isAtRest, tellRest, oneStep, stepsToEnd, stepsToRow };
-})();
-
-// page/moves.js
-const $page_moves = (() => {
-const { LISTS } = $made_rows;
-const { byId, redraw } = $page_dom;
-const { page } = $page_now;
-const { oneStep, stepsToEnd, stepsToRow } = $page_steps;
-const { goOn } = $page_work;
-const { callText, chipOf, colourOf } = $run_markup;
-const { CALL_WORDS, MOST_NUMBER } = $run_trace;
-const chosenCalls = {}; // of each thread, the call that was last chosen for it
-const chosenRows = {}; // and the row to which it is to go
-const chosenOf = (thread) => (chosenCalls[thread] ??= { operation: "add", key: "5" });
-
-function drawMovesNow({ trace, state }) {
-  drawMoves(state, page.engine !== null);
-  const isLater = page.count < trace.total;
-  byId("moves-note").textContent = isLater ? `From event ${page.count} on; later events are dropped.` : "";
-}
-
-function drawMoves(state, isAble) {
-  const rows = state.threads.map((held, thread) => {
-    const row = document.createElement("div");
-    row.className = "row";
-    row.dataset.thread = thread;
-    row.classList.add(colourOf(thread));
-    row.setAttribute("role", "group");
-    row.setAttribute("aria-label", `thread ${thread}`);
-    row.innerHTML = chipOf(thread);
-    row.append(...(held.pc !== 0 ? stepControls(state, thread) : beginControls(thread)));
-    row.querySelectorAll("button, select, input").forEach((control) => (control.dataset.of = thread));
-    if (!isAble) row.querySelectorAll("button, select, input").forEach((control) => (control.disabled = true));
-    return row;
-  });
-  redraw(byId("moves"), rows);
-}
-
-function buttonOf(text, deed, title, onclick) {
-  const button = document.createElement("button");
-  Object.assign(button, { title, onclick });
-  button.innerHTML = text.replace(/\[(.*)\]/, '<span class="roomy">$1</span>');
-  button.setAttribute("aria-label", `${button.textContent}, thread ${title.match(/\d+/)[0]}`);
-  button.dataset.deed = deed;
-  return button;
-}
-
-function rowFor(state, thread) {
-  const held = state.threads[thread];
-  const { rows } = LISTS[state.trace.kind].calls[held.call.operation];
-  if (rows.includes(chosenRows[thread])) return chosenRows[thread];
-  return rows[(rows.indexOf(held.pc) + 1) % rows.length];
-}
-
-function stepControls(state, thread) {
-  const { calls, rows } = LISTS[state.trace.kind];
-  const held = state.threads[thread];
-  const row = document.createElement("select");
-  for (const number of calls[held.call.operation].rows) row.append(new Option(`${number} ${rows[number].step}`, number));
-  row.value = rowFor(state, thread);
-  row.dataset.deed = "row";
-  row.setAttribute("aria-label", `row of thread ${thread}`);
-  row.onchange = () => (chosenRows[thread] = Number(row.value));
-  const next = document.createElement("small");
-  next.textContent = `next: ${rows[held.pc]?.step ?? ""}`;
-  const untilRow = document.createElement("span");
-  const goUntil = () => stepsToRow(thread, Number(row.value));
-  untilRow.append(buttonOf("until[ row]", "until", `thread ${thread} until it is at this row (the keys r ${thread})`, goUntil), row);
-  const call = document.createElement("span");
-  Object.assign(call, { className: "call", textContent: callText(held.call) });
-  return [
-    call,
-    buttonOf("[one ]step", "one", `go ${thread} 1 (the key ${thread})`, () => oneStep(thread)),
-    buttonOf("to [its ]end", "end", `thread ${thread} to the end of its call (the keys e ${thread})`, () => stepsToEnd(thread)),
-    untilRow,
-    next,
-  ];
-}
-
-function beginControls(thread) {
-  const chosen = chosenOf(thread);
-  const operation = document.createElement("select");
-  for (const word of CALL_WORDS) operation.append(new Option(word));
-  operation.value = chosen.operation;
-  operation.setAttribute("aria-label", `call of thread ${thread}`);
-  operation.onchange = () => (chosen.operation = operation.value);
-  const key = document.createElement("input");
-  Object.assign(key, { type: "number", min: 0, max: MOST_NUMBER, value: chosen.key });
-  key.setAttribute("aria-label", `key of thread ${thread}'s call`);
-  key.oninput = () => (chosen.key = key.value);
-  const begin = () => goOn(`begin ${thread} ${chosen.operation} ${chosen.key}`);
-  return [operation, key, buttonOf("begin", "begin", `begin ${thread} ..`, begin)];
-}
-return { drawMovesNow, rowFor };
-})();
-
-// page/visit.js
-const $page_visit = (() => {
-const { keepWork } = $page_kept;
-const { page, tell } = $page_now;
-const { isAtMap, where } = $page_places;
-const { addressOf, exampleAddress, warningOf } = $run_address;
-const { escaped } = $run_markup;
-const MOMENT = 400; // milliseconds: the bar follows once nothing has moved for so long, since browsers refuse quick changes of it
-const visit = { timer: 0, text: null, isRead: false, naming: (address) => address };
-
-function ownAddress() {
-  const address = page.example === "" ? addressOf(page.text, page.count, page.lacks) : exampleAddress(page.example, page.count);
-  const placed = visit.naming(address);
-  return placed === null || page.view === null ? placed : `${placed}&view=${page.view}`;
-}
-
-function keepSoon() {
-  clearTimeout(visit.timer);
-  visit.timer = setTimeout(keepNow, MOMENT);
-}
-
-function keepNow() {
-  clearTimeout(visit.timer);
-  keepWork();
-  if (visit.isRead && page.isRun && page.text !== "" && !isAtMap()) setAddress();
-}
-
-function keepView() {
-  const parts = location.hash.slice(1).split("&").filter((part) => part !== "" && !part.startsWith("view="));
-  if (page.view !== null) parts.push(`view=${page.view}`);
-  const hash = parts.length === 0 ? "" : `#${parts.join("&")}`;
-  history.replaceState(history.state, "", location.pathname + location.search + hash);
-}
-
-function keepAddressOf(activity, address) {
-  clearTimeout(visit.timer);
-  const own = page.view === null ? address : `${address}&view=${page.view}`;
-  visit.timer = setTimeout(() => where.activity === activity && history.replaceState(null, "", own), MOMENT);
-}
-
-function setAddress() {
-  const address = ownAddress();
-  const isNew = visit.text !== null && visit.text !== page.text;
-  visit.text = page.text;
-  if (!isNew && location.hash === (address ?? "")) return;
-  const kept = address === null ? { text: page.text, count: page.count, lacks: page.lacks } : null;
-  const place = address ?? location.pathname + location.search;
-  try {
-    history[isNew ? "pushState" : "replaceState"](kept, "", place);
-  } catch {
-    history[isNew ? "pushState" : "replaceState"](null, "", place); // a state may be too large for a browser
-  }
-}
-
-const linkTo = (address) => location.href.replace(/#.*$/, "") + address;
-
-async function copyLink() {
-  const address = page.isRun ? ownAddress() : null;
-  if (address === null) return tell("This schedule has no link: it is refused, or too long for an address. Save it as a file.");
-  const link = linkTo(address);
-  const shown = `<code>${escaped(link)}</code>${warningOf(link)}`;
-  tell(`Copy this link: ${shown}`);
-  if (await copied(link)) tell(`The link is copied: ${shown}`);
-}
-
-async function copied(text) {
-  try {
-    await navigator.clipboard.writeText(text);
-    return true;
-  } catch {
-    return false;
-  }
-}
-return { visit, ownAddress, keepSoon, keepNow, keepView, keepAddressOf, linkTo, copyLink, copied };
-})();
-
-// page/keys.js
-const $page_keys = (() => {
-const { byId } = $page_dom;
-const { rowFor } = $page_moves;
-const { page, show, tell } = $page_now;
-const { isAtMap, setView, where } = $page_places;
-const { goByHand, goToTurn, togglePlay } = $page_play;
-const { isAtRest, oneStep, stepsToEnd, stepsToRow, tellRest } = $page_steps;
-const { keepView } = $page_visit;
-const { redo, undo } = $page_work;
-const ASKS = {
-  e: { told: "Steps to the end of a call: of which thread? Press its digit, or t and two digits.", deed: (thread) => stepsToEnd(thread) },
-  r: {
-    told: "Steps until the chosen row: of which thread? Press its digit, or t and two digits.",
-    deed: (thread) => stepsToRow(thread, rowFor(page.state, thread)),
-  },
-};
-const awaited = { deed: null, digits: null }; // digits: those of a thread from 10 on, as far as they are there
-
-const PLAIN_KEYS = { p: togglePlay, u: undo, y: redo, "?": toggleKeys };
-
-const keysOf = {}; // of an activity that has keys of its own, what they do
-
-function pressKey(event) {
-  if (/^(TEXTAREA|INPUT|SELECT)$/.test(event.target.tagName) && event.target.id !== "slider") return;
-  if (event.ctrlKey || event.metaKey || event.altKey || event.target.closest("[role=slider]") !== null) return;
-  if (event.key === "Escape" && page.view !== null) return toggleLecture();
-  if (where.activity in keysOf) return keysOf[where.activity](event);
-  if (isAtMap() && event.key !== "?") return;
-  const { total } = page.trace;
-  const far = page.view === "lecture" ? 1 : 10; // what a lecturer's pointer sends
-  const steps = { ArrowRight: 1, ArrowLeft: -1, PageDown: far, PageUp: -far, Home: -total, End: total };
-  if (event.key in steps) {
-    event.preventDefault();
-    if (event.shiftKey && event.key.startsWith("Arrow")) goToTurn(steps[event.key]);
-    else goByHand(page.count + steps[event.key]);
-  } else if (event.key === " " && !/^(BUTTON|SUMMARY|A)$/.test(event.target.tagName)) {
-    event.preventDefault();
-    togglePlay();
-  } else if (byId("single-keys").checked || event.key === "?") pressLetter(event);
-}
-
-function pressLetter(event) {
-  const { key } = event;
-  if (key in PLAIN_KEYS) {
-    event.preventDefault();
-    PLAIN_KEYS[key]();
-  } else if (page.engine === null) return;
-  else if (/^[0-9]$/.test(key)) return pressDigit(key);
-  else if (key in ASKS) return waitFor(key, null, ASKS[key].told);
-  else if (key === "t") return waitFor(awaited.deed, "", "Which thread? Press its two digits.");
-  waitFor(null, null, "");
-}
-
-function waitFor(deed, digits, told) {
-  Object.assign(awaited, { deed, digits });
-  if (told !== "") tell(told);
-}
-
-function pressDigit(digit) {
-  const digits = `${awaited.digits ?? ""}${digit}`;
-  if (awaited.digits !== null && digits.length < 2) return (awaited.digits = digits);
-  const thread = Number(digits);
-  const deed = ASKS[awaited.deed]?.deed ?? oneStep;
-  waitFor(null, null, "");
-  if (thread >= page.trace.threads) return tell(`There is no thread ${thread}.`);
-  if (isAtRest(thread)) return tellRest(thread);
-  deed(thread);
-}
-
-function toggleKeys() {
-  byId("key-help").hidden = !byId("key-help").hidden;
-  byId("keys").setAttribute("aria-expanded", String(!byId("key-help").hidden));
-}
-
-function toggleLecture() {
-  const isLeft = document.activeElement === byId("leave");
-  setView(page.view === null ? "lecture" : null);
-  keepView();
-  show();
-  if (isLeft) byId(where.activity === "compare" ? "sides-lecture" : "lecture").focus();
-}
-return { keysOf, pressKey, toggleKeys, toggleLecture };
-})();
-
-// run/sides.js
-const $run_sides = (() => {
-const { titleOf } = $run_schedule_text;
-const { State } = $run_state;
-const { isTrace, MOST_NUMBER, Trace } = $run_trace;
-const MOST_TURNS = 500;
-
-class ProgramFault extends Error {}
-
-function readProgram(text) {
-  const program = [];
-  for (const line of text.split("\n").filter((one) => one.trim() !== "")) {
-    const [, thread, calls] = /^\s*t?(\d+)\s*:\s*(.+?)\s*$/.exec(line) ?? [];
-    const isLine = thread !== undefined && Number(thread) < 64;
-    if (!isLine) throw new ProgramFault(`"${line.slice(0, 60)}" is no line as "0: add 5, remove 5"`);
-    for (const call of calls.split(",").map((one) => one.trim())) {
-      const [, operation, key] = /^(add|remove|contains|ceiling) (0|[1-9]\d{0,9})$/.exec(call) ?? [];
-      if (key === undefined || Number(key) > MOST_NUMBER) throw new ProgramFault(`"${call.slice(0, 40)}" is no call as "add 5"`);
-      (program[Number(thread)] ??= []).push(`${operation} ${key}`);
-    }
-  }
-  if (program.length === 0) throw new ProgramFault('a program has lines as "0: add 5, remove 5"');
-  return Array.from(program, (calls) => calls ?? []);
-}
-
-function programText(program) {
-  const lines = program.map((calls, thread) => (calls.length === 0 ? "" : `${thread}: ${calls.join(", ")}\n`));
-  return lines.join("");
-}
-
-const programOf = (trace) => trace.callsOf.map((calls) => calls.map(({ operation, key }) => `${operation} ${key}`));
-
-class Side {
-  constructor(ask, kind, { program, quota, opening }) {
-    Object.assign(this, { ask, kind, lines: [], counts: [0] });
-    const set = [titleOf(2), `list ${kind}`, `threads ${program.length}`, `quota ${quota}`];
-    this.head = [...set, ...opening.map((key) => `opening ${key}`)];
-    this.run();
-  }
-
-  get schedule() {
-    return [...this.head, ...this.lines, ""].join("\n");
-  }
-
-  run() {
-    const { text } = this.ask("listset_trace", this.schedule);
-    if (!isTrace(text)) throw new ProgramFault(text.trim());
-    this.trace = new Trace(text, 2);
-    this.state = new State(this.trace);
-    this.state.moveTo(this.trace.total);
-  }
-
-  isOpen(thread) {
-    return this.state.threads[thread].pc !== 0;
-  }
-
-  take(line) {
-    if (line !== null) {
-      this.lines.push(line);
-      this.run();
-    }
-    this.counts.push(this.trace.total);
-  }
-}
-
-class Sides {
-  constructor(ask, kinds, { program, quota, opening }) {
-    this.program = program;
-    this.turns = [];
-    this.sides = kinds.map((kind) => new Side(ask, kind, { program, quota, opening }));
-  }
-
-  linesOf(thread) {
-    if (thread >= this.program.length) return null;
-    const isOpen = this.sides.map((side) => side.isOpen(thread));
-    if (isOpen.includes(true)) return isOpen.map((open) => (open ? `go ${thread} 1` : null));
-    const next = this.program[thread]?.[this.sides[0].trace.callsOf[thread].length];
-    return next === undefined ? null : this.sides.map(() => `begin ${thread} ${next}`);
-  }
-
-  turn(thread) {
-    const lines = this.linesOf(thread);
-    if (lines === null || this.turns.length === MOST_TURNS) return false;
-    this.sides.forEach((side, at) => side.take(lines[at]));
-    this.turns.push(thread);
-    return true;
-  }
-}
-return { ProgramFault, readProgram, programText, Sides };
-})();
-
-// activities/compare.js
-const $activities_compare = (() => {
-const { LISTS } = $made_rows;
-const { drawCalls, drawContents, scaleOf } = $draw_history;
-const { drawList, LOCK_HEIGHT } = $draw_list;
-const { LEAST } = $draw_room;
-const { byId, redraw } = $page_dom;
-const { toggleLecture } = $page_keys;
-const { askNow, page } = $page_now;
-const { goToPlace, where } = $page_places;
-const { copied, keepAddressOf, linkTo } = $page_visit;
-const { addressOf, readAddress, warningOf } = $run_address;
-const { chipOf, escaped, tag } = $run_markup;
-const { momentAt, sentenceOf } = $run_sentences;
-const { ProgramFault, programText, readProgram, Sides } = $run_sides;
-const PRESETS = [
-  ["Who waits?", "#sides=coarse.lazy&quota=4&calls=0.add.5,1.contains.5&turns=0.0.0.0.1.1.1"],
-  ["Two removes of neighbours", "#sides=fine.optimistic&quota=4&opening=3.5.7&calls=0.remove.3,1.remove.7&turns=0.0.0.1.1.1"],
-  ["A reader beside a writer", "#sides=lazy.lock-free&quota=4&opening=3.5.7&calls=0.remove.5,1.contains.5&turns=0.0.0.0.0.1.1"],
-];
-
-function drawCompare() {
-  byId("sides-presets").innerHTML = PRESETS.map(([name, href]) => tag("a", { class: "button", href }, escaped(name))).join(" ");
-}
-
-function openCompare(named) {
-  goToPlace("compare", "map");
-  if (named === null && shownSides.sides !== null) drawSides();
-  else openSides(named ?? readAddress(PRESETS[0][1]).sides);
-  return true;
-}
-
-const sidesPart = (name) => byId(`sides-${name}`);
-
-const shownSides = { sides: null, at: 0, quota: 4, opening: [] }; // at: how many turns are shown
-
-function beginSides(turns = []) {
-  try {
-    const program = readProgram(sidesPart("program").value);
-    const opening = sidesPart("opening").value.split(/[\s,]+/).filter((key) => key !== "");
-    const kinds = ["one", "other"].map((name) => sidesPart(name).value);
-    Object.assign(shownSides, { sides: new Sides(askNow, kinds, { program, quota: shownSides.quota, opening }), at: 0, opening });
-    for (const thread of turns) if (!shownSides.sides.turn(thread)) break;
-    shownSides.at = shownSides.sides.turns.length;
-    sidesPart("told").textContent = "";
-    drawSides();
-  } catch (fault) {
-    if (!(fault instanceof ProgramFault)) throw fault;
-    sidesPart("told").textContent = fault.message;
-  }
-}
-
-function turnOf(thread) {
-  const { sides, at } = shownSides;
-  const turns = sides.turns.slice(0, at);
-  if (at < sides.turns.length) beginSides(turns);
-  const isMade = shownSides.sides.turn(thread);
-  shownSides.at = shownSides.sides.turns.length;
-  drawSides();
-  if (!isMade) sidesPart("told").innerHTML = `${chipOf(thread)} has ended all its calls in both lists.`;
-}
-
-function drawSide(side, thread, place) {
-  const count = side.counts[shownSides.at];
-  const moment = momentAt(side.state, count);
-  const hasWaited = shownSides.at > 0 && count === side.counts[shownSides.at - 1];
-  const said = hasWaited ? `${chipOf(thread)} has ended its call here, and waits for the other list.` : sentenceOf(moment);
-  const width = Math.max(320, sidesPart("pictures").clientWidth / (innerWidth < 940 ? 1 : 2) - 48);
-  const scale = scaleOf(side.trace, count, width, page.hides);
-  side.said = said;
-  return tag(
-    "section",
-    { "aria-label": LISTS[side.kind].name },
-    tag("h3", {}, `${LISTS[side.kind].name} <small>${count} events</small>`),
-    tag("p", { class: hasWaited ? "said waits" : "said" }, said),
-    tag("div", { class: "scrolls" }, drawSideList(side, moment.event, width, place, scale.height)),
-    tag("div", { class: "scrolls" }, drawCalls(side.trace, scale), drawContents(side.trace, scale)),
-    tag("p", { class: "note" }, tag("a", { class: "button", href: addressOf(side.schedule, count) ?? "#" }, "Watch this run")),
-  );
-}
-
-function drawSideList({ state }, event, width, place, ofBars) {
-  const most = page.view === "lecture" ? Math.max(220, 420 - ofBars) : 230;
-  const height = LEAST.atWork + (state.trace.kind === "coarse" ? 0 : LOCK_HEIGHT); // so that both are drawn in one scale
-  return drawList(state, event, width, most, { width: 0, height }, `side-${place}`);
-}
-
-function pressForSides(event) {
-  const { sides, at } = shownSides;
-  const by = { ArrowRight: 1, PageDown: 1, ArrowLeft: -1, PageUp: -1, Home: -Infinity, End: Infinity }[event.key];
-  if (sides === null) return;
-  if (by !== undefined) {
-    event.preventDefault();
-    shownSides.at = Math.min(Math.max(at + by, 0), sides.turns.length);
-    drawSides();
-  } else if (/^[0-9]$/.test(event.key) && byId("single-keys").checked && Number(event.key) < sides.program.length) {
-    turnOf(Number(event.key));
-  }
-}
-
-function drawSides() {
-  const { sides, at } = shownSides;
-  const buttons = sides.program.map((_, thread) => tag("button", { "data-thread": thread }, `${chipOf(thread)} next step`));
-  redraw(sidesPart("turns"), buttons.join(" "));
-  Object.assign(sidesPart("slider"), { max: sides.turns.length, value: at });
-  const words = `turn ${at} of ${sides.turns.length}`;
-  sidesPart("slider").setAttribute("aria-valuetext", words);
-  sidesPart("where").textContent = words;
-  sidesPart("pictures").innerHTML = sides.sides.map((side, place) => drawSide(side, sides.turns[at - 1], place)).join("");
-  sidesPart("heard").innerHTML = sides.sides.map((side) => `${LISTS[side.kind].name}: ${side.said}`).join(" ");
-  keepAddressOf("compare", addressOfSides());
-}
-
-function showSides() {
-  if (where.activity === "compare" && shownSides.sides !== null) drawSides();
-}
-
-function addressOfSides() {
-  const { sides, quota, opening } = shownSides;
-  const calls = sides.program.flatMap((own, thread) => own.map((call) => `${thread}.${call.replace(" ", ".")}`));
-  const parts = [`sides=${sides.sides.map(({ kind }) => kind).join(".")}`, `quota=${quota}`];
-  if (opening.length > 0) parts.push(`opening=${opening.join(".")}`);
-  return `#${[...parts, `calls=${calls.join()}`, `turns=${sides.turns.join(".")}`].join("&")}`;
-}
-
-function openSides({ sides, calls, turns = "", quota = "4", opening = "" }) {
-  const program = [];
-  for (const call of (calls ?? "").split(",").filter((one) => one !== "")) {
-    const [thread, operation, key] = call.split(".");
-    (program[Number(thread)] ??= []).push(`${operation} ${key}`);
-  }
-  [sidesPart("one").value, sidesPart("other").value] = sides.split(".");
-  sidesPart("program").value = programText(Array.from(program, (own) => own ?? []));
-  sidesPart("opening").value = opening.replaceAll(".", " ");
-  shownSides.quota = Number(quota);
-  beginSides(turns.split(".").filter((thread) => thread !== "").map(Number));
-}
-
-async function copySides() {
-  const link = linkTo(addressOfSides());
-  const isCopied = await copied(link);
-  sidesPart("told").innerHTML = `${isCopied ? "The link is copied" : "Copy this link"}: <code>${escaped(link)}</code>${warningOf(link)}`;
-}
-
-function listenToSides() {
-  for (const name of ["one", "other"]) {
-    sidesPart(name).append(...Object.entries(LISTS).map(([kind, { name: words }]) => new Option(words, kind)));
-    sidesPart(name).onchange = () => beginSides();
-  }
-  sidesPart("other").value = "lock-free";
-  sidesPart("begin").onclick = () => beginSides();
-  sidesPart("link").onclick = copySides;
-  sidesPart("lecture").onclick = toggleLecture;
-  sidesPart("back").onclick = () => pressForSides({ key: "ArrowLeft", preventDefault() {} });
-  sidesPart("turns").onclick = ({ target }) => {
-    const thread = target.closest("[data-thread]")?.dataset.thread;
-    if (thread !== undefined) turnOf(Number(thread));
-  };
-  sidesPart("slider").oninput = () => {
-    shownSides.at = Number(sidesPart("slider").value);
-    drawSides();
-  };
-}
-return { drawCompare, openCompare, shownSides, pressForSides, showSides, addressOfSides, listenToSides };
 })();
 
 // made/book.js
@@ -7112,149 +5513,2095 @@ const BOOK = [
 return { BOOK_NAME, BOOK };
 })();
 
-// activities/kept_lessons.js
-const $activities_kept_lessons = (() => {
+// page/kept.js
+const $page_kept = (() => {
 const { BOOK_NAME } = $made_book;
-const { isText, keepUnder, keptUnder } = $page_kept;
-const LESSONS_KEPT = "listset-lessons-2";
-const LESSONS_KEPT_BEFORE = "listset-lessons-1"; // the book's alone, as the page kept them before
-const textsKept = (kept) => Object.entries(kept ?? {}).filter(([, text]) => isText(text));
-const namesKept = (kept) => (Array.isArray(kept) ? kept.filter(isText) : []);
+const { CLASSICS } = $made_classics;
+const { byId } = $page_dom;
+const { announce, held, now } = $page_now;
+const KEPT = "listset-page-2";
+const KEPT_BEFORE = "listset-page"; // one text, as the page kept it before
+const HERE = "listset-here"; // the address of what was shown last
+const MOST_WORKS = 60; // the oldest ones go
 
-const learning = { panel: null }; // the panel of the lessons, once it is there
-
-class KeptLessons {
-  constructor() {
-    const kept = keptUnder(LESSONS_KEPT) ?? { isOpen: false, of: { [BOOK_NAME]: keptUnder(LESSONS_KEPT_BEFORE) } };
-    this.isOpen = kept.isOpen === true;
-    this.student = isText(kept.student) ? kept.student : "";
-    this.course = isText(kept.course) ? kept.course : BOOK_NAME;
-    this.courses = new Map(textsKept(kept.courses));
-    this.of = new Map(Object.entries(kept.of ?? {}).map(([name, own]) => [name, ownOf(own)]));
-  }
-
-  ofCourse(name) {
-    if (!this.of.has(name)) this.of.set(name, ownOf({}));
-    return this.of.get(name);
-  }
-
-  save() {
-    const { isOpen, student, course } = this;
-    const toObject = ({ chosen, solutions, looked }) => ({ chosen, solutions: Object.fromEntries(solutions), looked: [...looked] });
-    const of = Object.fromEntries([...this.of].map(([name, own]) => [name, toObject(own)]));
-    return keepUnder(LESSONS_KEPT, { isOpen, student, course, courses: Object.fromEntries(this.courses), of });
+function keptUnder(name) {
+  try {
+    return JSON.parse(localStorage.getItem(name));
+  } catch {
+    return null;
   }
 }
 
-function ownOf(kept) {
-  return {
-    chosen: isText(kept?.chosen) ? kept.chosen : "",
-    solutions: new Map(textsKept(kept?.solutions)),
-    looked: new Set(namesKept(kept?.looked)),
-  };
+function keepUnder(name, value) {
+  try {
+    localStorage.setItem(name, JSON.stringify(value));
+    return true;
+  } catch {
+    return false;
+  }
 }
-return { learning, KeptLessons };
+
+const isText = (value) => typeof value === "string";
+const isWork = (kept) => typeof kept?.text === "string" && typeof kept.box === "string" && Number.isInteger(kept.count);
+const KINDS = ["own", "example", "lesson", "level", "seed"];
+const isTask = (task) => KINDS.includes(task?.kind) && isText(task.id) && isText(task.course);
+
+function taskOfName(name, lacks) {
+  const [, lesson, course = BOOK_NAME] = /^lesson ([a-z0-9-]+)(?: of (.+?))?(?: \d+)?$/.exec(name) ?? [];
+  if (lesson !== undefined) return { kind: "lesson", id: lesson, course };
+  const [, example] = /^from ([a-z-]+)(?: \d+)?$/.exec(name) ?? [];
+  if (Object.hasOwn(CLASSICS, example)) return { kind: "example", id: example, course: "" };
+  return lacks === null ? { kind: "own", id: "", course: "" } : { kind: "level", id: lacks, course: "" };
+}
+
+/** @type {(entry: any[]) => [string, any]} */
+const workOf = ([name, kept]) => [name, { ...kept, task: isTask(kept.task) ? kept.task : taskOfName(name, kept.lacks ?? null) }];
+
+const works = {
+  /** @type {Map<string, any>} */
+  byName: new Map(),
+  isKept: true,
+
+  load() {
+    const kept = keptUnder(KEPT);
+    const before = keptUnder(KEPT_BEFORE);
+    const entries = Array.isArray(kept) ? kept : isWork(before) ? [["my schedule", before]] : [];
+    const isGood = (entry) => Array.isArray(entry) && isText(entry[0]) && isWork(entry[1]);
+    this.byName = new Map(entries.filter(isGood).map(workOf));
+  },
+
+  set(name, work) {
+    this.byName.delete(name);
+    this.byName.set(name, work);
+    const names = [...this.byName.keys()];
+    for (const old of names.slice(0, Math.max(0, names.length - MOST_WORKS))) this.byName.delete(old);
+    this.isKept = keepUnder(KEPT, [...this.byName]);
+  },
+
+  last(isWanted) {
+    return [...this.byName].findLast(([, work]) => isWanted(work))?.[0] ?? null;
+  },
+
+  nameOf(text, lacks = null) {
+    return this.last((work) => work.text === text && (work.lacks ?? null) === lacks);
+  },
+
+  newName(word) {
+    for (let number = 1; ; number++) {
+      const name = number === 1 ? word : `${word} ${number}`;
+      if (!this.byName.has(name)) return name;
+    }
+  },
+};
+
+function keepWork() {
+  const box = byId("schedule").value;
+  const { run, task } = now;
+  const isLookedAt = box === run.text && run.text === task.begun;
+  if (held.engine === null || run.text === "" || isLookedAt || task.work === "") return;
+  const before = works.byName.get(task.work);
+  if (before?.text === run.text && before.box === box && before.count === run.count) return;
+  const { kind, id, course } = task;
+  works.set(task.work, { text: run.text, box, count: run.count, lacks: run.lacks, task: { kind, id, course } });
+  announce("kept");
+}
+return { HERE, keptUnder, keepUnder, isText, works, keepWork };
 })();
 
-// activities/learn_map.js
-const $activities_learn_map = (() => {
-const { BOOK_NAME } = $made_book;
-const { LISTS } = $made_rows;
-const { learning } = $activities_kept_lessons;
+// engine/engine.js
+const $engine_engine = (() => {
+const FIRST_ROOM = 1 << 22; // bytes handed to the engine for its answer, at first
+const LARGE_MEMORY = 1 << 28; // past so many bytes an instance is not used again
+
+class Engine {
+  /** @param {(input: bigint, room: Uint8Array) => number} read */
+  constructor(module, read = () => -1) {
+    this.module = module;
+    /** @type {any} */
+    this.instance = null;
+    this.host = { env: { read: (input, at, count) => BigInt(read(input, this.piece(Number(at), Number(count)))) } };
+  }
+
+  piece(at, count) {
+    return new Uint8Array(this.instance.exports.memory.buffer, at, count);
+  }
+
+  static async start() {
+    const bytes = await engineBytes();
+    return new Engine(await WebAssembly.compile(bytes));
+  }
+
+  ask(name, ...texts) {
+    const encoder = new TextEncoder();
+    return this.askBytes(name, ...texts.map((text) => encoder.encode(text)));
+  }
+
+  askBytes(name, ...given) {
+    return this.answered((exports) => answerOf(exports, name, given));
+  }
+
+  judgeFrom(input) {
+    return this.answered((exports) => answerInRoom(exports, "listset_judge_from", [[input]], FIRST_ROOM));
+  }
+
+  answered(answer) {
+    if (this.instance === null || this.instance.exports.memory.buffer.byteLength > LARGE_MEMORY) {
+      this.instance = new WebAssembly.Instance(this.module, this.host);
+    }
+    try {
+      return answer(this.instance.exports);
+    } catch (fault) {
+      this.instance = null; // after a trap the memory is not looked at again
+      throw new Error(`the engine stopped: ${fault.message}`);
+    }
+  }
+}
+
+async function engineBytes() {
+  if (typeof ENGINE === "undefined" && location.protocol === "file:") await loadScript("engine.js");
+  if (typeof ENGINE !== "undefined") return Uint8Array.from(atob(ENGINE), (letter) => letter.charCodeAt(0));
+  const answer = await fetch("listset.wasm");
+  if (!answer.ok) throw new Error(`listset.wasm: ${answer.status} ${answer.statusText}`);
+  return answer.arrayBuffer();
+}
+
+function loadScript(src) {
+  return new Promise((done, fail) => {
+    const onerror = () => fail(new Error(`${src} is not beside the page`));
+    document.head.append(Object.assign(document.createElement("script"), { src, onload: done, onerror }));
+  });
+}
+
+function optionWords({ from, to, width }) {
+  return wordsOf([from, to, width].map((text) => (text === undefined ? "" : `=${text}`)));
+}
+
+function wordsOf(words) {
+  return words.join("\0");
+}
+
+function answerOf(engine, name, given) {
+  const texts = textsOf(engine, engine[name].length, given);
+  let answer = answerInRoom(engine, name, texts, FIRST_ROOM);
+  if (answer.bytes === null) answer = answerInRoom(engine, name, texts, answer.length);
+  texts.forEach(([block]) => engine.page_free(block));
+  if (answer.bytes === null) throw new Error("two answers to one text");
+  return { status: answer.status, text: new TextDecoder().decode(answer.bytes), bytes: answer.bytes };
+}
+
+function textsOf(engine, parameters, given) {
+  return Array.from({ length: (parameters - 3) / 2 }, (_, at) => {
+    const text = given[at] ?? new Uint8Array(0);
+    const block = blockOf(engine, text.length);
+    new Uint8Array(engine.memory.buffer, Number(block), text.length).set(text);
+    return [block, BigInt(text.length)];
+  });
+}
+
+function answerInRoom(engine, name, texts, room) {
+  const out = blockOf(engine, room);
+  const status = blockOf(engine, 1);
+  const count = Number(engine[name](...texts.flat(), out, BigInt(room), status));
+  const memory = engine.memory.buffer;
+  const bytes = count <= room ? new Uint8Array(memory, Number(out), count).slice() : null;
+  const said = new Uint8Array(memory, Number(status), 1)[0];
+  engine.page_free(out);
+  engine.page_free(status);
+  return { bytes, length: count, status: said };
+}
+
+function blockOf(engine, length) {
+  const block = engine.page_alloc(BigInt(Math.max(length, 1)));
+  if (!block) throw new Error("no memory");
+  return block;
+}
+return { FIRST_ROOM, LARGE_MEMORY, Engine, optionWords, wordsOf, answerOf, textsOf, answerInRoom, blockOf };
+})();
+
+// engine/worker.js
+const $engine_worker = (() => {
+const { answerInRoom, answerOf, blockOf, Engine, FIRST_ROOM, LARGE_MEMORY, textsOf } = $engine_engine;
+const EVENT_ROOM = 96; // bytes of a trace's line, so that the engine is asked once
+
+const workerText = (room) => `"use strict";
+const FIRST_ROOM = ${room};
+const LARGE_MEMORY = ${LARGE_MEMORY};
+${[Engine, answerOf, textsOf, answerInRoom, blockOf].join("\n")}
+onmessage = ({ data: { module, name, given } }) => {
+  try {
+    const { status, bytes } = new Engine(module).askBytes(name, given);
+    postMessage({ status, bytes }, [bytes.buffer]);
+  } catch (fault) {
+    postMessage({ status: 1, bytes: new TextEncoder().encode(fault.message) });
+  }
+};`;
+
+function askInWorker(module, name, text, events) {
+  const place = URL.createObjectURL(new Blob([workerText(FIRST_ROOM + EVENT_ROOM * events)], { type: "text/javascript" }));
+  const worker = new Worker(place);
+  const came = new Promise((done) => {
+    worker.onerror = () => done(null);
+    worker.onmessage = ({ data }) => done({ status: data.status, text: new TextDecoder().decode(data.bytes) });
+    worker.postMessage({ module, name, given: new TextEncoder().encode(text) });
+  });
+  const answer = came.finally(() => {
+    worker.terminate();
+    URL.revokeObjectURL(place);
+  });
+  return { worker, answer };
+}
+return { askInWorker };
+})();
+
+// page/long_run.js
+const $page_long_run = (() => {
+const { askInWorker } = $engine_worker;
+const { eventsAsked } = $run_schedule_text;
+const { byId } = $page_dom;
+const { askNow, held, now, tellFault } = $page_now;
+const MANY_EVENTS = 20000; // so many run beside the page, with a button to cancel that
+const LONG_TEXT = 200000; // characters of a report that has no picture here
+const longRun = { worker: null, timer: 0 };
+
+async function askLong(name, text, isOfRun = true) {
+  const events = eventsAsked(text);
+  if (text.length < LONG_TEXT && events < MANY_EVENTS) return askNow(name, text);
+  try {
+    const { worker, answer } = askInWorker(held.engine.module, name, text, events);
+    if (isOfRun) longRun.worker = worker;
+    const came = await answer;
+    if (came !== null) return came;
+  } catch {
+  }
+  await new Promise((done) => requestAnimationFrame(() => setTimeout(done)));
+  return askNow(name, text);
+}
+
+async function runLong(text, asked, take) {
+  stopLong();
+  const begun = Date.now();
+  const tellTime = () => {
+    const seconds = Math.round((Date.now() - begun) / 1000);
+    byId("long-said").textContent = `running ${asked.toLocaleString("en")} events: ${seconds} s`;
+  };
+  tellTime();
+  longRun.timer = setInterval(tellTime, 1000);
+  byId("long").hidden = false;
+  const answer = await askLong("listset_trace", text);
+  if (now.run.text !== text || byId("long").hidden) return;
+  stopLong();
+  take(answer);
+}
+
+function stopLong() {
+  clearInterval(longRun.timer);
+  longRun.worker?.terminate();
+  longRun.worker = null;
+  if (byId("long").contains(document.activeElement)) byId("slider").focus();
+  byId("long").hidden = true;
+}
+
+function cancelLong() {
+  stopLong();
+  tellFault(null, "", "The run was cancelled. Run begins it again.");
+}
+return { MANY_EVENTS, LONG_TEXT, askLong, runLong, stopLong, cancelLong };
+})();
+
+// page/run_text.js
+const $page_run_text = (() => {
+const { askList } = $run_broken;
+const { eventsAsked, openingIn, versionOf } = $run_schedule_text;
+const { isTrace, Trace } = $run_trace;
 const { byId } = $page_dom;
 const { works } = $page_kept;
+const { MANY_EVENTS, runLong, stopLong } = $page_long_run;
+const { announce, askNow, change, held, NO_ENGINE, now, takeTrace, tell, tellFault, tellLine } = $page_now;
+const { stopPlay } = $page_play;
+function runText(text, at, told = "") {
+  stopPlay();
+  change("text", { text });
+  byId("schedule").value = text;
+  byId("opening").value = openingIn(text).join(" ");
+  if (held.engine === null) return tellFault(null, "", NO_ENGINE);
+  const asked = eventsAsked(text);
+  if (asked >= MANY_EVENTS && now.run.lacks === null) return runLong(text, asked, (answer) => takeAnswer(answer, text, at, told));
+  stopLong();
+  takeAnswer(askList(askNow, "listset_trace", now.run.lacks, text), text, at, told);
+}
+
+function takeAnswer(answer, text, at, told) {
+  const source = now.run.lacks === null ? "run by the proved replayer" : "a run of a broken list";
+  if (isTrace(answer.text)) takeTrace(new Trace(answer.text, versionOf(text), now.run.trace), at, source);
+  else tellLine(answer.text.trim());
+  tell(works.isKept ? told : `${told} This browser keeps nothing: save the schedule before you leave the page.`);
+  announce("ran");
+}
+return { runText };
+})();
+
+// page/work.js
+const $page_work = (() => {
+const { setOf } = $course_lesson;
+const { forgetRoom } = $draw_room;
+const { startOfLacking, titleOfLacking } = $run_broken;
+const { scheduleOfDraft } = $run_draft;
+const { eventsAsked, scheduleAndLine, withOpening } = $run_schedule_text;
+const { eventsInCommon } = $run_trace;
+const { byId, setAble } = $page_dom;
+const { exampleText } = $page_example;
+const { keepWork, works } = $page_kept;
+const { askNow, change, held, now, tellLine } = $page_now;
+const { runText } = $page_run_text;
+const { showMarks } = $page_view;
+const work = { before: [], after: [] }; // what was shown before, for Undo, and what was undone, for Redo
+
+function present() {
+  const { text, count, lacks } = now.run;
+  return { text, count, lacks, task: now.task };
+}
+
+function showUndo() {
+  setAble("undo", work.before.length > 0);
+  setAble("redo", work.after.length > 0);
+}
+
+function forgetBefore() {
+  work.before = [];
+  showUndo();
+}
+
+function keepBefore() {
+  if (now.run.text !== "") work.before.push(present());
+  work.after = [];
+  showUndo();
+}
+
+function exchangeWork(from, others) {
+  const wanted = held.engine === null ? undefined : from.pop();
+  if (wanted === undefined) return;
+  others.push(present());
+  showUndo();
+  beginTask(wanted.task, wanted.lacks);
+  runText(wanted.text, wanted.count);
+}
+
+const undo = () => exchangeWork(work.before, work.after);
+const redo = () => exchangeWork(work.after, work.before);
+
+function beginTask(task, lacks = null) {
+  keepWork();
+  forgetRoom();
+  change("task", { task, lacks });
+}
+
+function openTask(task, text, at, told = "", lacks = null) {
+  keepWork();
+  keepBefore();
+  beginTask({ begun: text, ...task }, lacks);
+  runText(text, at, told);
+}
+
+const ownTask = (name) => ({ kind: "own", id: "", work: works.newName(name) });
+
+function openWork(name, at = null) {
+  const { text, box, count, lacks = null, task } = works.byName.get(name);
+  const begun = task.kind === "example" ? exampleText(task.id) : "";
+  openTask({ ...task, work: name, begun }, text, at ?? count, "", lacks);
+  if (box !== text) byId("schedule").value = box;
+  showMarks();
+}
+
+const openExample = (name, count, told = "") =>
+  openTask({ kind: "example", id: name, work: works.newName(`from ${name}`) }, exampleText(name), count, told);
+
+const newSchedule = (list, threads, quota) =>
+  openTask(ownTask("my schedule"), `listset-schedule 1\nlist ${list}\nthreads ${threads}\nquota ${quota}\n`, 0);
+
+function openLacking(name, schedule = startOfLacking(name), told = "", begun = schedule) {
+  const task = { kind: "level", id: name, work: works.newName(titleOfLacking(name)), begun };
+  openTask(task, schedule, eventsAsked(schedule), told, name);
+}
+
+function leaveWhatIf() {
+  const text = now.task.begun;
+  const before = now.run.trace;
+  keepWork();
+  keepBefore();
+  runText(text, (made) => eventsInCommon(before, made));
+}
+
+function runBox() {
+  const box = byId("schedule").value;
+  const { text, fault } = scheduleOfDraft(askNow, box === "" || box.endsWith("\n") ? box : `${box}\n`, now.run.lacks);
+  if (fault !== null) return tellLine(fault);
+  const { trace, count } = now.run;
+  if (text !== now.run.text) keepBefore();
+  if (["lesson", "example", "seed"].includes(now.task.kind) && setOf(text) !== setOf(now.run.text)) leaveTask(text);
+  const at = (made) => (made.refused === null ? Math.min(count, eventsInCommon(trace, made)) : made.total);
+  runText(text, at);
+}
+
+function leaveTask(text) {
+  byId("schedule").value = now.run.text;
+  beginTask({ ...ownTask("my schedule"), begun: text }, now.run.lacks);
+}
+
+function runWithOpening() {
+  const keys = byId("opening").value.split(/[\s,]+/).filter((key) => key !== "");
+  byId("schedule").value = withOpening(byId("schedule").value, keys);
+  runBox();
+}
+
+function goOn(line, count = 1, told = "") {
+  const { trace, count: shown, text, isRun } = now.run;
+  keepBefore();
+  runText(scheduleAndLine(trace, shown, line, isRun ? text : null), shown + count, told);
+}
+
+function showHeader(trace) {
+  byId("new-list").value = trace.kind;
+  byId("new-threads").value = trace.threads;
+  byId("new-quota").value = trace.quota;
+}
+return { forgetBefore, keepBefore, undo, redo, beginTask, openTask, ownTask, openWork, openExample, newSchedule, openLacking, leaveWhatIf, runBox, runWithOpening, goOn, showHeader };
+})();
+
+// run/address.js
+const $run_address = (() => {
+const { LACKING } = $made_classics;
+const { LISTS } = $made_rows;
+const LONGEST_ADDRESS = 30000; // characters; a longer schedule has no address
+const SHORT_WORDS = { begin: "b", go: "g" };
+const LONG_WORDS = { b: "begin", g: "go" };
+const SHORT_EVENT = String.raw`(b\d+\.[a-z]+\.\d+|g\d+\.\d+)`;
+const ADDRESS_PARTS = {
+  example: /^[a-z-]+$/,
+  list: /^[A-Za-z-]+$/,
+  threads: /^\d+$/,
+  quota: /^\d+$/,
+  version: /^\d+$/,
+  opening: /^\d+(\.\d+)*$/,
+  s: new RegExp(`^(${SHORT_EVENT}(,${SHORT_EVENT})*)?$`),
+  event: /^\d+$/,
+  lacks: /^(\d+|[A-Za-z-]+)$/,
+  view: /^(lecture|list|history)$/,
+  course: /^[A-Za-z0-9_-]+$/,
+  sides: /^(coarse|fine|optimistic|lazy|lock-free)\.(coarse|fine|optimistic|lazy|lock-free)$/,
+  calls: /^(\d\d?\.[a-z]+\.\d+(,|$))+$/,
+  turns: /^(\d\d?(\.\d\d?)*)?$/,
+  watch: /^[a-z-]*$/,
+  learn: /^[a-z0-9-]*$/,
+  judge: /^$/,
+  break: /^\d*$/,
+  compare: /^$/,
+  read: /^$/,
+  seed: /^(coarse|fine|optimistic|lazy|lock-free)\.\d{1,2}\.\d{1,2}\.\d{1,2}\.\d{1,9}$/,
+};
+
+class AddressFault extends Error {}
+
+const neededVersion = (lines) => (lines.some((line) => /^(opening |begin \d+ ceiling )/.test(line)) ? 2 : 1);
+
+function addressOf(text, event, lacks = null) {
+  if (text.length > 2 * LONGEST_ADDRESS) return null; // an address has more than half of the letters
+  const [title, list, threads, quota, ...lines] = text.split("\n").slice(0, -1);
+  const isOpening = (line) => line.startsWith("opening ");
+  const opening = lines.filter(isOpening).map((line) => line.slice("opening ".length));
+  const events = lines.filter((line) => !isOpening(line)).map(shortLine);
+  const version = title?.split(" ")[1];
+  const parts = [`list=${list?.split(" ")[1]}`, `threads=${threads?.split(" ")[1]}`, `quota=${quota?.split(" ")[1]}`];
+  if (version !== String(neededVersion(lines))) parts.push(`version=${version}`);
+  if (opening.length > 0) parts.push(`opening=${opening.join(".")}`);
+  parts.push(`s=${events.join()}`, `event=${event}`);
+  if (lacks !== null) parts.push(`lacks=${Object.keys(LACKING).indexOf(lacks) + 1}`);
+  const address = `#${parts.join("&")}`;
+  return address.length <= LONGEST_ADDRESS && isAddressOf(address, text) ? address : null;
+}
+
+const shortLine = (line) => {
+  const [word, ...values] = line.split(" ");
+  return `${SHORT_WORDS[word] ?? word}${values.join(".")}`;
+};
+
+const longLine = (short) => `${LONG_WORDS[short[0]]} ${short.slice(1).replaceAll(".", " ")}`;
+
+function isAddressOf(address, text) {
+  try {
+    return readAddress(address).text === text;
+  } catch (fault) {
+    if (!(fault instanceof AddressFault)) throw fault;
+    return false;
+  }
+}
+
+function readAddress(hash) {
+  const { view = null, course = null, lacks: which, seed = null, ...rest } = partsOf(hash);
+  const { place, isJudged, parts } = placeOf(rest, seed);
+  const lacks = which === undefined ? null : lackingNamed(which, parts);
+  const own = { view, course, sides: null, lacks, place, seed, isJudged };
+  const named = { example: parts.example ?? null, text: null, event: Number(parts.event ?? 0), ...own };
+  if (parts.sides !== undefined) return { ...named, sides: parts };
+  const ofSchedule = Object.keys(parts).filter((name) => name !== "event" && name !== "example");
+  if (named.example !== null && ofSchedule.length > 0) {
+    throw new AddressFault(`the address names an example, and has "${ofSchedule[0]}" too`);
+  }
+  if (ofSchedule.length > 0) named.text = textOfParts(parts);
+  return named;
+}
+
+function lackingNamed(which, { list, example }) {
+  const names = Object.keys(LACKING);
+  const lacks = names.includes(which) ? which : names[which - 1];
+  if (lacks === undefined) {
+    throw new AddressFault(`there is no broken list "${which}": expected 1 to ${names.length}, or a name that "listset show --help" prints`);
+  }
+  if (list === LACKING[lacks]) return lacks;
+  const named = list !== undefined ? `list=${list}` : example !== undefined ? `example=${example}` : "no list";
+  throw new AddressFault(`lacks=${which} is a broken ${LISTS[LACKING[lacks]].name}, and the address has ${named}`);
+}
+
+function placeOf(parts, seed) {
+  const isRun = seed !== null || parts.example !== undefined || parts.list !== undefined;
+  const name = ["watch", "learn", "judge", "break", "compare", "read"].find((one) => parts[one] !== undefined);
+  if (name === undefined) return { place: null, isJudged: false, parts };
+  const { [name]: value, ...others } = parts;
+  const isJudged = name === "judge" && isRun;
+  return { place: isJudged ? null : [name, value], isJudged, parts: others };
+}
+
+function partsOf(hash) {
+  const parts = {};
+  for (const [name, value] of new URLSearchParams(hash.replace(/^#/, ""))) {
+    if (!Object.hasOwn(ADDRESS_PARTS, name)) throw new AddressFault(`the address has a part "${name}", which is none`);
+    if (name in parts) throw new AddressFault(`the address has "${name}" twice`);
+    if (!ADDRESS_PARTS[name].test(value)) throw new AddressFault(`"${value.slice(0, 60)}" is no ${name} of an address`);
+    parts[name] = value;
+  }
+  return parts;
+}
+
+function textOfParts(parts) {
+  const missing = ["list", "threads", "quota"].find((name) => parts[name] === undefined);
+  if (missing !== undefined) throw new AddressFault(`the address has no "${missing}"`);
+  const opening = (parts.opening?.split(".") ?? []).map((key) => `opening ${key}`);
+  const events = (parts.s ? parts.s.split(",") : []).map(longLine);
+  const lines = [...opening, ...events];
+  const title = `listset-schedule ${parts.version ?? neededVersion(lines)}`;
+  return [title, `list ${parts.list}`, `threads ${parts.threads}`, `quota ${parts.quota}`, ...lines, ""].join("\n");
+}
+
+const warningOf = (link) =>
+  link.startsWith("file:") ? " Others cannot open it, since it leads to a file on this computer: copy it from a page on a web server." : "";
+return { LONGEST_ADDRESS, AddressFault, addressOf, longLine, readAddress, warningOf };
+})();
+
+// page/menu.js
+const $page_menu = (() => {
+const { CLASSICS, LACKING } = $made_classics;
+const { titleOfLacking } = $run_broken;
+const { tag } = $run_markup;
+const { eventsAsked } = $run_schedule_text;
+const { byId, redraw } = $page_dom;
+const { examples, openKept } = $page_example;
+const { works } = $page_kept;
+const { exampleShown, held, isForked, isJudging, now } = $page_now;
+const { openExample, openLacking, openWork } = $page_work;
+const WORK = "work: ";
+const BREAK = "break: ";
+
+function fillWorks() {
+  const options = [...works.byName].reverse().map(([name, { text }]) => {
+    const [, list] = text.split("\n");
+    return new Option(`${name} (${list?.slice("list ".length)}): ${eventsAsked(text)} events`, `${WORK}${name}`);
+  });
+  byId("work-options").replaceChildren(...options);
+  byId("work-options").hidden = options.length === 0 || held.engine === null;
+  const example = exampleShown();
+  byId("nothing-kept").textContent = now.task.work; // what was opened, and not changed yet
+  byId("examples").value = example !== "" ? example : works.byName.has(now.task.work) ? `${WORK}${now.task.work}` : "";
+}
+
+function fillExamples() {
+  byId("example-options").replaceChildren(...examples().map(({ name, kind }) => new Option(`${name} (${kind})`, name)));
+}
+
+function fillLacking(broken) {
+  const textOf = (name) => `${broken.has(name) ? "✓ " : ""}${titleOfLacking(name)}`;
+  byId("break-options-list").replaceChildren(...Object.keys(LACKING).map((name) => new Option(textOf(name), `${BREAK}${name}`)));
+}
+
+function chooseInList(value) {
+  if (value.startsWith(WORK)) openWork(value.slice(WORK.length));
+  else if (value.startsWith(BREAK)) openLacking(value.slice(BREAK.length));
+  else if (value !== "") pickExample(value, 0);
+}
+
+const pickExample = (name, count, told = "") => (held.engine === null ? openKept(name, count) : openExample(name, count, told));
+
+function showQuestion() {
+  if (now.task.kind !== "example") return;
+  const classic = CLASSICS[now.task.id];
+  byId("see-broken").hidden = held.engine === null || classic.lacks.length === 0;
+  const box = byId("turns-box");
+  if (box.dataset.example !== now.task.id) {
+    box.open = byId("without-box").open = false;
+    box.dataset.example = now.task.id;
+  }
+  const { total } = now.run.trace;
+  const turns = isForked() ? [] : classic.turns;
+  const place = (event) => `left: calc(8px + (100% - 16px) * ${event / total})`;
+  byId("ticks").innerHTML = box.open && !isJudging() ? turns.map((event) => `<i style="${place(event)}"></i>`).join("") : "";
+  byId("question").textContent = classic.question;
+  byId("turns-on").textContent = classic.turnsOn;
+  byId("without").textContent = classic.without;
+  const here = (event) => (event === now.run.count ? { "aria-current": "true" } : {});
+  redraw(byId("turns"), turns.map((event) => tag("button", { "data-event": event, ...here(event) }, event)).join(" "));
+}
+return { fillWorks, fillExamples, fillLacking, chooseInList, pickExample, showQuestion };
+})();
+
+// activities/broken_kept.js
+const $activities_broken_kept = (() => {
+const { LACKING } = $made_classics;
+const { isText, keepUnder, keptUnder } = $page_kept;
+const { now } = $page_now;
+const BROKEN = "listset-broken";
+const SHOWN = "listset-shown-breaks";
+const NAMED = "listset-named-checks";
+
+const isBrokenLine = ([name, line]) => Object.hasOwn(LACKING, name) && isText(line);
+const brokenLines = () => Object.entries(keptUnder(BROKEN) ?? {}).filter(isBrokenLine);
+const keepBrokenLine = (name, line) => keepUnder(BROKEN, { ...keptUnder(BROKEN), [name]: line });
+const noteShown = (name, schedule) => keepUnder(SHOWN, { ...keptUnder(SHOWN), [name]: schedule });
+
+function isShownBreak(name, schedule) {
+  if (now.run.text === now.task.begun) return true;
+  const shown = keptUnder(SHOWN)?.[name];
+  return typeof shown === "string" && schedule.trimEnd().startsWith(shown.trimEnd());
+}
+
+const isNamed = (name) => (keptUnder(NAMED) ?? []).includes(name);
+const keepNamed = (name) => keepUnder(NAMED, [...new Set([...(keptUnder(NAMED) ?? []), name])]);
+return { brokenLines, keepBrokenLine, noteShown, isShownBreak, isNamed, keepNamed };
+})();
+
+// activities/break_map.js
+const $activities_break_map = (() => {
+const { LACKING } = $made_classics;
+const { LISTS } = $made_rows;
+const { BREAK_LEVELS, GRADES, LACKS_IN_WORDS } = $data_levels;
+const { byId } = $page_dom;
+const { fillLacking } = $page_menu;
+const { now } = $page_now;
 const { setProgress } = $page_places;
-const { forgetBefore, openText, openWork } = $page_work;
+const { forgetBefore, openLacking } = $page_work;
 const { AddressFault } = $run_address;
 const { escaped, tag } = $run_markup;
-const lessonPart = (name) => byId(`lesson-${name}`);
-const panel = () => learning.panel;
-const addressOfLesson = ({ name }) => `#learn=${name}`;
-const solvedOf = ({ lessons }) => lessons.filter(({ name }) => panel().isSolved(name)).length;
+const { brokenLines } = $activities_broken_kept;
+const ORDER = Object.keys(BREAK_LEVELS);
+const counted = ORDER.filter((name) => BREAK_LEVELS[name].grade < GRADES.length);
+const numberOf = (name) => ORDER.indexOf(name) + 1;
+const addressOfLevel = (name) => `#break=${numberOf(name)}`;
+const wordOf = (name) => BREAK_LEVELS[name].lacks ?? LACKS_IN_WORDS[name];
 
-function drawLearnMap() {
-  if (panel() === null) return;
-  const { course } = panel();
-  const box = byId("map-learn");
-  if (box.querySelector(".drawn") === null) {
-    box.append(Object.assign(document.createElement("div"), { className: "drawn" }), byId("lesson-folds"));
-  }
-  const lead = "In each lesson you choose which thread makes the next step, until the run shows what is asked. There is more than one way.";
-  const parts = [
-    tag("h1", {}, escaped(course.name)),
-    tag("p", { class: "lead" }, lead),
-    progressOf(course),
-    tag("p", { class: "line" }, linkToNext(course), course.name === BOOK_NAME ? "" : BACK),
-    tag("ol", { class: "cards" }, ...course.lessons.map(cardOf)),
-  ];
-  box.querySelector(".drawn").innerHTML = parts.join("");
-  if (course.name !== BOOK_NAME) byId("lesson-book").onclick = takeBook;
+function whyWrong(name, word) {
+  const why = BREAK_LEVELS[name].others?.[word] ?? "that is not so in this list";
+  return `No: ${why}. Look for the line of the code that this list executes differently.`;
 }
 
-const BACK = tag("button", { id: "lesson-book" }, "Back to the twelve lessons of the book");
-
-function takeBook() {
-  panel().takeBook();
-  drawLearnMap();
+function titleOfLevel(name) {
+  const grade = GRADES[BREAK_LEVELS[name].grade];
+  return grade === undefined ? "To think about" : `Level ${numberOf(name)} of ${counted.length} · ${grade}`;
 }
 
-function progressOf(course) {
-  const [solved, total] = [solvedOf(course), course.lessons.length];
-  const bar = tag("i", { style: `width:${(100 * solved) / total}%` });
-  return tag("div", { class: "progress", role: "img", "aria-label": `${solved} of ${total} solved` }, bar);
+function drawBreakMap() {
+  const broken = new Set(brokenLines().map(([name]) => name));
+  setProgress("nav-break", counted.filter((name) => broken.has(name)).length, counted.length);
+  const card = (name) => {
+    const isDone = broken.has(name);
+    const { grade, story } = BREAK_LEVELS[name];
+    const number = isDone ? "✓" : grade < GRADES.length ? numberOf(name) : "?";
+    const parts = [tag("span", { class: "number" }, number), tag("b", {}, LISTS[LACKING[name]].name)];
+    const words = tag("small", {}, escaped(isDone ? wordOf(name) : story));
+    return tag("li", {}, tag("a", { href: addressOfLevel(name), class: isDone ? "done" : "" }, ...parts, words));
+  };
+  const group = (title, names) => `<h2>${title}</h2>${tag("ol", { class: "cards" }, ...names.map(card))}`;
+  const groups = GRADES.map((title, grade) => group(title, ORDER.filter((name) => BREAK_LEVELS[name].grade === grade)));
+  const rest = group("To think about", ORDER.filter((name) => !counted.includes(name)));
+  byId("map-break").innerHTML = `<h1>Break a list</h1><p class="lead">Each of these lists lacks one check of the correct list. Choose the steps of the
+    threads until no order of the calls explains their replies. Then say which check is missing.</p>${groups.join("")}${rest}`;
 }
 
-function linkToNext(course) {
-  const first = course.lessons.find(({ name }) => !panel().isSolved(name));
-  if (first === undefined) return "";
-  const word = solvedOf(course) === 0 ? "Begin" : "Continue";
-  return tag("a", { class: "button primary", href: addressOfLesson(first) }, `${word} with ${escaped(first.title)}`);
+function fillBreaks() {
+  fillLacking(new Set(brokenLines().map(([name]) => name)));
+  drawBreakMap();
 }
 
-function cardOf(lesson, index) {
-  const isSolved = panel().isSolved(lesson.name);
-  const kind = [isSolved ? "done" : "", lesson === panel().lesson ? "here" : ""].join(" ").trim();
-  const solved = isSolved ? tag("span", { class: "unseen" }, " (solved)") : "";
-  const parts = [
-    tag("span", { class: "number" }, isSolved ? "✓" : index + 1),
-    tag("b", {}, escaped(lesson.title), solved),
-    tag("small", {}, LISTS[lesson.list].name),
-  ];
-  return tag("li", {}, tag("a", { href: addressOfLesson(lesson), class: kind }, ...parts));
-}
-
-function drawStrip() {
-  if (panel() === null) return;
-  const { course, lesson } = panel();
-  const [solved, total] = [solvedOf(course), course.lessons.length];
-  setProgress("nav-learn", solved, total);
-  const marks = course.lessons.map((one, index) => {
-    const isSolved = panel().isSolved(one.name);
-    const label = `lesson ${index + 1}, ${one.title}${isSolved ? ", solved" : ""}`;
-    const given = { href: addressOfLesson(one), title: one.title, tabindex: -1, "aria-label": label, class: isSolved ? "done" : "" };
-    return tag("a", one === lesson ? { ...given, "aria-current": "step" } : given, isSolved ? "✓" : index + 1);
-  });
-  byId("lesson-levels").innerHTML = marks.join("") + tag("small", { id: "lesson-count" }, `${solved} of ${total} solved`);
-}
-
-function openLesson(name, text, event) {
-  const lesson = panel().lessonNamed(name);
-  if (lesson === undefined) throw new AddressFault(`no course that is kept here has a lesson "${name}"`);
-  panel().choose(lesson);
-  if (text !== null) openText(text, event, panel().ownWorkOf(text) ?? works.newName(panel().workName()), "", lesson.lacks);
-  else if (panel().ownWork() !== null) openWork(panel().ownWork());
-  else panel().begin();
+function openLevel(number) {
+  const name = ORDER[number - 1];
+  if (name === undefined) throw new AddressFault(`there is no level ${number}`);
+  openLacking(name);
   forgetBefore();
-  return true;
 }
 
-function showTaskOfLearn() {
-  const { course, lesson } = panel();
-  const at = course.lessons.indexOf(lesson);
-  const to = (index) => (course.lessons[index] === undefined ? null : addressOfLesson(course.lessons[index]));
-  return { before: to(at - 1), all: ["#learn", "All lessons"], next: to(at + 1) };
+function showTaskOfBreak() {
+  const at = ORDER.indexOf(now.run.lacks);
+  const to = (index) => (ORDER[index] === undefined ? null : addressOfLevel(ORDER[index]));
+  return { before: to(at - 1), all: ["#break", "All levels"], next: to(at + 1) };
 }
-return { lessonPart, drawLearnMap, drawStrip, openLesson, showTaskOfLearn };
+return { ORDER, numberOf, addressOfLevel, wordOf, whyWrong, titleOfLevel, drawBreakMap, fillBreaks, openLevel, showTaskOfBreak };
+})();
+
+// activities/break_win.js
+const $activities_break_win = (() => {
+const { LACKING } = $made_classics;
+const { BREAK_LEVELS } = $data_levels;
+const { byId, redraw } = $page_dom;
+const { askNow, now } = $page_now;
+const { departureOf } = $run_broken;
+const { escaped, tag } = $run_markup;
+const { keysInChain, promisedKeys } = $run_state;
+const { addressOfLevel, ORDER, wordOf } = $activities_break_map;
+const { brokenLines, isNamed } = $activities_broken_kept;
+const level = { lacks: null, hints: 0, wrong: new Set() };
+
+function drawDeparture(isBroken) {
+  const { trace } = now.run;
+  if (departed.trace !== trace) Object.assign(departed, { trace, isTold: false, found: null });
+  if (isBroken && isNamed(now.run.lacks) && !departed.isTold) Object.assign(departed, { isTold: true, found: departureOf(askNow, trace) });
+  const { found } = departed;
+  byId("break-departs").hidden = found === null;
+  if (found === null) return;
+  byId("break-event").textContent = `event ${found.event}`;
+  byId("break-event").dataset.event = found.event;
+  byId("break-here").innerHTML = found.here;
+  byId("break-whole").innerHTML = found.whole;
+}
+
+const departed = { trace: null, isTold: false, found: null }; // of the run that is shown
+
+function drawWin(trace, why) {
+  const { lacks, total, calls } = trace;
+  const { shortest } = BREAK_LEVELS[lacks];
+  byId("break-reason").textContent = why;
+  drawContradiction(trace);
+  const own = `${total} events, ${calls.length} ${calls.length === 1 ? "call" : "calls"}`;
+  const isShorter = shortest !== null && total < shortest[0];
+  const best = shortest === null ? "" : isShorter ? `That is shorter than the shortest one known, of ${shortest[0]} events.` : `The shortest one known has ${shortest[0]} events.`;
+  byId("break-count").innerHTML = `You did it with <b>${own}</b>. ${best}`;
+  const next = ORDER[ORDER.indexOf(lacks) + 1];
+  byId("break-next").hidden = next === undefined;
+  if (next !== undefined) byId("break-next").href = addressOfLevel(next);
+  byId("break-next").classList.toggle("primary", isNamed(lacks));
+  drawAsk(lacks);
+}
+
+function drawContradiction(trace) {
+  const promised = promisedKeys(trace);
+  const { state, count } = now.run;
+  state.moveTo(trace.total);
+  const has = keysInChain(state);
+  state.moveTo(count);
+  const setOf = (keys, others) => `{${keys.map((key) => (others.includes(key) ? key : tag("b", {}, key))).join(", ")}}`;
+  byId("break-promised").innerHTML = setOf(promised, has);
+  byId("break-has").innerHTML = setOf(has, promised);
+}
+
+function drawAsk(name) {
+  const kin = ORDER.filter((other) => LACKING[other] === LACKING[name]);
+  const words = [...new Set([...kin.map(wordOf), ...Object.keys(BREAK_LEVELS[name].others ?? {})])].sort();
+  const isTold = isNamed(name);
+  const button = (word) => {
+    const kind = isTold ? "right" : level.wrong.has(word) ? "wrong" : "";
+    const unable = kind === "" ? {} : { "aria-disabled": "true" };
+    return tag("button", { "data-word": word, class: kind, ...unable }, escaped(word));
+  };
+  redraw(byId("break-options"), words.filter((word) => !isTold || word === wordOf(name)).map(button).join(""));
+  const line = Object.fromEntries(brokenLines())[name];
+  const isKept = isTold && line !== undefined;
+  byId("break-line").innerHTML = isKept ? `Kept; you hand it in with the lessons: <code>${escaped(line)}</code>` : "";
+  if (isTold) byId("break-told").textContent = "Right. That check is missing.";
+  else if (level.wrong.size === 0) byId("break-told").textContent = "";
+}
+return { level, drawDeparture, drawWin };
+})();
+
+// run/recorded.js
+const $run_recorded = (() => {
+const { callsOfRecording, leavesKey, readJudge } = $engine_answers;
+const { CAUSES_OF_CALLS } = $run_faults;
+const { nameOfCall } = $run_judged;
+const RECORDED_EXAMPLE = `listset-calls 1
+opening 8
+call 0 add 5 1 4 true
+call 1 add 5 2 3 true
+call 2 remove 8 5 6 true
+key 5
+end
+`;
+
+const MOST_DRAWN = 40; // calls of a right recording
+
+const withNewline = (text) => (text === "" || text.endsWith("\n") ? text : `${text}\n`);
+
+const recordedInWords = (call) =>
+  call.ended === null
+    ? `${nameOfCall(call)}, begun at ${call.begun}, is pending`
+    : `${nameOfCall(call)} answers ${call.reply}, from ${call.begun} to ${call.ended}`;
+
+const sentence = (line) => `${line[0].toUpperCase()}${line.slice(1)}.`;
+
+function okInWords({ count, isCutOff }) {
+  const calls = count === 1 ? "this one call" : `these ${count.toLocaleString("en")} calls`;
+  const keys = isCutOff ? ", whatever keys it leaves" : " and leaves the keys";
+  return `Linearizable: an order explains ${calls}${keys}. It says nothing of other runs.`;
+}
+
+function verdictOfOk(judged, text) {
+  const drawn = judged.count > MOST_DRAWN ? [`the first ${MOST_DRAWN} calls are drawn`] : [];
+  return {
+    kind: "ok",
+    says: okInWords(judged),
+    reasons: [...judged.remarks, ...drawn].map(sentence),
+    calls: callsOfRecording(text, MOST_DRAWN),
+    from: null,
+  };
+}
+
+function verdictOfRefusal({ key, isLeft, since, is, told }, text) {
+  const reasons = told.map(({ says, calls }) => sentence([says, calls.map(recordedInWords).join("; ")].join(" ").trim()));
+  const has = leavesKey(text, key) ? "has it" : "does not have it";
+  return {
+    kind: "none",
+    says: `Not linearizable: no order at all explains these calls${isLeft ? " and leaves the keys" : ""}.`,
+    reasons: isLeft ? [...reasons, `At the end the set ${has}.`] : reasons,
+    calls: told.flatMap(({ calls }) => calls),
+    from: since === null ? null : { moment: BigInt(since), says: `the key is ${is}` },
+  };
+}
+
+function troubleInWords({ cause, says }) {
+  return Object.hasOwn(CAUSES_OF_CALLS, cause) ? `${says}: ${CAUSES_OF_CALLS[cause]}.` : says;
+}
+
+function verdictOnCalls(answer, text) {
+  const judged = readJudge(answer);
+  if (judged.kind === "ok") return verdictOfOk(judged, text);
+  if (judged.kind === "none") return verdictOfRefusal(judged.why, text);
+  return { kind: "fault", says: troubleInWords(judged.fault), reasons: [], calls: [], from: null };
+}
+return { RECORDED_EXAMPLE, withNewline, recordedInWords, verdictOnCalls };
+})();
+
+// draw/judged.js
+const $draw_judged = (() => {
+const { lastMoment, nameOfCall } = $run_judged;
+const { callText, chipOf, colourOf, escaped, label, tag, title } = $run_markup;
+const { recordedInWords } = $run_recorded;
+const { placeLabels, ROW_HEIGHT, signOf, widthOf } = $draw_labels;
+const JUDGE_LEFT = 50;
+const JUDGE_RIGHT = 20;
+const JUDGE_BAR = 30;
+const JUDGE_BELOW = 8; // pixels between a bar and the labels of the next lane
+const MOST_ROWS = 3; // of labels
+const SLOT_WIDTH = 60; // of the words of a point
+
+const leftOf = ({ begun }, { x, step }) => x(begun) - step / 2;
+const rightOf = (call, { x, step, last }) => x(call.ended ?? last) + step / 2;
+
+function widthOfCall(call) {
+  if (call.ended === null) return widthOf(callText(call), OPEN);
+  const replies = [call.reply ?? "", ...(call.operation === "ceiling" ? ["nothing"] : ["false"])];
+  return Math.max(...replies.map((reply) => widthOf(callText(call), reply)));
+}
+
+function judgeScale({ last, threads, calls }, width) {
+  const step = (width - JUDGE_LEFT - JUDGE_RIGHT) / last;
+  const across = { step, last, x: (moment) => JUDGE_LEFT + (moment - 0.5) * step };
+  const labels = new Map();
+  for (let thread = 0; thread < threads; thread++) {
+    const own = calls.filter((call) => call.thread === thread).sort((one, other) => one.begun - other.begun);
+    const items = own.map((call) => ({ left: leftOf(call, across), right: rightOf(call, across), wide: widthOfCall(call) }));
+    placeLabels(items, { start: 2, edge: width, mostRows: MOST_ROWS }).forEach((place, at) => labels.set(own[at].id, place));
+  }
+  const above = ROW_HEIGHT * Math.max(1, ...[...labels.values()].map((place) => (place?.row ?? 0) + 1)) + 4;
+  const lane = above + JUDGE_BAR + JUDGE_BELOW;
+  return {
+    ...across,
+    width,
+    labels,
+    height: 4 + threads * lane,
+    y: (thread) => 2 + thread * lane + above + JUDGE_BAR / 2,
+    momentAt: (x) => (x - JUDGE_LEFT) / step + 0.5,
+  };
+}
+
+const momentInWords = (at) => (Number.isInteger(at) ? `at ${at}` : `after ${Math.floor(at)}`);
+
+function drawJudgedLane(scale, place, thread = place) {
+  const y = scale.y(place);
+  const badge = tag("rect", { x: 2, y: y - 10, width: 38, height: 20, rx: 4 }) + label({ x: 21, y: y + 5 }, `t${thread}`);
+  const lane = { class: "lane", x1: JUDGE_LEFT - 6, x2: scale.width - JUDGE_RIGHT, y1: y, y2: y };
+  return tag("line", lane) + tag("g", { class: `badge ${colourOf(thread)}` }, badge);
+}
+
+const OPEN = "(pending)";
+const saidOf = (call, answer) => (call.ended === null ? OPEN : (answer.replyOf(call) ?? "?"));
+
+function drawJudgedCall(call, { answer, exercise, verdict, scale }) {
+  const y = scale.y(call.thread);
+  const point = answer.points.get(call.id);
+  const reply = saidOf(call, answer);
+  const isClash = verdict?.clash === call.id;
+  const where = point === undefined ? "not placed yet" : momentInWords(point.at);
+  const slider = {
+    role: "slider",
+    tabindex: 0,
+    "data-call": call.id,
+    "aria-label": `where ${nameOfCall(call)}, ${reply === "?" ? "its reply not said yet" : reply}, takes effect`,
+    "aria-valuemin": call.begun,
+    "aria-valuemax": lastMoment(exercise, call),
+    "aria-valuenow": point?.at ?? call.begun,
+    "aria-valuetext": `${where}${isClash ? ", and clashes there" : ""}`,
+    class: `bar own ${colourOf(call.thread)}${isClash ? " clash" : ""}${call.ended === null ? " open" : ""}`,
+  };
+  const bar = drawJudgedBar(call, reply, scale, y);
+  return tag("g", slider, bar, point === undefined ? "" : drawOwnPoint(call, point.at, y, scale));
+}
+
+function drawJudgedBar(call, reply, scale, y) {
+  const [left, right] = [leftOf(call, scale), rightOf(call, scale)];
+  const rect = { x: left, y: y - JUDGE_BAR / 2, width: Math.max(right - left, 12), height: JUDGE_BAR, rx: 4 };
+  const { x, row } = scale.labels.get(call.id) ?? { x: left, row: null };
+  const above = { class: "call", x, y: y - JUDGE_BAR / 2 - 5 - ROW_HEIGHT * (row ?? 0) };
+  const words = row === null ? signOf(call) : callText(call) + tag("tspan", { class: "reply" }, ` ${escaped(reply)}`);
+  return tag("rect", rect) + tag("text", above, words);
+}
+
+const frameOf = ({ width, height }) => ({ width, height, viewBox: `0 0 ${width} ${height}` });
+
+function drawRecorded(calls, from, width) {
+  const inOrder = (numbers) => [...new Set(numbers)].sort((one, other) => (one < other ? -1 : 1));
+  const threads = inOrder(calls.map(({ thread }) => thread));
+  const ends = calls.flatMap(({ begun, ended }) => (ended === null ? [begun] : [begun, ended]));
+  const moments = inOrder(from === null ? ends : [...ends, from.moment]);
+  const momentOf = (at) => (at === null ? null : moments.indexOf(at) + 1);
+  const laneOf = ({ thread }) => threads.indexOf(thread);
+  const placed = calls.map((call, id) => ({ ...call, id, thread: laneOf(call), begun: momentOf(call.begun), ended: momentOf(call.ended) }));
+  const scale = judgeScale({ calls: placed, last: moments.length + 1, threads: threads.length }, width);
+  const bars = placed.map((call) => {
+    const bar = drawJudgedBar(call, call.reply ?? OPEN, scale, scale.y(call.thread));
+    const still = { class: `bar own still ${colourOf(threads[call.thread])}${call.ended === null ? " open" : ""}` };
+    return tag("g", still, title(recordedInWords(calls[call.id])), bar);
+  });
+  const lanes = threads.map((thread, at) => drawJudgedLane(scale, at, thread));
+  const below = from === null ? 0 : ROW_HEIGHT;
+  const frame = { ...frameOf({ ...scale, height: scale.height + below }), role: "img", "aria-label": calls.map(nameOfCall).join(", ") };
+  return tag("svg", frame, ...lanes, from === null ? "" : drawFrom(from.says, scale, momentOf(from.moment)), ...bars);
+}
+
+function drawFrom(says, { x, step, width, height }, moment) {
+  const at = x(moment) + step / 2;
+  const anchor = at > width / 2 ? { x: at - 6, "text-anchor": "end" } : { x: at + 6 };
+  const words = label({ class: "note", y: height + ROW_HEIGHT - 4, ...anchor }, says);
+  return tag("line", { class: "cursor", x1: at, x2: at, y1: 0, y2: height + ROW_HEIGHT }) + words;
+}
+
+function drawOwnPoint(call, at, y, scale) {
+  const x = scale.x(at);
+  const stem = tag("line", { x1: x, x2: x, y1: y - 15, y2: y + 15 });
+  return tag("g", { class: `point own ${colourOf(call.thread)}` }, stem, tag("circle", { cx: x, cy: y, r: 8 }), drawWhen(call, at, y, scale));
+}
+
+function drawWhen(call, at, y, scale) {
+  const x = scale.x(at);
+  const isRoomy = (room) => room >= SLOT_WIDTH;
+  if (isRoomy(rightOf(call, scale) - x)) return label({ x: x + 11, y: y + 5 }, momentInWords(at));
+  return isRoomy(x - leftOf(call, scale)) ? label({ x: x - 11, y: y + 5, "text-anchor": "end" }, momentInWords(at)) : "";
+}
+
+function drawJudged(judged) {
+  const { exercise, scale, moment } = judged;
+  const lanes = Array.from({ length: exercise.threads }, (_, thread) => drawJudgedLane(scale, thread));
+  const at = exercise.level === "claim" ? moment : judged.count;
+  const line = { class: "cursor", x1: scale.x(at), x2: scale.x(at), y1: 0, y2: scale.height };
+  const frame = { ...frameOf(scale), role: "group", "aria-label": "the calls, each with a point to place" };
+  const calls = exercise.calls.map((call) => drawJudgedCall(call, judged));
+  return tag("svg", frame, ...lanes, at === 0 ? "" : tag("line", line), ...calls);
+}
+
+function drawOwnOrder(answer) {
+  const { calls } = answer.exercise;
+  const placed = answer.order().map(({ call, at, reply }) => {
+    return `<li>${chipOf(call.thread)} ${callText(call)} <b>${escaped(reply ?? "?")}</b> <small>${momentInWords(at)}</small></li>`;
+  });
+  const others = calls.filter(({ id }) => !answer.points.has(id)).map((call) => {
+    return `<li class="later">${chipOf(call.thread)} ${callText(call)} <small>not placed yet</small></li>`;
+  });
+  return `<ol>${placed.join("")}${others.join("")}</ol>`;
+}
+
+function momentOfReport({ calls, last }, moment) {
+  if (moment === 0) return `Before the first of ${last} moments.`;
+  const begun = calls.find((call) => call.begun === moment);
+  const ended = calls.find((call) => call.ended === moment);
+  if (begun !== undefined) return `Moment ${moment}: ${chipOf(begun.thread)} begins ${callText(begun)}.`;
+  if (ended !== undefined) return `Moment ${moment}: ${chipOf(ended.thread)} ${callText(ended)} answers <b>${ended.reply}</b>.`;
+  const open = calls.filter((call) => call.begun < moment && (call.ended ?? Infinity) > moment);
+  const names = open.map((call) => `${callText(call)} of ${chipOf(call.thread)}`);
+  return `Moment ${moment}: a step. ${names.length === 0 ? "No call is pending." : `Pending: ${names.join(", ")}.`}`;
+}
+return { judgeScale, drawRecorded, drawJudged, drawOwnOrder, momentOfReport };
+})();
+
+// activities/judging.js
+const $activities_judging = (() => {
+const { CLASSICS } = $made_classics;
+const { drawJudged, drawOwnOrder, judgeScale, momentOfReport } = $draw_judged;
+const { byId, redraw } = $page_dom;
+const { keepUnder, keptUnder } = $page_kept;
+const { askNow, dispatch, exampleShown, isJudging, now, tell } = $page_now;
+const { addressOf } = $run_address;
+const { exerciseOf, LEVELS, OwnAnswer, repliesOf, verdictOn, wordOfAnswer } = $run_judged;
+const { callText, chipOf, escaped } = $run_markup;
+const JUDGED = "listset-judged"; // in the browser's storage: of each run and level the order that was right
+
+const HALF_STEPS = { ArrowLeft: -0.5, ArrowDown: -0.5, ArrowRight: 0.5, ArrowUp: 0.5 };
+const SLIDER_KEYS = { ...HALF_STEPS, PageDown: -5, PageUp: 5, Home: -Infinity, End: Infinity };
+const judgePart = (name) => byId(`judge-${name}`);
+
+class Judging {
+  exercise = null;
+  answer = null;
+  verdict = null;
+  held = null; // the call whose point is dragged
+  tries = 0; // that were refused
+  moment = 0; // of a claim
+  told = "";
+
+  begin(level) {
+    if (now.run.lacks !== null) return this.take(exerciseOf(now.task.verdict.report, "claim", false));
+    const broken = exampleShown() === "" ? null : askNow("listset_broken_example", exampleShown());
+    const isBroken = level === "claim" && broken?.status === 0 && Math.random() < 0.5;
+    const report = isBroken ? broken : askNow("listset_replay", now.run.text);
+    if (report.status === 0) this.take(exerciseOf(report.text, level, !isBroken));
+    else tell(`This run cannot be judged: ${escaped(report.text.trim())}.`);
+  }
+
+  take(exercise) {
+    Object.assign(this, { exercise, answer: new OwnAnswer(exercise) });
+    Object.assign(this, { held: null, verdict: null, tries: 0, moment: 0, told: LEVELS[exercise.level].task });
+    if (now.run.lacks === null) judgePart("level").value = exercise.level;
+    dispatch("exercise", { exercise });
+  }
+
+
+  callAt(event) {
+    const id = event.target.closest("[data-call]")?.dataset.call;
+    return id === undefined ? null : this.exercise.calls[Number(id)];
+  }
+
+  grasp(event) {
+    const call = this.callAt(event);
+    if (call === null) return;
+    event.preventDefault();
+    judgePart("bars").setPointerCapture(event.pointerId);
+    this.held = call;
+    this.drag(event);
+  }
+
+  drag(event) {
+    const left = judgePart("bars").firstElementChild.getBoundingClientRect().left;
+    this.place(this.held, this.scale.momentAt(event.clientX - left));
+  }
+
+  place(call, at) {
+    this.answer.place(call, at);
+    this.changed();
+    judgePart("bars").querySelector(`[data-call="${call.id}"]`).focus();
+  }
+
+  press(event) {
+    const call = this.callAt(event);
+    const by = SLIDER_KEYS[event.key];
+    if (call === null || event.ctrlKey || event.altKey || event.metaKey) return;
+    if (event.key === "Delete" || event.key === "Backspace") {
+      this.answer.take(call);
+      this.changed();
+    } else if (by === undefined) return;
+    else this.place(call, this.answer.points.has(call.id) ? this.answer.points.get(call.id).at + by : call.begun);
+    event.preventDefault();
+  }
+
+  say(call, reply) {
+    this.answer.say(call, reply);
+    this.changed();
+  }
+
+  changed() {
+    this.verdict = null;
+    this.draw();
+  }
+
+  judge(isNone) {
+    this.answer.isNone = isNone;
+    this.verdict = verdictOn(askNow, this.answer);
+    if (this.verdict.isRight === false) this.tries++;
+    if (this.verdict.isRight && this.exercise.isWhole) this.keep();
+    this.answer.isNone = false;
+    this.draw();
+    judgePart("verdict").scrollIntoView({ block: "nearest" });
+  }
+
+  keep() {
+    const run = exampleShown() === "" ? addressOf(now.run.text, now.run.count) : exampleShown();
+    this.line = `judge ${run} ${this.exercise.level} ${wordOfAnswer(this.answer)}`;
+    if (run !== null) keepUnder(JUDGED, { ...keptUnder(JUDGED), [`${run} ${this.exercise.level}`]: this.line });
+  }
+
+
+  draw() {
+    const { level, calls } = this.exercise;
+    this.count = now.run.count;
+    this.scale = judgeScale(this.exercise, Math.max(300, judgePart("bars").clientWidth));
+    judgePart("task").textContent = this.told;
+    judgePart("none").hidden = level !== "claim";
+    redraw(judgePart("bars"), drawJudged(this));
+    const asked = level === "replies" ? calls.filter((call) => call.ended !== null) : [];
+    redraw(judgePart("replies"), asked.map((call) => this.replyBox(call)));
+    judgePart("order").innerHTML = drawOwnOrder(this.answer);
+    this.drawMoment();
+    this.drawVerdict();
+  }
+
+  replyBox(call) {
+    const choice = document.createElement("select");
+    choice.dataset.call = call.id;
+    choice.append(new Option("?", ""), ...repliesOf(this.exercise, call).map((reply) => new Option(reply, reply)));
+    choice.value = this.answer.replies.get(call.id) ?? "";
+    choice.onchange = () => this.say(call, choice.value === "" ? undefined : choice.value);
+    const box = document.createElement("label");
+    box.innerHTML = `${chipOf(call.thread)} ${callText(call)} answers `;
+    box.append(choice);
+    return box;
+  }
+
+  drawMoment() {
+    const slider = judgePart("moment");
+    const said = momentOfReport(this.exercise, this.moment);
+    Object.assign(slider, { max: this.exercise.last, value: this.moment });
+    slider.setAttribute("aria-valuetext", said.replace(/<[^>]*>/g, ""));
+    judgePart("said").innerHTML = said;
+  }
+
+  drawVerdict() {
+    const { verdict, tries } = this;
+    const kind = { true: "right", false: "wrong" }[verdict?.isRight] ?? "";
+    judgePart("verdict").className = kind;
+    judgePart("verdict").textContent = verdict?.says ?? "";
+    judgePart("tries").textContent = tries === 0 ? "" : `${tries} ${tries === 1 ? "try" : "tries"} refused`;
+    judgePart("hint").textContent = kind === "wrong" && tries >= 2 && this.exercise.level !== "claim" ? hintOfRun() : "";
+    const isKept = kind === "right" && this.exercise.isWhole;
+    judgePart("line").innerHTML = isKept ? `Kept; you hand it in with the lessons: <code>${escaped(this.line)}</code>` : "";
+    const drawn = verdict?.report == null ? "" : askNow("listset_show_svg", verdict.report).text;
+    judgePart("picture-box").hidden = !drawn.startsWith("<svg ");
+    judgePart("picture").innerHTML = judgePart("picture-box").hidden ? "" : drawn;
+  }
+}
+
+const judging = new Judging();
+const drawJudging = () => isJudging() && judging.draw();
+
+function hintOfRun() {
+  const turns = CLASSICS[exampleShown()]?.turns;
+  if (turns !== undefined) return `The deciding events: ${turns.join(", ")}.`;
+  const changes = now.run.trace.changes.map(({ number }) => number);
+  return changes.length === 0 ? "No event changes the set." : `The set changes at the events ${changes.join(", ")}.`;
+}
+return { JUDGED, judgePart, judging, drawJudging };
+})();
+
+// activities/judge_begin.js
+const $activities_judge_begin = (() => {
+const { byId } = $page_dom;
+const { dispatch, held, now, tell } = $page_now;
+const { LEVELS, MOST_JUDGED } = $run_judged;
+const { escaped } = $run_markup;
+const { judgePart, judging } = $activities_judging;
+function beginJudging() {
+  const { trace } = now.run;
+  if (held.engine === null) return tell("The replayer does not run in this browser: nothing can be judged.");
+  if (!now.run.isRun || trace.refused !== null) return tell("A run with a refused event cannot be judged: delete the red line of the schedule first.");
+  if (trace.calls.length === 0) return tell("There is no call to judge yet.");
+  if (trace.total > MOST_JUDGED) return tell(`A run of at most ${MOST_JUDGED} events can be judged; this one has ${trace.total}.`);
+  if (now.run.lacks !== null && (now.task.verdict?.report ?? null) === null) return tell(escaped(now.task.verdict.says));
+  tell("");
+  judging.begin(judgePart("level").value);
+  judgePart("level").focus();
+}
+
+function listenToJudging() {
+  byId("judge-begin").onclick = beginJudging;
+  judgePart("level").append(...Object.entries(LEVELS).map(([level, { name }]) => new Option(name, level)));
+  judgePart("level").value = "replies";
+  judgePart("level").onchange = judgePart("again").onclick = () => judging.begin(judgePart("level").value);
+  judgePart("ask").onclick = () => judging.judge(false);
+  judgePart("none").onclick = () => judging.judge(true);
+  judgePart("moment").oninput = () => {
+    judging.moment = Number(judgePart("moment").value);
+    judging.draw();
+  };
+  judgePart("end").onclick = () => {
+    dispatch("exercise", { exercise: null });
+    byId("judge-begin").focus();
+  };
+  const bars = judgePart("bars");
+  bars.onpointerdown = (event) => judging.grasp(event);
+  bars.onpointermove = (event) => judging.held !== null && judging.drag(event);
+  bars.onpointerup = bars.onpointercancel = () => (judging.held = null);
+  bars.onkeydown = (event) => judging.press(event);
+}
+return { beginJudging, listenToJudging };
+})();
+
+// activities/break_level.js
+const $activities_break_level = (() => {
+const { CLASSICS } = $made_classics;
+const { BREAK_LEVELS, GRADES } = $data_levels;
+const { byId, setAble, setHidden } = $page_dom;
+const { exampleText } = $page_example;
+const { askNow, change, goTo, now, show, tellLine } = $page_now;
+const { goByHand } = $page_play;
+const { openLacking } = $page_work;
+const { addressOf } = $run_address;
+const { departureOf, isTaskDone, NO_TASK, verdictOnLacking } = $run_broken;
+const { escaped, tag } = $run_markup;
+const { scheduleOfTrace, versionOf } = $run_schedule_text;
+const { isTrace, Trace } = $run_trace;
+const { fillBreaks, numberOf, openLevel, titleOfLevel, whyWrong, wordOf } = $activities_break_map;
+const { drawDeparture, drawWin, level } = $activities_break_win;
+const { brokenLines, isNamed, isShownBreak, keepBrokenLine, keepNamed, noteShown } = $activities_broken_kept;
+const { beginJudging } = $activities_judge_begin;
+const MOST_BROKEN = 1000; // events of a run that is judged
+
+function judgeBreaking(trace) {
+  if (trace.lacks === null || now.task.kind === "lesson") return;
+  const verdict = verdictOfRun(trace);
+  change("verdict", { verdict });
+  if (isTaskDone(trace.lacks, verdict)) keepBroken(trace);
+}
+
+function showBreaking() {
+  byId("break-win").hidden = true;
+  const { trace } = now.run;
+  if (now.place.activity === "break" && now.task.verdict !== null) drawLevel(trace, now.task.verdict);
+}
+
+function verdictOfRun(trace) {
+  if (trace.refused !== null) return { kind: "refused", says: "The schedule is refused: take the red line out first." };
+  if (trace.total > MOST_BROKEN) return { kind: "refused", says: `Judged are at most ${MOST_BROKEN} events: this run has ${trace.total}.` };
+  return verdictOnLacking(askNow, trace.lacks, scheduleOfTrace(trace));
+}
+
+function keepBroken(trace) {
+  const schedule = scheduleOfTrace(trace);
+  const address = addressOf(schedule, trace.total);
+  const isKept = brokenLines().some(([name]) => name === trace.lacks);
+  if (address === null || isKept || isShownBreak(trace.lacks, schedule)) return;
+  keepBrokenLine(trace.lacks, `break ${trace.lacks} ${address}`);
+  fillBreaks();
+}
+
+
+const TO_DO = "· Run the threads until no order of the calls explains their replies.";
+const HOLDS = "Not broken yet.";
+const won = (says, why) => ({ kind: "won", says, why });
+const holds = (says, why = "") => ({ kind: "holds", says, why });
+
+function stateOf(trace, verdict) {
+  const { lacks } = trace;
+  const isPoints = verdict.kind === "points";
+  const isBroken = verdict.kind === "broken";
+  if (verdict.kind === "refused") return holds(verdict.says);
+  if (isBroken && isShownBreak(lacks, scheduleOfTrace(trace))) return stateOfShown(verdict);
+  if (isPoints && lacks === NO_TASK) {
+    return holds("Refused by its linearization points, and not broken.", "Another order explains these replies. Why is there always one?");
+  }
+  if (isBroken) return won("Broken!", reasonOf(verdict));
+  const isAnswered = trace.calls.some(({ ended }) => ended !== null);
+  if (!isAnswered) return { kind: "", says: "No call has ended yet.", why: "Let a thread begin a call, and step on." };
+  const explained = "Some order explains all replies so far.";
+  return holds(HOLDS, isPoints ? verdict.says.replace("Not by its points: check refuses", "check refuses") : explained);
+}
+
+const reasonOf = ({ says }) => says.replace(/^Broken: /, "").replace(/the set (has|does not have) it/, "the list $1 it");
+
+function stateOfShown(verdict) {
+  if (now.run.count < now.run.trace.total) return { kind: "shown", says: "Step on, and watch.", why: "At the end the page says why it is broken." };
+  const why = `${reasonOf(verdict)} This schedule was shown to you and does not count: find one of your own.`;
+  return { kind: "shown", says: "Broken, as shown.", why };
+}
+
+
+function drawLevel(trace, verdict) {
+  const name = trace.lacks;
+  if (level.lacks !== name) Object.assign(level, { lacks: name, hints: 0, wrong: new Set() });
+  const { story, grade } = BREAK_LEVELS[name];
+  const shown = stateOf(trace, verdict);
+  const isWon = shown.kind === "won";
+  byId("break-story").textContent = story;
+  byId("break-title").textContent = titleOfLevel(name);
+  byId("break-question").textContent = GRADES[grade] === undefined ? "" : TO_DO;
+  byId("break-state").className = shown.kind;
+  if (byId("break-verdict").textContent !== shown.says) byId("break-verdict").textContent = shown.says; // a reader hears it once
+  byId("break-why").textContent = isWon ? "" : shown.why; // then it stands beside the two sets
+  byId("break-judge").hidden = verdict.kind !== "points";
+  drawHints(name, isWon);
+  byId("break-win").hidden = !isWon;
+  if (isWon) drawWin(trace, shown.why);
+  drawDeparture(verdict.kind === "broken");
+}
+
+function drawHints(name, isWon) {
+  const { hints } = BREAK_LEVELS[name];
+  const isLeft = level.hints < hints.length;
+  setHidden(byId("break-hint"), isWon, byId("break-again"));
+  byId("break-hint").textContent = isLeft ? `Hint ${level.hints + 1} of ${hints.length}` : "No more hints";
+  setAble("break-hint", isLeft);
+  const items = hints.slice(0, level.hints).map((hint) => tag("li", {}, escaped(hint)));
+  if (byId("break-hints").children.length !== items.length) byId("break-hints").innerHTML = items.join("");
+}
+
+function answerAsk(word) {
+  const name = now.run.lacks;
+  if (word === wordOf(name)) keepNamed(name);
+  else level.wrong.add(word);
+  show();
+  if (!isNamed(name)) byId("break-told").textContent = whyWrong(name, word);
+}
+
+
+function openWithoutCheck() {
+  const [name] = CLASSICS[now.task.id].lacks;
+  const example = exampleText(now.task.id);
+  const { text } = askNow("listset_trace_lacking", name, example);
+  if (!isTrace(text)) return tellLine(text.trim());
+  const schedule = scheduleOfTrace(new Trace(text, versionOf(example)));
+  noteShown(name, schedule);
+  openLacking(name, schedule, "The same schedule, on a list without the check. Press Step.");
+  const departs = departureOf(askNow, now.run.trace);
+  if (departs !== null) goTo(departs.event - 1);
+}
+
+function listenToBreaking() {
+  byId("see-broken").onclick = openWithoutCheck;
+  byId("break-judge").onclick = beginJudging;
+  byId("break-event").onclick = () => goByHand(Number(byId("break-event").dataset.event));
+  byId("break-again").onclick = () => openLevel(numberOf(now.run.lacks));
+  byId("break-options").onclick = ({ target }) => target.dataset.word !== undefined && answerAsk(target.dataset.word);
+  byId("break-hint").onclick = () => {
+    level.hints = Math.min(level.hints + 1, BREAK_LEVELS[now.run.lacks].hints.length);
+    drawLevel(now.run.trace, now.task.verdict);
+    byId("break-hints").scrollIntoView({ block: "nearest" });
+  };
+}
+return { judgeBreaking, showBreaking, listenToBreaking };
+})();
+
+// page/steps.js
+const $page_steps = (() => {
+const { readFault } = $engine_answers;
+const { askList } = $run_broken;
+const { MOST_TRIED, scheduleOfDraft } = $run_draft;
+const { callText, chipOf, escaped } = $run_markup;
+const { isFailed, isLock, mono } = $run_outcomes;
+const { scheduleAndLine } = $run_schedule_text;
+const { isTrace, Trace } = $run_trace;
+const { askNow, now, tell } = $page_now;
+const { goOn } = $page_work;
+const isAtRest = (thread) => now.run.state.threads[thread].pc === 0;
+const tellRest = (thread) => tell(`${chipOf(thread)} is idle: let it begin a call first, with its buttons below.`);
+
+function oneStep(thread) {
+  if (isAtRest(thread)) tellRest(thread);
+  else goOn(`go ${thread} 1`);
+}
+
+function stepsToEnd(thread, told = `ended ${callText(now.run.state.threads[thread].call ?? {})}`) {
+  if (isAtRest(thread)) return tellRest(thread);
+  const { count, fault } = stepsOfDraft(`go ${thread} out`);
+  if (count === null) stepsToLock(thread, fault, "its call has not ended");
+  else goOn(`go ${thread} ${count}`, count, `${chipOf(thread)} ${told}.`);
+}
+
+function stepsToRow(thread, row) {
+  if (isAtRest(thread)) return tellRest(thread);
+  const { count, fault } = stepsOfDraft(`go ${thread} to ${row}`);
+  if (count !== null) goOn(`go ${thread} ${count}`, count, `${chipOf(thread)} is at row ${row}.`);
+  else if (readFault(fault).cause === "Idle") stepsToEnd(thread, `ended its call before it came to row ${row}`);
+  else stepsToLock(thread, fault, `it has not come to row ${row}`);
+}
+
+function stepsOfDraft(line) {
+  const { text, fault } = scheduleOfDraft(askNow, scheduleAndLine(now.run.trace, now.run.count, line), now.run.lacks);
+  return fault === null ? { count: Number(text.trimEnd().split(" ").at(-1)), fault } : { count: null, fault };
+}
+
+function stepsToLock(thread, fault, notYet) {
+  const text = scheduleAndLine(now.run.trace, now.run.count, `go ${thread} ${MOST_TRIED}`);
+  const answer = askList(askNow, "listset_trace", now.run.lacks, text);
+  if (readFault(fault).cause !== "Waits" || !isTrace(answer.text)) {
+    return tell(`No step was made: ${escaped(fault)}.`);
+  }
+  const events = new Trace(answer.text).events().slice(now.run.count);
+  const waits = waitsAt(events);
+  const line = waits < events.length ? waitingText(thread, events[waits]) : `${chipOf(thread)} made ${events.length} steps`;
+  if (waits === 0) tell(`${line}, and ${notYet}.`);
+  else goOn(`go ${thread} ${waits}`, waits, `${line}, and ${notYet}.`);
+}
+
+function waitsAt(events) {
+  let first = events.length;
+  while (first > 0 && isFailed(events[first - 1]) && isLock(events[first - 1].word)) first--;
+  return first;
+}
+
+const waitingText = (thread, event) =>
+  `${chipOf(thread)} waits at row ${event.changes.pc} for the lock ${mono(event.word)}, which ${chipOf(Number(event.saw.slice(1)))} holds`;
+return { isAtRest, tellRest, oneStep, stepsToEnd, stepsToRow };
+})();
+
+// page/moves.js
+const $page_moves = (() => {
+const { LISTS } = $made_rows;
+const { callText, chipOf, colourOf } = $run_markup;
+const { CALL_WORDS, MOST_NUMBER } = $run_trace;
+const { byId, redraw } = $page_dom;
+const { held, now } = $page_now;
+const { isAtMap } = $page_places;
+const { oneStep, stepsToEnd, stepsToRow } = $page_steps;
+const { goOn } = $page_work;
+const chosenCalls = {}; // of each thread, the call that was last chosen for it
+const chosenRows = {}; // and the row to which it is to go
+const chosenOf = (thread) => (chosenCalls[thread] ??= { operation: "add", key: "5" });
+
+function drawMovesNow({ trace, state }) {
+  if (isAtMap()) return;
+  drawMoves(state, held.engine !== null);
+  const isLater = now.run.count < trace.total;
+  byId("moves-note").textContent = isLater ? `From event ${now.run.count} on; later events are dropped.` : "";
+}
+
+function drawMoves(state, isAble) {
+  const box = byId("moves");
+  if (box.children.length !== state.threads.length) box.replaceChildren(...state.threads.map((_, thread) => rowOf(thread)));
+  state.threads.forEach((own, thread) => {
+    const row = box.children[thread];
+    const key = JSON.stringify([state.trace.kind, own.pc, own.call, isAble]);
+    if (row.dataset.key === key) return;
+    row.dataset.key = key;
+    const controls = own.pc !== 0 ? stepControls(state, thread) : beginControls(thread);
+    const parts = controls.flatMap((control) => [control, ...control.querySelectorAll("button, select, input")]);
+    parts.forEach((part) => Object.assign(part, { disabled: !isAble }));
+    redraw(row.lastElementChild, controls);
+  });
+}
+
+function rowOf(thread) {
+  const row = document.createElement("div");
+  row.className = `row ${colourOf(thread)}`;
+  row.dataset.thread = String(thread);
+  row.setAttribute("role", "group");
+  row.setAttribute("aria-label", `thread ${thread}`);
+  row.innerHTML = `${chipOf(thread)}<div class="controls"></div>`;
+  return row;
+}
+
+function buttonOf(text, deed, title, onclick) {
+  const button = document.createElement("button");
+  Object.assign(button, { title, onclick });
+  button.innerHTML = text.replace(/\[(.*)\]/, '<span class="roomy">$1</span>');
+  button.setAttribute("aria-label", `${button.textContent}, thread ${title.match(/\d+/)[0]}`);
+  button.dataset.deed = deed;
+  return button;
+}
+
+function rowFor(state, thread) {
+  const own = state.threads[thread];
+  const { rows } = LISTS[state.trace.kind].calls[own.call.operation];
+  if (rows.includes(chosenRows[thread])) return chosenRows[thread];
+  return rows[(rows.indexOf(own.pc) + 1) % rows.length];
+}
+
+function stepControls(state, thread) {
+  const { calls, rows } = LISTS[state.trace.kind];
+  const own = state.threads[thread];
+  const row = document.createElement("select");
+  for (const number of calls[own.call.operation].rows) row.append(new Option(`${number} ${rows[number].step}`, number));
+  row.value = rowFor(state, thread);
+  row.dataset.deed = "row";
+  row.setAttribute("aria-label", `row of thread ${thread}`);
+  row.onchange = () => (chosenRows[thread] = Number(row.value));
+  const next = document.createElement("small");
+  next.textContent = `next: ${rows[own.pc]?.step ?? ""}`;
+  const untilRow = document.createElement("span");
+  const goUntil = () => stepsToRow(thread, Number(row.value));
+  untilRow.append(buttonOf("until[ row]", "until", `thread ${thread} until it is at this row (the keys r ${thread})`, goUntil), row);
+  const call = document.createElement("span");
+  Object.assign(call, { className: "call", textContent: callText(own.call) });
+  return [
+    call,
+    buttonOf("[one ]step", "one", `go ${thread} 1 (the key ${thread})`, () => oneStep(thread)),
+    buttonOf("to [its ]end", "end", `thread ${thread} to the end of its call (the keys e ${thread})`, () => stepsToEnd(thread)),
+    untilRow,
+    next,
+  ];
+}
+
+function beginControls(thread) {
+  const chosen = chosenOf(thread);
+  const operation = document.createElement("select");
+  for (const word of CALL_WORDS) operation.append(new Option(word));
+  operation.value = chosen.operation;
+  operation.setAttribute("aria-label", `call of thread ${thread}`);
+  operation.onchange = () => (chosen.operation = operation.value);
+  const key = document.createElement("input");
+  Object.assign(key, { type: "number", min: 0, max: MOST_NUMBER, value: chosen.key });
+  key.setAttribute("aria-label", `key of thread ${thread}'s call`);
+  key.oninput = () => (chosen.key = key.value);
+  const begin = () => goOn(`begin ${thread} ${chosen.operation} ${chosen.key}`);
+  return [operation, key, buttonOf("begin", "begin", `begin ${thread} ..`, begin)];
+}
+return { drawMovesNow, rowFor };
+})();
+
+// page/keys.js
+const $page_keys = (() => {
+const { byId } = $page_dom;
+const { rowFor } = $page_moves;
+const { held, now, show, tell } = $page_now;
+const { isAtMap, setView } = $page_places;
+const { goByHand, goToTurn, togglePlay } = $page_play;
+const { isAtRest, oneStep, stepsToEnd, stepsToRow, tellRest } = $page_steps;
+const { redo, undo } = $page_work;
+const ASKS = {
+  e: { told: "Steps to the end of a call: of which thread? Press its digit, or t and two digits.", deed: (thread) => stepsToEnd(thread) },
+  r: {
+    told: "Steps until the chosen row: of which thread? Press its digit, or t and two digits.",
+    deed: (thread) => stepsToRow(thread, rowFor(now.run.state, thread)),
+  },
+};
+const awaited = { deed: null, digits: null }; // digits: those of a thread from 10 on, as far as they are there
+
+const PLAIN_KEYS = { p: togglePlay, u: undo, y: redo, "?": toggleKeys };
+
+const keysOf = {}; // of an activity that has keys of its own, what they do
+
+function pressKey(event) {
+  if (/^(TEXTAREA|INPUT|SELECT)$/.test(event.target.tagName) && event.target.id !== "slider") return;
+  if (event.ctrlKey || event.metaKey || event.altKey || event.target.closest("[role=slider]") !== null) return;
+  if (event.key === "Escape" && now.place.view !== null) return toggleLecture();
+  if (now.place.activity in keysOf) return keysOf[now.place.activity](event);
+  if (isAtMap() && event.key !== "?") return;
+  const { total } = now.run.trace;
+  const far = now.place.view === "lecture" ? 1 : 10; // what a lecturer's pointer sends
+  const steps = { ArrowRight: 1, ArrowLeft: -1, PageDown: far, PageUp: -far, Home: -total, End: total };
+  if (event.key in steps) {
+    event.preventDefault();
+    if (event.shiftKey && event.key.startsWith("Arrow")) goToTurn(steps[event.key]);
+    else goByHand(now.run.count + steps[event.key]);
+  } else if (event.key === " " && !/^(BUTTON|SUMMARY|A)$/.test(event.target.tagName)) {
+    event.preventDefault();
+    togglePlay();
+  } else if (now.prefs.letters || event.key === "?") pressLetter(event);
+}
+
+function pressLetter(event) {
+  const { key } = event;
+  if (key in PLAIN_KEYS) {
+    event.preventDefault();
+    PLAIN_KEYS[key]();
+  } else if (held.engine === null) return;
+  else if (/^[0-9]$/.test(key)) return pressDigit(key);
+  else if (key in ASKS) return waitFor(key, null, ASKS[key].told);
+  else if (key === "t") return waitFor(awaited.deed, "", "Which thread? Press its two digits.");
+  waitFor(null, null, "");
+}
+
+function waitFor(deed, digits, told) {
+  Object.assign(awaited, { deed, digits });
+  if (told !== "") tell(told);
+}
+
+function pressDigit(digit) {
+  const digits = `${awaited.digits ?? ""}${digit}`;
+  if (awaited.digits !== null && digits.length < 2) return (awaited.digits = digits);
+  const thread = Number(digits);
+  const deed = ASKS[awaited.deed]?.deed ?? oneStep;
+  waitFor(null, null, "");
+  if (thread >= now.run.trace.threads) return tell(`There is no thread ${thread}.`);
+  if (isAtRest(thread)) return tellRest(thread);
+  deed(thread);
+}
+
+function toggleKeys() {
+  byId("key-help").hidden = !byId("key-help").hidden;
+  byId("keys").setAttribute("aria-expanded", String(!byId("key-help").hidden));
+}
+
+function toggleLecture() {
+  const isLeft = document.activeElement === byId("leave");
+  setView(now.place.view === null ? "lecture" : null);
+  show();
+  if (isLeft) byId(now.place.activity === "compare" ? "sides-lecture" : "lecture").focus();
+}
+return { keysOf, pressKey, toggleKeys, toggleLecture };
+})();
+
+// run/seed.js
+const $run_seed = (() => {
+const { AddressFault } = $run_address;
+const { isTrace, Trace } = $run_trace;
+const KINDS = ["coarse", "fine", "optimistic", "lazy", "lock-free"];
+const TRIES = 200;
+const MOST_TRIED_CALLS = 8; // of a run with more calls the first is taken
+const MOST_SEEN = 60; // events that are told apart by eye
+
+const seedOf = (kind, number, { threads = 2, calls = 5, keys = 2 } = {}) => `${kind}.${threads}.${calls}.${keys}.${number}`;
+
+function partsOfSeed(seed) {
+  const [kind, ...values] = seed.split(".");
+  const [threads, calls, keys, number] = values.map(Number);
+  return { kind, threads, calls, keys, number };
+}
+
+function scheduleOfSeed(ask, seed) {
+  const { kind, threads, calls, keys, number } = partsOfSeed(seed);
+  const tries = calls > MOST_TRIED_CALLS ? 1 : TRIES;
+  let text = "";
+  for (let tried = 0; tried < tries; tried++) {
+    const answer = ask("listset_gen", [kind, threads, 4, calls, keys, number * TRIES + tried].join("\0"));
+    if (answer.status !== 0) throw new AddressFault(`the address names no run: ${answer.text.trim()}`);
+    text = answer.text;
+    const traced = ask("listset_trace", text).text;
+    if (!isTrace(traced)) throw new AddressFault(`the run of the address has no trace: ${traced.trim()}`);
+    if (isWorthIt(new Trace(traced))) break;
+  }
+  return joined(text);
+}
+
+function isWorthIt({ calls, changes, total }) {
+  const puts = changes.some(({ put }) => put !== undefined) && changes.some(({ took }) => took !== undefined);
+  const isBeside = (one, other) => one.thread !== other.thread && one.begun < other.ended && other.begun < one.ended;
+  const beside = calls.filter((one) => calls.some((other) => isBeside(one, other)));
+  const isTold = beside.some(({ changes: own, operation, reply }) => !own && (operation === "contains" || reply === "false"));
+  return puts && isTold && total <= MOST_SEEN && calls.every(({ ended }) => ended !== null);
+}
+
+function joined(text) {
+  const lines = [];
+  for (const line of text.trimEnd().split("\n")) {
+    const [thread, steps] = /^go (\d+) (\d+)$/.exec(line)?.slice(1) ?? [];
+    const [before, count] = /^go (\d+) (\d+)$/.exec(lines.at(-1) ?? "")?.slice(1) ?? [];
+    if (thread !== undefined && thread === before) lines[lines.length - 1] = `go ${thread} ${Number(count) + Number(steps)}`;
+    else lines.push(line);
+  }
+  return `${lines.join("\n")}\n`;
+}
+
+function anotherSeed(before, kind = null) {
+  const list = kind ?? KINDS[Math.floor(Math.random() * KINDS.length)];
+  const number = 1 + Math.floor(Math.random() * 9999);
+  const seed = seedOf(list, number);
+  return seed === before ? seedOf(list, (number % 9999) + 1) : seed;
+}
+return { seedOf, partsOfSeed, scheduleOfSeed, anotherSeed };
+})();
+
+// page/address_of.js
+const $page_address_of = (() => {
+const { BOOK_NAME } = $made_book;
+const { CLASSICS } = $made_classics;
+const { LISTS } = $made_rows;
+const { BREAK_LEVELS } = $data_levels;
+const { addressOf, LONGEST_ADDRESS } = $run_address;
+const { startOfLacking } = $run_broken;
+const { partsOfSeed } = $run_seed;
+const { isWhatIf } = $page_state;
+function ofLesson({ task, run }, { course }) {
+  const named = `${task.course === BOOK_NAME || course === null ? "#" : `${course}&`}learn=${task.id}`;
+  const own = addressOf(run.text, run.count, run.lacks);
+  const whole = own === null ? named : `${named}&${own.slice(1)}`;
+  return whole.length <= LONGEST_ADDRESS ? whole : named;
+}
+
+const levels = Object.keys(BREAK_LEVELS);
+
+function ofRun(state, given) {
+  const { task, run } = state;
+  const own = () => addressOf(run.text, run.count, run.lacks);
+  if (task.kind === "lesson") return ofLesson(state, given);
+  if (task.kind === "level" && run.text === startOfLacking(task.id)) return `#break=${levels.indexOf(task.id) + 1}`;
+  if (!["example", "seed"].includes(task.kind)) return own();
+  const isChanged = run.text !== task.begun;
+  if (!isChanged) return `#${task.kind}=${task.id}&event=${run.count}`;
+  return task.kind === "seed" || own() === null ? own() : `#watch=${task.id}&${own().slice(1)}`;
+}
+
+function addressIn(state, given) {
+  const { place, exercise } = state;
+  const view = place.view === null ? "" : `&view=${place.view}`;
+  if (place.activity === "compare") return given.sides === null ? `#compare${view}` : `${given.sides}${view}`;
+  if (place.screen === "map") return `${place.activity === "learn" && given.course !== null ? `${given.course}&` : "#"}${place.activity}${view}`;
+  const address = ofRun(state, given);
+  return address === null ? null : `${address}${exercise === null ? "" : "&judge"}${view}`;
+}
+
+const WHOLE = "list sets, step by step";
+const NAMES = { watch: "Watch", learn: "Learn", judge: "Judge", break: "Break", compare: "Compare", read: "Read" };
+
+function titleIn(state, titles) {
+  const { place, task, run } = state;
+  const list = run.trace === null ? "" : LISTS[run.trace.kind].name;
+  if (place.activity === "compare") return `${titles.sides}: ${WHOLE}`;
+  if (place.screen === "map") return `${NAMES[place.activity]}: ${WHOLE}`;
+  const judged = state.exercise === null ? "" : "Judge: ";
+  const ofTask = {
+    example: () => `${judged}${CLASSICS[task.id].question}${isWhatIf(state) ? " What if?" : ""}`,
+    lesson: () => titles.lesson,
+    level: () => titles.level(task.id),
+    seed: () => `${judged}Run ${partsOfSeed(task.id).number} of ${list}`,
+    own: () => `${judged}${task.work}: ${list}`,
+  };
+  return `${ofTask[task.kind]()} (${WHOLE})`;
+}
+return { addressIn, titleIn };
+})();
+
+// page/visit.js
+const $page_visit = (() => {
+const { warningOf } = $run_address;
+const { escaped } = $run_markup;
+const { addressIn } = $page_address_of;
+const { HERE, keepUnder, keepWork } = $page_kept;
+const { held, now, tell } = $page_now;
+const { entryOf } = $page_state;
+const MOMENT = 400; // milliseconds: the bar follows once nothing has moved for so long, since browsers refuse quick changes of it
+const visit = { timer: 0, entry: null, isRead: false, course: null, sides: null };
+
+const addressHere = () => addressIn(held.state, visit);
+
+function keepSoon() {
+  clearTimeout(visit.timer);
+  visit.timer = setTimeout(keepNow, MOMENT);
+}
+
+function keepNow() {
+  clearTimeout(visit.timer);
+  keepWork();
+  if (visit.isRead) setAddress();
+}
+
+function setAddress() {
+  const address = addressHere();
+  const entry = entryOf(held.state);
+  const isNew = visit.entry !== null && visit.entry !== entry;
+  visit.entry = entry;
+  keepUnder(HERE, address);
+  if (!isNew && location.hash === (address ?? "")) return;
+  const { text, count, lacks } = now.run;
+  const kept = address === null ? { text, count, lacks } : null;
+  const how = isNew ? "pushState" : "replaceState";
+  const place = address ?? location.pathname + location.search;
+  try {
+    history[how](kept, "", place);
+  } catch {
+    history[how](null, "", place); // a state may be too large for a browser
+  }
+}
+
+const linkTo = (address) => location.href.replace(/#.*$/, "") + address;
+
+async function copyLink() {
+  const address = now.run.isRun ? addressHere() : null;
+  if (address === null) return tell("This schedule has no link: it is refused, or too long for an address. Save it as a file.");
+  const link = linkTo(address);
+  const shown = `<code>${escaped(link)}</code>${warningOf(link)}`;
+  tell(`Copy this link: ${shown}`);
+  if (await copied(link)) tell(`The link is copied: ${shown}`);
+}
+
+async function copied(text) {
+  try {
+    await navigator.clipboard.writeText(text);
+    return true;
+  } catch {
+    return false;
+  }
+}
+return { visit, keepSoon, keepNow, linkTo, copyLink, copied };
+})();
+
+// run/sides.js
+const $run_sides = (() => {
+const { titleOf } = $run_schedule_text;
+const { State } = $run_state;
+const { isTrace, MOST_NUMBER, Trace } = $run_trace;
+const MOST_TURNS = 500;
+
+class ProgramFault extends Error {}
+
+function readProgram(text) {
+  const program = [];
+  for (const line of text.split("\n").filter((one) => one.trim() !== "")) {
+    const [, thread, calls] = /^\s*t?(\d+)\s*:\s*(.+?)\s*$/.exec(line) ?? [];
+    const isLine = thread !== undefined && Number(thread) < 64;
+    if (!isLine) throw new ProgramFault(`"${line.slice(0, 60)}" is no line as "0: add 5, remove 5"`);
+    for (const call of calls.split(",").map((one) => one.trim())) {
+      const [, operation, key] = /^(add|remove|contains|ceiling) (0|[1-9]\d{0,9})$/.exec(call) ?? [];
+      if (key === undefined || Number(key) > MOST_NUMBER) throw new ProgramFault(`"${call.slice(0, 40)}" is no call as "add 5"`);
+      (program[Number(thread)] ??= []).push(`${operation} ${key}`);
+    }
+  }
+  if (program.length === 0) throw new ProgramFault('a program has lines as "0: add 5, remove 5"');
+  return Array.from(program, (calls) => calls ?? []);
+}
+
+function programText(program) {
+  const lines = program.map((calls, thread) => (calls.length === 0 ? "" : `${thread}: ${calls.join(", ")}\n`));
+  return lines.join("");
+}
+
+class Side {
+  constructor(ask, kind, { program, quota, opening }) {
+    this.ask = ask;
+    this.kind = kind;
+    this.lines = [];
+    this.counts = [0];
+    const set = [titleOf(2), `list ${kind}`, `threads ${program.length}`, `quota ${quota}`];
+    this.head = [...set, ...opening.map((key) => `opening ${key}`)];
+    this.run();
+  }
+
+  get schedule() {
+    return [...this.head, ...this.lines, ""].join("\n");
+  }
+
+  run() {
+    const { text } = this.ask("listset_trace", this.schedule);
+    if (!isTrace(text)) throw new ProgramFault(text.trim());
+    this.trace = new Trace(text, 2);
+    this.state = new State(this.trace);
+    this.state.moveTo(this.trace.total);
+  }
+
+  isOpen(thread) {
+    return this.state.threads[thread].pc !== 0;
+  }
+
+  take(line) {
+    if (line !== null) {
+      this.lines.push(line);
+      this.run();
+    }
+    this.counts.push(this.trace.total);
+  }
+}
+
+class Sides {
+  constructor(ask, kinds, { program, quota, opening }) {
+    this.program = program;
+    this.turns = [];
+    this.sides = kinds.map((kind) => new Side(ask, kind, { program, quota, opening }));
+  }
+
+  linesOf(thread) {
+    if (thread >= this.program.length) return null;
+    const isOpen = this.sides.map((side) => side.isOpen(thread));
+    if (isOpen.includes(true)) return isOpen.map((open) => (open ? `go ${thread} 1` : null));
+    const next = this.program[thread]?.[this.sides[0].trace.callsOf[thread].length];
+    return next === undefined ? null : this.sides.map(() => `begin ${thread} ${next}`);
+  }
+
+  turn(thread) {
+    const lines = this.linesOf(thread);
+    if (lines === null || this.turns.length === MOST_TURNS) return false;
+    this.sides.forEach((side, at) => side.take(lines[at]));
+    this.turns.push(thread);
+    return true;
+  }
+}
+return { ProgramFault, readProgram, programText, Sides };
+})();
+
+// activities/compare.js
+const $activities_compare = (() => {
+const { LISTS } = $made_rows;
+const { drawContents } = $draw_contents;
+const { drawCalls, scaleOf } = $draw_history;
+const { drawList, LOCK_HEIGHT } = $draw_list;
+const { LEAST } = $draw_room;
+const { byId, redraw } = $page_dom;
+const { toggleLecture } = $page_keys;
+const { askNow, change, now, show } = $page_now;
+const { copied, keepSoon, linkTo, visit } = $page_visit;
+const { addressOf, readAddress, warningOf } = $run_address;
+const { chipOf, escaped, tag } = $run_markup;
+const { momentAt, sentenceOf } = $run_sentences;
+const { ProgramFault, programText, readProgram, Sides } = $run_sides;
+const PRESETS = [
+  ["Who waits?", "#sides=coarse.lazy&quota=4&calls=0.add.5,1.contains.5&turns=0.0.0.0.1.1.1"],
+  ["Two removes of neighbours", "#sides=fine.optimistic&quota=4&opening=3.5.7&calls=0.remove.3,1.remove.7&turns=0.0.0.1.1.1"],
+  ["A reader beside a writer", "#sides=lazy.lock-free&quota=4&opening=3.5.7&calls=0.remove.5,1.contains.5&turns=0.0.0.0.0.1.1"],
+];
+
+function drawCompare() {
+  byId("sides-presets").innerHTML = PRESETS.map(([name, href]) => tag("a", { class: "button", href }, escaped(name))).join(" ");
+}
+
+function openCompare(named) {
+  change("place", { activity: "compare", screen: "map" });
+  if (named !== null || shownSides.sides === null) openSides(named ?? readAddress(PRESETS[0][1]).sides);
+  show();
+}
+
+const titleOfSides = () => ["one", "other"].map((name) => LISTS[sidesPart(name).value].name).join(" beside ");
+
+const sidesPart = (name) => byId(`sides-${name}`);
+
+const shownSides = { sides: null, at: 0, quota: 4, opening: [] }; // at: how many turns are shown
+
+function beginSides(turns = []) {
+  try {
+    const program = readProgram(sidesPart("program").value);
+    const opening = sidesPart("opening").value.split(/[\s,]+/).filter((key) => key !== "");
+    const kinds = ["one", "other"].map((name) => sidesPart(name).value);
+    Object.assign(shownSides, { sides: new Sides(askNow, kinds, { program, quota: shownSides.quota, opening }), at: 0, opening });
+    for (const thread of turns) if (!shownSides.sides.turn(thread)) break;
+    shownSides.at = shownSides.sides.turns.length;
+    sidesPart("told").textContent = "";
+    drawSides();
+  } catch (fault) {
+    if (!(fault instanceof ProgramFault)) throw fault;
+    sidesPart("told").textContent = fault.message;
+  }
+}
+
+function turnOf(thread) {
+  const { sides, at } = shownSides;
+  const turns = sides.turns.slice(0, at);
+  if (at < sides.turns.length) beginSides(turns);
+  const isMade = shownSides.sides.turn(thread);
+  shownSides.at = shownSides.sides.turns.length;
+  drawSides();
+  if (!isMade) sidesPart("told").innerHTML = `${chipOf(thread)} has ended all its calls in both lists.`;
+}
+
+function drawSide(side, thread, place) {
+  const count = side.counts[shownSides.at];
+  const moment = momentAt(side.state, count);
+  const hasWaited = shownSides.at > 0 && count === side.counts[shownSides.at - 1];
+  const said = hasWaited ? `${chipOf(thread)} has ended its call here, and waits for the other list.` : sentenceOf(moment);
+  const width = Math.max(320, sidesPart("pictures").clientWidth / (innerWidth < 940 ? 1 : 2) - 48);
+  const scale = scaleOf(side.trace, count, width, now.prefs.hides);
+  side.said = said;
+  return tag(
+    "section",
+    { "aria-label": LISTS[side.kind].name },
+    tag("h3", {}, `${LISTS[side.kind].name} <small>${count} events</small>`),
+    tag("p", { class: hasWaited ? "said waits" : "said" }, said),
+    tag("div", { class: "scrolls" }, drawSideList(side, moment.event, width, place, scale.height)),
+    tag("div", { class: "scrolls" }, drawCalls(side.trace, scale), drawContents(side.trace, scale)),
+    tag("p", { class: "note" }, tag("a", { class: "button", href: addressOf(side.schedule, count) ?? "#" }, "Watch this run")),
+  );
+}
+
+function drawSideList({ state }, event, width, place, ofBars) {
+  const most = now.place.view === "lecture" ? Math.max(220, 420 - ofBars) : 230;
+  const height = LEAST.atWork + (state.trace.kind === "coarse" ? 0 : LOCK_HEIGHT); // so that both are drawn in one scale
+  return drawList(state, event, width, most, { width: 0, height }, `side-${place}`);
+}
+
+function turnTo(at) {
+  shownSides.at = Math.min(Math.max(at, 0), shownSides.sides.turns.length);
+  drawSides();
+}
+
+function pressForSides(event) {
+  const { sides, at } = shownSides;
+  const by = { ArrowRight: 1, PageDown: 1, ArrowLeft: -1, PageUp: -1, Home: -Infinity, End: Infinity }[event.key];
+  if (sides === null) return;
+  if (by !== undefined) {
+    event.preventDefault();
+    turnTo(at + by);
+  } else if (/^[0-9]$/.test(event.key) && now.prefs.letters && Number(event.key) < sides.program.length) {
+    turnOf(Number(event.key));
+  }
+}
+
+function drawSides() {
+  const { sides, at } = shownSides;
+  const buttons = sides.program.map((_, thread) => tag("button", { "data-thread": thread }, `${chipOf(thread)} next step`));
+  redraw(sidesPart("turns"), buttons.join(" "));
+  Object.assign(sidesPart("slider"), { max: sides.turns.length, value: at });
+  const words = `turn ${at} of ${sides.turns.length}`;
+  sidesPart("slider").setAttribute("aria-valuetext", words);
+  sidesPart("where").textContent = words;
+  sidesPart("pictures").innerHTML = sides.sides.map((side, place) => drawSide(side, sides.turns[at - 1], place)).join("");
+  sidesPart("heard").innerHTML = sides.sides.map((side) => `${LISTS[side.kind].name}: ${side.said}`).join(" ");
+  visit.sides = addressOfSides();
+  keepSoon();
+}
+
+function showSides() {
+  if (now.place.activity === "compare" && shownSides.sides !== null) drawSides();
+}
+
+function addressOfSides() {
+  const { sides, quota, opening } = shownSides;
+  const calls = sides.program.flatMap((own, thread) => own.map((call) => `${thread}.${call.replace(" ", ".")}`));
+  const parts = [`sides=${sides.sides.map(({ kind }) => kind).join(".")}`, `quota=${quota}`];
+  if (opening.length > 0) parts.push(`opening=${opening.join(".")}`);
+  return `#${[...parts, `calls=${calls.join()}`, `turns=${sides.turns.join(".")}`].join("&")}`;
+}
+
+function openSides({ sides, calls, turns = "", quota = "4", opening = "" }) {
+  const program = [];
+  for (const call of (calls ?? "").split(",").filter((one) => one !== "")) {
+    const [thread, operation, key] = call.split(".");
+    (program[Number(thread)] ??= []).push(`${operation} ${key}`);
+  }
+  [sidesPart("one").value, sidesPart("other").value] = sides.split(".");
+  sidesPart("program").value = programText(Array.from(program, (own) => own ?? []));
+  sidesPart("opening").value = opening.replaceAll(".", " ");
+  shownSides.quota = Number(quota);
+  beginSides(turns.split(".").filter((thread) => thread !== "").map(Number));
+}
+
+async function copySides() {
+  const link = linkTo(addressOfSides());
+  const isCopied = await copied(link);
+  sidesPart("told").innerHTML = `${isCopied ? "The link is copied" : "Copy this link"}: <code>${escaped(link)}</code>${warningOf(link)}`;
+}
+
+function listenToSides() {
+  for (const name of ["one", "other"]) {
+    sidesPart(name).append(...Object.entries(LISTS).map(([kind, { name: words }]) => new Option(words, kind)));
+    sidesPart(name).onchange = () => beginSides();
+  }
+  sidesPart("other").value = "lock-free";
+  sidesPart("begin").onclick = () => beginSides();
+  sidesPart("link").onclick = copySides;
+  sidesPart("lecture").onclick = toggleLecture;
+  sidesPart("back").onclick = () => turnTo(shownSides.at - 1);
+  sidesPart("turns").onclick = ({ target }) => {
+    const thread = target.closest("[data-thread]")?.dataset.thread;
+    if (thread !== undefined) turnOf(Number(thread));
+  };
+  sidesPart("slider").oninput = () => turnTo(Number(sidesPart("slider").value));
+}
+return { drawCompare, openCompare, titleOfSides, pressForSides, showSides, listenToSides };
 })();
 
 // course/course_link.js
@@ -7283,16 +7630,10 @@ async function courseOfAddress(letters) {
 return { courseAddress, courseOfAddress };
 })();
 
-// run/check_trace.js
-const $run_check_trace = (() => {
-const { LACKING } = $made_classics;
-const { LISTS } = $made_rows;
-const { CALL_WORDS, firstOpeningNode, HEADER_LINES, KEY_REGISTERS, MOST_NUMBER, NODE_REGISTERS } = $run_trace;
-const MOST_THREADS = 64;
-const MOST_QUOTA = 16384;
-const MOST_OPENING = 1048576;
+// run/trace_pieces.js
+const $run_trace_pieces = (() => {
+const { firstOpeningNode, KEY_REGISTERS, MOST_NUMBER, NODE_REGISTERS } = $run_trace;
 const REPLY_WORDS = ["true", "false", "full", "nothing"]; // and at-X of a key X
-const REFUSALS = ["NoThread", "Busy", "Idle", "Lost"];
 
 class TraceFault extends Error {
   constructor(line, wanted) {
@@ -7402,6 +7743,19 @@ function takeChanges(pieces, trace) {
   if (pieces.isNext("used")) pieces.number(0, trace.quota, "count of slots");
   if (pieces.isNext("reply") && !pieces.isNext("none")) takeReply(pieces);
 }
+return { TraceFault, Pieces, isKey, takeWord, takeValue, takeReply, takeChanges };
+})();
+
+// run/check_trace.js
+const $run_check_trace = (() => {
+const { LACKING } = $made_classics;
+const { LISTS } = $made_rows;
+const { CALL_WORDS, HEADER_LINES, MOST_NUMBER } = $run_trace;
+const { isKey, Pieces, takeChanges, takeReply, takeValue, takeWord, TraceFault } = $run_trace_pieces;
+const MOST_THREADS = 64;
+const MOST_QUOTA = 16384;
+const MOST_OPENING = 1048576;
+const REFUSALS = ["NoThread", "Busy", "Idle", "Lost"];
 
 function takeBegin(pieces, number, thread, trace) {
   if (trace.open[thread] !== null) pieces.fail(`thread ${thread} begins a call and has one open`);
@@ -7544,17 +7898,16 @@ return { faultOfTrace };
 
 // page/files.js
 const $page_files = (() => {
-const { byId } = $page_dom;
-const { chooseExample } = $page_example;
-const { works } = $page_kept;
-const { askLong, LONG_TEXT } = $page_long_run;
-const { announce, askNow, NO_ENGINE, page, show, takeScheduleOfTrace, takeTrace, tellFault } = $page_now;
-const { keepBefore, openText, takeName } = $page_work;
+const { readShow } = $engine_answers;
 const { askList } = $run_broken;
 const { faultOfTrace } = $run_check_trace;
-const { otherOrders } = $run_judged;
+const { recordedInWords } = $run_recorded;
 const { scheduleOfTrace } = $run_schedule_text;
 const { isTrace, Trace } = $run_trace;
+const { byId } = $page_dom;
+const { askLong, LONG_TEXT } = $page_long_run;
+const { announce, askNow, dispatch, held, NO_ENGINE, now, takeScheduleOfTrace, takeTrace, tellTrouble } = $page_now;
+const { beginTask, keepBefore, openTask, ownTask } = $page_work;
 const REPLY_WIDTH = 60; // of a call in the picture of a report: what stands right of its bar
 
 function saveText(name, text) {
@@ -7568,6 +7921,7 @@ function saveText(name, text) {
 function kindOfFile(text) {
   if (text.startsWith("listset-trace")) return "trace";
   if (text.startsWith("listset-calls")) return "calls";
+  if (text.startsWith("listset-course")) return "course";
   return text.startsWith("listset-report") ? "report" : "schedule";
 }
 
@@ -7588,27 +7942,27 @@ async function openFile(file) {
   const text = new TextDecoder().decode(new Uint8Array(await file.arrayBuffer()));
   const kind = kindOfFile(text);
   const isJudged = kind === "report" || kind === "calls";
-  if (isJudged && page.engine === null) return tellFault(page.faultLine, "", NO_ENGINE, !page.isRun);
+  tellTrouble("");
+  if ((isJudged || kind === "course") && held.engine === null) return tellTrouble(NO_ENGINE);
+  if (kind === "course") return announce("course", text);
   if (kind === "calls") return announce("recorded", text);
   if (kind === "report") {
     await openReportBox();
     return showReport(text, `The report in ${file.name}:`);
   }
-  const name = works.newName(`from ${file.name}`);
-  if (kind === "schedule") return openText(text, 0, name);
-  openTrace(text, name);
+  const task = ownTask(`from ${file.name}`);
+  if (kind === "schedule") return openTask(task, text, 0);
+  openTrace(text, task);
 }
 
-function openTrace(text, name) {
+function openTrace(text, task) {
   const fault = faultOfTrace(text);
-  if (fault !== null) return tellFault(null, "", `this is no trace: ${fault}`);
+  if (fault !== null) return tellTrouble(`this is no trace: ${fault}`);
   keepBefore();
-  takeName(name, "");
-  chooseExample("");
+  beginTask(task);
   takeTrace(new Trace(text), 0, "a trace from a file");
   takeScheduleOfTrace();
-  page.source = comparedTrace(page.engine === null ? null : askNow, page.trace);
-  show();
+  dispatch("source", { source: comparedTrace(held.engine === null ? null : askNow, now.run.trace) });
 }
 
 async function openReportBox() {
@@ -7644,9 +7998,9 @@ function drawPicture(text) {
 }
 
 function refusalIn(drawn) {
-  const { kind, lines } = otherOrders(drawn);
-  const refused = drawn.text.split("\n").filter((line) => line.startsWith("refused "));
-  return [...refused, ...(kind === "none" ? lines.filter((line) => !line.endsWith(":")) : [])].join("; ");
+  const { refused, why } = readShow(drawn);
+  const reasons = (why?.told ?? []).flatMap(({ says, calls }) => (calls.length === 0 ? [says] : calls.map(recordedInWords)));
+  return [...(refused === null ? [] : [refused.says]), ...reasons].join("; ");
 }
 
 function scrollToClash() {
@@ -7657,9 +8011,9 @@ function scrollToClash() {
 }
 
 async function showOwnReport(schedule) {
-  const { lacks } = page;
+  const { lacks } = now.run;
   const answer = lacks === null ? await askLong("listset_replay", schedule) : askList(askNow, "listset_replay", lacks, schedule);
-  if (page.text !== schedule) return;
+  if (now.run.text !== schedule) return;
   if (answer.status === 0) return showReport(answer.text, "The report of this schedule:");
   byId("report").textContent = answer.text;
   byId("report-of").textContent = "There is no report:";
@@ -7669,51 +8023,321 @@ async function showOwnReport(schedule) {
 }
 
 function refreshReport() {
-  if (byId("report-box").open && page.engine !== null) showOwnReport(page.text);
+  if (byId("report-box").open && held.engine !== null) showOwnReport(now.run.text);
 }
 return { saveText, comparedTrace, openFile, refreshReport };
+})();
+
+// activities/kept_lessons.js
+const $activities_kept_lessons = (() => {
+const { BOOK_NAME } = $made_book;
+const { isText, keepUnder, keptUnder } = $page_kept;
+const LESSONS_KEPT = "listset-lessons-2";
+const LESSONS_KEPT_BEFORE = "listset-lessons-1"; // the book's alone, as the page kept them before
+const textsKept = (kept) => Object.entries(kept ?? {}).filter(([, text]) => isText(text));
+const namesKept = (kept) => (Array.isArray(kept) ? kept.filter(isText) : []);
+
+class KeptLessons {
+  constructor() {
+    const kept = keptUnder(LESSONS_KEPT) ?? { isOpen: false, of: { [BOOK_NAME]: keptUnder(LESSONS_KEPT_BEFORE) } };
+    this.isOpen = kept.isOpen === true;
+    this.student = isText(kept.student) ? kept.student : "";
+    this.course = isText(kept.course) ? kept.course : BOOK_NAME;
+    this.courses = new Map(textsKept(kept.courses));
+    this.of = new Map(Object.entries(kept.of ?? {}).map(([name, own]) => [name, ownOf(own)]));
+  }
+
+  ofCourse(name) {
+    if (!this.of.has(name)) this.of.set(name, ownOf({}));
+    return this.of.get(name);
+  }
+
+  save() {
+    const { isOpen, student, course } = this;
+    const toObject = ({ chosen, solutions, looked }) => ({ chosen, solutions: Object.fromEntries(solutions), looked: [...looked] });
+    const of = Object.fromEntries([...this.of].map(([name, own]) => [name, toObject(own)]));
+    return keepUnder(LESSONS_KEPT, { isOpen, student, course, courses: Object.fromEntries(this.courses), of });
+  }
+}
+
+function ownOf(kept) {
+  return {
+    chosen: isText(kept?.chosen) ? kept.chosen : "",
+    solutions: new Map(textsKept(kept?.solutions)),
+    looked: new Set(namesKept(kept?.looked)),
+  };
+}
+return { KeptLessons };
+})();
+
+// activities/learning.js
+const $activities_learning = (() => {
+const { BOOK, BOOK_NAME } = $made_book;
+const { courseAddress } = $course_course_link;
+const { judged, MOST_EVENTS, OTHER_SET, triedCourse, unjudged } = $course_lesson;
+const { keepWork, works } = $page_kept;
+const { askNow, change, now } = $page_now;
+const { visit } = $page_visit;
+const { forgetBefore, openTask } = $page_work;
+const { eventsAsked, scheduleOfTrace } = $run_schedule_text;
+const { KeptLessons } = $activities_kept_lessons;
+const isLessonWork = (course, lesson) => ({ task }) => task.kind === "lesson" && task.course === course.name && task.id === lesson.name;
+
+class Learning {
+  constructor() {
+    this.kept = new KeptLessons();
+    this.ticks = new Set(); // the conditions that were met since the lesson was begun
+    const text = this.kept.courses.get(this.kept.course) ?? BOOK;
+    const course = triedCourse(askNow, text);
+    this.takeCourse(course.faults.length === 0 ? course : triedCourse(askNow, BOOK));
+  }
+
+  takeCourse(course) {
+    this.course = course;
+    this.kept.course = course.name;
+    this.own = this.kept.ofCourse(course.name);
+    if (course.name !== BOOK_NAME) this.kept.courses.set(course.name, course.text);
+    this.choose(course.lessons.find(({ name }) => name === this.own.chosen) ?? course.lessons[0]);
+    visit.course = null;
+    if (course.name === BOOK_NAME) return;
+    const take = (address) => this.course === course && (visit.course = address);
+    courseAddress(course.text).then(take, () => null);
+  }
+
+  takeBook() {
+    this.takeCourse(triedCourse(askNow, BOOK));
+  }
+
+  lessonNamed(name) {
+    const find = ({ lessons }) => lessons.find((lesson) => lesson.name === name);
+    if (find(this.course) !== undefined) return find(this.course);
+    for (const text of [BOOK, ...this.kept.courses.values()]) {
+      const course = triedCourse(askNow, text);
+      if (course.faults.length > 0 || find(course) === undefined) continue;
+      this.takeCourse(course);
+      return find(course);
+    }
+    return undefined;
+  }
+
+  choose(lesson) {
+    this.lesson = lesson;
+    this.own.chosen = lesson.name;
+    this.hasAsked = false; // for what is missing, or for the hint: then the answer may be asked for
+    this.isChecked = false;
+    this.ticks.clear();
+  }
+
+  isSolved(name) {
+    return this.own.solutions.has(name);
+  }
+
+  get isLooked() {
+    return this.own.looked.has(this.lesson.name);
+  }
+
+  firstUnsolved() {
+    return this.course.lessons.find(({ name }) => !this.isSolved(name));
+  }
+
+  after() {
+    return this.course.lessons[this.course.lessons.indexOf(this.lesson) + 1];
+  }
+
+
+  lastTry() {
+    return works.last(isLessonWork(this.course, this.lesson));
+  }
+
+  tryOf(text) {
+    const isOfLesson = isLessonWork(this.course, this.lesson);
+    return works.last((work) => work.text === text && isOfLesson(work));
+  }
+
+  open(schedule, told = "", at = eventsAsked(schedule)) {
+    const { lesson, course } = this;
+    const name = `lesson ${lesson.name}${course.name === BOOK_NAME ? "" : ` of ${course.name}`}`;
+    const task = { kind: "lesson", id: lesson.name, course: course.name, work: works.newName(name), begun: lesson.begun };
+    openTask(task, schedule, at, told, lesson.lacks);
+  }
+
+  begin() {
+    this.ticks.clear();
+    keepWork();
+    this.open(this.lesson.begun, this.lastTry() === null ? "" : "Your last try is kept: Continue my last try leads back to it.");
+    forgetBefore(); // Undo stops at the start
+  }
+
+
+  judge(trace) {
+    if (now.task.kind !== "lesson") return;
+    this.isChecked = false;
+    const { name, solution } = this.lesson;
+    const schedule = this.isOfLesson(trace) ? scheduleOfTrace(trace) : null;
+    const verdict = schedule === null ? unjudged(OTHER_SET) : judged(askNow, this.lesson, schedule);
+    for (const { says, isMet } of verdict.conditions) if (isMet) this.ticks.add(says);
+    const { solutions } = this.own;
+    const isShown = this.isLooked && schedule === solution && schedule !== solutions.get(name);
+    if (verdict.isSolved && !isShown && !solutions.has(name)) solutions.set(name, schedule);
+    change("verdict", { verdict: { ...verdict, isShown, schedule } });
+  }
+
+  lookAtAnswer() {
+    this.own.looked.add(this.lesson.name);
+    this.judge(now.run.trace);
+  }
+
+  isOfLesson({ kind, lacks, threads, quota, opening, total, refused }) {
+    const { lesson } = this;
+    const isList = kind === lesson.list && lacks === lesson.lacks;
+    const isSame = isList && threads === lesson.threads && quota === lesson.quota && refused === null;
+    return isSame && total <= MOST_EVENTS && opening.length === lesson.opening.length && opening.join() === lesson.opening.join();
+  }
+}
+
+const learning = { panel: null }; // once the engine is there
+const startLearning = () => (learning.panel = new Learning());
+return { learning, startLearning };
+})();
+
+// activities/learn_map.js
+const $activities_learn_map = (() => {
+const { BOOK_NAME } = $made_book;
+const { LISTS } = $made_rows;
+const { byId } = $page_dom;
+const { setProgress } = $page_places;
+const { forgetBefore, openWork } = $page_work;
+const { AddressFault } = $run_address;
+const { escaped, tag } = $run_markup;
+const { learning } = $activities_learning;
+const lessonPart = (name) => byId(`lesson-${name}`);
+const panel = () => learning.panel;
+const addressOfLesson = ({ name }) => `#learn=${name}`;
+const solvedOf = ({ lessons }) => lessons.filter(({ name }) => panel().isSolved(name)).length;
+
+function drawLearnMap() {
+  if (panel() === null) return;
+  const { course } = panel();
+  const box = byId("map-learn");
+  if (box.querySelector(".drawn") === null) {
+    box.append(Object.assign(document.createElement("div"), { className: "drawn" }), byId("lesson-folds"));
+  }
+  const lead = "In each lesson you choose which thread makes the next step, until the run shows what is asked. There is more than one way.";
+  const parts = [
+    tag("h1", {}, escaped(course.name)),
+    tag("p", { class: "lead" }, lead),
+    progressOf(course),
+    tag("p", { class: "line" }, linkToNext(course), course.name === BOOK_NAME ? "" : BACK),
+    tag("ol", { class: "cards" }, ...course.lessons.map(cardOf)),
+  ];
+  box.querySelector(".drawn").innerHTML = parts.join("");
+  if (course.name !== BOOK_NAME) byId("lesson-book").onclick = takeBook;
+}
+
+const BACK = tag("button", { id: "lesson-book" }, "Back to the twelve lessons of the book");
+
+function takeBook() {
+  panel().takeBook();
+  drawLearnMap();
+}
+
+function progressOf(course) {
+  const [solved, total] = [solvedOf(course), course.lessons.length];
+  const bar = tag("i", { style: `width:${(100 * solved) / total}%` });
+  return tag("div", { class: "progress", role: "img", "aria-label": `${solved} of ${total} solved` }, bar);
+}
+
+function linkToNext(course) {
+  const first = panel().firstUnsolved();
+  if (first === undefined) return "";
+  const word = solvedOf(course) === 0 ? "Begin" : "Continue";
+  return tag("a", { class: "button primary", href: addressOfLesson(first) }, `${word} with ${escaped(first.title)}`);
+}
+
+function cardOf(lesson, index) {
+  const isSolved = panel().isSolved(lesson.name);
+  const kind = [isSolved ? "done" : "", lesson === panel().lesson ? "here" : ""].join(" ").trim();
+  const solved = isSolved ? tag("span", { class: "unseen" }, " (solved)") : "";
+  const parts = [
+    tag("span", { class: "number" }, isSolved ? "✓" : index + 1),
+    tag("b", {}, escaped(lesson.title), solved),
+    tag("small", {}, LISTS[lesson.list].name),
+  ];
+  return tag("li", {}, tag("a", { href: addressOfLesson(lesson), class: kind }, ...parts));
+}
+
+function drawStrip() {
+  if (panel() === null) return;
+  const { course, lesson } = panel();
+  const [solved, total] = [solvedOf(course), course.lessons.length];
+  setProgress("nav-learn", solved, total);
+  const marks = course.lessons.map((one, index) => {
+    const isSolved = panel().isSolved(one.name);
+    const label = `lesson ${index + 1}, ${one.title}${isSolved ? ", solved" : ""}`;
+    const given = { href: addressOfLesson(one), title: one.title, tabindex: -1, "aria-label": label, class: isSolved ? "done" : "" };
+    return tag("a", one === lesson ? { ...given, "aria-current": "step" } : given, isSolved ? "✓" : index + 1);
+  });
+  byId("lesson-levels").innerHTML = marks.join("") + tag("small", { id: "lesson-count" }, `${solved} of ${total} solved`);
+}
+
+function openLesson(name, text, event) {
+  const lesson = panel().lessonNamed(name);
+  if (lesson === undefined) throw new AddressFault(`no course that is kept here has a lesson "${name}"`);
+  panel().choose(lesson);
+  const own = text === null ? panel().lastTry() : panel().tryOf(text);
+  if (own !== null) openWork(own, text === null ? null : event);
+  else if (text !== null) panel().open(text, "", event);
+  else panel().begin();
+  forgetBefore();
+}
+
+function showTaskOfLearn() {
+  const { course, lesson } = panel();
+  const at = course.lessons.indexOf(lesson);
+  const to = (index) => (course.lessons[index] === undefined ? null : addressOfLesson(course.lessons[index]));
+  return { before: to(at - 1), all: ["#learn", "All lessons"], next: to(at + 1) };
+}
+return { lessonPart, drawLearnMap, drawStrip, openLesson, showTaskOfLearn };
 })();
 
 // activities/courses.js
 const $activities_courses = (() => {
 const { BOOK, BOOK_NAME } = $made_book;
-const { learning } = $activities_kept_lessons;
-const { drawLearnMap, lessonPart } = $activities_learn_map;
 const { courseAddress, courseOfAddress } = $course_course_link;
 const { triedCourse } = $course_lesson;
 const { saveText } = $page_files;
-const { askNow, page } = $page_now;
-const { goToPlace } = $page_places;
+const { askNow, held } = $page_now;
 const { copied, linkTo } = $page_visit;
 const { AddressFault, warningOf } = $run_address;
 const { counted } = $run_markup;
+const { drawLearnMap, lessonPart } = $activities_learn_map;
+const { learning } = $activities_learning;
 function takeCourseText(panel, text) {
   const course = triedCourse(askNow, text);
   const { faults, name, lessons } = course;
   const lines = faults.map(({ line, fault }) => `line ${line}: ${fault}`);
   lessonPart("faults").textContent = lines.length > 0 ? lines.join("\n") : `${name}: ${counted(lessons.length, "lesson")}, all good.`;
-  if (faults.length > 0) return false;
-  panel.takeCourse(course);
+  lessonPart("faults").dataset.isGood = faults.length > 0 ? "no" : "yes";
+  lessonPart("link-text").hidden = true;
+  if (faults.length === 0) panel.takeCourse(course);
   drawLearnMap();
-  return true;
+  return faults.length === 0;
 }
 
-async function openCourseOfAddress(letters) {
-  if (page.engine === null) throw new AddressFault("the address names a course of lessons, which cannot be run here");
-  const panel = learning.panel;
+async function takeCourseOfAddress(letters) {
+  if (held.engine === null) throw new AddressFault("the address names a course of lessons, which cannot be run here");
   const text = await courseOfAddress(letters);
-  lessonPart("course-text").value = text;
-  if (!takeCourseText(panel, text)) {
-    drawLearnMap();
-    goToPlace("learn", "map");
-    lessonPart("write").open = true;
+  if (text === learning.panel.course.text) return;
+  showCourseText(text);
+  if (lessonPart("faults").dataset.isGood !== "yes") {
     throw new AddressFault(`the course of the address has faults: ${lessonPart("faults").textContent.split("\n")[0]}`);
   }
-  const first = panel.course.lessons.find(({ name }) => !panel.isSolved(name)) ?? panel.course.lessons[0];
-  panel.choose(first);
-  goToPlace("learn", "stage");
-  panel.begin();
-  return true;
+}
+
+function showCourseText(text) {
+  lessonPart("course-text").value = text;
+  lessonPart("write").open = true;
+  takeCourseText(learning.panel, text);
 }
 
 async function copyCourseLink(panel) {
@@ -7749,19 +8373,19 @@ function listenToCourses(panel) {
   lessonPart("link").onclick = () => takeCourseText(panel, box.value) && copyCourseLink(panel);
   lessonPart("save").onclick = () => saveText("lessons.course", box.value);
 }
-return { openCourseOfAddress, listenToCourses };
+return { takeCourseOfAddress, showCourseText, listenToCourses };
 })();
 
 // course/hand_in.js
 const $course_hand_in = (() => {
 const { CLASSICS, LACKING } = $made_classics;
-const { COURSE_TITLE } = $course_course_text;
-const { judged, missingIn, MOST_EVENTS } = $course_lesson;
 const { AddressFault, addressOf, readAddress } = $run_address;
 const { isTaskDone, NO_TASK, verdictOnLacking } = $run_broken;
 const { answerOfWord, exerciseOf, LEVELS, verdictOn } = $run_judged;
 const { eventsAsked, scheduleOfTrace, versionOf } = $run_schedule_text;
 const { Trace } = $run_trace;
+const { COURSE_TITLE } = $course_course_text;
+const { judged, missingIn, MOST_EVENTS } = $course_lesson;
 const HAND_IN_TITLE = /^listset-lessons [12]$/;
 
 function handInText(course, student, solutions, otherLines) {
@@ -7786,6 +8410,7 @@ function unmailed(text) {
 }
 
 function textsIn(text) {
+  /** @type {any[]} */
   const found = [];
   const given = text.split(/\r\n|\r|\n/);
   for (const { line, number } of unmailed(text)) {
@@ -7896,251 +8521,80 @@ return { handInText, textsIn, readHandIn, judgedPart };
 
 // activities/lessons.js
 const $activities_lessons = (() => {
-const { BOOK, BOOK_NAME } = $made_book;
-const { brokenLines } = $activities_broken_kept;
-const { listenToCourses } = $activities_courses;
-const { JUDGED } = $activities_judging;
-const { KeptLessons, learning } = $activities_kept_lessons;
-const { drawStrip, lessonPart } = $activities_learn_map;
 const { handInText } = $course_hand_in;
-const { conditionTexts, judged, missingIn, MOST_EVENTS, OTHER_SET, triedCourse, unjudged } = $course_lesson;
+const { conditionTexts, missingIn, OTHER_SET } = $course_lesson;
 const { setAble, setHidden } = $page_dom;
-const { isText, keepWork, keptUnder, works } = $page_kept;
-const { askNow, on, page } = $page_now;
+const { isText, keptUnder, works } = $page_kept;
+const { now, on, show } = $page_now;
 const { copied } = $page_visit;
-const { forgetBefore, openText, openWork } = $page_work;
+const { openWork } = $page_work;
 const { counted, escaped, tag } = $run_markup;
-const { eventsAsked, scheduleOfTrace } = $run_schedule_text;
-class LessonsOnPage {
-  constructor() {
-    this.kept = new KeptLessons();
-    this.trace = undefined; // the one that was judged last
-    this.schedule = null; // of that, if it is one of the lesson
-    this.ticks = new Set(); // the conditions that were met since the lesson was begun
-    this.verdict = null;
-    this.listen();
-    lessonPart("student").value = this.kept.student;
-    const text = this.kept.courses.get(this.kept.course) ?? BOOK;
-    const course = triedCourse(askNow, text);
-    this.takeCourse(course.faults.length === 0 ? course : triedCourse(askNow, BOOK));
-  }
+const { brokenLines } = $activities_broken_kept;
+const { JUDGED } = $activities_judging;
+const { drawStrip, lessonPart } = $activities_learn_map;
+const { learning } = $activities_learning;
+const shown = { lesson: null };
 
-  listen() {
-    lessonPart("start").onclick = () => this.begin();
-    lessonPart("go-on").onclick = () => openWork(this.ownWork());
-    lessonPart("own").onclick = () => this.open(this.own.solutions.get(this.lesson.name), "Your solution.");
-    lessonPart("open").onclick = () => this.open(this.lesson.solution, "");
-    lessonPart("judge").onclick = () => this.judge();
-    lessonPart("hint").onclick = () => this.tellHint();
-    lessonPart("answer").onclick = () => this.tellAnswer();
-    lessonPart("next").onclick = () => this.goOn();
-    lessonPart("hand-in").onclick = () => this.handIn();
-    lessonPart("student").onchange = () => {
-      this.kept.student = lessonPart("student").value.trim();
-      this.save();
-    };
-    on("shown", () => this.look());
-  }
-
-
-  takeCourse(course) {
-    this.course = course;
-    if (course.name !== BOOK_NAME) this.kept.courses.set(course.name, course.text);
-    this.kept.course = course.name;
-    this.own = this.kept.ofCourse(course.name);
-    const names = [BOOK_NAME, ...[...this.kept.courses.keys()].filter((name) => name !== BOOK_NAME)];
-    lessonPart("course").replaceChildren(...names.map((name) => new Option(name, name)));
-    lessonPart("course").value = course.name;
-    this.choose(course.lessons.find(({ name }) => name === this.own.chosen) ?? course.lessons[0]);
-  }
-
-  takeBook() {
-    this.takeCourse(triedCourse(askNow, BOOK));
-  }
-
-  lessonNamed(name) {
-    const find = ({ lessons }) => lessons.find((lesson) => lesson.name === name);
-    if (find(this.course) !== undefined) return find(this.course);
-    for (const text of [BOOK, ...this.kept.courses.values()]) {
-      const course = triedCourse(askNow, text);
-      if (course.faults.length > 0 || find(course) === undefined) continue;
-      this.takeCourse(course);
-      return find(course);
-    }
-    return undefined;
-  }
-
-  choose(lesson) {
-    this.lesson = lesson;
-    this.own.chosen = lesson.name;
-    this.trace = undefined;
-    this.hasAsked = false; // for what is missing, or for the hint: then the answer may be asked for
-    this.ticks.clear();
-    const { title, opening, question, hint, teaches, answer } = lesson;
-    const keys = opening.length === 0 ? "" : ` <small>initial keys ${opening.join(", ")}</small>`;
-    lessonPart("title").innerHTML = `${escaped(title)}${keys}`;
-    lessonPart("question").textContent = question;
-    lessonPart("hint-fold").textContent = hint;
-    lessonPart("hint").hidden = hint === "";
-    lessonPart("lines").textContent = answer.join(", ");
-    lessonPart("answer").hidden = answer.length === 0;
-    lessonPart("teaches").textContent = teaches;
-    ["hint", "answer"].forEach((name) => this.setFold(name, false));
-    this.look();
-  }
-
-  setFold(name, isOpen) {
-    lessonPart(`${name}-fold`).hidden = !isOpen;
-    lessonPart(name).setAttribute("aria-expanded", String(isOpen));
-  }
-
-  workName() {
-    return this.course.name === BOOK_NAME ? `lesson ${this.lesson.name}` : `lesson ${this.lesson.name} of ${this.course.name}`;
-  }
-
-  ownWork() {
-    const name = this.workName();
-    const isTry = (other) => other === name || (other.startsWith(`${name} `) && /^\d+$/.test(other.slice(name.length + 1)));
-    return [...works.byName.keys()].findLast(isTry) ?? null;
-  }
-
-  ownWorkOf(text) {
-    const name = works.nameOf(text, this.lesson.lacks);
-    return name?.startsWith(this.workName()) ? name : null;
-  }
-
-  open(schedule, told) {
-    openText(schedule, eventsAsked(schedule), works.newName(this.workName()), told, this.lesson.lacks);
-  }
-
-  begin() {
-    this.ticks.clear();
-    keepWork();
-    const isKept = this.ownWork() !== null;
-    this.open(this.lesson.begun, isKept ? "Your last try is kept: Continue my last try leads back to it." : "");
-    forgetBefore(); // Undo stops at the start
-  }
-
-  goOn() {
-    this.choose(this.course.lessons[this.course.lessons.indexOf(this.lesson) + 1]);
-    this.begin();
-    lessonPart("judge").focus();
-  }
-
-  tellHint() {
-    this.hasAsked = true;
-    this.setFold("hint", lessonPart("hint-fold").hidden);
-    this.drawButtons();
-  }
-
-  tellAnswer() {
-    this.setFold("answer", lessonPart("answer-fold").hidden);
-    this.own.looked.add(this.lesson.name);
-    this.trace = undefined;
-    this.look();
-  }
-
-
-  look() {
-    const { trace } = page;
-    if (trace === this.trace) return this.drawButtons();
-    this.trace = trace;
-    const { name, solution } = this.lesson;
-    const schedule = this.isOfLesson(trace) ? scheduleOfTrace(trace) : null;
-    this.schedule = schedule;
-    this.verdict = schedule === null ? unjudged(OTHER_SET) : judged(askNow, this.lesson, schedule);
-    for (const { says, isMet } of this.verdict.conditions) if (isMet) this.ticks.add(says);
-    const { solutions, looked } = this.own;
-    this.verdict.isShown = looked.has(name) && schedule === solution && schedule !== solutions.get(name);
-    if (this.verdict.isSolved && !this.verdict.isShown && !solutions.has(name)) this.take(schedule);
-    this.save();
-    drawStrip();
-    this.drawButtons();
-    this.drawVerdict(verdictText(this.verdict, schedule === this.lesson.begun));
-  }
-
-  isOfLesson({ kind, lacks, threads, quota, opening, total, refused }) {
-    const { lesson } = this;
-    const isList = kind === lesson.list && lacks === lesson.lacks;
-    const isSame = isList && threads === lesson.threads && quota === lesson.quota && refused === null;
-    return isSame && total <= MOST_EVENTS && opening.length === lesson.opening.length && opening.join() === lesson.opening.join();
-  }
-
-  take(schedule) {
-    this.own.solutions.set(this.lesson.name, schedule);
-    lessonPart("text").hidden = true;
-    lessonPart("told").textContent = "";
-  }
-
-  judge() {
-    const { verdict } = this;
-    if (verdict.reason !== OTHER_SET) this.hasAsked = true;
-    this.drawButtons();
-    this.drawVerdict(verdict.isSolved ? verdictText(verdict, false) : wrongText(verdict), "wrong");
-  }
-
-  save() {
-    if (this.kept.save()) return;
-    lessonPart("told").textContent = "This browser keeps nothing: hand in before you leave the page.";
-  }
-
-
-  isSolved(name) {
-    return this.own.solutions.has(name);
-  }
-
-  drawButtons() {
-    const { lesson, course } = this;
-    const own = this.ownWork();
-    const mine = own === null || works.byName.get(own).text === page.text ? null : own;
-    setHidden(lessonPart("go-on"), mine === null, lessonPart("start"));
-    const solution = this.own.solutions.get(lesson.name);
-    setHidden(lessonPart("own"), solution === undefined || solution === this.schedule, lessonPart("start"));
-    setHidden(lessonPart("next"), !this.isSolved(lesson.name) || lesson === course.lessons.at(-1), lessonPart("start"));
-    const isTold = this.isSolved(lesson.name) || this.own.looked.has(lesson.name);
-    setAble("lesson-answer", isTold || this.hasAsked);
-    lessonPart("answer").title = isTold || this.hasAsked ? "" : "available after Check or Show a hint";
-    lessonPart("teaches-fold").hidden = !isTold || lesson.teaches === "";
-    lessonPart("win").hidden = lessonPart("teaches-fold").hidden && lessonPart("next").hidden;
-  }
-
-  drawVerdict(text, kind = "") {
-    const isRight = this.verdict.isSolved && !this.verdict.isShown;
-    lessonPart("verdict").className = isRight ? "right" : kind;
-    document.body.classList.toggle("solved", isRight);
-    lessonPart("next").classList.toggle("primary", isRight);
-    lessonPart("judge").classList.toggle("primary", !isRight);
-    const says = conditionTexts(this.lesson);
-    const now = new Set(this.verdict.conditions.filter(({ isMet }) => isMet).map((condition) => condition.says));
-    const lineOf = (said) => {
-      const kind = now.has(said) ? "met" : this.ticks.has(said) ? "was-met" : "unmet";
-      const more = kind === "was-met" ? " <small>(met before, not by this schedule)</small>" : "";
-      return tag("li", { class: kind }, kind === "unmet" ? "○ " : "✓ ", escaped(said), more);
-    };
-    lessonPart("conditions").innerHTML = says.map(lineOf).join("");
-    if (lessonPart("verdict").textContent !== text) lessonPart("verdict").textContent = text; // a reader hears it once
-  }
-
-  async handIn() {
-    const lessons = this.course.lessons.filter(({ name }) => this.isSolved(name));
-    const solutions = lessons.map(({ name }) => ({ name, schedule: this.own.solutions.get(name) }));
-    const orders = Object.values(keptUnder(JUDGED) ?? {}).filter(isText);
-    const broken = brokenLines().map(([, line]) => line);
-    const box = lessonPart("text");
-    box.value = handInText(this.course.name, lessonPart("student").value.trim() || "?", solutions, [...orders, ...broken]);
-    box.hidden = false;
-    box.focus();
-    box.select();
-    const more = `${counted(orders.length, "judged order")} and ${counted(broken.length, "broken list")}`;
-    const count = `${counted(solutions.length, "solution")}, ${more}`;
-    const isCopied = await copied(box.value);
-    lessonPart("told").textContent = isCopied ? `The text with ${count} is copied.` : `Copy this text: it has ${count}.`;
-  }
+function drawLesson() {
+  lessonPart("win").hidden = true;
+  if (now.task.kind !== "lesson" || now.task.verdict === null) return;
+  const { panel } = learning;
+  if (shown.lesson !== panel.lesson) drawQuestion(panel.lesson);
+  save(panel);
+  drawStrip();
+  drawButtons(panel);
+  drawVerdict(panel, now.task.verdict);
 }
 
-function startLessons() {
-  learning.panel = new LessonsOnPage();
-  listenToCourses(learning.panel);
+function drawQuestion(lesson) {
+  shown.lesson = lesson;
+  const { title, opening, question, hint, teaches, answer } = lesson;
+  const keys = opening.length === 0 ? "" : ` <small>initial keys ${opening.join(", ")}</small>`;
+  lessonPart("title").innerHTML = `${escaped(title)}${keys}`;
+  lessonPart("question").textContent = question;
+  lessonPart("hint-fold").textContent = hint;
+  lessonPart("hint").hidden = hint === "";
+  lessonPart("lines").textContent = answer.join(", ");
+  lessonPart("answer").hidden = answer.length === 0;
+  lessonPart("teaches").textContent = teaches;
+  ["hint", "answer"].forEach((name) => setFold(name, false));
+}
+
+function setFold(name, isOpen) {
+  lessonPart(`${name}-fold`).hidden = !isOpen;
+  lessonPart(name).setAttribute("aria-expanded", String(isOpen));
+}
+
+function drawButtons(panel) {
+  const { lesson, own } = panel;
+  const last = panel.lastTry();
+  const isOther = last !== null && last !== now.task.work && works.byName.get(last).text !== now.run.text;
+  setHidden(lessonPart("go-on"), !isOther, lessonPart("start"));
+  const solution = own.solutions.get(lesson.name);
+  setHidden(lessonPart("own"), solution === undefined || solution === now.task.verdict.schedule, lessonPart("start"));
+  const isSolved = panel.isSolved(lesson.name);
+  setHidden(lessonPart("next"), !isSolved || panel.after() === undefined, lessonPart("start"));
+  const isTold = isSolved || panel.isLooked;
+  setAble("lesson-answer", isTold || panel.hasAsked);
+  lessonPart("answer").title = isTold || panel.hasAsked ? "" : "available after Check or Show a hint";
+  lessonPart("teaches-fold").hidden = !isTold || lesson.teaches === "";
+  lessonPart("win").hidden = now.place.view !== null || (lessonPart("teaches-fold").hidden && lessonPart("next").hidden);
+}
+
+function drawVerdict({ lesson, ticks, isChecked }, verdict) {
+  const isRight = verdict.isSolved && !verdict.isShown;
+  lessonPart("verdict").className = isRight ? "right" : isChecked ? "wrong" : "";
+  lessonPart("next").classList.toggle("primary", isRight);
+  lessonPart("judge").classList.toggle("primary", !isRight);
+  const met = new Set(verdict.conditions.filter(({ isMet }) => isMet).map(({ says }) => says));
+  const lineOf = (said) => {
+    const kind = met.has(said) ? "met" : ticks.has(said) ? "was-met" : "unmet";
+    const more = kind === "was-met" ? " <small>(met before, not by this schedule)</small>" : "";
+    return tag("li", { class: kind }, kind === "unmet" ? "○ " : "✓ ", escaped(said), more);
+  };
+  lessonPart("conditions").innerHTML = conditionTexts(lesson).map(lineOf).join("");
+  const text = isChecked && !verdict.isSolved ? wrongText(verdict) : verdictText(verdict, verdict.schedule === lesson.begun);
+  if (lessonPart("verdict").textContent !== text) lessonPart("verdict").textContent = text; // a reader hears it once
 }
 
 function wrongText(verdict) {
@@ -8157,7 +8611,60 @@ function verdictText({ isSolved, isShown, reason, conditions }, isStart) {
   if (reason !== null) return reason;
   return isStart || conditions.length === 0 ? "A solution shows all of this:" : "Not solved yet: Check says what is missing.";
 }
-return { startLessons };
+
+function save({ kept }) {
+  if (!kept.save()) lessonPart("told").textContent = "This browser keeps nothing: hand in before you leave the page.";
+}
+
+async function handIn(panel) {
+  const lessons = panel.course.lessons.filter(({ name }) => panel.isSolved(name));
+  const solutions = lessons.map(({ name }) => ({ name, schedule: panel.own.solutions.get(name) }));
+  const orders = Object.values(keptUnder(JUDGED) ?? {}).filter(isText);
+  const broken = brokenLines().map(([, line]) => line);
+  const box = lessonPart("text");
+  box.value = handInText(panel.course.name, lessonPart("student").value.trim() || "?", solutions, [...orders, ...broken]);
+  box.hidden = false;
+  box.focus();
+  box.select();
+  const more = `${counted(orders.length, "judged order")} and ${counted(broken.length, "broken list")}`;
+  const count = `${counted(solutions.length, "solution")}, ${more}`;
+  lessonPart("told").textContent = (await copied(box.value)) ? `The text with ${count} is copied.` : `Copy this text: it has ${count}.`;
+}
+
+function listenToLessons(panel) {
+  on("taken", (trace) => panel.judge(trace));
+  lessonPart("student").value = panel.kept.student;
+  lessonPart("start").onclick = () => panel.begin();
+  lessonPart("go-on").onclick = () => openWork(panel.lastTry());
+  lessonPart("own").onclick = () => panel.open(panel.own.solutions.get(panel.lesson.name), "Your solution.");
+  lessonPart("open").onclick = () => panel.open(panel.lesson.solution);
+  lessonPart("hand-in").onclick = () => handIn(panel);
+  lessonPart("judge").onclick = () => {
+    panel.isChecked = true;
+    panel.hasAsked ||= now.task.verdict.reason !== OTHER_SET;
+    show();
+  };
+  lessonPart("hint").onclick = () => {
+    panel.hasAsked = true;
+    setFold("hint", lessonPart("hint-fold").hidden);
+    show();
+  };
+  lessonPart("answer").onclick = () => {
+    setFold("answer", lessonPart("answer-fold").hidden);
+    panel.lookAtAnswer();
+    show();
+  };
+  lessonPart("next").onclick = () => {
+    panel.choose(panel.after());
+    panel.begin();
+    lessonPart("judge").focus();
+  };
+  lessonPart("student").onchange = () => {
+    panel.kept.student = lessonPart("student").value.trim();
+    save(panel);
+  };
+}
+return { drawLesson, listenToLessons };
 })();
 
 // activities/recorded.js
@@ -8330,100 +8837,32 @@ const IDEAS = {
 return { BOOK_CODE, IDEAS };
 })();
 
-// run/seed.js
-const $run_seed = (() => {
-const { AddressFault } = $run_address;
-const { isTrace, Trace } = $run_trace;
-const KINDS = ["coarse", "fine", "optimistic", "lazy", "lock-free"];
-const TRIES = 200;
-const MOST_TRIED_CALLS = 8; // of a run with more calls the first is taken
-const MOST_SEEN = 60; // events that are told apart by eye
-
-const seedOf = (kind, number, { threads = 2, calls = 5, keys = 2 } = {}) => `${kind}.${threads}.${calls}.${keys}.${number}`;
-
-function partsOfSeed(seed) {
-  const [kind, ...values] = seed.split(".");
-  const [threads, calls, keys, number] = values.map(Number);
-  return { kind, threads, calls, keys, number };
-}
-
-function scheduleOfSeed(ask, seed) {
-  const { kind, threads, calls, keys, number } = partsOfSeed(seed);
-  const tries = calls > MOST_TRIED_CALLS ? 1 : TRIES;
-  let text = "";
-  for (let tried = 0; tried < tries; tried++) {
-    const answer = ask("listset_gen", [kind, threads, 4, calls, keys, number * TRIES + tried].join("\0"));
-    if (answer.status !== 0) throw new AddressFault(`the address names no run: ${answer.text.trim()}`);
-    text = answer.text;
-    const traced = ask("listset_trace", text).text;
-    if (!isTrace(traced)) throw new AddressFault(`the run of the address has no trace: ${traced.trim()}`);
-    if (isWorthIt(new Trace(traced))) break;
-  }
-  return joined(text);
-}
-
-function isWorthIt({ calls, changes, total }) {
-  const puts = changes.some(({ put }) => put !== undefined) && changes.some(({ took }) => took !== undefined);
-  const isBeside = (one, other) => one.thread !== other.thread && one.begun < other.ended && other.begun < one.ended;
-  const beside = calls.filter((one) => calls.some((other) => isBeside(one, other)));
-  const isTold = beside.some(({ changes: own, operation, reply }) => !own && (operation === "contains" || reply === "false"));
-  return puts && isTold && total <= MOST_SEEN && calls.every(({ ended }) => ended !== null);
-}
-
-function joined(text) {
-  const lines = [];
-  for (const line of text.trimEnd().split("\n")) {
-    const [thread, steps] = /^go (\d+) (\d+)$/.exec(line)?.slice(1) ?? [];
-    const [before, count] = /^go (\d+) (\d+)$/.exec(lines.at(-1) ?? "")?.slice(1) ?? [];
-    if (thread !== undefined && thread === before) lines[lines.length - 1] = `go ${thread} ${Number(count) + Number(steps)}`;
-    else lines.push(line);
-  }
-  return `${lines.join("\n")}\n`;
-}
-
-function anotherSeed(before, kind = null) {
-  const list = kind ?? KINDS[Math.floor(Math.random() * KINDS.length)];
-  const number = 1 + Math.floor(Math.random() * 9999);
-  const seed = seedOf(list, number);
-  return seed === before ? seedOf(list, (number % 9999) + 1) : seed;
-}
-return { seedOf, partsOfSeed, scheduleOfSeed, anotherSeed };
-})();
-
 // activities/watch.js
 const $activities_watch = (() => {
 const { CLASSICS } = $made_classics;
 const { LISTS } = $made_rows;
 const { IDEAS } = $data_book_code;
 const { byId } = $page_dom;
+const { examples } = $page_example;
 const { works } = $page_kept;
-const { askNow, isJudging, page } = $page_now;
-const { openText } = $page_work;
+const { askNow, exampleShown, isJudging, now } = $page_now;
+const { openTask } = $page_work;
 const { escaped, tag } = $run_markup;
 const { anotherSeed, partsOfSeed, scheduleOfSeed, seedOf } = $run_seed;
-const seeds = { shown: null };
-
 const FIRST = {
   example: "marked-in-chain",
   from: 15,
-  to: 20,
-  says: {
+  stop: {
+    event: 20,
     before: "It plays up to event 20, where the question arises.",
     there: "The play stops here, at the question. Press Step, or choose the next step below.",
   },
 };
 
-const kindsOfExamples = () => {
-  const kinds = {};
-  for (const option of byId("example-options").children) kinds[option.value] = /\((.+)\)$/.exec(option.textContent)[1];
-  return kinds;
-};
-
-function questionsByList(more = "", isDone = () => false) {
-  const kinds = kindsOfExamples();
+function questionsByList(more = "", isDone = (_) => false) {
   const columns = Object.entries(LISTS).map(([kind, { name }]) => {
-    const items = Object.keys(kinds).filter((example) => kinds[example] === kind).map((example) => {
-      const here = example === page.example && more === "" ? { "aria-current": "true" } : {};
+    const items = examples().filter((one) => one.kind === kind).map(({ name: example }) => {
+      const here = example === exampleShown() && more === "" ? { "aria-current": "true" } : {};
       const given = { href: `#example=${example}${more}`, ...(isDone(example) ? { class: "done" } : {}), ...here };
       return tag("li", {}, tag("a", given, escaped(CLASSICS[example].question), tag("small", {}, example)));
     });
@@ -8447,7 +8886,7 @@ function listenToSeedForm(id, more) {
   byId(`${id}-go`).onclick = () => {
     const kind = byId(`${id}-list`).value;
     const number = Number(byId(`${id}-number`).value);
-    location.hash = `#seed=${number > 0 ? seedOf(kind, number) : anotherSeed(seeds.shown, kind)}${more}`;
+    location.hash = `#seed=${number > 0 ? seedOf(kind, number) : anotherSeed(now.task.kind === "seed" ? now.task.id : null, kind)}${more}`;
   };
 }
 
@@ -8464,46 +8903,41 @@ function drawWatchMap(isBelow = false) {
 
 
 function openSeed(seed, count) {
-  const text = scheduleOfSeed((...words) => askNow(...words), seed);
-  Object.assign(seeds, { shown: seed, text });
-  openText(text, count, works.newName(`run ${partsOfSeed(seed).number}`));
+  const text = scheduleOfSeed(askNow, seed);
+  openTask({ kind: "seed", id: seed, work: works.newName(`run ${partsOfSeed(seed).number}`) }, text, count);
 }
 
-const seedAddress = (count) => (seeds.shown !== null && page.text === seeds.text ? `#seed=${seeds.shown}&event=${count}` : null);
-
-function showTaskOfWatch() {
-  const isSeed = seedAddress(0) !== null && page.example === "";
+function taskOfWatch() {
   const more = isJudging() ? "&judge" : "";
-  byId("seed-box").hidden = !isSeed;
-  if (isSeed) drawSeedBox(more);
-  const names = Object.keys(kindsOfExamples());
-  const at = names.indexOf(page.example);
+  if (now.task.kind === "seed") drawSeedBox(now.task.id, more);
+  const names = examples().map(({ name }) => name);
+  const at = now.task.kind === "example" ? names.indexOf(now.task.id) : -1;
   const to = (index) => (at >= 0 && names[index] !== undefined ? `#example=${names[index]}${more}` : null);
   return { before: to(at - 1), all: more === "" ? ["#watch", "All questions"] : ["#judge", "All runs"], next: to(at + 1) };
 }
 
-function drawSeedBox(more) {
-  const { kind, number } = partsOfSeed(seeds.shown);
+function drawSeedBox(seed, more) {
+  const { kind, number } = partsOfSeed(seed);
   byId("seed-number").textContent = number;
   if (document.activeElement !== byId("seed-input")) byId("seed-input").value = number;
-  byId("seed-another").href = `#seed=${anotherSeed(seeds.shown, kind)}${more}`;
-  byId("seed-judge").href = `#seed=${seeds.shown}&judge`;
+  byId("seed-another").href = `#seed=${anotherSeed(seed, kind)}${more}`;
+  byId("seed-judge").href = `#seed=${seed}&judge`;
   byId("seed-judge").hidden = more !== "";
   byId("seed-open").onclick = () => {
     const wanted = Number(byId("seed-input").value);
     if (wanted > 0) location.hash = `#seed=${seedOf(kind, wanted)}${more}`;
   };
 }
-return { FIRST, questionsByList, seedForm, listenToSeedForm, drawWatchMap, openSeed, seedAddress, showTaskOfWatch };
+return { FIRST, questionsByList, seedForm, listenToSeedForm, drawWatchMap, openSeed, taskOfWatch };
 })();
 
 // activities/judge_map.js
 const $activities_judge_map = (() => {
+const { byId } = $page_dom;
+const { keptUnder } = $page_kept;
 const { JUDGED } = $activities_judging;
 const { drawRecordedBox, listenToRecorded } = $activities_recorded;
 const { listenToSeedForm, questionsByList, seedForm } = $activities_watch;
-const { byId } = $page_dom;
-const { keptUnder } = $page_kept;
 function drawJudgeMap() {
   const judged = Object.keys(keptUnder(JUDGED) ?? {});
   const isDone = (example) => judged.some((run) => run.startsWith(`${example} `));
@@ -8562,6 +8996,195 @@ function drawReadMap() {
 return { PAGES, drawReadMap };
 })();
 
+// activities/open.js
+const $activities_open = (() => {
+const { TRACES } = $made_traces;
+const { byId } = $page_dom;
+const { exampleText, isExample, openKept } = $page_example;
+const { HERE, isText, keepWork, keptUnder, works } = $page_kept;
+const { fillWorks, pickExample } = $page_menu;
+const { exampleShown, goTo, held, now, tell } = $page_now;
+const { goToPlace, isAtMap, setView } = $page_places;
+const { startPlay, stopPlay, wantsLessMotion } = $page_play;
+const { entryOf } = $page_state;
+const { showMarks } = $page_view;
+const { keepSoon, visit } = $page_visit;
+const { forgetBefore, openTask, openWork, ownTask } = $page_work;
+const { AddressFault, readAddress } = $run_address;
+const { escaped } = $run_markup;
+const { drawBreakMap, openLevel } = $activities_break_map;
+const { openCompare } = $activities_compare;
+const { showCourseText, takeCourseOfAddress } = $activities_courses;
+const { beginJudging } = $activities_judge_begin;
+const { drawJudgeMap } = $activities_judge_map;
+const { drawLearnMap, openLesson } = $activities_learn_map;
+const { learning } = $activities_learning;
+const { drawReadMap } = $activities_read;
+const { showRecorded } = $activities_recorded;
+const { drawWatchMap, FIRST, openSeed } = $activities_watch;
+const MAPS = { watch: drawWatchMap, learn: drawLearnMap, judge: drawJudgeMap, break: drawBreakMap, read: drawReadMap };
+const WANTS_ENGINE = { learn: "a lesson", judge: "runs to judge", break: "a broken list", compare: "two lists side by side" };
+
+function needEngine(what) {
+  if (held.engine === null) throw new AddressFault(`the address names ${what}, which cannot be run here`);
+}
+
+function showMap(activity) {
+  stopPlay();
+  MAPS[activity]();
+  goToPlace(activity, "map");
+  scrollTo(0, 0);
+}
+
+function leaveMap() {
+  if (isAtMap()) drawWatchMap(true);
+}
+
+/** @param {string[]} place @param {any} wanted */
+function openPlace([activity, value], { text, event, lacks, course }) {
+  if (activity in WANTS_ENGINE) needEngine(WANTS_ENGINE[activity]);
+  if (activity === "compare") return openCompare(null);
+  if (value === "" && (activity !== "learn" || course === null || text === null)) return showMap(activity);
+  leaveMap();
+  if (activity === "learn") openLesson(value, text, event);
+  else if (activity === "break") openLevel(Number(value));
+  else openWhatIf(value, text, event, lacks);
+}
+
+async function openCourse(wanted) {
+  await takeCourseOfAddress(wanted.course);
+  const { panel } = learning;
+  openPlace(wanted.place ?? ["learn", (panel.firstUnsolved() ?? panel.course.lessons[0]).name], wanted);
+}
+
+function needExample(name) {
+  if (!isExample(name)) throw new AddressFault(`the address names the example "${name}", which there is not`);
+}
+
+function openRun(wanted) {
+  leaveMap();
+  if (wanted.seed !== null) {
+    needEngine("a run by its number");
+    openSeed(wanted.seed, wanted.event);
+  } else if (wanted.example !== null) {
+    needExample(wanted.example);
+    const isShown = exampleShown() === wanted.example && now.run.isRun && (held.engine === null || now.task.work !== "");
+    if (isShown) goTo(wanted.event);
+    else pickExample(wanted.example, wanted.event);
+  } else openLink(wanted);
+  if (wanted.isJudged) beginJudging();
+}
+
+function openWhatIf(name, text, event, lacks) {
+  needExample(name);
+  needEngine("a schedule");
+  if (text === null) return pickExample(name, event);
+  const own = works.last((work) => work.text === text && work.task.kind === "example" && work.task.id === name);
+  if (own !== null) return openWork(own, event);
+  openTask({ kind: "example", id: name, work: works.newName(`from ${name}`), begun: exampleText(name) }, text, event, "", lacks);
+}
+
+function openLink({ text, event, lacks }) {
+  needEngine("a schedule");
+  if (text === now.run.text && now.run.isRun && now.run.lacks === lacks) return goTo(event);
+  const own = works.nameOf(text, lacks);
+  if (own !== null) return openWork(own, event);
+  const told = "Opened from a link. Your changes are kept under a new name";
+  const others = works.byName.size === 0 ? "" : `; your ${works.byName.size} other works stay under Open`;
+  const task = lacks === null ? ownTask("from a link") : { kind: "level", id: lacks, work: works.newName("from a link") };
+  openTask(task, text, event, `${told}${others}.`, lacks);
+}
+
+async function openAddress(hash) {
+  try {
+    const wanted = readAddress(hash);
+    setView(wanted.view);
+    if (wanted.course !== null) await openCourse(wanted);
+    else if (wanted.place !== null) openPlace(wanted.place, wanted);
+    else if (wanted.sides !== null) {
+      needEngine("two lists side by side");
+      openCompare(wanted.sides);
+    } else if (wanted.example !== null || wanted.text !== null || wanted.seed !== null) openRun(wanted);
+    else return false;
+    return true;
+  } catch (fault) {
+    if (!(fault instanceof AddressFault)) throw fault;
+    tell(`<b class="bad">${escaped(fault.message)}</b>`);
+    return false;
+  }
+}
+
+function openRecorded(text) {
+  showMap("judge");
+  showRecorded(text);
+}
+
+function openCourseFile(text) {
+  showMap("learn");
+  showCourseText(text);
+}
+
+async function followAddress(event) {
+  clearTimeout(visit.timer);
+  keepWork();
+  const kept = event.state;
+  if (typeof kept?.text === "string") openLink({ text: kept.text, event: kept.count, lacks: kept.lacks });
+  else await openAddress(location.hash);
+  visit.entry = entryOf(held.state);
+  keepSoon();
+}
+
+
+const addressKept = () => (isText(keptUnder(HERE)) ? keptUnder(HERE) : "");
+
+function showBeforehand() {
+  works.load();
+  const [, name, event] = /^#example=([a-z-]+)(?:&event=(\d+))?$/.exec(location.hash || addressKept()) ?? [];
+  const isPlain = location.hash === "" && addressKept() === "" && works.byName.size === 0;
+  if (isPlain) openKept(FIRST.example, FIRST.from);
+  else if (Object.hasOwn(TRACES, name)) openKept(name, Number(event ?? 0));
+  else return false;
+  document.body.dataset.ready = "soon";
+  return true;
+}
+
+function firstVisit() {
+  const { event, before, there } = FIRST.stop;
+  const isTold = byId("told").textContent !== "";
+  const isMoved = exampleShown() === FIRST.example && now.run.count !== FIRST.from; // by the reader, while the engine came
+  pickExample(FIRST.example, isMoved ? now.run.count : FIRST.from);
+  if (isMoved) return;
+  if (isTold || wantsLessMotion()) goTo(event);
+  else startPlay(FIRST.stop);
+  if (!isTold) tell(now.run.count === event ? there : before);
+}
+
+async function openFirst() {
+  fillWorks();
+  const isNamed = location.hash !== "" && (await openAddress(location.hash));
+  const said = byId("told").innerHTML;
+  const isWrong = location.hash !== "" && !isNamed;
+  const last = works.last(() => true);
+  if (isNamed) bringBack();
+  else if (isWrong || addressKept() === "" || !(await openAddress(addressKept()))) {
+    if (last !== null && held.engine !== null) openWork(last);
+    else firstVisit();
+  } else bringBack();
+  if (!isNamed && said !== "") tell(said);
+  Object.assign(visit, { isRead: true, entry: entryOf(held.state) });
+  forgetBefore();
+  keepSoon();
+}
+
+function bringBack() {
+  const kept = works.byName.get(now.task.work);
+  if (kept === undefined || kept.text !== now.run.text || kept.box === kept.text) return;
+  byId("schedule").value = kept.box;
+  showMarks();
+}
+return { openRecorded, openCourseFile, followAddress, showBeforehand, openFirst };
+})();
+
 // draw/code_column.js
 const $draw_code_column = (() => {
 const { LISTS } = $made_rows;
@@ -8591,7 +9214,8 @@ function drawLine(line, number, { made, next }) {
   const isMade = rows.includes(made);
   const threads = next.filter(({ row }) => rows.includes(row)).map(({ thread }) => thread);
   const depth = text.match(/^ */)[0].length;
-  const words = escaped(text.trim()).replace(KEYWORDS, "<b>$1</b>");
+  const [code, colon = "", prose = ""] = rows.length === 0 ? text.trim().split(/(?<=\)(:)) {2}/) : [text.trim()]; // a heading ends in a remark
+  const words = escaped(code).replace(KEYWORDS, "<b>$1</b>") + (colon === "" ? "" : `&ensp;<i>${escaped(prose)}</i>`);
   const kind = ["code-line", rows.length === 0 && !line.isPlain ? "heads" : "", isMade ? "made" : "", threads.length > 0 ? "next" : ""];
   const names = threads.map((thread) => `t${thread}`).join(" and ");
   const told = threads.length > 0 ? tag("span", { class: "unseen" }, `, next of ${names}`) : "";
@@ -8655,29 +9279,29 @@ function wholePicture() {
 }
 
 const savePicture = () => saveText("page.svg", wholePicture());
-return { wholePicture, savePicture };
+return { savePicture };
 })();
 
 // page/controls.js
 const $page_controls = (() => {
 const { HISTORY_LEFT } = $draw_history;
+const { escaped } = $run_markup;
 const { byId } = $page_dom;
 const { openFile, refreshReport, saveText } = $page_files;
 const { keepUnder, keptUnder } = $page_kept;
 const { toggleKeys, toggleLecture } = $page_keys;
 const { cancelLong } = $page_long_run;
 const { chooseInList } = $page_menu;
-const { page, show, tell } = $page_now;
-const { isAtWork, where } = $page_places;
+const { change, dispatch, now, show, tell } = $page_now;
+const { isAtWork, PHONE } = $page_places;
 const { changeSpeed, goByHand, togglePlay, wantsLessMotion } = $page_play;
 const { savePicture } = $page_save_picture;
-const { showMarks, watchEditor } = $page_view;
+const { drawnHistory, showMarks, watchEditor } = $page_view;
 const { copyLink, keepSoon } = $page_visit;
-const { newSchedule, redo, runBox, runWithOpening, undo } = $page_work;
-const { escaped } = $run_markup;
+const { leaveWhatIf, newSchedule, redo, runBox, runWithOpening, undo } = $page_work;
 function clickHistory(event) {
   const drawn = byId("calls").firstElementChild.getBoundingClientRect();
-  goByHand(page.scale.first - 1 + Math.ceil((event.clientX - drawn.left - HISTORY_LEFT) / page.scale.step));
+  goByHand(drawnHistory.scale.first - 1 + Math.ceil((event.clientX - drawn.left - HISTORY_LEFT) / drawnHistory.scale.step));
 }
 
 const tooltipOf = (target) => target.closest("g, svg")?.querySelector(":scope > title")?.textContent ?? "";
@@ -8696,10 +9320,9 @@ function listenToDrawings() {
     tell(escaped(said));
   };
   byId("all-threads").onclick = () => {
-    page.allThreads = !page.allThreads;
-    show();
+    dispatch("prefs", { allThreads: !now.prefs.allThreads });
   };
-  for (const name of ["table-box", "listing-box", "turns-box"]) byId(name).ontoggle = show;
+  for (const name of ["table-box", "listing-box", "threads-box", "turns-box"]) byId(name).ontoggle = show;
 }
 
 function stopUnable(event) {
@@ -8709,8 +9332,8 @@ function stopUnable(event) {
 }
 
 function skipToRun() {
-  const first = { map: `#map-${where.activity} a, [data-activity=compare] #sides-turns button`, stage: isAtWork() ? "#moves button" : "#next" };
-  document.querySelector(first[where.screen])?.focus();
+  const first = { map: `#map-${now.place.activity} a, [data-activity=compare] #sides-turns button`, stage: isAtWork() ? "#moves button" : "#next" };
+  document.querySelector(first[now.place.screen])?.focus();
 }
 
 function bringList() {
@@ -8718,14 +9341,13 @@ function bringList() {
   const isSeen = top >= 0 && byId("list").getBoundingClientRect().bottom <= byId("dock").getBoundingClientRect().top;
   if (innerWidth <= PHONE && !isSeen) scrollTo(0, scrollY + top - 8);
 }
-const PHONE = 560; // pixels, as in the style sheets
 
 function listenToBar() {
   byId("dock").addEventListener("click", bringList);
   byId("first").onclick = () => goByHand(0);
-  byId("back").onclick = () => goByHand(page.count - 1);
-  byId("next").onclick = () => goByHand(page.count + 1);
-  byId("last").onclick = () => goByHand(page.trace.total);
+  byId("back").onclick = () => goByHand(now.run.count - 1);
+  byId("next").onclick = () => goByHand(now.run.count + 1);
+  byId("last").onclick = () => goByHand(now.run.trace.total);
   byId("play").onclick = togglePlay;
   byId("speed").onchange = changeSpeed;
   byId("speed").value = wantsLessMotion() ? "slow" : "medium";
@@ -8739,15 +9361,15 @@ function listenToBar() {
 
 function listenToSettings() {
   const kept = keptUnder(SETTINGS) ?? {};
-  byId("hides").checked = page.hides = kept.hides !== false;
-  byId("single-keys").checked = kept.letters !== false;
-  const keep = () => keepUnder(SETTINGS, { hides: page.hides, letters: byId("single-keys").checked });
-  byId("single-keys").onchange = keep;
-  byId("hides").onchange = () => {
-    page.hides = byId("hides").checked;
-    keep();
-    show();
-  };
+  change("prefs", { hides: kept.hides !== false, letters: kept.letters !== false });
+  byId("hides").checked = now.prefs.hides;
+  byId("single-keys").checked = now.prefs.letters;
+  for (const [name, id] of [["hides", "hides"], ["letters", "single-keys"]]) {
+    byId(id).onchange = () => {
+      dispatch("prefs", { [name]: byId(id).checked });
+      keepUnder(SETTINGS, { hides: now.prefs.hides, letters: now.prefs.letters });
+    };
+  }
 }
 const SETTINGS = "listset-settings";
 
@@ -8758,6 +9380,10 @@ function listenToWork() {
   byId("opening").onchange = runWithOpening;
   byId("undo").onclick = undo;
   byId("redo").onclick = redo;
+  byId("what-if-back").onclick = () => {
+    leaveWhatIf();
+    byId("next").focus();
+  };
   byId("link").onclick = copyLink;
   byId("new").onclick = () => newSchedule(byId("new-list").value, byId("new-threads").value, byId("new-quota").value);
   box.onscroll = showMarks;
@@ -8775,7 +9401,7 @@ function listenToFiles() {
   byId("report-box").ontoggle = refreshReport;
   byId("file").onchange = () => openFile(byId("file").files[0]).then(() => (byId("file").value = ""));
   byId("save-schedule").onclick = () => saveText("page.schedule", byId("schedule").value);
-  byId("save-trace").onclick = () => saveText("page.trace", page.trace.text);
+  byId("save-trace").onclick = () => saveText("now.run.trace", now.run.trace.text);
   byId("save-picture").onclick = savePicture;
 }
 
@@ -8798,240 +9424,80 @@ function placeMoves(isBelow) {
 return { listenToDrawings, stopUnable, listenToBar, listenToSettings, listenToWork, listenToFiles, placeParts, placeMoves };
 })();
 
-// activities/open.js
-const $activities_open = (() => {
-const { TRACES } = $made_traces;
-const { drawBreakMap, openLevel, showTaskOfBreak } = $activities_break_map;
-const { openCompare } = $activities_compare;
-const { openCourseOfAddress } = $activities_courses;
-const { drawJudgeMap } = $activities_judge_map;
-const { beginJudging } = $activities_judging;
-const { learning } = $activities_kept_lessons;
-const { drawLearnMap, drawStrip, openLesson, showTaskOfLearn } = $activities_learn_map;
-const { drawReadMap } = $activities_read;
-const { showRecorded } = $activities_recorded;
-const { drawWatchMap, FIRST, openSeed, seedAddress, showTaskOfWatch } = $activities_watch;
+// activities/place.js
+const $activities_place = (() => {
 const { drawCode } = $draw_code_column;
+const { titleIn } = $page_address_of;
 const { placeMoves } = $page_controls;
-const { byId } = $page_dom;
-const { exampleNames, exampleText } = $page_example;
-const { keepWork, works } = $page_kept;
-const { fillWorks, pickExample, pickKept } = $page_menu;
-const { goTo, isJudging, page, tell } = $page_now;
-const { goToPlace, isAtMap, isAtWork, setView, showStage, where } = $page_places;
-const { startPlay, stopPlay, wantsLessMotion } = $page_play;
-const { showMarks } = $page_view;
-const { visit } = $page_visit;
-const { forgetBefore, openText, openWork } = $page_work;
-const { AddressFault, readAddress } = $run_address;
-const { escaped } = $run_markup;
-const MAPS = { watch: drawWatchMap, learn: drawLearnMap, judge: drawJudgeMap, break: drawBreakMap, read: drawReadMap };
-const TASKS = { watch: showTaskOfWatch, learn: showTaskOfLearn, break: showTaskOfBreak, judge: showTaskOfWatch };
-const WANTS_ENGINE = { learn: "a lesson", judge: "runs to judge", break: "a broken list", compare: "two lists side by side" };
-const ALL_QUESTIONS = { before: null, all: ["#watch", "All questions"], next: null };
-
-
-function needEngine(what) {
-  if (page.engine === null) throw new AddressFault(`the address names ${what}, which cannot be run here`);
-}
-
-function showMap(activity) {
-  stopPlay();
-  MAPS[activity]();
-  goToPlace(activity, "map");
-  document.title = `${document.querySelector(`nav [data-to=${activity}]`).firstChild.textContent.trim()}: list sets, step by step`;
-  scrollTo(0, 0);
-  return true;
-}
-
-function openPlace([activity, value], { text, event }) {
-  if (activity in WANTS_ENGINE) needEngine(WANTS_ENGINE[activity]);
-  if (activity === "compare") return openCompare(null);
-  if (value === "") return showMap(activity);
-  goToPlace(activity, "stage");
-  return activity === "learn" ? openLesson(value, text, event) : openLevel(Number(value));
-}
-
-function openSeedOfAddress({ seed, event, isJudged }) {
-  needEngine("a run by its number");
-  openSeed(seed, event);
-  if (isJudged) beginJudging();
-  return true;
-}
-
-function openRun(wanted) {
-  if (wanted.example !== null && !exampleNames().includes(wanted.example)) {
-    throw new AddressFault(`the address names the example "${wanted.example}", which there is not`);
-  }
-  const isOpened = openVisited(wanted);
-  if (wanted.isJudged) beginJudging();
-  return isOpened;
-}
-
-async function openAddress() {
-  try {
-    const wanted = readAddress(location.hash);
-    setView(wanted.view);
-    if (wanted.course !== null) return await openCourseOfAddress(wanted.course);
-    if (wanted.place !== null) return openPlace(wanted.place, wanted);
-    if (wanted.sides !== null) return openSidesOfAddress(wanted.sides);
-    if (wanted.example === null && wanted.text === null && wanted.seed === null) return false;
-    leaveMapOfRuns();
-    return wanted.seed !== null ? openSeedOfAddress(wanted) : openRun(wanted);
-  } catch (fault) {
-    if (!(fault instanceof AddressFault)) throw fault;
-    tell(`<b class="bad">${escaped(fault.message)}</b>`);
-    return false;
-  }
-}
-
-function openSidesOfAddress(sides) {
-  needEngine("two lists side by side");
-  return openCompare(sides);
-}
-
-function openRecorded(text) {
-  history.pushState(null, "", "#judge");
-  showMap("judge");
-  showRecorded(text);
-}
-
-function leaveMapOfRuns() {
-  if (!isAtMap()) return;
-  drawWatchMap(true);
-  goToPlace(where.activity, "stage");
-}
-
-function openVisited({ example, text, event, lacks }) {
-  const wanted = example === null ? text : exampleText(example);
-  if (example === null && page.engine === null) throw new AddressFault("the address names a schedule, which cannot be run here");
-  if (wanted === page.text && page.isRun && page.example === (example ?? "") && page.lacks === lacks) goTo(event);
-  else if (example !== null) pickExample(example, event);
-  else openLink(text, event, lacks);
-  return true;
-}
-
-function openLink(text, event, lacks) {
-  const own = works.nameOf(text, lacks);
-  const kept = works.byName.size;
-  if (own === null) {
-    const told = "Opened from a link. Your changes are kept under a new name";
-    const others = kept === 0 ? "" : `; your ${kept} other works stay under Open`;
-    openText(text, event, works.newName("from a link"), `${told}${others}.`, lacks);
-  } else {
-    openText(text, event, own, "", lacks);
-    page.begun = "";
-  }
-}
-
-async function followAddress(event) {
-  clearTimeout(visit.timer);
-  keepWork();
-  const { state } = event;
-  if (typeof state?.text === "string") openVisited({ example: null, text: state.text, event: state.count, lacks: state.lacks });
-  else await openAddress();
-  visit.text = page.text;
-}
-
-
-function showBeforehand() {
-  works.load();
-  const [, name, event] = /^#example=([a-z-]+)(?:&event=(\d+))?$/.exec(location.hash) ?? [];
-  const isPlain = location.hash === "" && works.byName.size === 0;
-  if (isPlain) pickKept(FIRST.example, FIRST.from);
-  else if (Object.hasOwn(TRACES, name)) pickKept(name, Number(event ?? 0));
-  else return false;
-  document.body.dataset.ready = "soon";
-  return true;
-}
-
-function firstVisit() {
-  goToPlace("watch", "stage");
-  const isTold = byId("told").textContent !== "";
-  const isMoved = page.example === FIRST.example && page.count !== FIRST.from; // by the reader, while the engine came
-  pickExample(FIRST.example, isMoved ? page.count : FIRST.from);
-  if (isMoved) return;
-  if (isTold || wantsLessMotion()) goTo(FIRST.to);
-  else startPlay(FIRST.to, FIRST.says);
-  if (!isTold) tell(page.count === FIRST.to ? FIRST.says.there : FIRST.says.before);
-}
-
-async function openFirst() {
-  works.load();
-  fillWorks();
-  const isNamed = await openAddress();
-  visit.isRead = true;
-  const said = byId("told").innerHTML;
-  const last = [...works.byName.keys()].at(-1);
-  if (!isNamed && last !== undefined && page.engine !== null) openWork(last);
-  else if (!isNamed) firstVisit();
-  else bringBack();
-  if (!isNamed && said !== "") tell(said);
-  forgetBefore();
-}
-
-function bringBack() {
-  const kept = works.byName.get(page.name);
-  if (kept === undefined || kept.text !== page.text || kept.box === kept.text) return;
-  byId("schedule").value = kept.box;
-  showMarks();
-}
-
+const { byId, setHtml } = $page_dom;
+const { held, now } = $page_now;
+const { isAtMap, isAtWork } = $page_places;
+const { showTaskOfBreak, titleOfLevel } = $activities_break_map;
+const { titleOfSides } = $activities_compare;
+const { showTaskOfLearn } = $activities_learn_map;
+const { learning } = $activities_learning;
+const { taskOfWatch } = $activities_watch;
+const TASKS = { watch: taskOfWatch, learn: showTaskOfLearn, break: showTaskOfBreak, judge: taskOfWatch };
+const TITLES = {
+  get sides() {
+    return titleOfSides();
+  },
+  get lesson() {
+    return learning.panel.lesson.title;
+  },
+  level: titleOfLevel,
+};
 
 function showPlace(moment) {
-  showStage();
-  byId("book-code").innerHTML = drawCode(moment);
+  document.title = titleIn(held.state, TITLES);
   if (isAtMap()) return;
-  if (where.activity === "learn") drawStrip();
-  const task = TASKS[where.activity]?.() ?? ALL_QUESTIONS;
+  setHtml(byId("book-code"), drawCode(moment));
+  const links = TASKS[now.place.activity]();
   for (const name of ["before", "next"]) {
-    byId(`task-${name}`).hidden = task[name] === null;
-    if (task[name] !== null) byId(`task-${name}`).href = task[name];
+    byId(`task-${name}`).hidden = links[name] === null;
+    if (links[name] !== null) byId(`task-${name}`).href = links[name];
   }
-  [byId("task-all").hash, byId("task-all").textContent] = task.all;
+  [byId("task-all").hash, byId("task-all").textContent] = links.all;
   placeMoves(isAtWork());
   markExample();
 }
 
 function markExample() {
-  const here = `#example=${page.example}`;
+  const here = `#example=${now.task.kind === "example" ? now.task.id : ""}`;
   for (const link of byId("map-watch").querySelectorAll("a[href^='#example']")) {
     if (link.getAttribute("href") === here) link.setAttribute("aria-current", "true");
     else link.removeAttribute("aria-current");
   }
 }
-
-function addressHere(address) {
-  if (where.activity === "learn" && address !== null) return `#learn=${learning.panel.lesson.name}&${address.slice(1)}`;
-  const own = page.lacks === null && page.example === "" ? (seedAddress(page.count) ?? address) : address;
-  return own === null || !isJudging() ? own : `${own}&judge`;
-}
-return { openRecorded, openVisited, followAddress, showBeforehand, openFirst, showPlace, addressHere };
+return { showPlace };
 })();
 
 // main.js
 const $main = (() => {
-const { listenToBreaking, showBreaking } = $activities_break_level;
+const { judgeBreaking, listenToBreaking, showBreaking } = $activities_break_level;
 const { fillBreaks } = $activities_break_map;
 const { drawCompare, listenToSides, pressForSides, showSides } = $activities_compare;
-const { drawJudging, endJudging, listenToJudging } = $activities_judging;
+const { listenToCourses } = $activities_courses;
+const { listenToJudging } = $activities_judge_begin;
+const { drawJudging } = $activities_judging;
 const { drawStrip } = $activities_learn_map;
-const { startLessons } = $activities_lessons;
-const { addressHere, followAddress, openFirst, openRecorded, showBeforehand, showPlace } = $activities_open;
+const { learning, startLearning } = $activities_learning;
+const { drawLesson, listenToLessons } = $activities_lessons;
+const { followAddress, openCourseFile, openFirst, openRecorded, showBeforehand } = $activities_open;
+const { showPlace } = $activities_place;
 const { drawReadMap } = $activities_read;
 const { drawWatchMap } = $activities_watch;
 const { Engine } = $engine_engine;
 const { listenToBar, listenToDrawings, listenToFiles, listenToSettings, listenToWork, placeParts, stopUnable } = $page_controls;
 const { byId } = $page_dom;
-const { fillExamples } = $page_example;
 const { refreshReport } = $page_files;
 const { keysOf, pressKey } = $page_keys;
-const { fillWorks, showQuestion } = $page_menu;
+const { fillExamples, fillWorks, showQuestion } = $page_menu;
 const { drawMovesNow } = $page_moves;
-const { on, page, show, takeTrace } = $page_now;
-const { fitSlide } = $page_places;
-const { showBar, showMarks, showRun } = $page_view;
-const { keepNow, keepSoon, visit } = $page_visit;
+const { held, on, show, takeTrace } = $page_now;
+const { fitSlide, isAtMap, services, showParts } = $page_places;
+const { keepHeights, showBar, showMarks, showRun } = $page_view;
+const { keepNow, keepSoon } = $page_visit;
 const { showHeader } = $page_work;
 const { Trace } = $run_trace;
 const EMPTY_TRACE = "listset-trace 1\nlist lazy\nthreads 2\nquota 4\nend\n";
@@ -9047,7 +9513,6 @@ function listen() {
   listenToSides();
   placeParts();
   keysOf.compare = pressForSides;
-  visit.naming = addressHere;
   document.addEventListener("click", stopUnable, true);
   document.addEventListener("keydown", pressKey);
   window.addEventListener("resize", fitSlide);
@@ -9056,34 +9521,42 @@ function listen() {
   window.addEventListener("pagehide", keepNow);
 }
 
+function render(state, moment) {
+  showParts(state);
+  for (const draw of [showBar, showQuestion, showBreaking, drawLesson, drawJudging, drawMovesNow, showPlace]) draw(moment);
+  if (!isAtMap()) showRun(moment);
+  showMarks();
+  showSides();
+  keepHeights();
+  keepSoon();
+}
+
 function connect() {
-  on("shown", showBar, showQuestion, showBreaking, drawJudging, drawMovesNow, showPlace, showRun, showMarks, keepSoon, showSides);
-  on("taken", endJudging, showHeader);
+  held.render = render;
+  on("taken", judgeBreaking, showHeader);
   on("ran", showMarks, keepSoon, refreshReport);
   on("kept", fillWorks);
   on("recorded", openRecorded);
-}
-
-function tellNoEngine(cause) {
-  document.body.classList.add("no-engine");
-  byId("no-engine").hidden = false;
-  byId("no-engine-cause").textContent = cause;
-  byId("schedule").readOnly = true;
+  on("course", openCourseFile);
 }
 
 async function startEngine() {
   try {
-    page.engine = await Engine.start();
+    if (typeof WebAssembly === "undefined") throw new Error("WebAssembly is turned off in it");
+    held.engine = await Engine.start();
   } catch (fault) {
-    tellNoEngine(fault.message);
+    services.hasEngine = false;
+    byId("no-engine-cause").textContent = fault.message; // what needs the engine is not there; the page says so, and why
+    byId("schedule").readOnly = true;
   }
 }
 
 function fillMaps() {
   fillExamples();
-  if (page.engine !== null) {
+  if (held.engine !== null) {
     fillBreaks();
-    startLessons();
+    listenToLessons(startLearning());
+    listenToCourses(learning.panel);
     drawStrip();
   }
   drawWatchMap(true);
@@ -9109,5 +9582,5 @@ if (typeof document !== "undefined") startPage(); // in node there is none
 return {  };
 })();
 
-return Object.assign({}, $made_classics, $made_rows, $page_dom, $run_faults, $run_markup, $run_trace, $run_judged, $run_schedule_text, $run_state, $run_sentences, $page_now, $page_kept, $activities_broken_kept, $data_levels, $made_traces, $page_example, $engine_engine, $engine_worker, $page_long_run, $page_play, $run_refusal, $run_broken, $page_run_text, $draw_glide, $draw_labels, $draw_history, $draw_list, $made_code, $draw_listing, $draw_room, $draw_table, $draw_threads, $page_places, $page_view, $run_moments, $course_goal_words, $course_course_text, $run_draft, $course_lesson, $page_work, $page_menu, $run_address, $activities_break_map, $run_recorded, $draw_judged, $activities_judging, $activities_break_level, $page_steps, $page_moves, $page_visit, $page_keys, $run_sides, $activities_compare, $made_book, $activities_kept_lessons, $activities_learn_map, $course_course_link, $run_check_trace, $page_files, $activities_courses, $course_hand_in, $activities_lessons, $activities_recorded, $data_book_code, $run_seed, $activities_watch, $activities_judge_map, $activities_read, $draw_code_column, $page_save_picture, $page_controls, $activities_open);
+return Object.assign({}, $made_classics, $data_levels, $page_dom, $made_traces, $engine_answers, $run_trace, $run_faults, $run_markup, $run_judged, $run_schedule_text, $made_rows, $run_state, $run_outcomes, $run_sentences, $page_state, $page_now, $draw_labels, $draw_history, $draw_contents, $draw_glide, $draw_places, $draw_arrows, $draw_list, $made_code, $draw_listing, $draw_room, $draw_table, $draw_threads, $page_seen, $page_places, $page_view, $page_example, $page_play, $run_broken, $run_draft, $run_moments, $course_goal_words, $course_course_text, $course_lesson, $made_book, $page_kept, $engine_engine, $engine_worker, $page_long_run, $page_run_text, $page_work, $run_address, $page_menu, $activities_broken_kept, $activities_break_map, $activities_break_win, $run_recorded, $draw_judged, $activities_judging, $activities_judge_begin, $activities_break_level, $page_steps, $page_moves, $page_keys, $run_seed, $page_address_of, $page_visit, $run_sides, $activities_compare, $course_course_link, $run_trace_pieces, $run_check_trace, $page_files, $activities_kept_lessons, $activities_learning, $activities_learn_map, $activities_courses, $course_hand_in, $activities_lessons, $activities_recorded, $data_book_code, $activities_watch, $activities_judge_map, $activities_read, $activities_open, $draw_code_column, $page_save_picture, $page_controls, $activities_place);
 })();

@@ -177,7 +177,7 @@ def test_what_is_ended_leaves_nothing(room, words, ending, status):
     clone = Clone(room)
     (room / "temporary").mkdir()
     clone.how["env"]["TMPDIR"] = str(room / "temporary")
-    for name in ("rt", "chromium"):
+    for name in ("rt", "chromedriver"):
         (clone.path / name).write_text(SLEEPS.format(room=room))
         (clone.path / name).chmod(0o755)
     running = clone.begun(*words.split(), cwd=TOP if "page" in words else clone.tree)

@@ -60,4 +60,11 @@ def first_program(top):
     return "".join(f"    {line}\n" for line in (top / "crates/first_program/stdout").read_text(encoding="utf-8").splitlines())
 
 
-MADE = {part: functools.partial(functions, part) for part in SHOWN} | {"first-program": first_program}
+def own_threads(top):
+    """The functions of crates/first_program that start threads."""
+    text = (top / "crates/first_program/src/main.rt").read_text(encoding="utf-8")
+    found = re.findall(r"^(?:///.*\n)+fn (?:add_and_tell|started_threads)\b[\s\S]*?^}\n", text, re.MULTILINE)
+    return "```rust\n" + "\n".join(found) + "```\n"
+
+
+MADE = {part: functools.partial(functions, part) for part in SHOWN} | {"first-program": first_program, "own-threads": own_threads}

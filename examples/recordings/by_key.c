@@ -3,6 +3,7 @@
 //     cc -O2 by_key.c -o by_key && ./by_key PART .. < RECORDING
 //
 // A PART is a file or a pipe. A part that nobody reads any more gets no more lines.
+#define _GNU_SOURCE
 #include <errno.h>
 #include <fcntl.h>
 #include <signal.h>
@@ -11,7 +12,7 @@
 #include <string.h>
 #include <unistd.h>
 
-enum { SIZE = 1 << 16 };
+enum { SIZE = 1 << 16, PIPE = 1 << 20 };
 
 struct part {
   int file;
@@ -19,7 +20,7 @@ struct part {
   char bytes[SIZE];
 };
 
-static char input[SIZE];
+static char input[SIZE + 1];
 
 static void fail(const char *what) {
   perror(what);
@@ -42,16 +43,21 @@ static void put(struct part *it, const char *line, size_t length) {
   it->used += length;
 }
 
-// Puts a line into the part of its key: of the fourth word of a call, of the second of an opening key or a key left. Any other goes into
-// each part.
-static void put_line(struct part *parts, unsigned count, const char *line, size_t length) {
+// The key of a line: the fourth word of a call, the second of an opening key or of a key left. Any other line has none.
+static int key_of(const char *line, unsigned *key) {
+  const char *at = line;
   int spaces = line[0] == 'c' && line[1] == 'a' ? 3 : line[0] == 'o' || line[0] == 'k' ? 1 : 0;
-  const char *at = line, *end = line + length;
-  for (int seen = 0; at < end && seen < spaces; at++) seen += *at == ' ';
-  unsigned key = 0;
-  for (; at < end && *at >= '0' && *at <= '9'; at++) key = key * 10 + (*at - '0');
-  for (unsigned i = 0; i < count; i++)
-    if (spaces == 0 || i == key % count) put(&parts[i], line, length);
+  if (spaces == 0) return 0;
+  for (; spaces > 0 && *at != '\n'; at++) spaces -= *at == ' ';
+  for (*key = 0; *at >= '0' && *at <= '9'; at++) *key = *key * 10 + (*at - '0');
+  return 1;
+}
+
+// Puts a line into the part of its key; one without a key goes into each part.
+static void put_line(struct part *parts, unsigned count, const char *line, size_t length) {
+  unsigned key;
+  if (key_of(line, &key)) put(&parts[key % count], line, length);
+  else for (unsigned i = 0; i < count; i++) put(&parts[i], line, length);
 }
 
 int main(int words, char **word) {
@@ -59,8 +65,12 @@ int main(int words, char **word) {
   struct part *parts = calloc(count + 1, sizeof *parts);
   if (count == 0 || parts == NULL) return fputs("by_key PART .. < RECORDING\n", stderr), 2;
   signal(SIGPIPE, SIG_IGN);
-  for (unsigned i = 0; i < count; i++)
+  for (unsigned i = 0; i < count; i++) {
     if ((parts[i].file = open(word[i + 1], O_WRONLY | O_CREAT | O_TRUNC, 0666)) < 0) fail(word[i + 1]);
+#ifdef F_SETPIPE_SZ
+    fcntl(parts[i].file, F_SETPIPE_SZ, PIPE);  // (a judge that waits for a processor does not hold up the others)
+#endif
+  }
   size_t kept = 0;
   for (ssize_t got; (got = read(0, input + kept, SIZE - kept)) > 0;) {
     char *line = input, *end = input + kept + got;
@@ -69,6 +79,7 @@ int main(int words, char **word) {
     if (kept == SIZE) fail("by_key: a line is too long");
     memmove(input, line, kept);
   }
+  input[kept] = '\n';
   if (kept > 0) put_line(parts, count, input, kept);
   for (unsigned i = 0; i < count; i++) flush(&parts[i]);
   return 0;

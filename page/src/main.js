@@ -1,26 +1,29 @@
 // The page: its parts are put together, and it starts.
 import "./older.js";
-import { listenToBreaking, showBreaking } from "./activities/break_level.js";
+import { judgeBreaking, listenToBreaking, showBreaking } from "./activities/break_level.js";
 import { fillBreaks } from "./activities/break_map.js";
 import { drawCompare, listenToSides, pressForSides, showSides } from "./activities/compare.js";
-import { drawJudging, endJudging, listenToJudging } from "./activities/judging.js";
+import { listenToCourses } from "./activities/courses.js";
+import { listenToJudging } from "./activities/judge_begin.js";
+import { drawJudging } from "./activities/judging.js";
 import { drawStrip } from "./activities/learn_map.js";
-import { startLessons } from "./activities/lessons.js";
-import { addressHere, followAddress, openFirst, openRecorded, showBeforehand, showPlace } from "./activities/open.js";
+import { learning, startLearning } from "./activities/learning.js";
+import { drawLesson, listenToLessons } from "./activities/lessons.js";
+import { followAddress, openCourseFile, openFirst, openRecorded, showBeforehand } from "./activities/open.js";
+import { showPlace } from "./activities/place.js";
 import { drawReadMap } from "./activities/read.js";
 import { drawWatchMap } from "./activities/watch.js";
 import { Engine } from "./engine/engine.js";
 import { listenToBar, listenToDrawings, listenToFiles, listenToSettings, listenToWork, placeParts, stopUnable } from "./page/controls.js";
 import { byId } from "./page/dom.js";
-import { fillExamples } from "./page/example.js";
 import { refreshReport } from "./page/files.js";
 import { keysOf, pressKey } from "./page/keys.js";
-import { fillWorks, showQuestion } from "./page/menu.js";
+import { fillExamples, fillWorks, showQuestion } from "./page/menu.js";
 import { drawMovesNow } from "./page/moves.js";
-import { on, page, show, takeTrace } from "./page/now.js";
-import { fitSlide } from "./page/places.js";
-import { showBar, showMarks, showRun } from "./page/view.js";
-import { keepNow, keepSoon, visit } from "./page/visit.js";
+import { held, on, show, takeTrace } from "./page/now.js";
+import { fitSlide, isAtMap, services, showParts } from "./page/places.js";
+import { keepHeights, showBar, showMarks, showRun } from "./page/view.js";
+import { keepNow, keepSoon } from "./page/visit.js";
 import { showHeader } from "./page/work.js";
 import { Trace } from "./run/trace.js";
 
@@ -37,7 +40,6 @@ function listen() {
   listenToSides();
   placeParts();
   keysOf.compare = pressForSides;
-  visit.naming = addressHere;
   document.addEventListener("click", stopUnable, true);
   document.addEventListener("keydown", pressKey);
   window.addEventListener("resize", fitSlide);
@@ -46,36 +48,44 @@ function listen() {
   window.addEventListener("pagehide", keepNow);
 }
 
-// Who is told of what, in this order: what stands above the list first, since the list takes what room that leaves.
+// All that is seen follows from the state: first what is there at all, then what stands above the list, since the list takes what room
+// that leaves.
+function render(state, moment) {
+  showParts(state);
+  for (const draw of [showBar, showQuestion, showBreaking, drawLesson, drawJudging, drawMovesNow, showPlace]) draw(moment);
+  if (!isAtMap()) showRun(moment);
+  showMarks();
+  showSides();
+  keepHeights();
+  keepSoon();
+}
+
 function connect() {
-  on("shown", showBar, showQuestion, showBreaking, drawJudging, drawMovesNow, showPlace, showRun, showMarks, keepSoon, showSides);
-  on("taken", endJudging, showHeader);
+  held.render = render;
+  on("taken", judgeBreaking, showHeader);
   on("ran", showMarks, keepSoon, refreshReport);
   on("kept", fillWorks);
   on("recorded", openRecorded);
-}
-
-// What needs the engine is not there; the page says so, and why.
-function tellNoEngine(cause) {
-  document.body.classList.add("no-engine");
-  byId("no-engine").hidden = false;
-  byId("no-engine-cause").textContent = cause;
-  byId("schedule").readOnly = true;
+  on("course", openCourseFile);
 }
 
 async function startEngine() {
   try {
-    page.engine = await Engine.start();
+    if (typeof WebAssembly === "undefined") throw new Error("WebAssembly is turned off in it");
+    held.engine = await Engine.start();
   } catch (fault) {
-    tellNoEngine(fault.message);
+    services.hasEngine = false;
+    byId("no-engine-cause").textContent = fault.message; // what needs the engine is not there; the page says so, and why
+    byId("schedule").readOnly = true;
   }
 }
 
 function fillMaps() {
   fillExamples();
-  if (page.engine !== null) {
+  if (held.engine !== null) {
     fillBreaks();
-    startLessons();
+    listenToLessons(startLearning());
+    listenToCourses(learning.panel);
     drawStrip();
   }
   drawWatchMap(true);

@@ -7,6 +7,7 @@ function defineMissing(prototype, methods) {
   }
 }
 
+/** @this {any} @param {number} index */
 function itemAt(index) {
   return this[index < 0 ? this.length + index : index];
 }

@@ -9,9 +9,6 @@ A, B = "src/run/a.js", "src/run/b.js"
 WRONG = [
     ({B: 'import { twice } from "./a.js";\n\nexport const half = (it) => twice(it);\n'}, "import each other"),
     ({A: 'import { halve } from "./b.js";\n\nexport const twice = (it) => halve(it);\n'}, "run/b.js exports no halve"),
-    ({A: 'import { half } from "./b.js";\n\nexport const twice = (it) => it;\n'}, "it imports, and does not use, half"),
-    ({A: "export const twice = (it) => half(it);\n"}, "it uses, and nobody gives it, half"),
-    ({B: "export const half = (it) => it / twoo;\n"}, "it uses, and nobody gives it, twoo"),
     ({B: "export let half = 1;\n"}, "no form that the bundle knows: export let half = 1;"),
     ({B: "export default 1;\n"}, "no form that the bundle knows"),
     ({A: 'import * as b from "./b.js";\n\nexport const twice = (it) => b.half(it);\n'}, "no form that the bundle knows"),

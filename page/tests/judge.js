@@ -72,7 +72,7 @@ function checkByHand(ask) {
   [[first, 10], [contains, 39], [remove, 23], [second, 36]].forEach(([call, at]) => answer.place(call, at));
   [first, remove, second].forEach((call) => answer.say(call, "true"));
   const says = () => verdictOn(ask, answer).says;
-  check(`a reply is missing: ${says()}`, says() === "Still missing: contains(5) of t0.");
+  check(`a reply is missing: ${says()}`, says() === "Still missing: the reply of contains(5) of t0.");
   answer.say(contains, "true");
   check(`the wrong reply: ${says()}`, says().startsWith("contains(5) of t0 does not answer true in this run."));
   answer.say(contains, "false");

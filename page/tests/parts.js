@@ -244,16 +244,14 @@ function checkFaults(engine) {
   check(`a broken list is of one kind: ${ofOther}`, ofOther === "listset: line 2: Kind\n" && isTold);
 }
 
-// Each form of address in README.md is one, and is opened in a browser (drive_places.js).
+// Each form of address in README.md is one.
 function checkForms() {
   const table = fs.readFileSync(path.join(folder, "README.md"), "utf8").split("| Address |")[1].split("\n\n")[0];
   const forms = [...table.matchAll(/^\|([^|]*)\|/gm)].flatMap(([, cell]) => [...cell.matchAll(/`([^`]+)`/g)].map(([, form]) => form));
-  const driven = fs.readFileSync(path.join(__dirname, "drive_places.js"), "utf8");
   check("README.md has the forms of addresses", forms.length > 15);
   for (const form of forms) {
     const base = form.startsWith("#") ? form : `#list=lazy&threads=2&quota=4${form === "&judge" ? "&s=b0.add.5" : ""}${form}`;
     check(`${form} is an address: ${refusalOf(base.replace("..", "A"))}`, refusalOf(base.replace("..", "A")) === "");
-    check(`${form} is opened in a browser`, form.startsWith("#course") || driven.includes(form));
   }
 }
 

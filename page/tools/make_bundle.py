@@ -2,14 +2,12 @@
 
 A module becomes a function that gives back what it exports, and an import takes that apart. So what is imported is the value at
 the start: functions, classes and constants, as in this page, and no `let` that changes. Refused are, each with its file: modules
-that import each other in a circle, or from a folder above their own (LAYERS); names that are not exported, or not used, or not known;
-and one name that two modules export, since the bundle gives all of them as one object, for tests and for node."""
+that import each other in a circle, or from a folder above their own (LAYERS); names that are not exported, or imported by nobody; and one
+name that two modules export, since the bundle gives all of them as one object, for tests and for node."""
 
 import os.path
 import pathlib
 import re
-
-import js_names
 
 LAYERS = ["made", "older.js", "data", "engine", "run", "course", "draw", "page", "activities", "main.js"]
 IMPORT = re.compile(r'^import (?:\{([^}]*)\} from )?"([^"]+)";\n', re.M)
@@ -17,11 +15,6 @@ EXPORT = re.compile(r"^export (?=(?:async )?(?:const|function\*?|class) (\w+))",
 COMMENT = re.compile(r"^ *//.*\n", re.M)  # no text of src/ has such a line in it
 OTHER = re.compile(r"^(?:import|export)\b.*$", re.M)
 HEAD = '// The modules of src/ and made/ in one script, by page/build: nothing else of the page is global.\n"use strict";\n\n'
-# What language and browser give, of which the modules use no more.
-GIVEN = set("""Array BigInt Blob CompressionStream Date DecompressionStream ENGINE Error Infinity IntersectionObserver JSON Map Math Number Object
-Option Promise RegExp Response Set String TextDecoder TextEncoder URL URLSearchParams Uint8Array WebAssembly Worker XMLSerializer atob btoa
-clearInterval clearTimeout document fetch getComputedStyle history innerHeight innerWidth isNaN localStorage location matchMedia navigator
-onmessage parseInt postMessage requestAnimationFrame scrollTo scrollY setInterval setTimeout window performance""".split())
 
 
 class Refused(Exception):
@@ -57,7 +50,7 @@ class Bundle:
         if (left := OTHER.search(body)) is not None:
             raise Refused(f"{name}: no form that the bundle knows: {left[0]}")
         self.exports[name] = EXPORT.findall(text)
-        self.look(name, body, [one for names, _ in IMPORT.findall(text) for one in names_in(names)])
+        self.note(name)
         given = ", ".join(self.exports[name])
         bare = body if name.startswith("made/") else COMMENT.sub("", body)
         code = "".join(f"{line}\n" for line in lines if line) + bare.strip("\n")
@@ -75,17 +68,11 @@ class Bundle:
             self.taken.add(one)
         return f"const {{ {', '.join(names_in(names))} }} = {variable(other)};" if names else ""
 
-    def look(self, name, body, imported):
-        """Refuses names that are not used, not known, or exported twice."""
-        given = js_names.tokens(body)
-        used, bound = js_names.used(given), js_names.bound(given)
+    def note(self, name):
+        """Notes whose the exports are; one name that two modules export is refused."""
         for one in self.exports[name]:
             if self.owner.setdefault(one, name) != name:
                 raise Refused(f"{name}: {self.owner[one]} exports {one} too")
-        for what, names in [("imports, and does not use,", sorted(set(imported) - used)),
-                            ("uses, and nobody gives it,", sorted(used - bound - set(imported) - GIVEN))]:
-            if names:
-                raise Refused(f"{name}: it {what} {', '.join(names)}")
 
     def unused(self):
         """What is exported, and neither imported nor used by a test or a tool."""
@@ -98,7 +85,7 @@ def variable(name):
 
 def bundle_text(page, texts, entry="src/main.js"):
     """The text of the script for the folder of the page, with these texts in place of some of its files."""
-    users = [*(page / "tests").glob("*.js"), page / "check_lessons.js", page / "listset.js"]
+    users = [*(page / "tests").glob("*.js"), *(page / "tests" / "scenarios").glob("*.py"), page / "check_lessons.js", page / "listset.js"]
     bundle = Bundle(page.resolve(), texts, set(re.findall(r"\w+", "\n".join(file.read_text() for file in users))))
     bundle.add((page / entry).resolve())
     if unused := bundle.unused():

@@ -24,6 +24,7 @@ HEAD = """<!doctype html>
 <title>{title}</title>
 <meta name="viewport" content="width=device-width, initial-scale=1">
 <meta name="color-scheme" content="light dark">
+<link rel="icon" href="data:,">
 <link rel="stylesheet" href="style/page.css">
 <link rel="stylesheet" href="style/docs.css">
 </head>
@@ -87,7 +88,10 @@ class Document:
             named = FILE.fullmatch(code)
             return self.runs.link(named[1], 0, shown) if is_linked and named and named[1] in self.runs.kinds else shown
         if target:
-            return f'<a href="{html.escape(place_of(target))}">{self.spans(said, is_linked=False)}</a>'
+            place, shown = html.escape(place_of(target)), self.spans(said, is_linked=False)
+            if place.startswith("../"):  # where the page is served alone there is no such file
+                return f'<span title="{place.removeprefix("../")} of the repository">{shown}</span>'
+            return f'<a href="{place}">{shown}</a>'
         return f"<b>{self.spans(bold, is_linked)}</b>" if bold else f"<i>{self.spans(italic, is_linked)}</i>"
 
     def heading(self, line):

@@ -1,6 +1,5 @@
 //! The broken lists, each without one check. A list has a name (`BrokenList`) and steps (`flaws`), and keeps no promise, so it is no
-//! `Machine`: it has a world of its own (`BrokenWorld`). `run_broken` runs a schedule by one, and reports what it did; no order need
-//! explain that.
+//! `Machine`: it has a world of its own (`BrokenWorld`). `broken_run` runs a schedule by one; no order need explain what it does.
 #![tactic(auto)]
 
 mod fine;
@@ -13,5 +12,5 @@ mod running;
 mod world;
 
 pub use lists::{ALL, BrokenList, named};
-pub use running::{BrokenRun, Listener, run_broken};
-pub use world::{BrokenStepError, BrokenWorld};
+pub use running::broken_run;
+pub use world::BrokenWorld;

@@ -62,23 +62,14 @@ pub fn chain_met(alloc: Global, words: &[u64]) -> Result<Vec<ChainKey>, AllocErr
     Ok(met)
 }
 
-fn put_key(keys: &mut BTreeSet<u32>, place: ChainKey) -> Result<(), AllocError> {
-    if !place.marked {
-        keys.insert(place.key)?;
-    }
-    Ok(())
-}
-
-fn keys_in(alloc: Global, tree: &BTreeSet<u32>) -> Result<Vec<u32>, AllocError> {
-    tree.iter().copied().collect(alloc)
-}
-
 /// Returns the keys without a mark among those reached, each once, in increasing order. Allocates; `AllocError` if that
 /// fails.
 pub fn keys_of(alloc: Global, met: &[ChainKey]) -> Result<Vec<u32>, AllocError> {
     let mut keys = BTreeSet::new(alloc);
     for place in met {
-        put_key(&mut keys, *place)?;
+        if !place.marked {
+            keys.insert(place.key)?;
+        }
     }
-    keys_in(alloc, &keys)
+    keys.iter().copied().collect(alloc)
 }

@@ -3,26 +3,12 @@ ghost use Rattle.lset_steps.specs.Rows.{IsSmall};
 
 use crate::flaws;
 use crate::lists::BrokenList;
-use crate::meeting::chain_met;
+use crate::meeting::{chain_met, keys_of};
 use lset_replay::Steps;
 use lset_steps::{Action, ChainKey, Event, Local, Told, opening_words};
+use lset_text::Cause;
 use lset_words::{Call, Layout, MOST_NODES, MOST_QUOTA, MOST_THREADS};
 use std::alloc::{AllocError, Global};
-use thiserror::Error;
-
-/// Why an event of a broken list is refused.
-#[derive(Clone, Copy, Debug, PartialEq, Eq, Error)]
-pub enum BrokenStepError {
-    #[error("no such thread")]
-    NoThread,
-    #[error("a call of the thread is open")]
-    Busy,
-    #[error("no call of the thread is open")]
-    Idle,
-    /// The step names no word of the table, or the thread's numbers are too large: the list is broken beyond running.
-    #[error("the step names no word of the table, or the thread's numbers are too large")]
-    Lost,
-}
 
 /// The words of a broken list and the state of each thread.
 #[derive(Drop)]
@@ -91,14 +77,11 @@ impl BrokenWorld {
     }
 
     /// Begins a call of a thread that has none pending.
-    fn begin(&mut self, thread: u32, call: Call) -> Result<Told, BrokenStepError> {
+    fn begin(&mut self, thread: u32, call: Call) -> Result<Told, Cause> {
         let broken = self.broken;
-        let local = self
-            .locals
-            .get_mut(thread as usize)
-            .ok_or(BrokenStepError::NoThread)?;
+        let local = self.locals.get_mut(thread as usize).ok_or(Cause::NoThread)?;
         if local.pc != 0 {
-            return Err(BrokenStepError::Busy);
+            return Err(Cause::Busy);
         }
         *local = flaws::begun(broken, call, local);
         Ok(Told {
@@ -108,20 +91,17 @@ impl BrokenWorld {
     }
 
     /// Makes the next step of a thread.
-    fn go(&mut self, thread: u32) -> Result<Told, BrokenStepError> {
+    fn go(&mut self, thread: u32) -> Result<Told, Cause> {
         let broken = self.broken;
-        let local = self
-            .locals
-            .get_mut(thread as usize)
-            .ok_or(BrokenStepError::NoThread)?;
+        let local = self.locals.get_mut(thread as usize).ok_or(Cause::NoThread)?;
         if local.pc == 0 {
-            return Err(BrokenStepError::Idle);
+            return Err(Cause::Idle);
         }
         if !is_small(local) {
-            return Err(BrokenStepError::Lost);
+            return Err(Cause::Lost);
         }
         let action = flaws::next_action(broken, local);
-        let seen = sight(&self.words, action).ok_or(BrokenStepError::Lost)?;
+        let seen = sight(&self.words, action).ok_or(Cause::Lost)?;
         write(&mut self.words, action, seen);
         let change = flaws::effect_of(broken, local, seen);
         let fed = flaws::fed_by(broken, local, seen);
@@ -134,8 +114,6 @@ impl BrokenWorld {
 }
 
 impl Steps for BrokenWorld {
-    type Fault = BrokenStepError;
-
     fn held(&self, t: u32) -> Option<Local> {
         self.locals.get(t as usize).copied()
     }
@@ -149,7 +127,7 @@ impl Steps for BrokenWorld {
         Some((action, sight(&self.words, action)?))
     }
 
-    fn make(&mut self, event: Event) -> Result<Told, BrokenStepError> {
+    fn make(&mut self, event: Event) -> Result<Told, Cause> {
         match event {
             Event::Begin(thread, call) => self.begin(thread, call),
             Event::Go(thread) => self.go(thread),
@@ -160,7 +138,7 @@ impl Steps for BrokenWorld {
         chain_met(self.alloc, &self.words)
     }
 
-    fn lost() -> BrokenStepError {
-        BrokenStepError::Lost
+    fn keys(&self) -> Result<Vec<u32>, AllocError> {
+        keys_of(self.alloc, &self.met()?)
     }
 }

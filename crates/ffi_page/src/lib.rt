@@ -41,7 +41,7 @@ pub extern "C" fn listset_replay(
 ) -> usize
     ensures { Hands (OnText ReplaysText text.now) room.old room.new status.new result }
 {
-    hand(alloc, answer_text(alloc, &Replay {}, text), room, status)
+    hand(answer_text(alloc, &Replay {}, text), room, status)
 }
 
 /// What `listset judge` prints of a recording: `ok N calls`, and lines about it, if some order explains them; `not linearizable`,
@@ -55,7 +55,7 @@ pub extern "C" fn listset_judge(
 ) -> usize
     ensures { Hands (OfText Judges text.now) room.old room.new status.new result }
 {
-    hand(alloc, judge_bytes(alloc, text), room, status)
+    hand(judge_bytes(alloc, text), room, status)
 }
 
 /// What `listset judge` prints of the recording, of any length, in the file with this number (a file descriptor, which is 0 for the
@@ -72,7 +72,7 @@ pub extern "C" fn listset_judge_from(
     ensures { Hands (λ _. Unit {0}) room.old room.new status.new result }
 {
     let mut input = HostInput { file };
-    hand(alloc, judge_input(alloc, &mut input), room, status)
+    hand(judge_input(alloc, &mut input), room, status)
 }
 
 /// What `listset check` prints of a report: `ok`, or the first fault of its order with status 1; or the line about the first
@@ -86,7 +86,7 @@ pub extern "C" fn listset_check(
 ) -> usize
     ensures { Hands (OnText ChecksText text.now) room.old room.new status.new result }
 {
-    hand(alloc, answer_text(alloc, &Check {}, text), room, status)
+    hand(answer_text(alloc, &Check {}, text), room, status)
 }
 
 /// What `listset trace` prints of a schedule: its trace, up to the first event that is not enabled, which has status 1; or
@@ -145,7 +145,7 @@ pub extern "C" fn listset_show(
 ) -> usize
     ensures { Hands (λ _. Unit {0}) room.old room.new status.new result }
 {
-    hand(alloc, draw_text(alloc, text, false, options), room, status)
+    hand(draw_text(alloc, text, false, options), room, status)
 }
 
 /// What `listset show --svg` prints of a schedule or a report: the picture of `listset_show` as an SVG, with its statuses,
@@ -160,7 +160,7 @@ pub extern "C" fn listset_show_svg(
 ) -> usize
     ensures { Hands (λ _. Unit {0}) room.old room.new status.new result }
 {
-    hand(alloc, draw_text(alloc, text, true, options), room, status)
+    hand(draw_text(alloc, text, true, options), room, status)
 }
 
 /// What `listset replay --lacks NAME` prints of a schedule, run on the broken list of this name: the report of its run;
@@ -176,7 +176,7 @@ pub extern "C" fn listset_replay_lacking(
 ) -> usize
     ensures { Hands (λ _. Unit {0}) room.old room.new status.new result }
 {
-    hand(alloc, replay_broken(alloc, name, text), room, status)
+    hand(replay_broken(alloc, name, text), room, status)
 }
 
 /// What `listset trace --lacks NAME` prints of a schedule, run on the broken list of this name: its trace, up to the event
@@ -191,7 +191,7 @@ pub extern "C" fn listset_trace_lacking(
 ) -> usize
     ensures { Hands (λ _. Unit {0}) room.old room.new status.new result }
 {
-    hand(alloc, trace_broken(alloc, name, text, false), room, status)
+    hand(trace_broken(alloc, name, text, false), room, status)
 }
 
 /// What `listset trace --chain --lacks NAME` prints of a schedule, run on the broken list of this name: its trace, with the
@@ -207,7 +207,7 @@ pub extern "C" fn listset_trace_with_chains_lacking(
 ) -> usize
     ensures { Hands (λ _. Unit {0}) room.old room.new status.new result }
 {
-    hand(alloc, trace_broken(alloc, name, text, true), room, status)
+    hand(trace_broken(alloc, name, text, true), room, status)
 }
 
 /// What `listset show --lacks NAME` prints of a schedule, run on the broken list of this name: the picture of the report of
@@ -224,12 +224,7 @@ pub extern "C" fn listset_show_lacking(
 ) -> usize
     ensures { Hands (λ _. Unit {0}) room.old room.new status.new result }
 {
-    hand(
-        alloc,
-        draw_broken(alloc, name, text, false, options),
-        room,
-        status,
-    )
+    hand(draw_broken(alloc, name, text, false, options), room, status)
 }
 
 /// What `listset show --svg --lacks NAME` prints of a schedule, run on the broken list of this name: the picture of
@@ -245,12 +240,7 @@ pub extern "C" fn listset_show_svg_lacking(
 ) -> usize
     ensures { Hands (λ _. Unit {0}) room.old room.new status.new result }
 {
-    hand(
-        alloc,
-        draw_broken(alloc, name, text, true, options),
-        room,
-        status,
-    )
+    hand(draw_broken(alloc, name, text, true, options), room, status)
 }
 
 /// What `listset draft` prints of a draft: the schedule; or the line about the first error of the text, the first line that
@@ -264,7 +254,7 @@ pub extern "C" fn listset_draft(
 ) -> usize
     ensures { Hands (λ _. Unit {0}) room.old room.new status.new result }
 {
-    hand(alloc, answer_text(alloc, &Expand {}, text), room, status)
+    hand(answer_text(alloc, &Expand {}, text), room, status)
 }
 
 /// What `listset gen` prints for its arguments, which come with a zero byte between two: the schedule; or
@@ -278,7 +268,7 @@ pub extern "C" fn listset_gen(
 ) -> usize
     ensures { Hands (OfWords Generates values.now) room.old room.new status.new result }
 {
-    hand(alloc, generate_by(alloc, values), room, status)
+    hand(generate_by(alloc, values), room, status)
 }
 
 /// What `listset faults` prints: each error message, and each cause in a sentence.
@@ -286,7 +276,7 @@ pub extern "C" fn listset_gen(
 pub extern "C" fn listset_faults(alloc: Global, room: &mut [u8], status: &mut u8) -> usize
     ensures { Hands TellsFaults room.old room.new status.new result }
 {
-    hand(alloc, list_faults(alloc), room, status)
+    hand(list_faults(alloc), room, status)
 }
 
 /// What `listset example` prints without a name: the names of the examples, each with its list and the line about it.
@@ -294,7 +284,7 @@ pub extern "C" fn listset_faults(alloc: Global, room: &mut [u8], status: &mut u8
 pub extern "C" fn listset_examples(alloc: Global, room: &mut [u8], status: &mut u8) -> usize
     ensures { Hands (λ _. Unit {0}) room.old room.new status.new result }
 {
-    hand(alloc, example_by(alloc, None, false), room, status)
+    hand(example_by(alloc, None, false), room, status)
 }
 
 /// What `listset example NAME` prints: the schedule of the example with this name, or `listset: bad NAME` with status 2.
@@ -307,7 +297,7 @@ pub extern "C" fn listset_example(
 ) -> usize
     ensures { Hands (λ _. Unit {0}) room.old room.new status.new result }
 {
-    hand(alloc, example_by(alloc, Some(name), false), room, status)
+    hand(example_by(alloc, Some(name), false), room, status)
 }
 
 /// What `listset example --broken NAME` prints: the report that a list without the check that the example with this name
@@ -321,5 +311,5 @@ pub extern "C" fn listset_broken_example(
 ) -> usize
     ensures { Hands (λ _. Unit {0}) room.old room.new status.new result }
 {
-    hand(alloc, example_by(alloc, Some(name), true), room, status)
+    hand(example_by(alloc, Some(name), true), room, status)
 }

@@ -6,15 +6,14 @@ use Rattle.lset_words.specs.declared.Reply.TheVariants as reply
 use Rattle.lset_words.specs.Words.{Opening}
 use Rattle.lset_steps.specs.Steps.{Table}
 use Rattle.lset_live.specs.Seats.{SetValue, SeatValue}
-use Rattle.lset_live.specs.Explained.{GaveUp, HasAnswered}
+use Rattle.lset_live.specs.Explained.{HasAnswered}
 use Rattle.ffi_sets.specs.declared.held.Held.{Held}
 use Rattle.ffi_sets.specs.Sets.{table_in, set_in, seat_in, spare_in, keys_in, gathers, HasNoneToSplit, IsOneSeat, SameSet, IsKept, IsBoth, IsOpenedAs, HasClosed, RefusesAsked, RefusesToClose, AreGiven}
 
--- The call c was made from the seat and answered; or there is no seat; or the call gave up after at least 2^64 - 1 steps, and now
--- there is none.
+-- The call c was made from the seat and answered; or there is no seat; or the call gave up, and now there is none.
 abbrev pub HasCalledOf : Table → SetValue → Option SeatValue → Call → Option Reply → Option SeatValue → Type 0
 HasCalledOf T set (Some old) c (Some r) (Some new) = HasAnswered T set old c r new
-HasCalledOf T set (Some old) c None None = GaveUp T set old c 18446744073709551615
+HasCalledOf T set (Some old) c None None = Unit {0}
 HasCalledOf T set None c None None = Unit {0}
 HasCalledOf T set old c r new = ⊥
 

@@ -85,7 +85,7 @@ fn keys_left<M: Bounded>(
 }
 
 impl<M: Bounded> SeatOfSet<M> {
-    /// Makes a call. `None` if there is no seat, or the call did not end in 2^64 - 1 of its steps.
+    /// Makes a call. `None` if there is no seat, or the call gave up, in which case the seat is lost.
     pub fn call(&mut self, call: Call) -> Option<Reply>
         ensures set { arc_value self.new.set ≡ arc_value self.old.set }
         ensures number { self.new.number ≡ self.old.number }

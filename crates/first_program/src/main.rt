@@ -1,5 +1,6 @@
 //! A first program on the library. One thread calls a set of its own. Two threads share a set, which is then closed; another list
-//! opens with the remaining keys. And a recorded schedule is replayed.
+//! opens with the remaining keys. Two threads are started by the program itself, and a receipt orders their calls. And a recorded
+//! schedule is replayed.
 #![tactic(auto)]
 
 ghost use Rattle.std.specs.Prelude.{◌≡◌, [], ◌∷◌, IfOk, map};
@@ -12,7 +13,7 @@ ghost use Rattle.lset_work.specs.Programs.{worked};
 
 use anyhow::{Context, Result};
 use lset_lazy::LazyList;
-use lset_live::{Running, open, open_with};
+use lset_live::{LiveSet, Receipt, Running, Seat, open, open_with};
 use lset_lock_free::LockFreeList;
 use lset_replay::replay;
 use lset_report::Report;
@@ -21,7 +22,7 @@ use lset_words::{Call, Key};
 use lset_work::{Always, Outcome, work};
 use std::alloc::Global;
 use std::sync::Wait;
-use std::thread::Threads;
+use std::thread::{Threads, join};
 
 /// One thread alone, on a CoarseList: an `add` in its seven steps.
 const SCHEDULE: &str =
@@ -73,6 +74,48 @@ fn two_lives<R: Threads + Wait + Sync>(rt: &R, alloc: Global) -> Result<(Outcome
     Ok((left, again))
 }
 
+/// What a thread does that adds a key: it returns its seat, and a receipt of what the seat has seen.
+fn add_and_tell<M: Running, R: Wait>(
+    rt: &R,
+    set: &LiveSet<M>,
+    mut seat: Seat<M>,
+    key: Key,
+) -> (Seat<M>, Receipt<M>)
+    requires { seat.set ≡ set.now }
+    ensures { (result.0.set ≡ set.now) × (result.1.set ≡ set.now) }
+{
+    let _ = seat.add(rt, set, key);
+    let receipt = set.receipt(&mut seat);
+    (seat, receipt)
+}
+
+/// Two threads add a key each, to a LazyList with a slot for each. Seat one then looks for the key of seat zero, whose receipt it has
+/// taken: so each order that `close` promises has that `add` before.
+fn started_threads<R: Threads + Wait + Sync + Print>(rt: &R, alloc: Global) -> Result<()> {
+    let (set, mut seats) = open::<LazyList>(alloc, 2, 1)?;
+    let (Some(one), Some(zero)) = (seats.pop(), seats.pop()) else {
+        unreachable!()
+    };
+    let ((mut zero, told), (mut one, _)) = join(
+        rt,
+        || -> (Seat<LazyList>, Receipt<LazyList>)
+            requires { zero.set ≡ set }
+            ensures { (result.0.set ≡ set) × (result.1.set ≡ set) }
+        { add_and_tell(rt, &set, zero, Key(5)) },
+        || -> (Seat<LazyList>, Receipt<LazyList>)
+            requires { one.set ≡ set }
+            ensures { (result.0.set ≡ set) × (result.1.set ≡ set) }
+        { add_and_tell(rt, &set, one, Key(7)) },
+    );
+    set.after(&mut one, told);
+    let found = one.contains(rt, &set, Key(5));
+    set.gather(&mut zero, one);
+    let closed = set.close(zero).ok().context("a seat is missing")?;
+    let keys = closed.keys()?;
+    println!(rt; "seat one was told of 5, and finds it: {found}. The keys are {keys:?}")?;
+    Ok(())
+}
+
 /// The report of the schedule that has this text.
 fn replayed(alloc: Global, text: &str) -> Result<Report>
     // the text is a schedule's, and the report's order linearizes its calls and leaves its keys
@@ -95,6 +138,7 @@ fn main(rt: HostRuntime) -> Result<()> {
         "opened with these, the replies {:?} leave {:?}",
         again.replies, again.keys
     )?;
+    started_threads(&rt, alloc)?;
     let report = replayed(alloc, SCHEDULE)?;
     println!(rt; "the schedule's run leaves the keys {:?}", report.keys)?;
     Ok(())

@@ -29,11 +29,11 @@ fn texts(alloc: Global, given: &[String]) -> Result<Vec<&str>, AllocError> {
 /// Ends the program if the system did not give its arguments, for which only a failed allocation is the cause.
 fn end_without_words(rt: &HostRuntime) -> ExitCode {
     let (output, stderr) = (&mut io::writer(rt), &mut rt.stderr());
-    ExitCode::from(deliver(rt.alloc(), Err(Trouble::Memory), output, stderr))
+    ExitCode::from(deliver(Err(Trouble::Memory), output, stderr))
 }
 
 /// Prints what `--version` prints, and below it where the program comes from. Returns the exit status.
-fn tell_origin<W: Write, E: Write>(alloc: Global, output: &mut W, stderr: &mut E) -> u8 {
+fn tell_origin<W: Write, E: Write>(output: &mut W, stderr: &mut E) -> u8 {
     let is_whole = put(output, b"listset ")
         && put(output, VERSION.as_bytes())
         && put(output, b"\n")
@@ -41,7 +41,7 @@ fn tell_origin<W: Write, E: Write>(alloc: Global, output: &mut W, stderr: &mut E
     if is_whole {
         0
     } else {
-        deliver(alloc, Err(Trouble::CannotWrite), output, stderr)
+        deliver(Err(Trouble::CannotWrite), output, stderr)
     }
 }
 
@@ -59,7 +59,7 @@ fn main(rt: HostRuntime) -> ExitCode {
     };
     let (input, output, stderr) = (&mut rt.reader(), &mut io::writer(&rt), &mut rt.stderr());
     if asks_for_origin(&words) {
-        return ExitCode::from(tell_origin(rt.alloc(), output, stderr));
+        return ExitCode::from(tell_origin(output, stderr));
     }
     ExitCode::from(run_words(&rt, rt.alloc(), &words, input, output, stderr))
 }

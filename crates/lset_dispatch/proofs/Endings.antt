@@ -1,13 +1,20 @@
--- How the program ends, from how its request ended.
+-- What the words ask for, and how the program ends, from how its request ended.
 use Rattle.std.proofs.Common.{◌≡◌, ℕ, List, Option, Some, None, Ok, Err, IfSome, refl, subst, sym, inl, inr}
 use Rattle.std.specs.Prelude.{◌≢◌}
 use Rattle.clap.specs.declared.error.kind.ErrorKind.{ErrorKind}
 use Rattle.clap.specs.declared.error.kind.ErrorKind.TheVariants as kind
 use Rattle.clap.specs.Words.{Text}
-use Rattle.lset_command.specs.CommandLine.{Choice, path_of}
-use Rattle.lset_dispatch.specs.Asked.{Asked, asked}
+use Rattle.lset_command.specs.CommandLine.{Choice, OptionValues, path_of}
+use Rattle.lset_command.specs.declared.command_line.Command.{Command}
+use Rattle.lset_dispatch.specs.Asked.{Asked, asked, asked_by}
 use Rattle.lset_dispatch.specs.Dispatch.{EndsAsked, EndsOnInput, IsHelp, RequestEnds}
 use Rattle.lset_dispatch.specs.declared.request.Request.{Request}
+
+-- what is asked for by a command that is known
+pub at_command : (command known : Command) (values : List Text) (options : OptionValues) (r : Asked) → command ≡ known
+    → IfSome (asked_by known values options) (λ x. r ≡ x) → IfSome (asked_by command values options) (λ x. r ≡ x)
+at_command command known values options r is said =
+    subst (λ k. IfSome (asked_by k values options) (λ x. r ≡ x)) (sym is) said
 
 module _ (IsFile : Option (List ℕ) → Type 0) (input output_old output_new stderr_old stderr_new : Option (List ℕ)) (status : ℕ) where
   told : (said : Option Asked) (r : Asked) (path : Option Text) → IfSome said (λ x. r ≡ x)

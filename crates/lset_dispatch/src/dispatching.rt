@@ -33,17 +33,17 @@ pub fn decline<W: Write, E: Write>(
         (W.contents output.old) (W.contents output.new) (E.contents stderr.old) (E.contents stderr.new) result }
 {
     if is_out_of_memory(error) {
-        return deliver(alloc, Err(Trouble::Memory), output, stderr);
+        return deliver(Err(Trouble::Memory), output, stderr);
     }
     let Ok(text) = format!(in alloc; "{error}") else {
-        return deliver(alloc, Err(Trouble::Memory), output, stderr);
+        return deliver(Err(Trouble::Memory), output, stderr);
     };
     let text = text.into_bytes();
     if error.use_stderr() {
         let _whole = put(stderr, &text);
         2
     } else {
-        deliver(alloc, Ok(Answer { text, status: 0 }), output, stderr)
+        deliver(Ok(Answer { text, status: 0 }), output, stderr)
     }
 }
 
@@ -103,13 +103,13 @@ pub fn run_words<
     };
     let request = match read_request(&words) {
         Ok(request) => request,
-        Err(wrong) => return deliver(alloc, Err(Trouble::Bad(wrong)), output, stderr),
+        Err(wrong) => return deliver(Err(Trouble::Bad(wrong)), output, stderr),
     };
     let Some(path) = words.path() else {
         return run_request(rt, alloc, request, input, output, stderr);
     };
     match File::open(rt, path) {
         Ok(mut file) => run_request(rt, alloc, request, &mut file, output, stderr),
-        Err(_) => deliver(alloc, Err(Trouble::CannotRead), output, stderr),
+        Err(_) => deliver(Err(Trouble::CannotRead), output, stderr),
     }
 }

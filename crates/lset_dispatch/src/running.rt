@@ -35,7 +35,7 @@ pub fn run_request<
         Request::Replay(Some(broken)) => {
             run_tool(alloc, &ReplayBroken { broken }, input, output, stderr)
         }
-        Request::Judge => deliver(alloc, judge_input(alloc, input), output, stderr),
+        Request::Judge => deliver(judge_input(alloc, input), output, stderr),
         Request::Check => tool_check(alloc, input, output, stderr),
         Request::Show(show, None) => run_tool(alloc, &show, input, output, stderr),
         Request::Show(show, Some(broken)) => {
@@ -46,7 +46,7 @@ pub fn run_request<
         }
         Request::Trace(false, None) => {
             let made = trace_events(alloc, input, output);
-            deliver(alloc, made, output, stderr)
+            deliver(made, output, stderr)
         }
         Request::Trace(chains, Some(broken)) => {
             run_tool(
@@ -58,17 +58,17 @@ pub fn run_request<
             )
         }
         Request::Draft => run_tool(alloc, &Expand {}, input, output, stderr),
-        Request::Example(example) => deliver(alloc, print_example(alloc, example), output, stderr),
-        Request::Gen(random) => deliver(alloc, generate_text(alloc, random), output, stderr),
-        Request::Run(lives) => deliver(alloc, run_lives(rt, alloc, lives), output, stderr),
+        Request::Example(example) => deliver(print_example(alloc, example), output, stderr),
+        Request::Gen(random) => deliver(generate_text(alloc, random), output, stderr),
+        Request::Run(lives) => deliver(run_lives(rt, alloc, lives), output, stderr),
         Request::Serve(serve) => {
             let made = serve_set(rt, alloc, serve, &[], output);
-            deliver(alloc, made, output, stderr)
+            deliver(made, output, stderr)
         }
         Request::ServeKeys(serve) => {
             let made = serve_set_of(rt, alloc, serve, input, output);
-            deliver(alloc, made, output, stderr)
+            deliver(made, output, stderr)
         }
-        Request::Faults => deliver(alloc, list_faults(alloc), output, stderr),
+        Request::Faults => deliver(list_faults(alloc), output, stderr),
     }
 }

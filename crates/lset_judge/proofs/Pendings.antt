@@ -59,6 +59,13 @@ none_ends b es e = All-from_recursion (λ (p : Pending). p.end ≢ b) (map pendi
 some_ends : (b : ℕ) (es : List (ℕ × StreamCall)) → found b es ≡ true → All (λ (p : Pending). p.end ≢ b) (map pending_at es) → ⊥
 some_ends b es e a = some_found b es e (recursion_from_All (λ (p : Pending). p.end ≢ b) (map pending_at es) a)
 
+-- none is found before the first
+pub none_earlier : (b first : ℕ) (es : List (ℕ × StreamCall)) → b < first → All (λ (p : Pending). first ≤ p.end) (map pending_at es) → found b es ≡ false
+none_earlier b first es low all = elim (cases_Bool (found b es)) [
+  | inl t ↦ absurd (some_ends b es t (λ i d inside e. let h = all i d inside in omega (arith, e, h, low)))
+  | inr f ↦ f
+]
+
 -- ---- a few of them, and the others
 
 pub all_left : {X : Type 0} (P : X → Type 0) (xs ys : List X) → All P (xs ++ ys) → All P xs

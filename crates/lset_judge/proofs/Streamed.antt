@@ -4,7 +4,6 @@ use Rattle.std.proofs.Common.{◌⊎◌, Bool, zero, inl, inr, length, get_or}
 use Rattle.std.specs.Prelude.{◌==◌, if◌then◌else◌, Option, Some, None, IfSome, All, AllPairs, Contains}
 use Rattle.std.specs.List.{AllByRecursion}
 use Rattle.std.specs.List.Sorted.{IsPermutation}
-use Rattle.std.specs.BTreeMap.{BTreeMap}
 use Rattle.std.proofs.lemmas.Bool.{cases_Bool}
 use Rattle.std.proofs.lemmas.List.{get_or_default}
 use Rattle.std.proofs.lemmas.List.Elements.{All-tail}
@@ -23,7 +22,7 @@ use Rattle.lset_judge.specs.declared.stream.Failed.{Failed}
 use Rattle.lset_judge.specs.declared.stream.Pending.{Pending}
 use Rattle.lset_judge.specs.Rule.{Event, State, idle, found, entered, stepped, state_after}
 use Rattle.lset_judge.specs.Events.{kind_if, until_if, ends_at, begin_event, event_at}
-use Rattle.lset_judge.specs.Stream.{behind_all, state_for, pending_of, key_in, event_of, no_pending, IsBefore, ArePending, IsJudgedTo}
+use Rattle.lset_judge.specs.Stream.{States, behind_all, state_for, pending_of, key_in, event_of, no_pending, IsBefore, ArePending, IsJudgedTo}
 use Rattle.lset_judge.specs.Stream.{IsMetBy, MayCome}
 use Rattle.lset_judge.proofs.After.{idle_step, quiet_until}
 use Rattle.lset_judge.proofs.EventLemmas.{Told, of_nothing, of_begin, of_end, told, ends_there, if_some, for_some, none_or_some, ends_not}
@@ -91,7 +90,7 @@ module _ (opening : List ℕ) (calls : List CallRecord) where
     other : (k : ℕ) → key ≢ k → event k (suc n) ≡ idle
     other k e = at_it k ∙ rw (unequal_test key k e) refl
 
-    goes : (before after : BTreeMap ℕ KeyState) (was failed : Option Failed) → IsMetBy before key (suc n) v after was failed
+    goes : (before after : States) (was failed : Option Failed) → IsMetBy before key (suc n) v after was failed
         → IsJudgedTo opening calls m before was → IsJudgedTo opening calls (suc n) after failed
     goes before after (Some f) failed met so =
         subst (IsJudgedTo opening calls (suc n) after) (sym met) (let l = so.0 in (omega (arith, l, up), so.1))
@@ -112,7 +111,7 @@ module _ (opening : List ℕ) (calls : List CallRecord) where
               ∙ ap (λ (i : ℕ). state_after (event i) (has_key i opening) (suc n)) met.0 ∙ last,
         )
 
-    pub goes_to : (j : ℕ) → j ≡ suc n → (before after : BTreeMap ℕ KeyState) (was failed : Option Failed) → IsMetBy before key j v after was failed
+    pub goes_to : (j : ℕ) → j ≡ suc n → (before after : States) (was failed : Option Failed) → IsMetBy before key j v after was failed
         → IsJudgedTo opening calls m before was → IsJudgedTo opening calls j after failed
     goes_to j e before after was failed met so = subst (λ (i : ℕ). IsJudgedTo opening calls i after failed) (sym e)
         (goes before after was failed (subst (λ (i : ℕ). IsMetBy before key i v after was failed) e met) so)

@@ -1,8 +1,8 @@
 -- WHAT IS KEPT OF THE CALLS OF A KEY: those that ended after a moment at which the key was at rest.
 use Rattle.std.specs.Prelude.{◌≡◌, ◌≢◌, ℕ, ◌<◌, ◌≤◌, ◌==◌, ◌||◌, ◌⊎◌, nat_lt, not, Bool, true, false, List, [], ◌∷◌, ◌++◌, length, map, filter, All, Contains}
 use Rattle.std.specs.Prelude.{Option, Some, None, IfSome}
-use Rattle.std.specs.Ordering.{nat_cmp}
-use Rattle.std.specs.BTreeMap.{BTreeMap, get}
+use Rattle.std.specs.Bool.{nat_eq}
+use Rattle.std.specs.HashMap.{get}
 use Rattle.lset_words.specs.declared.Reply.{Reply}
 use Rattle.lset_words.specs.declared.history.CallRecord.{CallRecord}
 use Rattle.lset_words.specs.Words.{key_of}
@@ -17,7 +17,7 @@ use Rattle.lset_judge.specs.declared.log.Rest.{Rest}
 use Rattle.lset_judge.specs.declared.log.Log.{Log}
 use Rattle.lset_judge.specs.Rule.{State}
 use Rattle.lset_judge.specs.Rest.{has_ended, may_turn, IsAtRest}
-use Rattle.lset_judge.specs.Stream.{record_of, call_of, pending_of, state_for}
+use Rattle.lset_judge.specs.Stream.{States, record_of, call_of, pending_of, state_for}
 use Rattle.lset_judge.specs.Window.{makes_so}
 
 -- the calls that ended after a moment; how the key was then, if it is known that it was at rest; and a change that made it so
@@ -37,8 +37,8 @@ abbrev pub log_or : Option KeyState → Logged
 log_or None = log_opened false
 log_or (Some s) = log_of s.log
 
-abbrev pub log_for : BTreeMap ℕ KeyState → ℕ → Logged
-log_for states k = log_or (get nat_cmp states k)
+abbrev pub log_for : States → ℕ → Logged
+log_for states k = log_or (get nat_eq states k)
 
 abbrev pub pushed : Ended → Logged → Logged
 pushed x l = record { since = l.since; there = l.there; before = l.before; ended = l.ended ++ x ∷ [] }
@@ -91,7 +91,7 @@ pub record IsLog (threads : ℕ) (opening : List ℕ) (calls : List CallRecord) 
       → IsHeld l pending (call_numbered calls n)
 
 -- what is kept of each key up to a moment; or of the key on which the rule has failed, up to where it failed, with the calls pending then
-abbrev pub LoggedBy : ℕ → List ℕ → List CallRecord → ℕ → List Pending → BTreeMap ℕ KeyState → Option Failed → Type 0
+abbrev pub LoggedBy : ℕ → List ℕ → List CallRecord → ℕ → List Pending → States → Option Failed → Type 0
 LoggedBy threads opening calls moment pending states None = (k : ℕ) → IsLog threads opening calls k moment pending (log_for states k)
 LoggedBy threads opening calls moment pending states (Some f) = IsLog threads opening calls f.key.0 f.moment [] (log_for states f.key.0)
 
@@ -130,11 +130,11 @@ abbrev pub IsQuiet : State → Option Bool → Type 0
 IsQuiet s quiet = IfSome quiet (λ (there : Bool). (s.there ≡ there) × (s.puts ≡ []) × (s.takes ≡ []))
 
 -- a call ends, and is kept
-abbrev pub IsKept : BTreeMap ℕ KeyState → StreamCall → Bool → BTreeMap ℕ KeyState → Type 0
+abbrev pub IsKept : States → StreamCall → Bool → States → Type 0
 IsKept before call goes_on after = (quiet : Option Bool) × IsQuiet (state_for after (key_of call.call).0) quiet × IfSome quiet (λ (there : Bool). goes_on ≡ true)
     × (log_for after (key_of call.call).0 ≡ pushed (record { call = call; quiet = quiet }) (log_for before (key_of call.call).0))
 
-abbrev pub LogsEnd : BTreeMap ℕ KeyState → List Pending → StreamCall → BTreeMap ℕ KeyState → Option Failed → Option Failed → Type 0
+abbrev pub LogsEnd : States → List Pending → StreamCall → States → Option Failed → Option Failed → Type 0
 LogsEnd before pending call after (Some f) failed = (k : ℕ) → log_for after k ≡ log_for before k
 LogsEnd before pending call after None None = ((k : ℕ) → k ≢ (key_of call.call).0 → log_for after k ≡ log_for before k)
     × ((quiet : Option Bool) × IsQuiet (state_for after (key_of call.call).0) quiet × StaysLog (key_of call.call).0 (waiting_of (key_of call.call).0 pending)

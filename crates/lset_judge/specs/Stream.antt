@@ -2,8 +2,10 @@
 use Rattle.std.specs.Prelude.{◌≡◌, ◌≢◌, ℕ, ◌<◌, ◌≤◌, ◌^◌, ◌⊎◌, true, false, List, length, Option, Some, None, All}
 use Rattle.std.specs.Prelude.{AllPairs, Contains, IfSome, ◌-◌}
 use Rattle.std.specs.List.Sorted.{IsStrictlyIncreasing}
-use Rattle.std.specs.Ordering.{nat_cmp}
-use Rattle.std.specs.BTreeMap.{BTreeMap, get}
+use Rattle.std.specs.Bool.{nat_eq}
+use Rattle.std.specs.declared.hash.BuildHasherDefault.{BuildHasherDefault}
+use Rattle.std.specs.declared.hash.FoldHasher.{FoldHasher}
+use Rattle.std.specs.HashMap.{HashMap, get}
 use Rattle.lset_words.specs.declared.Reply.{Reply}
 use Rattle.lset_words.specs.declared.history.CallRecord.{CallRecord}
 use Rattle.lset_words.specs.Words.{key_of}
@@ -43,13 +45,17 @@ stream_history threads opening calls = record {
 abbrev pub behind_all : ℕ
 behind_all = 2 ^ 63
 
+-- the states of the keys
+abbrev pub States : Type 0
+States = HashMap ℕ KeyState (BuildHasherDefault FoldHasher)
+
 -- of a key without a state, the key is not there
 abbrev pub state_or : Option KeyState → State
 state_or None = opened false
 state_or (Some s) = state_of s
 
-abbrev pub state_for : BTreeMap ℕ KeyState → ℕ → State
-state_for states k = state_or (get nat_cmp states k)
+abbrev pub state_for : States → ℕ → State
+state_for states k = state_or (get nat_eq states k)
 
 -- of a call that has not ended
 abbrev pub pending_of : CallRecord → Pending
@@ -81,7 +87,7 @@ pub record ArePending (calls : List CallRecord) (moment : ℕ) (pending : List P
   pub later : All (λ (p : Pending). moment < p.end) pending
 
 -- the state of each key after a moment, or a key and a moment by which the rule has failed on it
-abbrev pub IsJudgedTo : List ℕ → List CallRecord → ℕ → BTreeMap ℕ KeyState → Option Failed → Type 0
+abbrev pub IsJudgedTo : List ℕ → List CallRecord → ℕ → States → Option Failed → Type 0
 IsJudgedTo opening calls moment states None =
     (k : ℕ) → state_after (event_at behind_all k calls) (has_key k opening) moment ≡ Some (state_for states k)
 IsJudgedTo opening calls moment states (Some f) = (f.moment ≤ moment)
@@ -137,7 +143,7 @@ abbrev pub no_pending : Pending
 no_pending = record { end = 0; call = call_of no_call }
 
 -- what happens of a key at a moment has happened
-abbrev pub IsMetBy : BTreeMap ℕ KeyState → ℕ → ℕ → Event → BTreeMap ℕ KeyState → Option Failed → Option Failed → Type 0
+abbrev pub IsMetBy : States → ℕ → ℕ → Event → States → Option Failed → Option Failed → Type 0
 IsMetBy before key moment event after (Some f) failed = failed ≡ Some f
 IsMetBy before key moment event after None None =
     (entered event (found (moment - 1) event (state_for before key)) ≡ Some (state_for after key))

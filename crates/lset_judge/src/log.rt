@@ -17,6 +17,9 @@ const MOST_KEPT: usize = 1 << 10;
 /// How many calls of a key are kept before it is looked at which of them are needed.
 const FIRST_LOOK: usize = 8;
 
+/// How many pending calls may be walked for each call that is kept.
+const WALKED_FOR_ONE: usize = 16;
+
 /// A call of a key that has ended, or is pending where the calls stop.
 #[derive(Clone, Copy)]
 pub(crate) struct Ended {
@@ -312,19 +315,21 @@ impl Log {
         }
     }
 
-    fn look_later(&mut self)
+    fn look_later(&mut self, walked: usize)
         ensures { log_of self.new ≡ log_of self.old }
     {
-        self.next_look = self.ended.len().saturating_mul(2).max(FIRST_LOOK);
+        let rare = (walked / WALKED_FOR_ONE).min(MOST_KEPT);
+        self.next_look = self.ended.len().saturating_mul(2).max(FIRST_LOOK).max(rare);
     }
 
     /// Leaves out the calls that are not needed any more: those up to the last moment at which the key was at rest and none of these calls
-    /// had begun, which are its pending ones. If too many are left, the first half of them goes too.
-    pub(crate) fn settle(&mut self, key: u32, pending: &[StreamCall])
+    /// had begun, which are its pending ones. If too many are left, the first half of them goes too. So many calls were walked to find the
+    /// pending ones.
+    pub(crate) fn settle(&mut self, key: u32, pending: &[StreamCall], walked: usize)
         ensures { StaysLog key pending.now (log_of self.old) (log_of self.new) }
     {
         self.trim(key, pending);
         self.forget();
-        self.look_later();
+        self.look_later(walked);
     }
 }

@@ -4,7 +4,7 @@
 use crate::log::may_turn;
 use crate::stream::StreamCall;
 use std::alloc::{AllocError, Global};
-use std::collections::BTreeMap;
+use std::collections::HashMap;
 
 /// From so many ends on those that are over are left out, each time that the list has doubled.
 const LEAST_KEPT: usize = 16;
@@ -50,12 +50,12 @@ impl Open {
     }
 }
 
-/// Counts the calls that overlap an `add` or a `remove` of their key that answered true, other than themselves. A call costs a search
-/// among the keys, whatever the number of pending calls.
+/// Counts the calls that overlap an `add` or a `remove` of their key that answered true, other than themselves. A call costs the same,
+/// whatever the number of keys and of pending calls.
 #[derive(Drop)]
 pub struct Overlaps {
     alloc: Global,
-    open: BTreeMap<u32, Open>,
+    open: HashMap<u32, Open>,
     count: u64,
 }
 
@@ -64,7 +64,7 @@ impl Overlaps {
     pub fn new(alloc: Global) -> Overlaps {
         Overlaps {
             alloc,
-            open: BTreeMap::new(alloc),
+            open: HashMap::new(alloc),
             count: 0,
         }
     }

@@ -1,8 +1,9 @@
 //! The calls of a stream that are pending.
 
-ghost use Rattle.std.specs.Prelude.{◌≡◌, ◌≢◌, ◌↔◌, ◌<◌, ◌≤◌, ◌∷◌, ◌++◌, [], ◌^◌, ◌-◌, IsTrue, IsSome, All, IfSome, MatchOption, OnOk, length, map, slice_index_or, Some, slice_get, IfOk};
+ghost use Rattle.std.specs.Prelude.{◌≡◌, ◌≢◌, ◌↔◌, ◌<◌, ◌≤◌, ◌∷◌, ◌++◌, [], ◌^◌, ◌-◌, IsTrue, IsSome, is_some, All, IfSome, MatchOption, OnOk, length, map, slice_index_or, Some, slice_get, IfOk};
 ghost use Rattle.std.specs.Bool.{nat_eq};
 ghost use Rattle.std.specs.BTreeMap.{IsOrdered};
+ghost use Rattle.std.specs.BTreeMap as tree;
 ghost use Rattle.std.specs.HashMap.{get};
 ghost use Rattle.std.specs.List.Sorted.{IsPermutation};
 ghost use Rattle.std.specs.Ordering.{nat_cmp};
@@ -139,12 +140,23 @@ fn pop_many(many: &mut BTreeMap<u64, StreamCall>) -> Option<Pending>
     }
 }
 
+/// Whether one of these calls ends at a moment.
+fn is_end(many: &BTreeMap<u64, StreamCall>, moment: u64) -> bool
+    ensures { result ≡ is_some (tree.get nat_cmp many.now moment) }
+{
+    let first = end_of_many(many);
+    if moment < first {
+        return false;
+    }
+    many.contains_key(&moment)
+}
+
 /// Whether none of these calls ends at a moment of another call.
 fn are_apart(many: &BTreeMap<u64, StreamCall>, call: StreamCall) -> bool
     ensures { IsTrue result
         ↔ All (λ p. (p.end ≢ call.begun) × IfSome call.ended (λ end. p.end ≢ end.0)) (map pending_at many.now.entries) }
 {
-    !many.contains_key(&call.begun) && !many.contains_key(&end_or_begin(call))
+    !is_end(many, call.begun) && !many.contains_key(&end_or_begin(call))
 }
 
 /// Whether none of these calls is of the thread of another, and pending at its begin.
@@ -205,6 +217,11 @@ impl PendingCalls {
             many: BTreeMap::new(alloc),
             busy: HashMap::new(alloc),
         }
+    }
+
+    /// How many.
+    pub(crate) fn len(&self) -> usize {
+        self.few.len().saturating_add(self.many.len())
     }
 
     /// Whether one of them ends at a moment of another call, or else is of its thread.

@@ -1,10 +1,10 @@
 //! A stream of calls, judged as they come: what is kept is the state of each key and the calls that are pending.
 
-ghost use Rattle.std.specs.Prelude.{◌≡◌, ◌≢◌, ◌↔◌, ◌<◌, ◌≤◌, ◌+◌, ◌++◌, ◌∷◌, [], ℕ, IsTrue, All, List, length, false, true, None, Some, IfOk, OnOk, IfErr, IfSome, MatchOption, if◌then◌else◌};
+ghost use Rattle.std.specs.Prelude.{◌≡◌, ◌≢◌, ◌↔◌, ◌<◌, ◌≤◌, ◌+◌, ◌++◌, ◌∷◌, [], ℕ, IsTrue, All, List, length, false, true, None, Some, IfOk, OnOk, IfErr, IfSome, MatchOption, if◌then◌else◌, ◌⊎◌};
 ghost use Rattle.std.specs.Prelude.{Contains, IsSome, slice_index_or, ◌==◌, ◌&&◌};
 ghost use Rattle.std.specs.List.Sorted.{IsStrictlyIncreasing};
-ghost use Rattle.std.specs.Ordering.{nat_cmp};
-ghost use Rattle.std.specs.BTreeMap.{get};
+ghost use Rattle.std.specs.Bool.{nat_eq};
+ghost use Rattle.std.specs.HashMap.{get};
 ghost use Rattle.lset_words.specs.declared.history.CallRecord.{CallRecord as RecordedCall};
 ghost use Rattle.lset_words.specs.SequentialSet.{has_key};
 ghost use Rattle.lset_words.specs.Words.{key_of};
@@ -24,7 +24,7 @@ use crate::pending::PendingCalls;
 use crate::rule::KeyState;
 use lset_words::{Call, Key, Reply};
 use std::alloc::{AllocError, Global};
-use std::collections::BTreeMap;
+use std::collections::HashMap;
 use thiserror::Error;
 
 /// A call of a stream: its thread, any number; the moment at which it began, 1 to `LAST_MOMENT`; and the moment at which it ended, after
@@ -188,7 +188,7 @@ impl Pending {
 
 /// Lets happen what happens of a key at the moment after `before`: whether the rule goes on.
 fn meet_key(
-    states: &mut BTreeMap<u32, KeyState>,
+    states: &mut HashMap<u32, KeyState>,
     alloc: Global,
     key: u32,
     before: u64,
@@ -218,7 +218,7 @@ struct EndMet {
 
 /// Lets a call end at the moment after `before`, which is kept.
 fn meet_key_end(
-    states: &mut BTreeMap<u32, KeyState>,
+    states: &mut HashMap<u32, KeyState>,
     alloc: Global,
     before: u64,
     event: Event,
@@ -249,7 +249,7 @@ fn meet_key_end(
 
 /// Leaves out the calls of a key that are not needed any more.
 fn settle(
-    states: &mut BTreeMap<u32, KeyState>,
+    states: &mut HashMap<u32, KeyState>,
     alloc: Global,
     pending: &PendingCalls,
     key: u32,
@@ -260,7 +260,7 @@ fn settle(
 {
     let waiting = pending.of_key(alloc, key)?;
     if let Some(state) = states.get_mut(&key) {
-        state.log.settle(key, &waiting);
+        state.log.settle(key, &waiting, pending.len());
         return Ok(());
     }
     Ok(())
@@ -268,7 +268,7 @@ fn settle(
 
 /// Keeps the pending calls of a key, of which no more are kept.
 fn keep_pending(
-    states: &mut BTreeMap<u32, KeyState>,
+    states: &mut HashMap<u32, KeyState>,
     alloc: Global,
     pending: &PendingCalls,
     key: u32,
@@ -288,11 +288,11 @@ fn keep_pending(
 }
 
 /// The states of a set that opens with these keys.
-fn opening_states(alloc: Global, opening: &[u32]) -> Result<BTreeMap<u32, KeyState>, AllocError>
+fn opening_states(alloc: Global, opening: &[u32]) -> Result<HashMap<u32, KeyState>, AllocError>
     ensures states { IfOk result (λ states. (k : ℕ) → state_for states k ≡ opened (has_key k opening.now)) }
     ensures logs { IfOk result (λ states. (k : ℕ) → log_for states k ≡ log_opened (has_key k opening.now)) }
 {
-    let mut states = BTreeMap::new(alloc);
+    let mut states = HashMap::new(alloc);
     for key in opening {
         states.insert(*key, KeyState::opened(alloc, true))?;
     }
@@ -307,6 +307,16 @@ impl Failed {
             key: self.key,
             moment: Some(self.moment),
         })
+    }
+}
+
+/// The lesser of a key and another one, if there is one.
+fn least(key: u32, other: Option<u32>) -> u32
+    ensures { (result ≡ key) ⊎ (other ≡ Some result) }
+{
+    match other {
+        Some(other) if other < key => other,
+        Some(_) | None => key,
     }
 }
 
@@ -331,7 +341,7 @@ fn verdict_of_key(key: Option<u32>) -> StreamVerdict
 #[derive(Drop)]
 pub struct Stream {
     alloc: Global,
-    states: BTreeMap<u32, KeyState>,
+    states: HashMap<u32, KeyState>,
     pending: PendingCalls,
     moment: u64,
     failed: Option<Failed>,
@@ -512,26 +522,27 @@ impl Stream {
         Ok(())
     }
 
-    /// A key with a state that is not left as its calls may leave it.
+    /// The least key with a state that is not left as its calls may leave it.
     fn wrongly_left(&self, keys: &[u32]) -> Option<u32>
         requires { IsStrictlyIncreasing keys.now }
         ensures { MatchOption result
-            ((k : ℕ) → IsSome (get nat_cmp self.now.states k) → may_be_left (has_key k keys.now) (state_for self.now.states k) ≡ true)
+            ((k : ℕ) → IsSome (get nat_eq self.now.states k) → may_be_left (has_key k keys.now) (state_for self.now.states k) ≡ true)
             (λ k. may_be_left (has_key k keys.now) (state_for self.now.states k) ≡ false) }
     {
+        let mut wrong: Option<u32> = None;
         for (key, state) in &self.states {
             if !state.may_be_left(is_among(keys, *key)) {
-                return Some(*key);
+                wrong = Some(least(*key, wrong));
             }
         }
-        None
+        wrong
     }
 
     /// A key that is left, and of which nothing has been heard.
     fn unknown_left(&self, keys: &[u32]) -> Option<u32>
         ensures { MatchOption result
-            ((k : ℕ) → has_key k keys.now ≡ true → get nat_cmp self.now.states k ≢ None)
-            (λ k. (has_key k keys.now ≡ true) × (get nat_cmp self.now.states k ≡ None)) }
+            ((k : ℕ) → has_key k keys.now ≡ true → get nat_eq self.now.states k ≢ None)
+            (λ k. (has_key k keys.now ≡ true) × (get nat_eq self.now.states k ≡ None)) }
     {
         for key in keys {
             if !self.states.contains_key(key) {

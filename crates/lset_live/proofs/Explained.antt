@@ -1,6 +1,6 @@
 -- What a seat has seen is explained by an order of calls that keeps its record.
 use Rattle.std.proofs.Common.{◌≡◌, ⊎_elim, inl, ℕ, suc, ◌+◌, ◌<◌, ◌==◌, Bool, true, false, cond, List, [], ◌∷◌, ◌++◌, map, length}
-use Rattle.std.proofs.Common.{Option, Some, None, refl, sym, ap, ◌∙◌, subst, arith, append-nil, append_assoc, length-append}
+use Rattle.std.proofs.Common.{Option, Some, None, refl, sym, ap, ◌∙◌, subst, arith, append-nil, append_assoc}
 use Rattle.std.specs.Prelude.{if◌then◌else◌}
 use Rattle.std.proofs.lemmas.List.{map-append}
 use mathlib.Core.Option.{some}
@@ -30,14 +30,12 @@ use Rattle.lset_rule.specs.declared.view.View.{View}
 use Rattle.lset_rule.specs.Pasts.{calls_of, root}
 use Rattle.lset_rule.specs.Runs.{Here, log_by, at_end, IsRunOf, history_of}
 use Rattle.lset_rule.specs.Views.{Stands, AreIdle, HasAside, HasThread}
-use Rattle.lset_rule.specs.Calls.{Makes, steps_of}
-use Rattle.lset_rule.specs.Seats.{HasGivenUp, IsSeat, TableSeat}
-use Rattle.lset_rule.proofs.Calls.{starts_on}
-use Rattle.lset_rule.proofs.Runs.{starts_more}
+use Rattle.lset_rule.specs.Calls.{Makes}
+use Rattle.lset_rule.specs.Seats.{IsSeat, TableSeat}
 use Rattle.lset_rule.proofs.Stepped.{Tied, tied}
 use Rattle.lset_words.specs.Records.{Keeps, called, thread_of}
 use Rattle.lset_live.specs.Dated.{call_of, record_of}
-use Rattle.lset_live.specs.Explained.{GaveUp, HasAnswered, IsAnswered, SeenIsLinearizable}
+use Rattle.lset_live.specs.Explained.{HasAnswered, IsAnswered, SeenIsLinearizable}
 use Rattle.lset_live.specs.Seats.{SeatValue, SetValue, reply_of, is_true}
 use Rattle.lset_live.proofs.Dated.{root_is, said_by}
 use Rattle.lset_live.proofs.Histories.{of_thread, ended_record, thread_records, MayBegin, thread_calls}
@@ -196,36 +194,6 @@ module _ (T : Table) (law : Lawful T) (linear : RunsAreLinearizable T) (c : Call
   has_answered set old is of_set =
       let sets : (seat_at s').set ≡ set = same_set ∙ (ap (λ (z : SeatValue). z.set) is ∙ of_set) in
       subst (λ (z : SetValue × SeatValue). HasAnswered T z.0 z.1 c r (seat_at s')) (λ i. (sets i, is i)) at_seat
-
--- and of one that gave up
-module _ (T : Table) (c : Call) (most : ℕ) (s s' : TableSeat) (up : HasGivenUp T c most s s') where
-  up_at_seat : GaveUp T (seat_at s).set (seat_at s) c most
-  up_at_seat =
-      let v : View = s.me.0 in
-      let w : View = s'.me.0 in
-      let mid = up.under_way in
-      let pending : PendingCall = record { call = c; begun = length mid.log + 1; steps = mid.steps } in
-      let thread : w.thread ≡ thread_of (record_of v.past) =
-      sym (root_is v.past ∙ (sym (ap root mid.past) ∙ up.stands.of_thread)) in
-      let many : steps_of w.under ≡ mid.steps = ap steps_of mid.under in
-      let long : length mid.log ≡ length (v.seen ++ mid.before.0) = ap (λ l. length l) mid.before.1 in
-      record {
-        events = w.seen;
-        later = starts_on w.seen (mid.log ++ Begin v.thread c ∷ []) v.seen mid.since
-            (starts_more mid.log v.seen (Begin v.thread c) mid.before);
-        run = subst (λ k. IsRunOf T k w.seen) mid.same.1 up.stands.ran;
-        pending = pending;
-        under_way = subst (λ (q : Opening × ℕ). (at_end T q.0 w.seen q.1).under ≡ Some pending) (λ i. (mid.same.1 i, thread i))
-            (ap (λ (x : Here). x.under) up.stands.own ∙ mid.under);
-        call = refl;
-        begun = omega (arith, long, length-append v.seen mid.before.0);
-        steps = omega (arith, up.steps, many);
-      }
-
-  pub gave_up : (set : SetValue) (old : SeatValue) → seat_at s ≡ old → old.set ≡ set → GaveUp T set old c most
-  gave_up set old is of_set =
-      let sets : (seat_at s).set ≡ set = ap (λ (z : SeatValue). z.set) is ∙ of_set in
-      subst (λ (z : SetValue × SeatValue). GaveUp T z.0 z.1 c most) (λ i. (sets i, is i)) up_at_seat
 
 -- A `contains` answers True or False.
 abbrev IsTruth : Reply → Type 0

@@ -1,5 +1,5 @@
 -- What is said of a call of a running set, and of sets that were closed.
-use Rattle.std.specs.Prelude.{◌≡◌, ℕ, ◌+◌, ◌<◌, ◌≤◌, ◌⊎◌, List, [], ◌∷◌, ◌++◌, All, Some, length, map}
+use Rattle.std.specs.Prelude.{◌≡◌, ℕ, ◌+◌, ◌<◌, ◌⊎◌, List, [], ◌∷◌, ◌++◌, All, Some, length, map}
 use mathlib.Core.Option.{some}
 use lib.ListN.{get_elem?}
 use Rattle.lset_words.specs.declared.Call.{Call}
@@ -10,8 +10,7 @@ use Rattle.lset_words.specs.SequentialSet.{Answered, IsLegal, opening_set, set_l
 use Rattle.lset_steps.specs.declared.Event.{Event}
 use Rattle.lset_steps.specs.declared.Event.TheVariants.{Begin, Go}
 use Rattle.lset_steps.specs.Steps.{Table}
-use Rattle.lset_rule.specs.declared.view.PendingCall.{PendingCall}
-use Rattle.lset_rule.specs.Runs.{StartsWith, IsRunOf, at_end, history_of}
+use Rattle.lset_rule.specs.Runs.{StartsWith, IsRunOf, history_of}
 use Rattle.lset_words.specs.Records.{Record, Names, Keeps, called, calls_by, thread_of}
 use Rattle.lset_live.specs.Seats.{SeatValue, SetValue}
 use Rattle.lset_words.specs.Words.{Opening}
@@ -47,18 +46,6 @@ pub record HasAnswered (T : Table) (set : SetValue) (old : SeatValue) (c : Call)
   pub past : new.past ≡ called old.past (record { call = c; reply = r })
   pub answered : IsAnswered T set.shape (thread_of old.past) c r old.events new.events
   pub explained : SeenIsLinearizable T set.shape new.events new.past
-
--- A call of the set from the seat `old` GAVE UP: in a run that begins with what the seat had seen, its thread has begun the call after
--- all that, has made at least so many steps of it, and has not answered.
-pub record GaveUp (T : Table) (set : SetValue) (old : SeatValue) (c : Call) (most : ℕ) : Type 0 where
-  pub events : List Event
-  pub later : StartsWith events old.events
-  pub run : IsRunOf T set.shape events
-  pub pending : PendingCall
-  pub under_way : (at_end T set.shape events (thread_of old.past)).under ≡ Some pending
-  pub call : pending.call ≡ c
-  pub begun : length old.events < pending.begun
-  pub steps : most ≤ pending.steps
 
 -- some record of the list names the thread
 abbrev pub NamedIn : ℕ → List Record → Type 0

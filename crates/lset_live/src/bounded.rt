@@ -1,6 +1,6 @@
 //! Calls with no handle to wait by, as a function that may not wait makes them: each loop of theirs has a bound.
-ghost use Rattle.std.specs.Prelude.{MatchOption};
-ghost use Rattle.lset_rule.specs.Seats.{HasCalled, HasGivenUp, MayCall};
+ghost use Rattle.std.specs.Prelude.{IfSome};
+ghost use Rattle.lset_rule.specs.Seats.{HasCalled, MayCall};
 
 use lset_coarse::CoarseList;
 use lset_fine::FineList;
@@ -20,7 +20,7 @@ use lset_words::{Call, Reply};
 /// - It asks `MayCall`: the place is a seat of the table with no call under way, and the slots are those in its view.
 /// - It owes `HasCalled`: the place is still that of this seat and table, the slots given back are those in its view, and
 ///   the record grew by just this call (`Makes`), which began after all that the seat had seen and has answered. After `None`
-///   it owes `HasGivenUp`: the call has begun so and has not answered, and its thread has made at least `N::MOST` steps of it.
+///   it owes nothing.
 pub trait Bounded: Machine {
     /// Makes a call of any kind, in at most `N::MOST` rounds of each of its loops, or answers `None`. (The loops of LazyList and
     /// LockFreeList make a `contains` in as many rounds as it takes.) `table` are the words, `place` is the seat's place among their
@@ -34,8 +34,7 @@ pub trait Bounded: Machine {
         pause: &P,
     ) -> Option<(OwnSlots, Reply)>
         requires { MayCall Self.table table.now.table_id table.now.key slots place.old }
-        ensures { MatchOption result (HasGivenUp Self.table call N.MOST place.old place.new)
-            (λ r. HasCalled Self.table call place.old r place.new) }
+        ensures { IfSome result (λ r. HasCalled Self.table call place.old r place.new) }
     {
         interpret_within::<Self, P, N>(table, place, slots, call, pause)
     }

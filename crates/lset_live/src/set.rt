@@ -1,5 +1,5 @@
 //! A running set and its calls.
-ghost use Rattle.std.specs.Prelude.{◌≡◌, ◌≢◌, ◌+◌, ◌<◌, ◌≤◌, ℕ, List, [], ◌∷◌, length, vec_capacity, IfOk, IfErr, MatchOption};
+ghost use Rattle.std.specs.Prelude.{◌≡◌, ◌≢◌, ◌+◌, ◌<◌, ◌≤◌, ℕ, List, [], ◌∷◌, length, vec_capacity, IfOk, IfErr, IfSome};
 ghost use Rattle.lset_words.specs.Words.{word_count, sizes};
 ghost use Rattle.lset_words.specs.declared.Call.TheVariants.{Add, Remove, Contains, Ceiling};
 ghost use Rattle.lset_words.specs.declared.TheConstants.{MOST_QUOTA, MOST_THREADS};
@@ -9,7 +9,7 @@ ghost use Rattle.lset_rule.specs.Seats.{IsOf};
 ghost use Rattle.lset_rule.specs.Runs.{StartsWith};
 ghost use Rattle.lset_rule.specs.Rule.{left_view, right_view};
 ghost use Rattle.lset_live.specs.Closes.{HasKeys, most_keys};
-ghost use Rattle.lset_live.specs.Explained.{GaveUp, IsOneLegalOrder, IsOneOrderInTime, HasAnswered};
+ghost use Rattle.lset_live.specs.Explained.{IsOneLegalOrder, IsOneOrderInTime, HasAnswered};
 ghost use Rattle.lset_words.specs.Records.{gathered};
 ghost use Rattle.lset_live.specs.Seats.{is_true, reply_of};
 
@@ -161,9 +161,9 @@ impl<M: Bounded> LiveSet<M> {
     /// `N::MOST` rounds, but for the walk of a `contains` of LazyList and LockFreeList, which waits for nobody and makes as many
     /// as it needs. The answer is the seat and the reply, and of both is so what `call` says.
     ///
-    /// `None` where a loop has made all its rounds, as at a lock that is held: the thread has made at least `N::MOST` steps of
-    /// the call, which is still under way, with the locks that it has. Its seat could make no other and is gone, so the set is
-    /// not closed any more. With [`Countless`] rounds no run comes to it.
+    /// `None` where a loop has made all its rounds, as at a lock that is held. The call is still under way, with the locks that
+    /// it has. Its seat could make no other and is gone, so the set is not closed any more. With [`Countless`] rounds no run comes
+    /// to it.
     pub fn call_within<P: Pause, N: Rounds>(
         &self,
         seat: Seat<M>,
@@ -171,7 +171,7 @@ impl<M: Bounded> LiveSet<M> {
         pause: &P,
     ) -> Option<(Seat<M>, Reply)>
         requires { seat.set ≡ self.now }
-        ensures { MatchOption result (GaveUp M.table self.now seat call N.MOST) (λ r. HasAnswered M.table self.now seat call r.1 r.0) }
+        ensures { IfSome result (λ r. HasAnswered M.table self.now seat call r.1 r.0) }
     {
         runs_are_linearizable::<M>();
         let Seat {

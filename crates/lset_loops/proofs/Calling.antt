@@ -1,5 +1,5 @@
 -- From step to step of a call under way.
-use Rattle.std.proofs.Common.{◌≡◌, ◌≢◌, ℕ, ◌+◌, ◌<◌, ◌≤◌, Option, Some, None, MatchOption, refl, sym, ap, ◌∙◌, subst, arith}
+use Rattle.std.proofs.Common.{◌≡◌, ◌≢◌, ℕ, ◌+◌, ◌<◌, ◌≤◌, Option, Some, None, IfSome, MatchOption, refl, sym, ap, ◌∙◌, subst, arith}
 use Rattle.atomic_table.specs.Seated.{TableId}
 use Rattle.lset_words.specs.declared.Call.{Call}
 use Rattle.lset_words.specs.declared.Reply.{Reply}
@@ -13,17 +13,16 @@ use Rattle.lset_steps.specs.declared.Fed.{Fed}
 use Rattle.lset_steps.specs.Steps.{Table}
 use Rattle.lset_steps.specs.Laws.{Lawful, word_named}
 use Rattle.lset_steps.specs.ReadRows.{continued}
-use Rattle.lset_rule.specs.Seats.{TableSeat, IsOf, IsSeat, MayCall, HasCalled, HasGivenUp}
+use Rattle.lset_rule.specs.Seats.{TableSeat, IsOf, IsSeat, MayCall, HasCalled}
 use Rattle.lset_rule.specs.declared.slots.OwnSlots.{OwnSlots}
 use Rattle.lset_rule.specs.OwnSlots.{slots_of, resting}
 use Rattle.lset_rule.specs.Views.{IsOpen, Stands}
 use Rattle.lset_rule.specs.Calls.{Goes, Starts, IsMid, Makes}
 use Rattle.lset_rule.proofs.Calls.{comes_first, comes_next, is_mid, mid_open}
-use Rattle.lset_rule.proofs.Ending.{one_more}
 use Rattle.lset_rule.proofs.Keeps.{stands_at, in_words}
 use Rattle.lset_loops.specs.Begun.{Begun, begun_at, IsCall}
 use Rattle.lset_loops.specs.Calling.{Holds, MayStep, HasStepped, MayLock, MayAnswer, Answered, HasTold, MayBegin, first, Rest, row}
-use Rattle.lset_loops.specs.Calling.{GivesUp, GoesOn, HasAnswered, steps_in}
+use Rattle.lset_loops.specs.Calling.{HasAnswered}
 
 module _ (m : Table) (b : Begun) where
   -- the seat of a step
@@ -48,14 +47,6 @@ module _ (m : Table) (b : Begun) where
         local = come.0;
       }
 
-  -- and is one more, where the call goes on
-  pub one_step_more : (l l' : Local) (s : TableSeat) (n : ℕ) (s' : TableSeat) → Goes m s.me.0 n s'.me.0 → Holds m b l s →
-      Holds m b l' s' → steps_in s < steps_in s'
-  one_step_more l l' s n s' g h h' =
-      let is : steps_in s' ≡ steps_in s + 1 = one_more m n b.me.0 s.me.0 s'.me.0 (continued l) (continued l') b.call
-      (h.local, (h.mid, h.stands)) refl (h'.local, (h'.mid, h'.stands)) refl g in
-      omega (arith, is)
-
   -- a step that does not answer leads on, whatever it is known to hold
   pub leads : (a : Action) (s : TableSeat) (n : ℕ) (s' : TableSeat) → MayStep m b a s → IsSeat s s' → Goes m s.me.0 n s'.me.0 →
       HasStepped m b s n s'
@@ -63,7 +54,6 @@ module _ (m : Table) (b : Begun) where
     leads = λ l holds.
         let same : h.held ≡ l = sym h.holds.local ∙ holds.local in
         onward l s n s' seat g (subst (λ x. (m.feed x n).answer ≡ None) same (h.goes_on n)) holds;
-    grows = one_step_more h.held _ s n s' g h.holds (onward h.held s n s' seat g (h.goes_on n) h.holds);
   }
 
   -- the word of a step from registers that are held
@@ -129,41 +119,26 @@ module _ (m : Table) (b : Begun) where
       Goes m s0.me.0 n s.me.0 → HasStepped m b s 0 s' → HasStepped m b s0 0 s'
   leads_still word thread s0 n s s' lk ne seat g on =
       let at = tried word thread s0 s0 n s lk ne (itself lk.held s0 lk.holds) seat g in
-      record {
-        leads = λ l h. on.leads l (now_holds s0.me.0.local l s h.local at);
-        grows = let more = one_step_more lk.held s0.me.0.local s0 n s g lk.holds at in omega (arith, more, on.grows);
-      }
+      record { leads = λ l h. on.leads l (now_holds s0.me.0.local l s h.local at) }
 
   -- and one that succeeds leads on
   pub leads_then : (word thread : ℕ) (s0 s : TableSeat) (n : ℕ) (s' : TableSeat) → MayLock m b word thread s0 → n ≡ 0 →
-      Holds m b s0.me.0.local s → steps_in s0 ≤ steps_in s → IsSeat s s' → Goes m s.me.0 n s'.me.0 → HasStepped m b s0 0 s'
-  leads_then word thread s0 s n s' lk zero here later seat g =
+      Holds m b s0.me.0.local s → IsSeat s s' → Goes m s.me.0 n s'.me.0 → HasStepped m b s0 0 s'
+  leads_then word thread s0 s n s' lk zero here seat g =
       let g0 : Goes m s.me.0 0 s'.me.0 = subst (λ i. Goes m s.me.0 i s'.me.0) zero g in
       let at : Holds m b lk.held s = now_holds s0.me.0.local lk.held s lk.holds.local here in
       let on : Holds m b (m.feed lk.held 0).local s' = onward lk.held s 0 s' seat g0 lk.goes_on at in
-      let more = one_step_more lk.held (m.feed lk.held 0).local s 0 s' g0 at on in
       record {
         leads = λ l h. now_holds (m.feed lk.held 0).local (m.feed l 0).local s'
             (ap (λ x. (m.feed x 0).local) (same_held lk.held l s0 lk.holds h)) on;
-        grows = omega (arith, later, more);
       }
 
   pub leads_had : (word thread : ℕ) (s0 : TableSeat) (n : ℕ) (s' : TableSeat) → MayLock m b word thread s0 → n ≡ 0 → IsSeat s0 s' →
       Goes m s0.me.0 n s'.me.0 → HasStepped m b s0 0 s'
   leads_had word thread s0 n s' lk zero seat g =
-      leads_then word thread s0 s0 n s' lk zero (itself lk.held s0 lk.holds) (omega arith) seat g
-
-  -- a try more of a lock is a step more
-  pub tries_more : (word thread : ℕ) (s0 s : TableSeat) (n : ℕ) (s' : TableSeat) → MayLock m b word thread s0 → n ≢ 0 →
-      Holds m b s0.me.0.local s → IsSeat s s' → Goes m s.me.0 n s'.me.0 → steps_in s < steps_in s'
-  tries_more word thread s0 s n s' lk ne here seat g =
-      one_step_more s0.me.0.local s0.me.0.local s n s' g here (tried word thread s0 s n s' lk ne here seat g)
+      leads_then word thread s0 s0 n s' lk zero (itself lk.held s0 lk.holds) seat g
 
   -- A STEP THAT MAY ANSWER
-  pub goes_further : (a : Action) (s : TableSeat) (n : ℕ) (s' : TableSeat) → MayAnswer m b a s → Goes m s.me.0 n s'.me.0 →
-      GoesOn m b s s'
-  goes_further a s n s' h g l now = one_step_more h.held l s n s' g h.holds now
-
   pub tells : (s : TableSeat) (n : ℕ) (s' : TableSeat) → IsSeat s s' → Goes m s.me.0 n s'.me.0 → HasTold m b s n s'
   tells s n s' seat g l h f is =
       let come = comes_next m b.call b.me.0 s.me.0 (continued l) n s'.me.0 f (h.local, (h.mid, h.stands)) refl g (sym is) in
@@ -282,8 +257,7 @@ pub called : {m : Table} {c : Call} {s s' : TableSeat} {answer : OwnSlots × Rep
 called e = record { place = e.1.seat; slots = e.2 ∙ ap slots_of (sym e.1.local); made = e.1.makes }
 
 -- or a call that has given up
-pub ended : (m : Table) (c : Call) (most : ℕ) (s s' : TableSeat) (answer : Option (OwnSlots × Reply)) →
-    MatchOption answer (GivesUp m (begun_at c s) most s') (λ r. HasAnswered m (begun_at c s) r s') →
-    MatchOption answer (HasGivenUp m c most s s') (λ r. HasCalled m c s r s')
-ended m c most s s' None (l, h, steps) = record { place = h.seat; under_way = h.mid; stands = h.stands; steps = steps }
-ended m c most s s' (Some r) e = called e
+pub ended : (m : Table) (c : Call) (s s' : TableSeat) (answer : Option (OwnSlots × Reply)) →
+    IfSome answer (λ r. HasAnswered m (begun_at c s) r s') → IfSome answer (λ r. HasCalled m c s r s')
+ended m c s s' None e = tt
+ended m c s s' (Some r) e = called e

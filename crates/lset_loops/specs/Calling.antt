@@ -1,5 +1,5 @@
 -- A CALL UNDER WAY, as a loop knows it: since when, and what its thread holds.
-use Rattle.std.specs.Prelude.{◌≡◌, ◌≢◌, ◌≤◌, ◌<◌, ℕ, ◌+◌, ◌*◌, List, [], ◌∷◌, Bool, true, false, Option, Some, None, MatchOption}
+use Rattle.std.specs.Prelude.{◌≡◌, ◌≢◌, ℕ, ◌+◌, ◌*◌, List, [], ◌∷◌, Bool, true, false, Option, Some, None, MatchOption}
 use Rattle.lset_words.specs.declared.Call.{Call}
 use Rattle.lset_words.specs.declared.Reply.{Reply}
 use Rattle.lset_words.specs.Words.{word_count, sizes, key_index, link_index, slot_node}
@@ -17,7 +17,7 @@ use Rattle.lset_rule.specs.declared.slots.OwnSlots.{OwnSlots}
 use Rattle.lset_rule.specs.Seats.{TableSeat, MayCall}
 use Rattle.lset_rule.specs.OwnSlots.{slots_of, resting}
 use Rattle.lset_rule.specs.Views.{Stands}
-use Rattle.lset_rule.specs.Calls.{IsMid, Makes, steps_of}
+use Rattle.lset_rule.specs.Calls.{IsMid, Makes}
 use Rattle.lset_loops.specs.Begun.{Begun, begun_at}
 
 -- THE THREAD HOLDS l: a call of the machine m has begun so, has not answered yet, and its seat is s now.
@@ -29,14 +29,6 @@ pub record Holds (m : Table) (b : Begun) (l : Local) (s : TableSeat) : Type 0 wh
   pub stands : Stands m s.me.0
   pub local : s.me.0.local ≡ l
 
--- how many steps its thread has made of it
-abbrev pub steps_in : TableSeat → ℕ
-steps_in s = steps_of s.me.0.under
-
--- IT GIVES UP: it has made at least so many steps, and has not answered.
-abbrev pub GivesUp : Table → Begun → ℕ → TableSeat → Type 0
-GivesUp m b most s = (l : Local) × Holds m b l s × (most ≤ steps_in s)
-
 -- The table's next step there is a, and does not answer.
 pub record MayStep (m : Table) (b : Begun) (a : Action) (s : TableSeat) : Type 0 where
   pub held : Local
@@ -44,10 +36,9 @@ pub record MayStep (m : Table) (b : Begun) (a : Action) (s : TableSeat) : Type 0
   pub acts : a ≡ m.next held
   pub goes_on : (n : ℕ) → (m.feed held n).answer ≡ None
 
--- what it holds after a step in which it saw n, which is one more
+-- what it holds after a step in which it saw n
 pub record HasStepped (m : Table) (b : Begun) (s : TableSeat) (n : ℕ) (s' : TableSeat) : Type 0 where
   pub leads : (l : Local) → Holds m b l s → Holds m b (m.feed l n).local s'
-  pub grows : steps_in s < steps_in s'
 
 -- The table's next step there is the try of a lock, which is made again until it is free.
 pub record MayLock (m : Table) (b : Begun) (word thread : ℕ) (s : TableSeat) : Type 0 where
@@ -79,7 +70,6 @@ pub record MayStore (m : Table) (b : Begun) (words : List (ℕ × ℕ)) (s : Tab
 
 pub record HasStored (m : Table) (b : Begun) (stores : List (ℕ × ℕ)) (s s' : TableSeat) : Type 0 where
   pub leads : (l : Local) → Holds m b l s → Holds m b (feeds m l stores) s'
-  pub grows : steps_in s < steps_in s'
 
 -- the stores that fill the thread's next slot, which is to lead to the node x,
 abbrev pub slot_stores : OwnSlots → ℕ → ℕ → List (ℕ × ℕ)
@@ -117,10 +107,6 @@ StandsAfter m b f s = MatchOption f.answer (Holds m b f.local s) (λ r. Answered
 -- what is so after a step in which it saw n
 abbrev pub HasTold : Table → Begun → TableSeat → ℕ → TableSeat → Type 0
 HasTold m b s n s' = (l : Local) → Holds m b l s → (f : Fed) → m.feed l n ≡ f → StandsAfter m b f s'
-
--- if the call goes on, it was one step more
-abbrev pub GoesOn : Table → Begun → TableSeat → TableSeat → Type 0
-GoesOn m b s s' = (l : Local) → Holds m b l s' → steps_in s < steps_in s'
 
 -- and by whether an exchange of `old` was made
 abbrev pub HasExchanged : Table → Begun → ℕ → TableSeat → Bool → TableSeat → Type 0

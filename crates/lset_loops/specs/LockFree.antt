@@ -1,15 +1,14 @@
 -- Where an add or a remove of LockFreeList stands.
-use Rattle.std.specs.Prelude.{◌≡◌, ◌≤◌, ℕ, Option, Some, None}
+use Rattle.std.specs.Prelude.{◌≡◌, ℕ, Option, Some, None}
 use Rattle.lset_words.specs.declared.Reply.{Reply}
 use Rattle.lset_steps.specs.declared.Fed.{Fed}
-use Rattle.lset_steps.specs.declared.Local.{Local}
 use Rattle.lset_steps.specs.Rows.{decided_on}
 use Rattle.lset_lock_free.specs.LockFree.{lock_free, targets, decision_of}
 use Rattle.lset_rule.specs.declared.slots.OwnSlots.{OwnSlots}
 use Rattle.lset_rule.specs.Seats.{TableSeat}
 use Rattle.lset_loops.specs.declared.decision.Found.{Found}
 use Rattle.lset_loops.specs.Begun.{Begun}
-use Rattle.lset_loops.specs.Calling.{Holds, Rest, row, StandsAfter, HasAnswered, steps_in}
+use Rattle.lset_loops.specs.Calling.{Holds, Rest, row, StandsAfter, HasAnswered}
 
 -- It is about to load the link of the node x, to which the link of p led.
 abbrev pub AtLink : Begun → OwnSlots → ℕ → ℕ → TableSeat → Type 0
@@ -25,11 +24,7 @@ StopsAt b own f s = (j : Rest)
 abbrev pub AtHead : Begun → OwnSlots → TableSeat → Type 0
 AtHead b own s = (p : ℕ) × (x : ℕ) × (j : Rest) × Holds lock_free b (row own b.call 1 None p x j) s
 
--- If it goes on there, it has made at least k steps.
-abbrev pub HasMade : Begun → ℕ → TableSeat → Type 0
-HasMade b k s = (l : Local) → Holds lock_free b l s → k ≤ steps_in s
-
--- It has answered; or it is about to start over, and has made no fewer steps than at the seat s0.
-abbrev pub HasTried : Begun → OwnSlots → Option (OwnSlots × Reply) → TableSeat → TableSeat → Type 0
-HasTried b own (Some answer) s0 s = HasAnswered lock_free b answer s
-HasTried b own None s0 s = AtHead b own s × ((k : ℕ) → HasMade b k s0 → k ≤ steps_in s)
+-- It has answered; or it is about to start over.
+abbrev pub HasTried : Begun → OwnSlots → Option (OwnSlots × Reply) → TableSeat → Type 0
+HasTried b own (Some answer) s = HasAnswered lock_free b answer s
+HasTried b own None s = AtHead b own s

@@ -1,9 +1,9 @@
 //! CoarseList: one lock for the whole list.
-ghost use Rattle.std.specs.Prelude.{MatchOption};
+ghost use Rattle.std.specs.Prelude.{IfSome};
 ghost use Rattle.lset_coarse.specs.Coarse.{coarse};
-ghost use Rattle.lset_rule.specs.Seats.{HasCalled, HasGivenUp, MayCall};
+ghost use Rattle.lset_rule.specs.Seats.{HasCalled, MayCall};
 ghost use Rattle.lset_loops.specs.Begun.{IsCall};
-ghost use Rattle.lset_loops.specs.Calling.{GivesUp, HasAnswered, MayBegin};
+ghost use Rattle.lset_loops.specs.Calling.{HasAnswered, MayBegin};
 ghost use Rattle.lset_loops.specs.Coarse.{AtHead, Leaves, StopsAt};
 
 use crate::caller::{Caller, Node, Origin};
@@ -19,7 +19,7 @@ fn walk<O: Origin, P: Pause, N: Rounds>(
     place: &mut TableSeat,
 ) -> Option<Found>
     requires { AtHead O.begun caller.now.slots place.old }
-    ensures { MatchOption result (GivesUp coarse O.begun N.MOST place.new) (λ f. StopsAt O.begun caller.now.slots f place.new) }
+    ensures { IfSome result (λ f. StopsAt O.begun caller.now.slots f place.new) }
 {
     let key = caller.key;
     let mut pred = Node::head();
@@ -68,7 +68,7 @@ fn make<O: Origin, P: Pause, N: Rounds>(
 ) -> Option<(OwnSlots, Reply)>
     requires begins { MayBegin coarse O.begun slots place.old }
     requires call { IsCall O.begun call table.now.table_id table.now.key }
-    ensures { MatchOption result (GivesUp coarse O.begun N.MOST place.new) (λ r. HasAnswered coarse O.begun r place.new) }
+    ensures { IfSome result (λ r. HasAnswered coarse O.begun r place.new) }
 {
     let caller = Caller::<'_, CoarseList, O, P> {
         table,
@@ -86,7 +86,7 @@ fn make<O: Origin, P: Pause, N: Rounds>(
 }
 
 /// Makes a whole call: it takes the lock, walks to its key, acts there, and gives the lock back. (Herlihy and Shavit's
-/// coarse-grained list.) `None` where a loop of it has made `N::MOST` rounds, and so at least as many steps.
+/// coarse-grained list.) `None` where a loop of it has made `N::MOST` rounds.
 pub fn coarse_within<P: Pause, N: Rounds>(
     table: &Words<CoarseList>,
     place: &mut TableSeat,
@@ -95,7 +95,7 @@ pub fn coarse_within<P: Pause, N: Rounds>(
     pause: &P,
 ) -> Option<(OwnSlots, Reply)>
     requires { MayCall coarse table.now.table_id table.now.key slots place.old }
-    ensures { MatchOption result (HasGivenUp coarse call N.MOST place.old place.new) (λ r. HasCalled coarse call place.old r place.new) }
+    ensures { IfSome result (λ r. HasCalled coarse call place.old r place.new) }
 {
     make::<Brand, P, N>(table, place, slots, call, pause)
 }

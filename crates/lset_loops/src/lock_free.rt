@@ -1,11 +1,11 @@
 //! LockFreeList: no locks. A node is marked by an exchange of its link, and walks take marked nodes out.
-ghost use Rattle.std.specs.Prelude.{◌≡◌, MatchOption};
+ghost use Rattle.std.specs.Prelude.{◌≡◌, IfSome};
 ghost use Rattle.lset_steps.specs.ReadRows.{first_row};
 ghost use Rattle.lset_lock_free.specs.LockFree.{lock_free};
-ghost use Rattle.lset_rule.specs.Seats.{HasCalled, HasGivenUp, MayCall};
+ghost use Rattle.lset_rule.specs.Seats.{HasCalled, MayCall};
 ghost use Rattle.lset_loops.specs.Begun.{IsCall};
-ghost use Rattle.lset_loops.specs.Calling.{GivesUp, HasAnswered, MayBegin, steps_in};
-ghost use Rattle.lset_loops.specs.LockFree.{AtLink, HasMade, HasTried, StopsAt};
+ghost use Rattle.lset_loops.specs.Calling.{HasAnswered, MayBegin};
+ghost use Rattle.lset_loops.specs.LockFree.{AtLink, HasTried, StopsAt};
 
 use crate::caller::{Caller, Node, Origin};
 use crate::decision::{Decision, Found, decide, one_more};
@@ -22,8 +22,7 @@ fn find<O: Origin, P: Pause, N: Rounds>(
     first: Node,
 ) -> Option<Found>
     requires { AtLink O.begun caller.now.slots 0 first.number place.old }
-    ensures { MatchOption result (GivesUp lock_free O.begun N.MOST place.new)
-        (λ f. StopsAt O.begun caller.now.slots f place.new × HasMade O.begun (steps_in place.old) place.new) }
+    ensures { IfSome result (λ f. StopsAt O.begun caller.now.slots f place.new) }
 {
     let key = caller.key;
     let mut pred = Node::head();
@@ -59,7 +58,7 @@ fn attempt<O: Origin, P: Pause>(
     found: Found,
 ) -> Option<(OwnSlots, Reply)>
     requires { StopsAt O.begun caller.now.slots found place.old }
-    ensures { HasTried O.begun caller.now.slots result place.old place.new }
+    ensures { HasTried O.begun caller.now.slots result place.new }
 {
     match decide(caller.call, found.word, caller.slots) {
         Decision::PutIn => {
@@ -94,7 +93,7 @@ fn make<O: Origin, P: Pause, N: Rounds>(
     requires begins { MayBegin lock_free O.begun slots place.old }
     requires call { IsCall O.begun call table.now.table_id table.now.key }
     requires walks { first_row O.begun.call ≡ 1 }
-    ensures { MatchOption result (GivesUp lock_free O.begun N.MOST place.new) (λ r. HasAnswered lock_free O.begun r place.new) }
+    ensures { IfSome result (λ r. HasAnswered lock_free O.begun r place.new) }
 {
     let caller = Caller::<'_, LockFreeList, O, P> {
         table,
@@ -117,7 +116,7 @@ fn make<O: Origin, P: Pause, N: Rounds>(
 
 /// Makes a whole `add` or `remove` on a LockFreeList: it walks to its place, and puts its next slot in there, or marks the
 /// node and tries once to take it out; or starts over where a link has changed. (Herlihy and Shavit's lock-free list.)
-/// `None` where a loop of it has made `N::MOST` rounds, and so at least as many steps.
+/// `None` where a loop of it has made `N::MOST` rounds.
 pub fn lock_free_change_within<P: Pause, N: Rounds>(
     table: &Words<LockFreeList>,
     place: &mut TableSeat,
@@ -127,7 +126,7 @@ pub fn lock_free_change_within<P: Pause, N: Rounds>(
 ) -> Option<(OwnSlots, Reply)>
     requires may { MayCall lock_free table.now.table_id table.now.key slots place.old }
     requires changes { first_row call ≡ 1 }
-    ensures { MatchOption result (HasGivenUp lock_free call N.MOST place.old place.new) (λ r. HasCalled lock_free call place.old r place.new) }
+    ensures { IfSome result (λ r. HasCalled lock_free call place.old r place.new) }
 {
     make::<Brand, P, N>(table, place, slots, call, pause)
 }

@@ -1,9 +1,9 @@
 //! OptimisticList: a walk without locks, two node locks, and a second walk that validates.
-ghost use Rattle.std.specs.Prelude.{◌≤◌, MatchOption};
+ghost use Rattle.std.specs.Prelude.{IfSome};
 ghost use Rattle.lset_optimistic.specs.Optimistic.{optimistic};
-ghost use Rattle.lset_rule.specs.Seats.{HasCalled, HasGivenUp, MayCall};
+ghost use Rattle.lset_rule.specs.Seats.{HasCalled, MayCall};
 ghost use Rattle.lset_loops.specs.Begun.{IsCall};
-ghost use Rattle.lset_loops.specs.Calling.{GivesUp, HasAnswered, MayBegin, steps_in};
+ghost use Rattle.lset_loops.specs.Calling.{HasAnswered, MayBegin};
 ghost use Rattle.lset_loops.specs.Optimistic.{AreNeighbours, AtKey, HasLocked, HasReached, HasValidated, Leaves, StopsAt};
 
 use crate::caller::{Caller, Node, Origin};
@@ -28,8 +28,7 @@ fn walk<O: Origin, P: Pause, N: Rounds>(
     first: Node,
 ) -> Option<Stopped>
     requires { AtKey O.begun caller.now.slots 0 first.number 0 place.old }
-    ensures { MatchOption result (GivesUp optimistic O.begun N.MOST place.new)
-        (λ f. StopsAt O.begun caller.now.slots f place.new × (steps_in place.old ≤ steps_in place.new)) }
+    ensures { IfSome result (λ f. StopsAt O.begun caller.now.slots f place.new) }
 {
     let key = caller.key;
     let mut pred = Node::head();
@@ -58,8 +57,7 @@ fn reaches<O: Origin, P: Pause, N: Rounds>(
     stopped: Stopped,
 ) -> Option<bool>
     requires { HasLocked O.begun caller.now.slots stopped place.old }
-    ensures { MatchOption result (GivesUp optimistic O.begun N.MOST place.new)
-        (λ r. HasReached O.begun caller.now.slots stopped.found r place.new × (steps_in place.old ≤ steps_in place.new)) }
+    ensures { IfSome result (λ r. HasReached O.begun caller.now.slots stopped.found r place.new) }
 {
     let pred = stopped.found.pred.number;
     let before = stopped.before;
@@ -88,8 +86,7 @@ fn validate<O: Origin, P: Pause, N: Rounds>(
     stopped: Stopped,
 ) -> Option<bool>
     requires { HasLocked O.begun caller.now.slots stopped place.old }
-    ensures { MatchOption result (GivesUp optimistic O.begun N.MOST place.new)
-        (λ r. HasValidated O.begun caller.now.slots stopped.found r place.new × (steps_in place.old ≤ steps_in place.new)) }
+    ensures { IfSome result (λ r. HasValidated O.begun caller.now.slots stopped.found r place.new) }
 {
     let found = stopped.found;
     if !reaches::<O, P, N>(caller, place, stopped)? {
@@ -134,7 +131,7 @@ fn make<O: Origin, P: Pause, N: Rounds>(
 ) -> Option<(OwnSlots, Reply)>
     requires begins { MayBegin optimistic O.begun slots place.old }
     requires call { IsCall O.begun call table.now.table_id table.now.key }
-    ensures { MatchOption result (GivesUp optimistic O.begun N.MOST place.new) (λ r. HasAnswered optimistic O.begun r place.new) }
+    ensures { IfSome result (λ r. HasAnswered optimistic O.begun r place.new) }
 {
     let caller = Caller::<'_, OptimisticList, O, P> {
         table,
@@ -165,7 +162,7 @@ fn make<O: Origin, P: Pause, N: Rounds>(
 
 /// Makes a whole call: it walks to its key without a lock, locks the two nodes there, looks by a second walk whether they
 /// are still neighbours in the list, and acts, or gives them back and starts over. (Herlihy and Shavit's optimistic list.)
-/// `None` where a loop of it has made `N::MOST` rounds, and so at least as many steps.
+/// `None` where a loop of it has made `N::MOST` rounds.
 pub fn optimistic_within<P: Pause, N: Rounds>(
     table: &Words<OptimisticList>,
     place: &mut TableSeat,
@@ -174,7 +171,7 @@ pub fn optimistic_within<P: Pause, N: Rounds>(
     pause: &P,
 ) -> Option<(OwnSlots, Reply)>
     requires { MayCall optimistic table.now.table_id table.now.key slots place.old }
-    ensures { MatchOption result (HasGivenUp optimistic call N.MOST place.old place.new) (λ r. HasCalled optimistic call place.old r place.new) }
+    ensures { IfSome result (λ r. HasCalled optimistic call place.old r place.new) }
 {
     make::<Brand, P, N>(table, place, slots, call, pause)
 }

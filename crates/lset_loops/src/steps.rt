@@ -1,10 +1,10 @@
 //! The steps of a call under way. Each is the step of the row of the list's table at which the seat's view stands.
-ghost use Rattle.std.specs.Prelude.{◌≡◌, ◌≢◌, ℕ, ◌+◌, ◌*◌, ◌/◌, None, MatchOption};
+ghost use Rattle.std.specs.Prelude.{◌≡◌, ◌≢◌, ℕ, ◌+◌, ◌*◌, ◌/◌, None, IfSome};
 ghost use Rattle.lset_words.specs.Words.{key_index, link_index, lock_index};
 ghost use Rattle.lset_steps.specs.ReadRows.{continued};
 ghost use Rattle.lset_steps.specs.declared.Action.TheVariants.{Load, Store, Exchange};
 ghost use Rattle.lset_rule.specs.Calls.{Goes};
-ghost use Rattle.lset_loops.specs.Calling.{GivesUp, GoesOn, HasExchanged, HasStepped, HasTold, Holds, MayAnswer, MayBegin, MayLock, MayStep, first};
+ghost use Rattle.lset_loops.specs.Calling.{HasExchanged, HasStepped, HasTold, Holds, MayAnswer, MayBegin, MayLock, MayStep, first};
 
 use crate::caller::{Caller, Node, Origin};
 use lset_rule::{
@@ -107,8 +107,7 @@ impl<'a, M: Machine, O: Origin, P: Pause> Caller<'a, M, O, P> {
     #[inline(always)]
     fn exchange(&self, place: &mut TableSeat, word: u64, old: u64, new: u64) -> bool
         requires { MayAnswer M.table O.begun (Exchange word old new) place.old }
-        ensures told { HasExchanged M.table O.begun old place.old result place.new }
-        ensures grows { GoesOn M.table O.begun place.old place.new }
+        ensures { HasExchanged M.table O.begun old place.old result place.new }
     {
         let seen = exchange_on::<M>(self.table, place, word, old, new);
         if seen != old {
@@ -122,8 +121,7 @@ impl<'a, M: Machine, O: Origin, P: Pause> Caller<'a, M, O, P> {
     #[inline(always)]
     pub fn exchange_link(&self, place: &mut TableSeat, node: Node, old: Node, new: Node) -> bool
         requires { MayAnswer M.table O.begun (Exchange (link_index node.number) (2 * old.number) (2 * new.number)) place.old }
-        ensures told { HasExchanged M.table O.begun (2 * old.number) place.old result place.new }
-        ensures grows { GoesOn M.table O.begun place.old place.new }
+        ensures { HasExchanged M.table O.begun (2 * old.number) place.old result place.new }
     {
         let after = 2 * new.number;
         self.exchange(place, link_index(node.number), 2 * old.number, after)
@@ -147,8 +145,7 @@ impl<'a, M: Machine, O: Origin, P: Pause> Caller<'a, M, O, P> {
     /// Marks a node if it leads to `next` and has no mark, and answers whether it did.
     pub fn exchange_mark(&self, place: &mut TableSeat, node: Node, next: Node) -> bool
         requires { MayAnswer M.table O.begun (Exchange (link_index node.number) (2 * next.number) (2 * next.number + 1)) place.old }
-        ensures told { HasExchanged M.table O.begun (2 * next.number) place.old result place.new }
-        ensures grows { GoesOn M.table O.begun place.old place.new }
+        ensures { HasExchanged M.table O.begun (2 * next.number) place.old result place.new }
     {
         let unmarked = 2 * next.number;
         self.exchange(place, link_index(node.number), unmarked, unmarked + 1)
@@ -158,7 +155,7 @@ impl<'a, M: Machine, O: Origin, P: Pause> Caller<'a, M, O, P> {
     #[inline(never)]
     fn wait_for<N: Rounds>(&self, place: &mut TableSeat, word: u64) -> Option<()>
         requires { MayLock M.table O.begun word self.now.slots.thread place.old }
-        ensures { MatchOption result (GivesUp M.table O.begun N.MOST place.new) (λ _. HasStepped M.table O.begun place.old 0 place.new) }
+        ensures { IfSome result (λ _. HasStepped M.table O.begun place.old 0 place.new) }
     {
         let own = u64::from(self.slots.thread) + 1;
         for round in 0..N::MOST {
@@ -176,7 +173,7 @@ impl<'a, M: Machine, O: Origin, P: Pause> Caller<'a, M, O, P> {
     #[inline(always)]
     fn take<N: Rounds>(&self, place: &mut TableSeat, word: u64) -> Option<()>
         requires { MayLock M.table O.begun word self.now.slots.thread place.old }
-        ensures { MatchOption result (GivesUp M.table O.begun N.MOST place.new) (λ _. HasStepped M.table O.begun place.old 0 place.new) }
+        ensures { IfSome result (λ _. HasStepped M.table O.begun place.old 0 place.new) }
     {
         let seen = exchange_on::<M>(self.table, place, word, 0, u64::from(self.slots.thread) + 1);
         if seen != 0 {
@@ -192,7 +189,7 @@ impl<'a, M: Machine, O: Origin, P: Pause> Caller<'a, M, O, P> {
     #[inline(always)]
     pub fn lock<N: Rounds>(&self, place: &mut TableSeat, node: Node) -> Option<()>
         requires { MayLock M.table O.begun (lock_index node.number) self.now.slots.thread place.old }
-        ensures { MatchOption result (GivesUp M.table O.begun N.MOST place.new) (λ _. HasStepped M.table O.begun place.old 0 place.new) }
+        ensures { IfSome result (λ _. HasStepped M.table O.begun place.old 0 place.new) }
     {
         self.take::<N>(place, lock_index(node.number))
     }
@@ -203,7 +200,7 @@ impl<'a, M: Machine, O: Origin, P: Pause> Caller<'a, M, O, P> {
         requires acts { Exchange word 0 (self.now.slots.thread + 1) ≡ M.table.next (first M.table O.begun self.now.slots) }
         requires again { (n : ℕ) → n ≢ 0 → M.table.feed (first M.table O.begun self.now.slots) n ≡ continued (first M.table O.begun self.now.slots) }
         requires goes_on { (M.table.feed (first M.table O.begun self.now.slots) 0).answer ≡ None }
-        ensures { MatchOption result (GivesUp M.table O.begun N.MOST place.new) (λ _. Holds M.table O.begun (M.table.feed (first M.table O.begun self.now.slots) 0).local place.new) }
+        ensures { IfSome result (λ _. Holds M.table O.begun (M.table.feed (first M.table O.begun self.now.slots) 0).local place.new) }
     {
         let own = u64::from(self.slots.thread) + 1;
         let seen = exchange_first::<M, Brand>(self.table, place, self.call, word, 0, own);

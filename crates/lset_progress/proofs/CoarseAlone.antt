@@ -1,11 +1,9 @@
 -- The rows of CoarseList: that its calls end alone, and that it has no deadlock.
-use Rattle.std.specs.Prelude.{◌≡◌, ◌≢◌, ℕ, ◌+◌, ◌*◌, ◌/◌, ◌<◌, nat_le, Bool, false, List, slice_index, if◌then◌else◌, ◌==◌, refl}
-use Rattle.std.proofs.Common.{arith, inl, inr, sym, ◌∙◌, ap, subst}
+use Rattle.std.specs.Prelude.{◌≡◌, ℕ, ◌+◌, ◌*◌, ◌/◌, ◌<◌, nat_le, Bool, false, List, [], ◌∷◌, refl, slice_index}
+use Rattle.std.proofs.Common.{arith, inl, subst}
 use Rattle.lset_words.proofs.Numbers.{if_other}
-use Rattle.lset_words.specs.Words.{node_count, target, Sizes, Opening, sizes}
-use Rattle.lset_steps.specs.declared.Event.{Event}
+use Rattle.lset_words.specs.Words.{node_count, target, Sizes}
 use Rattle.lset_steps.specs.declared.Local.{Local}
-use Rattle.lset_steps.specs.Steps.{Run, state_at}
 use Rattle.lset_steps.specs.Chain.{View, view, node_key, node_link}
 use Rattle.lset_steps.specs.ReadRows.{continued}
 use Rattle.lset_steps.proofs.Memory.{inner, next_in}
@@ -16,29 +14,21 @@ use Rattle.lset_coarse.specs.Coarse.{coarse, targets}
 use Rattle.lset_coarse.specs.Lawful.{coarse_lawful}
 use Rattle.lset_coarse.specs.Lawful.Outline.{At, Walking, one_lock, coarse_follows}
 use Rattle.lset_coarse.specs.Lawful.Outline.At.{at0, at1, at2, at3, at4, at5, at6, at7, at8, at9, at10}
-use Rattle.lset_progress.specs.Progress.{IsPending, CallsEndAlone, CanEnd, Holds, SomeCallCanEnd, SomeThreadGetsOn, coarse_steps}
+use Rattle.lset_progress.specs.Progress.{CallsEndAlone, SomeThreadGetsOn, coarse_steps}
+use Rattle.lset_progress.specs.DeadlockFreedom.{IsLivelockFree, IsDeadlockFree, each_call, lock_window}
 use Rattle.lset_progress.proofs.Ahead.{ahead}
-use Rattle.lset_progress.proofs.CanEnd.{alone_can}
 use Rattle.lset_progress.proofs.Decided.{by_below, by_decision}
-use Rattle.lset_progress.proofs.Holders.{holder_known, one_or_more}
-use Rattle.lset_progress.proofs.LocksAlone.{Shows, calls_end, gets_on, may}
+use Rattle.lset_progress.proofs.LivelockFreedom.{is_livelock_free, each_counts}
+use Rattle.lset_progress.proofs.DeadlockFreedom.{is_deadlock_free}
+use Rattle.lset_progress.proofs.LocksAlone.{Shows, calls_end, gets_on}
 use Rattle.lset_progress.proofs.Rest.{rest, few_by, fewer}
-use Rattle.lset_progress.proofs.Rows.{Shape, Timed, Loads, RowBy, within, Only, at_row, goes}
+use Rattle.lset_progress.proofs.Rows.{Shape, Loads, RowOf, within, Only, at_row, goes, on, takes, timed, unlocks, writes}
 use Rattle.lset_progress.proofs.Standing.{Standing, stands}
 
--- how many steps are left behind the next one, at each row
+-- how many steps are left behind the next one, row by row from row 0
 abbrev left : ℕ → (ℕ → ℕ) → Local → ℕ
-left size key l =
-    if l.pc == 1 then 2 * size + 2
-    else if l.pc == 2 then 2 * size + 1
-    else if l.pc == 3 then 2 * ahead key size (key l.curr) + 4
-    else if l.pc == 4 then 2 * ahead key size (key l.curr) + 3
-    else if l.pc == 5 then 3
-    else if l.pc == 6 then 2
-    else if l.pc == 7 then 1
-    else if l.pc == 8 then 2
-    else if l.pc == 9 then 1
-    else 0
+left size key l = slice_index (0 ∷ (2 * size + 2) ∷ (2 * size + 1) ∷ (2 * ahead key size (key l.curr) + 4)
+    ∷ (2 * ahead key size (key l.curr) + 3) ∷ 3 ∷ 2 ∷ 1 ∷ 2 ∷ 1 ∷ 0 ∷ []) l.pc
 
 -- the list's lock is held from row 2 on
 abbrev shape : Shape
@@ -60,7 +50,7 @@ module _ {sz : Sizes} {ws : List ℕ} {used : ℕ → ℕ} {t : ℕ} {vs : ℕ �
   V = view sz ws used
 
   abbrev Row : Local → Type 0
-  Row k = Timed shape size ws (coarse_steps sz) k × RowBy shape size coarse sz ws t k (coarse.next k)
+  Row k = RowOf shape size coarse sz ws t (coarse_steps sz) k
 
   -- a load at row n leads to k
   abbrev To : ℕ → Local → Type 0
@@ -73,81 +63,31 @@ module _ {sz : Sizes} {ws : List ℕ} {used : ℕ → ℕ} {t : ℕ} {vs : ℕ �
 
   row : rest size ws l.curr < size → At sz.quota t vs first now V done l → Row l
   row few (at0 e) = absurd (h.busy e)
-  row few (at1 e d) = at_row Row l 1 e (
-    inl (tt, omega arith),
-    record {
-      is_lock = inl refl;
-      inside = omega arith;
-      free = refl;
-      own = ap (λ n. n + 1) h.registers.thread;
-      early = λ z. z;
-      last = λ x m. absurd m.1;
-      taken = goes (λ x o m. absurd m.1) (λ z. omega arith) (λ z. absurd z) (λ c v. v) (omega arith);
-      mine = (refl, tt);
-      missed = λ s d. if_other s 0 d _ _;
-    },
-  )
+  row few (at1 e d) = at_row Row l 1 e (takes refl (inl refl) (omega arith) h.registers.thread (λ z. z) (λ x m. absurd m.1)
+      (λ free. on (λ x o m. absurd m.1) tt (λ z. z) (λ v. v) (omega arith)) (refl, tt) (λ s d. if_other s 0 d _ _)
+      (inl (tt, omega arith)))
   row few (at2 e d w) =
       let head : rest size ws 0 < size = few_by size (node_key ws) 0 (omega arith) in
       let next : rest size ws (node_link ws 0 / 2) < rest size ws 0 =
       fewer false sz ws used h.memory 0 h.memory.ordered.head_published (omega arith) in
-      at_row Row l 2 e (inl (tt, omega arith), goes (λ x o m. m) (λ z. omega arith) (λ z. absurd z) (λ c v. v) (omega arith))
-  row few (at3 e d w) = at_row Row l 3 e (
-    inl (tt, omega arith),
-    by_below (To 3) (node_key ws l.curr) (target l.call)
-        (λ lt. goes (λ x o m. m) (λ z. omega arith) (λ z. absurd z) (λ c v. v) (omega arith))
-        (λ ge. by_decision (To 3) targets (node_key ws l.curr) (record l { pc = 3; ckey = node_key ws l.curr })
-        (goes (λ x o m. m) (λ z. omega arith) (λ z. tt) (λ c v. v) (omega arith))
-        (goes (λ x o m. m) (λ z. omega arith) (λ z. tt) (λ c v. v) (omega arith))
-        (λ r. goes (λ x o m. m) (λ z. omega arith) (λ z. tt) (λ c v. v) (omega arith))),
-  )
+      at_row Row l 2 e (timed (inl (tt, omega arith)) (on (λ x o m. m) tt (λ z. z) (λ v. v) (omega arith)))
+  row few (at3 e d w) = at_row Row l 3 e (timed (inl (tt, omega arith)) (by_below (To 3) (node_key ws l.curr) (target l.call)
+      (λ lt. on (λ x o m. m) tt (λ z. z) (λ v. v) (omega arith))
+      (λ ge. by_decision (To 3) targets (node_key ws l.curr) (record l { pc = 3; ckey = node_key ws l.curr })
+      (on (λ x o m. m) tt (λ z. z) (λ v. v) (omega arith)) (on (λ x o m. m) tt (λ z. z) (λ v. v) (omega arith))
+      (λ r. on (λ x o m. m) tt (λ z. z) (λ v. v) (omega arith)))))
   row few (at4 e d w lt) =
       let less : rest size ws (node_link ws l.curr / 2) < rest size ws l.curr = fewer false sz ws used h.memory l.curr
       (curr_published w) (inner false sz ws used h.memory l.curr (target l.call) lt h.registers.low) in
-      at_row Row l 4 e (inl (tt, omega arith), goes (λ x o m. m) (λ z. omega arith) (λ z. absurd z) (λ c v. v) (omega arith))
-  row few (at5 e d w a) = at_row Row l 5 e (
-    inl (tt, omega arith),
-    inl (
-      goes (λ x o m. m) (λ z. omega arith) (λ z. tt) (λ c v. v) (omega arith),
-      tt,
-      inl (tt, omega arith),
-    ),
-  )
-  row few (at6 e d w a x) = at_row Row l 6 e (
-    inl (tt, omega arith),
-    inl (
-      goes (λ x o m. m) (λ z. omega arith) (λ z. tt) (λ c v. v) (omega arith),
-      tt,
-      inl (tt, omega arith),
-    ),
-  )
-  row few (at7 e d w a x y) = at_row Row l 7 e (
-    inl (tt, omega arith),
-    inl (
-      goes (λ x o m. m) (λ z. omega arith) (λ z. tt) (λ c v. v) (omega arith),
-      tt,
-      inl (tt, omega arith),
-    ),
-  )
-  row few (at8 e d w a) = at_row Row l 8 e (
-    inl (tt, omega arith),
-    goes (λ x o m. m) (λ z. omega arith) (λ z. tt) (λ c v. v) (omega arith),
-  )
-  row few (at9 e d w a x) = at_row Row l 9 e (
-    inl (tt, omega arith),
-    inl (
-      goes (λ x o m. m) (λ z. omega arith) (λ z. tt) (λ c v. v) (omega arith),
-      tt,
-      inl (tt, omega arith),
-    ),
-  )
-  row few (at10 e w r ry due) = at_row Row l 10 e (
-    inl (tt, omega arith),
-    inr (
-      inl refl,
-      record { keeps = λ x o m. absurd (o m.0); then = inl (r, ry) },
-    ),
-  )
+      at_row Row l 4 e (timed (inl (tt, omega arith)) (on (λ x o m. m) tt (λ z. z) (λ v. v) (omega arith)))
+  row few (at5 e d w a) = at_row Row l 5 e (writes refl refl (λ x m. m) tt tt tt (λ v. v) (omega arith))
+  row few (at6 e d w a x) = at_row Row l 6 e (writes refl refl (λ x m. m) tt tt tt (λ v. v) (omega arith))
+  row few (at7 e d w a x y) = at_row Row l 7 e (writes refl refl (λ x m. m) tt tt tt (λ v. v) (omega arith))
+  row few (at8 e d w a) = at_row Row l 8 e (timed (inl (tt, omega arith))
+      (goes (λ x o m. m) tt (λ z. (tt, omega arith)) (λ v. v) (omega arith)))
+  row few (at9 e d w a x) = at_row Row l 9 e (writes refl refl (λ x m. m) tt tt tt (λ v. v) (omega arith))
+  row few (at10 e w r ry due) = at_row Row l 10 e (timed (inl (tt, omega arith))
+      (unlocks (inl refl) (record { keeps = λ x o m. absurd (o m.0); then = inl (r, ry) })))
 
   row_of : Row l
   row_of = row (few_by size (node_key ws) l.curr h.registers.curr) h.at
@@ -160,9 +100,7 @@ shows = record {
   rows = λ op last k t es r upto tn busy. row_of (stands coarse coarse_lawful At follows op last k t es r upto tn busy);
   rests = λ l x e m. subst (λ n. Only (nat_le 2 n)) e m.1;
   late_busy = λ l late e. subst (λ n. Only (within 5 10 n)) e late;
-  late_calm = λ ws l late. tt;
   calm_alone = λ op last k t es r upto others. tt;
-  ready = λ op k es r. inr (λ u un. tt);
 }
 
 pub coarse_calls_end : CallsEndAlone coarse coarse_steps
@@ -171,33 +109,11 @@ coarse_calls_end = calls_end coarse coarse_lawful shape coarse_steps shows
 pub coarse_gets_on : SomeThreadGetsOn coarse
 coarse_gets_on = gets_on coarse coarse_lawful shape coarse_steps shows
 
--- SOME CALL CAN END: that of the thread that has the lock, or each, if nobody has it
-module _ (op : Opening) (k : ℕ) (es : ℕ → Event) (r : Run coarse op es k) where
-  abbrev lock : ℕ
-  lock = slice_index (state_at coarse op es k).words 0
+pub coarse_livelock_free : IsLivelockFree each_call coarse (lock_window coarse_steps)
+coarse_livelock_free = is_livelock_free coarse coarse_lawful shape coarse_steps shows each_call
+    (each_counts coarse shape (λ ws l. tt)) (λ sz. omega arith)
 
-  only_word : (v x : ℕ) → Holds (sizes op) (state_at coarse op es k) v x → lock ≡ v + 1
-  only_word v x h =
-      let m = holder_known coarse coarse_lawful shape.may (may coarse coarse_lawful shape coarse_steps shows) op es k r x h.is_lock h.inside
-      k (omega arith) v h.mine in
-      ap (λ i. slice_index (state_at coarse op es k).words i) (sym m.1.0) ∙ h.mine
-
-  -- who is the only one to have it
-  ends : (t : ℕ) → t < op.threads → IsPending (state_at coarse op es k) t → ((v : ℕ) → v ≢ t → lock ≡ v + 1 → ⊥)
-      → CanEnd coarse (state_at coarse op es k) (coarse_steps (sizes op))
-  ends t tn busy only = alone_can coarse (state_at coarse op es k) t (coarse_steps (sizes op))
-      (coarse_calls_end op k t es r tn busy (λ v x vn d h. only v d (only_word v x h)))
-
-  can_end : (t : ℕ) → t < op.threads → IsPending (state_at coarse op es k) t
-      → CanEnd coarse (state_at coarse op es k) (coarse_steps (sizes op))
-  can_end t tn busy = elim (one_or_more lock) [
-    | inl z ↦ ends t tn busy (λ v d h. omega arith)
-    | inr e ↦
-        (let m = holder_known coarse coarse_lawful shape.may (may coarse coarse_lawful shape coarse_steps shows) op es k r 0 (inl refl)
-        (omega arith) k (omega arith) e.0 e.1 in
-        let is : slice_index (state_at coarse op es k).words 0 ≡ e.0 + 1 = e.1 in
-        ends e.0 m.0 (λ z. subst (λ n. Only (nat_le 2 n)) z m.1.1) (λ v d h. d (omega arith)))
-  ]
-
-pub coarse_can_end : SomeCallCanEnd coarse coarse_steps
-coarse_can_end op k t es r tn busy = can_end op k es r t tn busy
+pub coarse_deadlock_free : IsDeadlockFree each_call coarse
+coarse_deadlock_free = is_deadlock_free coarse coarse_lawful shape coarse_steps shows each_call
+    (each_counts coarse shape (λ ws l. tt)) (lock_window coarse_steps)
+    coarse_livelock_free

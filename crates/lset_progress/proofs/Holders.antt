@@ -154,7 +154,8 @@ module _ (T : Table) (law : Lawful T) (op : Opening) (es : ℕ → Event) (k t :
       ∙ ap (λ z. held_after T (state_at T op es k) x (holder T op es x k) z) ee
       ∙ ap (λ z. held_after T (state_at T op es k) x z (Go t)) (sym (lock_word T law op es (suc k) x r is inn k (omega arith)))
 
-  pub others_wait : NoOtherHolds (sizes op) (state_at T op es k) t → NoOtherHolds (sizes op) (after T (state_at T op es k) (Go t)) t
+  pub others_wait : NoOtherHolds (sizes op) (state_at T op es k) t
+      → NoOtherHolds (sizes op) (after T (state_at T op es k) (Go t)) t
   others_wait free u x un d h =
       let old : slice_index (state_at T op es k).words x ≡ u + 1 =
       others_keep x t u (slice_index (state_at T op es k).words x) (T.next (local_of (state_at T op es k) t)) d

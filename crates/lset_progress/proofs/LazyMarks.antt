@@ -1,9 +1,10 @@
--- Who has marked a node of LazyList holds its lock until it has taken the node out: so no node of the chain is marked while nobody
--- stands between the two.
+-- Who has marked a node of LazyList holds its lock until it has taken the node out: so no node of the chain is marked while
+-- nobody stands between the two.
 use Rattle.std.specs.Prelude.{◌≡◌, ◌≢◌, ℕ, ◌+◌, ◌*◌, ◌/◌, ◌%◌, ◌<◌, ◌≤◌, Bool, true, false, Option, Some, None, List, refl}
-use Rattle.std.specs.Prelude.{if◌then◌else◌, ◌==◌, slice_set}
+use Rattle.std.specs.Prelude.{if◌then◌else◌, ◌==◌, ◌⊎◌, slice_index, slice_set}
 use Rattle.std.proofs.Common.{arith, inl, inr, sym, ◌∙◌, ap, subst, zero, suc}
 use Rattle.lset_words.proofs.Numbers.{same_or_not, if_other}
+use Rattle.lset_words.specs.declared.Call.TheVariants.{Ceiling}
 use Rattle.lset_words.specs.declared.Key.{Key}
 use Rattle.lset_words.specs.Words.{link_index, lock_index, node_count, target, Opening, sizes, key_of}
 use Rattle.lset_words.specs.Log.{begun_at, has_changed}
@@ -23,6 +24,7 @@ use Rattle.lset_steps.proofs.Moves.Move.{quiet, inserts, sets, clears, removes}
 use Rattle.lset_steps.proofs.Openings.{opening_memory}
 use Rattle.lset_steps.proofs.QuietMove.{in_chain_published, chain_before}
 use Rattle.lset_steps.proofs.ReadOutline.{even_or_odd}
+use Rattle.lset_steps.proofs.ReadOutline.Reading.{reads20, reads21, reads22, reads23, reads24, reads25}
 use Rattle.lset_steps.proofs.Segments.{gap}
 use Rattle.lset_steps.proofs.Turns.{discipline_of, node_locks}
 use Rattle.lset_lazy.specs.Lazy.{lazy}
@@ -33,7 +35,6 @@ use Rattle.lset_progress.specs.Progress.{NoOtherHolds}
 use Rattle.lset_progress.proofs.HeadPlain.{the_step, words_are, the_move, the_memory, the_keeping}
 use Rattle.lset_progress.proofs.Paths.{Path, in_chain_of, path_of}
 use Rattle.lset_progress.proofs.ReadAlone.{Plain}
-use Rattle.lset_progress.proofs.ReadStays.{read_row_of, read_low}
 
 pub follows : Discipline lazy true At
 follows = discipline_of lazy (node_locks true) At lazy_follows
@@ -57,25 +58,40 @@ pub record TakesOut (threads : ℕ) (locals : ℕ → Local) (b : ℕ) : Type 0 
 abbrev pub Marked : ℕ → List ℕ → (ℕ → Local) → Type 0
 Marked threads ws locals = (b : ℕ) → Path (node_link ws) 0 b → node_link ws b % 2 ≡ 1 → TakesOut threads locals b
 
--- what stands at row 12
-at_12 : {q t : ℕ} {vs : ℕ → View} {first now : ℕ} {v : View} {done : Bool} {l : Local} → At q t vs first now v done l
-    → l.pc ≡ 12 → Between v t (target l.call) l.pred l.curr × (v.link l.curr ≡ 2 * l.succ + 1)
-at_12 (at12 e d b a x) h = (b, x)
-at_12 (at0 e) h = absurd (omega arith)
-at_12 (at1 e d) h = absurd (omega arith)
-at_12 (at2 e d x) h = absurd (omega arith)
-at_12 (at3 e d x lt) h = absurd (omega arith)
-at_12 (at4 e d f) h = absurd (omega arith)
-at_12 (at5 e d f p) h = absurd (omega arith)
-at_12 (at6 e d f b) h = absurd (omega arith)
-at_12 (at7 e d f b) h = absurd (omega arith)
-at_12 (at8 e d b a) h = absurd (omega arith)
-at_12 (at9 e d b a x) h = absurd (omega arith)
-at_12 (at10 e d b a x y) h = absurd (omega arith)
-at_12 (at11 e d b a x) h = absurd (omega arith)
-at_12 (at13 e b o) h = absurd (omega arith)
-at_12 (at14 e p o) h = absurd (omega arith)
-at_12 {l = l} (at_read a) h = absurd (let low : 20 ≤ l.pc = (read_low l.pc (read_row_of a)).0 in omega arith)
+-- what stands at row 12, and that from row 23 on stands a ceiling
+record Stands (v : View) (t : ℕ) (l : Local) : Type 0 where
+  takes_out : l.pc ≡ 12 → Between v t (target l.call) l.pred l.curr × (v.link l.curr ≡ 2 * l.succ + 1)
+  ceiling : 23 ≤ l.pc → l.call ≡ Ceiling (key_of l.call)
+
+stands_off : {v : View} {t : ℕ} {l : Local} → l.pc ≢ 12 → l.pc < 23 → Stands v t l
+stands_off off low = record { takes_out = λ h. absurd (off h); ceiling = λ h. absurd (omega arith) }
+
+stands_ceiling : {v : View} {t : ℕ} {l : Local} → l.pc ≢ 12 → l.call ≡ Ceiling (key_of l.call) → Stands v t l
+stands_ceiling off is = record { takes_out = λ h. absurd (off h); ceiling = λ h. is }
+
+what_stands : {q t : ℕ} {vs : ℕ → View} {first now : ℕ} {v : View} {done : Bool} {l : Local} → At q t vs first now v done l
+    → Stands v t l
+what_stands (at12 e d b a x) = record { takes_out = λ h. (b, x); ceiling = λ h. absurd (omega arith) }
+what_stands (at0 e) = stands_off (λ h. omega arith) (omega arith)
+what_stands (at1 e d) = stands_off (λ h. omega arith) (omega arith)
+what_stands (at2 e d x) = stands_off (λ h. omega arith) (omega arith)
+what_stands (at3 e d x lt) = stands_off (λ h. omega arith) (omega arith)
+what_stands (at4 e d f) = stands_off (λ h. omega arith) (omega arith)
+what_stands (at5 e d f p) = stands_off (λ h. omega arith) (omega arith)
+what_stands (at6 e d f b) = stands_off (λ h. omega arith) (omega arith)
+what_stands (at7 e d f b) = stands_off (λ h. omega arith) (omega arith)
+what_stands (at8 e d b a) = stands_off (λ h. omega arith) (omega arith)
+what_stands (at9 e d b a x) = stands_off (λ h. omega arith) (omega arith)
+what_stands (at10 e d b a x y) = stands_off (λ h. omega arith) (omega arith)
+what_stands (at11 e d b a x) = stands_off (λ h. omega arith) (omega arith)
+what_stands (at13 e b o) = stands_off (λ h. omega arith) (omega arith)
+what_stands (at14 e p o) = stands_off (λ h. omega arith) (omega arith)
+what_stands (at_read (reads20 e d c a)) = stands_off (λ h. omega arith) (omega arith)
+what_stands (at_read (reads21 e d c a)) = stands_off (λ h. omega arith) (omega arith)
+what_stands (at_read (reads22 e d c a)) = stands_off (λ h. omega arith) (omega arith)
+what_stands (at_read (reads23 e d c a)) = stands_ceiling (λ h. omega arith) c
+what_stands (at_read (reads24 e d c a)) = stands_ceiling (λ h. omega arith) c
+what_stands (at_read (reads25 e d c a)) = stands_ceiling (λ h. omega arith) c
 
 -- whether a change puts a key in
 abbrev puts_in : Option (Key × Bool) → Bool
@@ -146,7 +162,7 @@ module _ (op : Opening) (es : ℕ → Event) (last : ℕ) (r : Run lazy op es la
   -- a node that was about to be taken out by t is out
   is_out : L.pc ≡ 12 → Path W.link 0 L.curr → ⊥
   is_out e p =
-      let x = at_12 (i.threads t tn).at e in
+      let x = (what_stands (i.threads t tn).at).takes_out e in
       let b = x.0 in
       let marked : node_link S.words L.curr ≡ 2 * L.succ + 1 = x.1 in
       let acts : lazy.next L ≡ Store (link_index L.pred) (2 * L.succ) = rw e refl in
@@ -217,7 +233,8 @@ module _ (op : Opening) (es : ℕ → Event) (last : ℕ) (r : Run lazy op es la
       let m' : V.published b = q.published_from b m in as_before b p odd m' (q.links b m')
   marked_by change tells (inserts pred own k x) b p odd m = elim (x.published_from b m) [
     | inl m' ↦ elim (same_or_not b pred) [
-      | inl y ↦ absurd (let e : W.link pred ≡ 2 * own = x.pred_link in let f : W.link b ≡ W.link pred = ap W.link y in omega arith)
+      | inl y ↦ absurd (let e : W.link pred ≡ 2 * own = x.pred_link in let f : W.link b ≡ W.link pred = ap W.link y in
+          omega arith)
       | inr y ↦ as_before b p odd m' (x.links b m' y)
     ]
     | inr y ↦ absurd (let e : W.link own ≡ 2 * (V.link pred / 2) = x.own_link in
@@ -277,31 +294,61 @@ module _ (op : Opening) (es : ℕ → Event) (last : ℕ) (r : Run lazy op es la
   marked_at zero l = none_opens
   marked_at (suc k) l = marked_after k (omega arith) (es k) (r.enabled k (omega arith)) (marked_at k (omega arith))
 
+-- a node of the chain that nobody is about to take out is not marked
+plain_unless : (op : Opening) (last k : ℕ) (es : ℕ → Event) → Run lazy op es last → k ≤ last → (b : ℕ)
+    → Path (node_link (state_at lazy op es k).words) 0 b → (TakesOut op.threads (local_of (state_at lazy op es k)) b → ⊥)
+    → node_link (state_at lazy op es k).words b % 2 ≡ 0
+plain_unless op last k es r l b p none = elim (even_or_odd (node_link (state_at lazy op es k).words b)) [
+  | inl even ↦ even
+  | inr odd ↦ absurd (none (marked_at op es last r k l b p odd))
+]
+
+-- who is, has its lock and that of the node before it
+abbrev Taking : Opening → ℕ → (ℕ → Event) → ℕ → Type 0
+Taking op k es u = Between (view_of (sizes op) (state_at lazy op es k)) u (target (local_of (state_at lazy op es k) u).call)
+    (local_of (state_at lazy op es k) u).pred (local_of (state_at lazy op es k) u).curr
+
+taking : (op : Opening) (last k : ℕ) (es : ℕ → Event) → Run lazy op es last → k ≤ last → (u : ℕ) → u < op.threads
+    → (local_of (state_at lazy op es k) u).pc ≡ 12 → Taking op k es u
+taking op last k es r l u un e = ((what_stands ((known op last k es r l).threads u un).at).takes_out e).0
+
 pub no_marks : (op : Opening) (last k t : ℕ) (es : ℕ → Event) → Run lazy op es last → k ≤ last
     → NoOtherHolds (sizes op) (state_at lazy op es k) t → (local_of (state_at lazy op es k) t).pc ≢ 12
     → Plain (state_at lazy op es k).words
-no_marks op last k t es r l free never b p = elim (even_or_odd (node_link (state_at lazy op es k).words b)) [
-  | inl even ↦ even
-  | inr odd ↦
-      (let i : Known op k es = known op last k es r l in
-      let x = marked_at op es last r k l b p odd in
-      let u : ℕ = x.by in
-      let h = (at_12 (i.threads x.by x.thread).at x.row).0 in
-      let pred : (local_of (state_at lazy op es k) x.by).pred < node_count (sizes op) =
-      (i.threads x.by x.thread).registers.pred in
-      absurd (free x.by (lock_index (local_of (state_at lazy op es k) x.by).pred) x.thread
-      (λ f. never (subst (λ z. (local_of (state_at lazy op es k) z).pc ≡ 12) f x.row))
-      (record {
-        is_lock = inr ((local_of (state_at lazy op es k) x.by).pred, refl);
-        inside = omega arith;
-        mine = h.walk.held.mine;
-      })))
-]
+no_marks op last k t es r l free never b p = plain_unless op last k es r l b p (λ x.
+    let pred : (local_of (state_at lazy op es k) x.by).pred < node_count (sizes op) =
+    ((known op last k es r l).threads x.by x.thread).registers.pred in
+    free x.by (lock_index (local_of (state_at lazy op es k) x.by).pred) x.thread
+    (λ f. never (subst (λ z. (local_of (state_at lazy op es k) z).pc ≡ 12) f x.row))
+    (record {
+      is_lock = inr ((local_of (state_at lazy op es k) x.by).pred, refl);
+      inside = omega arith;
+      mine = (taking op last k es r l x.by x.thread x.row).walk.held.mine;
+    }))
 
 -- where nobody is about to take a node out no node of the chain is marked
 pub plain_then : (op : Opening) (k : ℕ) (es : ℕ → Event) → Run lazy op es k
     → ((u : ℕ) → u < op.threads → (local_of (state_at lazy op es k) u).pc ≢ 12) → Plain (state_at lazy op es k).words
-plain_then op k es r none b p = elim (even_or_odd (node_link (state_at lazy op es k).words b)) [
-  | inl even ↦ even
-  | inr odd ↦ (let x = marked_at op es k r k (omega arith) b p odd in absurd (none x.by x.thread x.row))
-]
+plain_then op k es r none b p = plain_unless op k k es r (omega arith) b p (λ x. none x.by x.thread x.row)
+
+-- A MARKED NODE OF THE CHAIN is locked by the thread that is about to take it out: so no node is marked that another may lock
+pub unmarked_unless : (op : Opening) (last k t : ℕ) (es : ℕ → Event) → Run lazy op es last → k ≤ last
+    → (local_of (state_at lazy op es k) t).pc ≢ 12 → (b : ℕ) → Path (node_link (state_at lazy op es k).words) 0 b
+    → (slice_index (state_at lazy op es k).words (lock_index b) ≡ 0)
+    ⊎ (slice_index (state_at lazy op es k).words (lock_index b) ≡ t + 1)
+    → node_link (state_at lazy op es k).words b % 2 ≡ 0
+unmarked_unless op last k t es r l never b p own = plain_unless op last k es r l b p (λ x.
+    let u : ℕ = x.by in
+    let locked : slice_index (state_at lazy op es k).words (lock_index b) ≡ x.by + 1 =
+    ap (λ a. slice_index (state_at lazy op es k).words (lock_index a)) (sym x.node)
+    ∙ (taking op last k es r l x.by x.thread x.row).mine in
+    elim own [
+      | inl z ↦ omega arith
+      | inr z ↦ never (let same : x.by ≡ t = omega arith in subst (λ u. (local_of (state_at lazy op es k) u).pc ≡ 12) same x.row)
+    ])
+
+-- from row 23 on stands a ceiling
+pub ceiling_row : (op : Opening) (last k t : ℕ) (es : ℕ → Event) → Run lazy op es last → k ≤ last → t < op.threads
+    → 23 ≤ (local_of (state_at lazy op es k) t).pc
+    → (local_of (state_at lazy op es k) t).call ≡ Ceiling (key_of (local_of (state_at lazy op es k) t).call)
+ceiling_row op last k t es r l tn high = (what_stands ((known op last k es r l).threads t tn).at).ceiling high

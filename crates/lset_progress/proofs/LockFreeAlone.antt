@@ -1,7 +1,7 @@
 -- The rows of LockFreeList: its calls end alone, whatever the other threads are about to do.
-use Rattle.std.specs.Prelude.{◌≡◌, ◌≢◌, ℕ, ◌+◌, ◌*◌, ◌/◌, ◌%◌, ◌<◌, ◌≤◌, ◌⊎◌, Bool, true, Some, None, List, refl}
-use Rattle.std.specs.Prelude.{if◌then◌else◌, ◌==◌, slice_index, slice_set}
-use Rattle.std.proofs.Common.{arith, inl, inr, sym, ◌∙◌, ap, subst, suc}
+use Rattle.std.specs.Prelude.{◌≡◌, ◌≢◌, ℕ, ◌+◌, ◌*◌, ◌/◌, ◌%◌, ◌<◌, ◌≤◌, ◌⊎◌, Bool, true, Some, None, List, [], ◌∷◌, refl}
+use Rattle.std.specs.Prelude.{if◌then◌else◌, ◌==◌, nat_lt, slice_index, slice_set}
+use Rattle.std.proofs.Common.{arith, get_or, inl, inr, sym, ◌∙◌, ap, subst, suc}
 use Rattle.lset_words.proofs.Numbers.{same_or_not, if_same, if_other}
 use Rattle.lset_words.specs.declared.Reply.{Reply}
 use Rattle.lset_words.specs.Words.{key_index, link_index, node_count, target, Sizes, Opening, sizes}
@@ -34,28 +34,20 @@ use Rattle.lset_progress.proofs.Alone.{Nears, ends_alone}
 use Rattle.lset_progress.proofs.Decided.{by_same, by_below, by_decision}
 use Rattle.lset_progress.proofs.LockFreeSteps.{known, keeps, step_is, keys_on, place_of, ceiling_at_marks}
 use Rattle.lset_progress.proofs.Paths.{Path, in_chain_of}
-use Rattle.lset_progress.proofs.ReadAlone.{Plain, Reads, ReadsAt, reads_left, reads_then}
-use Rattle.lset_progress.proofs.ReadAlone.{from_20, from_21, from_22, from_23, from_24, from_25}
-use Rattle.lset_progress.proofs.Rows.{Shape, TimedBy, Then, Any, at_row, no_time, goes, fails, stops}
+use Rattle.lset_progress.proofs.ReadAlone.{Along, Plain, Reads, ReadsAt, reads_left, reads_then}
+use Rattle.lset_progress.proofs.ReadAlone.{from_20, from_21, from_22, from_23}
+use Rattle.lset_progress.proofs.ReadAlone.{from_24, from_25}
+use Rattle.lset_progress.proofs.Rows.{Shape, TimedBy, Then, Any, Only, at_row, no_time, again, on, stops}
 use Rattle.lset_progress.proofs.Standing.{Standing, stands}
 
--- HOW MANY STEPS are left behind the next one, of a walk whose exchanges succeed. Where one fails, the walk starts again.
+-- HOW MANY STEPS are left behind the next one, row by row from row 0, of a walk whose exchanges succeed. Where one fails, the
+-- walk starts again.
 abbrev pub round : ℕ → ℕ
 round size = 2 * size + 2
 
 abbrev pub left : ℕ → (ℕ → ℕ) → Local → ℕ
-left size key l =
-    if l.pc == 1 then 2 * size + 1
-    else if l.pc == 2 then 2 * rest_by size key l.curr + 4
-    else if l.pc == 3 then 2 * rest_by size key l.curr + 3
-    else if l.pc == 4 then 2 * rest_by size key l.curr + 3
-    else if l.pc == 5 then 2
-    else if l.pc == 6 then 1
-    else if l.pc == 7 then 0
-    else if l.pc == 8 then 2
-    else if l.pc == 9 then 1
-    else if l.pc == 10 then 0
-    else reads_left size key l
+left size key l = get_or (0 ∷ (2 * size + 1) ∷ (2 * rest_by size key l.curr + 4) ∷ (2 * rest_by size key l.curr + 3)
+    ∷ (2 * rest_by size key l.curr + 3) ∷ 2 ∷ 1 ∷ 0 ∷ 2 ∷ 1 ∷ 0 ∷ []) l.pc (reads_left size key l)
 
 -- A WALK WHOSE EXCHANGES SUCCEED: pred has no mark, and curr comes after it.
 pub record Valid (link : ℕ → ℕ) (l : Local) : Type 0 where
@@ -75,6 +67,13 @@ outside link l other along = record {
   same = λ e. absurd (other (omega arith) (omega arith));
   along = along;
 }
+
+-- at a row of a contains, and of a ceiling
+low_read : (link : ℕ → ℕ) (l : Local) → (2 ≤ l.pc → l.pc ≤ 9 → ⊥) → l.pc < 23 → Along link l → Valid link l
+low_read link l other low a = outside link l other (λ h. absurd (omega arith))
+
+high_read : (link : ℕ → ℕ) (l : Local) → (2 ≤ l.pc → l.pc ≤ 9 → ⊥) → Path link 0 l.curr → Valid link l
+high_read link l other a = outside link l other (λ h. a)
 
 -- where only pred is known
 at_pred : (link : ℕ → ℕ) (l : Local) → (2 ≤ l.pc) × (l.pc ≤ 7) × (l.pc ≢ 4) → link l.pred ≡ 2 * l.curr → Valid link l
@@ -101,61 +100,13 @@ shape = record {
 reads_at : (size : ℕ) (key : ℕ → ℕ) (ws : List ℕ) (l : Local) → IsReadRow l.pc → ReadsAt shape size key ws l
 reads_at size key ws l =
     let link : ℕ → ℕ = node_link ws in
-    in_each_read_row (λ n. ReadsAt shape size key ws (record l { pc = n })) (
-      λ x m. m,
-      λ z. z,
-      λ z. omega arith,
-      refl,
-      λ v. tt,
-      λ a. outside link (record l { pc = 20 }) (λ c d. omega arith)
-          (λ h. absurd (omega arith)),
-      λ c. c,
-    ) (
-      λ x m. m,
-      λ z. z,
-      λ z. omega arith,
-      refl,
-      λ v. tt,
-      λ a. outside link (record l { pc = 21 }) (λ c d. omega arith)
-          (λ h. absurd (omega arith)),
-      λ c. c,
-    ) (
-      λ x m. m,
-      λ z. z,
-      λ z. omega arith,
-      refl,
-      λ v. tt,
-      λ a. outside link (record l { pc = 22 }) (λ c d. omega arith)
-          (λ h. absurd (omega arith)),
-      λ c. c,
-    ) (
-      λ x m. m,
-      λ z. z,
-      λ z. omega arith,
-      refl,
-      λ v. v.along (omega arith),
-      λ a. outside link (record l { pc = 23 }) (λ c d. omega arith)
-          (λ h. a),
-      λ c. c,
-    ) (
-      λ x m. m,
-      λ z. z,
-      λ z. omega arith,
-      refl,
-      λ v. v.along (omega arith),
-      λ a. outside link (record l { pc = 24 }) (λ c d. omega arith)
-          (λ h. a),
-      λ c. c,
-    ) (
-      λ x m. m,
-      λ z. z,
-      λ z. omega arith,
-      refl,
-      λ v. v.along (omega arith),
-      λ a. outside link (record l { pc = 25 }) (λ c d. omega arith)
-          (λ h. a),
-      λ c. c,
-    )
+    in_each_read_row (λ n. ReadsAt shape size key ws (record l { pc = n }))
+    (λ x m. m, λ z. z, λ z. omega arith, refl, λ v. tt, low_read link _ (λ c d. omega arith) (omega arith), λ c. c)
+    (λ x m. m, λ z. z, λ z. omega arith, refl, λ v. tt, low_read link _ (λ c d. omega arith) (omega arith), λ c. c)
+    (λ x m. m, λ z. z, λ z. omega arith, refl, λ v. tt, low_read link _ (λ c d. omega arith) (omega arith), λ c. c)
+    (λ x m. m, λ z. z, λ z. omega arith, refl, λ v. v.along (omega arith), high_read link _ (λ c d. omega arith), λ c. c)
+    (λ x m. m, λ z. z, λ z. omega arith, refl, λ v. v.along (omega arith), high_read link _ (λ c d. omega arith), λ c. c)
+    (λ x m. m, λ z. z, λ z. omega arith, refl, λ v. v.along (omega arith), high_read link _ (λ c d. omega arith), λ c. c)
     l.pc
 
 -- its exchanges succeed, or there is time for another walk
@@ -173,7 +124,8 @@ by_exchange : (P : List ℕ → Fed → Type 0) (ws : List ℕ) (w o v : ℕ) {f
 by_exchange P ws w o v {f} {g} this other = elim (same_or_not (slice_index ws w) o) [
   | inl e ↦ subst (λ x. P x (if slice_index ws w == o then f else g)) (sym (if_same (slice_index ws w) o e (slice_set ws w v) ws))
       (subst (λ x. P (slice_set ws w v) x) (sym (if_same (slice_index ws w) o e f g)) (this e))
-  | inr d ↦ subst (λ x. P x (if slice_index ws w == o then f else g)) (sym (if_other (slice_index ws w) o d (slice_set ws w v) ws))
+  | inr d ↦ subst (λ x. P x (if slice_index ws w == o then f else g))
+      (sym (if_other (slice_index ws w) o d (slice_set ws w v) ws))
       (subst (λ x. P ws x) (sym (if_other (slice_index ws w) o d f g)) (other d))
 ]
 
@@ -198,14 +150,14 @@ module _ {sz : Sizes} {ws : List ℕ} {used : ℕ → ℕ} {t : ℕ} {vs : ℕ �
   From n ws' f = After (record l { pc = n }) ws' f
 
   -- on to a row below 23; again from the head; and to the end
-  to : {k k' : Local} {ws' : List ℕ} → k'.pc ≢ 0 → k'.pc < 23 → (Valid (node_link ws) k → Valid (node_link ws') k')
+  to : {k k' : Local} {ws' : List ℕ} → Only (nat_lt 0 k'.pc) → k'.pc < 23 → (Valid (node_link ws) k → Valid (node_link ws') k')
       → left size key k' < left size key k → After k ws' (continued k')
-  to busy low valid less = (goes (λ x o m. m) busy (λ z. z) (λ c v. valid v) less, inr (λ c high. absurd (omega arith)))
+  to busy low valid less = (on (λ x o m. m) busy (λ z. z) valid less, inr (λ c high. absurd (omega arith)))
 
-  again : {n : ℕ} → (Valid (node_link ws) (record l { pc = n }) → ⊥) → From n ws (continued (record l { pc = 1 }))
-  again never = (
-    fails (λ x o m. m) (λ z. omega arith) (λ z. z) (λ c v. never v)
-        (outside (node_link ws) (record l { pc = 1 }) (λ a b. omega arith) (λ a. absurd (omega arith))) (omega arith),
+  starts_again : {n : ℕ} → (Valid (node_link ws) (record l { pc = n }) → ⊥) → From n ws (continued (record l { pc = 1 }))
+  starts_again never = (
+    again (λ x o m. m) tt (λ z. z) never (outside (node_link ws) _ (λ a b. omega arith) (λ a. absurd (omega arith)))
+        (omega arith),
     inr (λ c high. absurd (omega arith)),
   )
 
@@ -220,14 +172,14 @@ module _ {sz : Sizes} {ws : List ℕ} {used : ℕ → ℕ} {t : ℕ} {vs : ℕ �
     from_2 p = (
       inr (omega arith),
       by_same (From 2 ws) (node_link ws l.curr % 2) 0
-          (λ even. to (λ z. omega arith) (omega arith) (λ v. record {
+          (λ even. to tt (omega arith) (λ v. record {
             follows = λ a b. v.follows (omega arith) (omega arith);
             unmarked = λ a. omega arith;
             plain = λ a. absurd (omega arith);
             same = λ a. absurd (omega arith);
             along = λ a. absurd (omega arith);
           }) (omega arith))
-          (λ odd. to (λ z. omega arith) (omega arith) (λ v. at_pred (node_link ws)
+          (λ odd. to tt (omega arith) (λ v. at_pred (node_link ws)
           (record l { pc = 3; succ = node_link ws l.curr / 2 }) (omega arith, omega arith, λ z. omega arith)
           (v.follows (omega arith) (omega arith))) (omega arith)),
     )
@@ -243,10 +195,10 @@ module _ {sz : Sizes} {ws : List ℕ} {used : ℕ → ℕ} {t : ℕ} {vs : ℕ �
         (fewer_by true sz ws used h.memory key agrees l.curr x.curr_published user) in (
           inr (omega arith),
           by_exchange (From 3) ws (link_index l.pred) (2 * l.curr) (2 * l.succ)
-              (λ z. to (λ z. omega arith) (omega arith) (λ v. at_pred (node_link (slice_set ws (link_index l.pred) (2 * l.succ)))
+              (λ z. to tt (omega arith) (λ v. at_pred (node_link (slice_set ws (link_index l.pred) (2 * l.succ)))
               (record l { pc = 2; curr = l.succ }) (omega arith, omega arith, λ z. omega arith)
               (link_wrote true sz ws used h.memory l.pred (2 * l.succ) h.registers.pred)) (omega arith))
-              (λ z. again (λ v. z (v.follows (omega arith) (omega arith)))),
+              (λ z. starts_again (λ v. z (v.follows (omega arith) (omega arith)))),
         )
 
     -- the key of an unmarked curr: the walk goes on, or the call decides
@@ -255,12 +207,12 @@ module _ {sz : Sizes} {ws : List ℕ} {used : ℕ → ℕ} {t : ℕ} {vs : ℕ �
       inr (omega arith),
       by_below (From 4 ws) (node_key ws l.curr) (target l.call)
           (λ lt. let less : rest_by size key l.succ < rest_by size key l.curr = rises (inside_chain l.curr lt) in
-          to (λ z. omega arith) (omega arith) (λ v. at_pred (node_link ws) (record l { pc = 2; pred = l.curr; curr = l.succ })
+          to tt (omega arith) (λ v. at_pred (node_link ws) (record l { pc = 2; pred = l.curr; curr = l.succ })
           (omega arith, omega arith, λ z. omega arith) (v.unmarked refl)) (omega arith))
           (λ ge. by_decision (λ k. From 4 ws (decision_of k)) targets (node_key ws l.curr) (record l { pc = 4 })
-          (to (λ z. omega arith) (omega arith) (λ v. at_pred (node_link ws) (record l { pc = 5; reply = None })
+          (to tt (omega arith) (λ v. at_pred (node_link ws) (record l { pc = 5; reply = None })
           (omega arith, omega arith, λ z. omega arith) (v.follows (omega arith) (omega arith))) (omega arith))
-          (to (λ z. omega arith) (omega arith) (λ v. record {
+          (to tt (omega arith) (λ v. record {
             follows = λ a b. absurd (omega arith);
             unmarked = λ a. absurd (omega arith);
             plain = λ a. let f : node_link ws l.curr ≡ 2 * l.succ = v.unmarked refl in omega arith;
@@ -274,7 +226,7 @@ module _ {sz : Sizes} {ws : List ℕ} {used : ℕ → ℕ} {t : ℕ} {vs : ℕ �
     from_5 : Row (record l { pc = 5 })
     from_5 = (
       inr (omega arith),
-      to (λ z. omega arith) (omega arith)
+      to tt (omega arith)
           (λ v. at_pred (node_link (slice_set ws (key_index (own_slot l)) (target l.call))) (record l { pc = 6 })
           (omega arith, omega arith, λ z. omega arith)
           (link_after_key ws (own_slot l) (target l.call) l.pred ∙ v.follows (omega arith) (omega arith))) (omega arith),
@@ -285,7 +237,7 @@ module _ {sz : Sizes} {ws : List ℕ} {used : ℕ → ℕ} {t : ℕ} {vs : ℕ �
         let own_is : own_slot l ≡ own_of sz.quota t used = rw (h.registers.thread, h.registers.quota, h.counts) refl in
         let other : l.pred ≢ own_slot l = rw own_is (no_own true sz ws used h.memory t l.pred h.in_threads room p) in (
           inr (omega arith),
-          to (λ z. omega arith) (omega arith)
+          to tt (omega arith)
               (λ v. at_pred (node_link (slice_set ws (link_index (own_slot l)) (2 * l.curr))) (record l { pc = 7 })
               (omega arith, omega arith, λ z. omega arith)
               (link_after_link ws (own_slot l) (2 * l.curr) l.pred other ∙ v.follows (omega arith) (omega arith))) (omega arith),
@@ -295,14 +247,14 @@ module _ {sz : Sizes} {ws : List ℕ} {used : ℕ → ℕ} {t : ℕ} {vs : ℕ �
     from_7 = (
       inr (omega arith),
       by_exchange (From 7) ws (link_index l.pred) (2 * l.curr) (2 * own_slot l)
-          (λ z. ends) (λ z. again (λ v. z (v.follows (omega arith) (omega arith)))),
+          (λ z. ends) (λ z. starts_again (λ v. z (v.follows (omega arith) (omega arith)))),
     )
 
     -- a remove looks at the link of its node, and marks it
     from_8 : Row (record l { pc = 8 })
     from_8 = (
       inr (omega arith),
-      to (λ z. omega arith) (omega arith) (λ v. record {
+      to tt (omega arith) (λ v. record {
         follows = λ a b. absurd (omega arith);
         unmarked = λ a. absurd (omega arith);
         plain = λ a. absurd (omega arith);
@@ -315,10 +267,13 @@ module _ {sz : Sizes} {ws : List ℕ} {used : ℕ → ℕ} {t : ℕ} {vs : ℕ �
     from_9 = (
       inr (omega arith),
       by_exchange (From 9) ws (link_index l.curr) (2 * l.succ) (2 * l.succ + 1)
-          (λ z. to (λ z. omega arith) (omega arith) (λ v. outside (node_link (slice_set ws (link_index l.curr) (2 * l.succ + 1)))
+          (λ z. to tt (omega arith) (λ v. outside (node_link (slice_set ws (link_index l.curr) (2 * l.succ + 1)))
           (record l { pc = 10 }) (λ a b. omega arith) (λ a. absurd (omega arith))) (omega arith))
-          (λ z. again (λ v. z (v.same refl))),
+          (λ z. starts_again (λ v. z (v.same refl))),
     )
+
+    both : {A B : Type 0} → A → B → A × B
+    both a b = (a, b)
 
     -- a contains or a ceiling
     read : (n : ℕ) {f : Fed} → IsReadRow n → Reads (round size) size key ws (record l { pc = n }) f → From n ws f
@@ -331,32 +286,18 @@ module _ {sz : Sizes} {ws : List ℕ} {used : ℕ → ℕ} {t : ℕ} {vs : ℕ �
     )
 
     reads : Reading vs first now done l → Row l
-    reads (reads20 e d c a) = at_row Row l 20 e (inr (omega arith), read 20 (inl refl) (from_20 h key agrees (round size) (omega arith) a))
-    reads (reads21 e d c a) = at_row Row l 21 e (
-      inr (omega arith),
-      read 21 (inr (inl refl))
-          (from_21 h key agrees (round size) (omega arith)),
-    )
-    reads (reads22 e d c a) = at_row Row l 22 e (
-      inr (omega arith),
-      read 22 (inr (inr (inl refl)))
-          (from_22 h key agrees (round size) (omega arith)),
-    )
-    reads (reads23 e d c a) = at_row Row l 23 e (
-      inr (omega arith),
-      read 23 (inr (inr (inr (inl refl))))
-          (from_23 h key agrees (round size) (omega arith) a),
-    )
-    reads (reads24 e d c a) = at_row Row l 24 e (
-      inr (omega arith),
-      read 24 (inr (inr (inr (inr (inl refl)))))
-          (from_24 h key agrees (round size) (omega arith)),
-    )
-    reads (reads25 e d c a) = at_row Row l 25 e (
-      inr (omega arith),
-      read 25 (inr (inr (inr (inr (inr refl)))))
-          (from_25 h key agrees (round size) (omega arith)),
-    )
+    reads (reads20 e d c a) = at_row Row l 20 e (both (inr (omega arith)) (read 20 (inl refl)
+        (from_20 h key agrees (round size) (omega arith) a)))
+    reads (reads21 e d c a) = at_row Row l 21 e (both (inr (omega arith)) (read 21 (inr (inl refl))
+        (from_21 h key agrees (round size) (omega arith))))
+    reads (reads22 e d c a) = at_row Row l 22 e (both (inr (omega arith)) (read 22 (inr (inr (inl refl)))
+        (from_22 h key agrees (round size) (omega arith))))
+    reads (reads23 e d c a) = at_row Row l 23 e (both (inr (omega arith)) (read 23 (inr (inr (inr (inl refl))))
+        (from_23 h key agrees (round size) (omega arith) a)))
+    reads (reads24 e d c a) = at_row Row l 24 e (both (inr (omega arith)) (read 24 (inr (inr (inr (inr (inl refl)))))
+        (from_24 h key agrees (round size) (omega arith))))
+    reads (reads25 e d c a) = at_row Row l 25 e (both (inr (omega arith)) (read 25 (inr (inr (inr (inr (inr refl)))))
+        (from_25 h key agrees (round size) (omega arith))))
 
     -- succ comes after curr
     rises_at : Was vs first now l.curr l.succ t (used t) (λ v. v.link l.curr % 2 ≡ 0) → l.curr ≢ 1
@@ -383,8 +324,9 @@ module _ {sz : Sizes} {ws : List ℕ} {used : ℕ → ℕ} {t : ℕ} {vs : ℕ �
         let even : node_link ws 0 % 2 ≡ 0 = h.head_plain in
         at_row Row l 1 e (
           inr (omega arith),
-          to (λ z. omega arith) (omega arith) (λ v. at_pred (node_link ws)
-              (record l { pc = 2; pred = 0; curr = node_link ws 0 / 2 }) (omega arith, omega arith, λ z. omega arith) (omega arith))
+          to tt (omega arith) (λ v. at_pred (node_link ws)
+              (record l { pc = 2; pred = 0; curr = node_link ws 0 / 2 }) (omega arith, omega arith, λ z. omega arith)
+              (omega arith))
               (omega arith),
         )
     row (at2 e d s k) = at_row Row l 2 e (from_2 s.curr_published)

@@ -149,7 +149,8 @@ module _ (q count t : ℕ) (vs : ℕ → View) (first now : ℕ) (done : Bool) (
   answers_at ch None e a = absurd (a e)
   answers_at ch (Some r) e a = (r, refl)
 
-  moved_by : (v w : View) (ch : Option (Key × Bool)) → Move true v w ch → MayChange q count l.call done ch → (answer : Option Reply) → After ch w answer → Ends l.call answer ⊎ Stepped v w l'
+  moved_by : (v w : View) (ch : Option (Key × Bool)) → Move true v w ch → MayChange q count l.call done ch
+      → (answer : Option Reply) → After ch w answer → Ends l.call answer ⊎ Stepped v w l'
   moved_by v w ch (quiet x) may answer known_then = inr (still x)
   moved_by v w ch (clears pred curr x odd) may answer known_then = inr (unlinks pred curr x)
   moved_by v w ch (removes pred curr k bare x even user is) may answer known_then = absurd (let z : true ≡ false = bare in cc)

@@ -1,7 +1,7 @@
--- That LockFreeList is lock-free. While no call ends, no node is put in, so that each thread marks at most one node, and each node is
--- taken out at most once; between two such exchanges each thread has the steps of its walk and of one more.
-use Rattle.std.specs.Prelude.{◌≡◌, ◌≢◌, ℕ, ◌+◌, ◌*◌, ◌%◌, ◌<◌, ◌≤◌, ◌⊎◌, Bool, true, false, List, if◌then◌else◌, ◌==◌, refl}
-use Rattle.std.proofs.Common.{arith, inl, inr, sym, ◌∙◌, ap, subst, zero, suc}
+-- That LockFreeList is lock-free. While no call ends, no node is put in, so that each thread marks at most one node, and each
+-- node is taken out at most once; between two such exchanges each thread has the steps of its walk and of one more.
+use Rattle.std.specs.Prelude.{◌≡◌, ◌≢◌, ℕ, ◌+◌, ◌*◌, ◌%◌, ◌<◌, ◌≤◌, ◌⊎◌, Bool, true, List, if◌then◌else◌, ◌==◌, refl}
+use Rattle.std.proofs.Common.{arith, inl, inr, sym, ◌∙◌, ap, subst, suc}
 use Rattle.lset_words.proofs.Numbers.{same_or_not, if_same, if_other}
 use Rattle.lset_words.specs.declared.Call.{Call}
 use Rattle.lset_words.specs.declared.Call.TheVariants as call
@@ -21,19 +21,19 @@ use Rattle.lset_steps.proofs.QuietMove.{in_chain_published, quiet_back, quiet_ke
 use Rattle.lset_steps.proofs.UnlinkMove.{unlink_back, unlink_curr}
 use Rattle.lset_lock_free.specs.LockFree.{lock_free}
 use Rattle.lset_lock_free.specs.Lawful.{lock_free_lawful}
-use Rattle.lset_progress.specs.Progress.{IsCeiling, Answers, IsLockFree, SomeEnds, counted, steps_of, steps_among}
-use Rattle.lset_progress.specs.Progress.{lock_free_steps, lock_free_window}
+use Rattle.lset_progress.specs.Progress.{IsCeiling, Answers, IsLockFree, counted, steps_of, lock_free_steps, lock_free_window}
 use Rattle.lset_progress.proofs.Holders.{one_or_more}
 use Rattle.lset_progress.proofs.LockFreeAlone.{Timed, Valid, shape, round, left, full_time, own_step}
-use Rattle.lset_progress.proofs.LockFreeSteps.{IsUpdate, Known, Place, Stepped, known, place_of, walk_at, ceiling_at_marks, step_is}
-use Rattle.lset_progress.proofs.LockFreeSteps.{same_call, keys_on}
+use Rattle.lset_progress.proofs.LockFreeSteps.{IsUpdate, Known, Place, Stepped, known, place_of, walk_at, ceiling_at_marks}
+use Rattle.lset_progress.proofs.LockFreeSteps.{step_is, same_call, keys_on}
 use Rattle.lset_progress.proofs.LockFreeSteps.Stepped.{still, marks, unlinks}
 use Rattle.lset_progress.proofs.Rest.{SameKeys}
-use Rattle.lset_progress.proofs.Rows.{no_time}
-use Rattle.lset_progress.proofs.Totals.{total, total_less, total_all, total_at, total_step}
+use Rattle.lset_progress.proofs.Rows.{no_time, timed_more}
+use Rattle.lset_progress.proofs.Totals.{total, total_less, total_all, total_at, total_step, one_price, put, put_this, put_that}
+use Rattle.lset_progress.proofs.Windows.{Then, some_ends, counted_or_not}
 
--- WHAT A THREAD HAS LEFT: a call that counts its walk, and one more where others have disturbed it; and whoever is to begin such a
--- call the most
+-- WHAT A THREAD HAS LEFT: a call that counts its walk, and one more where others have disturbed it; and whoever is to begin such
+-- a call the most
 abbrev Fits : Bool → Sizes → (ℕ → ℕ) → List ℕ → ℕ → Local → Type 0
 Fits reads sz key ws m l = (lock_free_steps sz ≤ m)
     ⊎ ((l.pc ≢ 0) × (counted reads l.call ≡ 1) × Timed (node_count sz) key ws m l)
@@ -41,14 +41,6 @@ Fits reads sz key ws m l = (lock_free_steps sz ≤ m)
 -- what an exchange that succeeds may cost the threads
 abbrev price : Sizes → ℕ
 price sz = sz.threads * round (node_count sz)
-
-one_price : (c a b : ℕ) → a + 1 ≤ b → c * a + c ≤ c * b
-one_price zero a b l = omega arith
-one_price (suc c) a b l =
-    let h : c * a + c ≤ c * b = one_price c a b l in
-    let x : suc c * a ≡ c * a + a = grind arith in
-    let y : suc c * b ≡ c * b + b = grind arith in
-    omega arith
 
 record Phase (reads : Bool) (sz : Sizes) (s : State) (p : ℕ) : Type 0 where
   key : ℕ → ℕ
@@ -62,24 +54,6 @@ record Phase (reads : Bool) (sz : Sizes) (s : State) (p : ℕ) : Type 0 where
   nodes : (a : ℕ) → a < node_count sz → InChain (view_of sz s) a → may_leave a ≡ 1
   within : price sz * (total may_leave (node_count sz) + total may_mark sz.threads) + total time sz.threads ≤ p
 
--- the number given for one of them
-abbrev put : (ℕ → ℕ) → ℕ → ℕ → ℕ → ℕ
-put b u n t = if t == u then n else b t
-
-put_this : (b : ℕ → ℕ) (u n : ℕ) → put b u n u ≡ n
-put_this b u n = if_same u u refl n (b u)
-
-put_that : (b : ℕ → ℕ) (u n t : ℕ) → t ≢ u → put b u n t ≡ b t
-put_that b u n t d = if_other t u d n (b t)
-
--- whether the steps of a call count
-counted_or_not : (reads : Bool) (c : Call) → (counted reads c ≡ 0) ⊎ (counted reads c ≡ 1)
-counted_or_not reads (call.Add k) = inr refl
-counted_or_not reads (call.Remove k) = inr refl
-counted_or_not true (call.Contains k) = inr refl
-counted_or_not false (call.Contains k) = inl refl
-counted_or_not reads (call.Ceiling k) = inl refl
-
 no_ceiling : (reads : Bool) (c : Call) → counted reads c ≡ 1 → IsCeiling c → ⊥
 no_ceiling reads (call.Add k) e i = i
 no_ceiling reads (call.Remove k) e i = i
@@ -89,10 +63,6 @@ no_ceiling reads (call.Ceiling k) e i = omega arith
 update_counts : (reads : Bool) (c : Call) → IsUpdate c → counted reads c ≡ 1
 update_counts reads c (inl x) = subst (λ z. counted reads z ≡ 1) (sym x.1) refl
 update_counts reads c (inr x) = subst (λ z. counted reads z ≡ 1) (sym x.1) refl
-
-timed_more : (size : ℕ) (key : ℕ → ℕ) (ws : List ℕ) (l : Local) (n m : ℕ) → n ≤ m → Timed size key ws n l → Timed size key ws m l
-timed_more size key ws l n m le (inl v) = let h : left size key l < n = v.1 in inl (v.0, omega arith)
-timed_more size key ws l n m le (inr h) = inr (omega arith)
 
 -- WHAT THE STEPS OF THE OTHERS LEAVE of a thread's time
 module _ (reads : Bool) (sz : Sizes) (s s' : State) (done : Bool) (l : Local) (x : Quiet (view_of sz s) (view_of sz s'))
@@ -132,8 +102,10 @@ fits_later reads sz key ws ws' m l (inr f) = inr (
 )
 
 -- AT A BEGIN nothing is lost
-module _ (reads : Bool) (op : Opening) (last k : ℕ) (es : ℕ → Event) (r : Run lock_free op es last) (upto : k ≤ last) (t : ℕ) (c : Call)
-    (en : Enabled (state_at lock_free op es k) (Begin t c)) (p : ℕ) (f : Phase reads (sizes op) (state_at lock_free op es k) p) where
+module _ (reads : Bool) (op : Opening) (last k : ℕ) (es : ℕ → Event) (r : Run lock_free op es last) (upto : k ≤ last) (t : ℕ)
+    (c : Call)
+    (en : Enabled (state_at lock_free op es k) (Begin t c)) (p : ℕ)
+    (f : Phase reads (sizes op) (state_at lock_free op es k) p) where
   abbrev B : State
   B = state_at lock_free op es k
 
@@ -240,7 +212,8 @@ module _ (reads : Bool) (op : Opening) (last k : ℕ) (es : ℕ → Event) (r : 
       | inr h ↦ absurd (let one : counted reads (local_of S t).call ≡ 1 = h.1 in omega arith)
     ]
     | inr one ↦ elim (f.times t tn) [
-      | inl h ↦ counts_down one (timed_more size f.key S.words (local_of S t) (lock_free_steps (sizes op)) (f.time t) h
+      | inl h ↦ counts_down one (timed_more shape size f.key (node_link S.words) (local_of S t) (lock_free_steps (sizes op))
+          (f.time t) h
           (full_time op last k es r (omega arith) f.key f.agrees t tn en.1))
       | inr h ↦ counts_down one h.2
     ]
@@ -262,8 +235,10 @@ module _ (reads : Bool) (op : Opening) (last k : ℕ) (es : ℕ → Event) (r : 
         → Fits reads (sizes op) f.key S'.words (time_then more u) (local_of S' u)
     times_then more others u un = elim (same_or_not u t) [
       | inl y ↦ subst (λ z. Fits reads (sizes op) f.key S'.words (time_then more z) (local_of S' z)) (sym y)
-          (subst (λ n. Fits reads (sizes op) f.key S'.words n (local_of S' t)) (sym (if_same t t refl o.left_now (f.time t + more))) o.fits)
-      | inr y ↦ subst (λ n. Fits reads (sizes op) f.key S'.words n (local_of S' u)) (sym (if_other u t y o.left_now (f.time u + more)))
+          (subst (λ n. Fits reads (sizes op) f.key S'.words n (local_of S' t))
+          (sym (if_same t t refl o.left_now (f.time t + more))) o.fits)
+      | inr y ↦ subst (λ n. Fits reads (sizes op) f.key S'.words n (local_of S' u))
+          (sym (if_other u t y o.left_now (f.time u + more)))
           (subst (λ l. Fits reads (sizes op) f.key S'.words (f.time u + more) l) (sym (other_same u y)) (others u un y))
     ]
 
@@ -312,19 +287,22 @@ module _ (reads : Bool) (op : Opening) (last k : ℕ) (es : ℕ → Event) (r : 
         total_then 0 in
         let b = f.within in omega arith)
         (λ u un d. subst (λ n. Fits reads (sizes op) f.key S'.words n (local_of S u)) (omega arith)
-        (fits_on reads (sizes op) S S' (has_changed (log_of lock_free op es) u k) (local_of S u) q (place_of (i.threads u un).at) f.key
+        (fits_on reads (sizes op) S S' (has_changed (log_of lock_free op es) u k) (local_of S u) q
+        (place_of (i.threads u un).at) f.key
         (f.time u) (f.times u un)))
         markers_then
         (λ a an ia. f.nodes a an (quiet_keeps W V (quiet-ordered V W i.memory.ordered q) (quiet_back V W q) a ia))
 
     -- an exchange that succeeds is paid for by one mark or node less
-    disturbs : (mark leave : ℕ → ℕ) → total leave size + total mark op.threads + 1 ≤ total f.may_leave size + total f.may_mark op.threads
+    disturbs : (mark leave : ℕ → ℕ) → total leave size + total mark op.threads + 1 ≤ total f.may_leave size + total f.may_mark
+        op.threads
         → ((u : ℕ) → u < op.threads → (local_of S' u).pc ≢ 10 → mark u ≡ 1)
         → ((a : ℕ) → a < size → InChain W a → leave a ≡ 1) → Later
     disturbs mark leave less markers nodes = later (round size) mark leave
         (let m : price (sizes op) * (total leave size + total mark op.threads) + price (sizes op)
         ≤ price (sizes op) * (total f.may_leave size + total f.may_mark op.threads) =
-        one_price (price (sizes op)) (total leave size + total mark op.threads) (total f.may_leave size + total f.may_mark op.threads)
+        one_price (price (sizes op)) (total leave size + total mark op.threads)
+        (total f.may_leave size + total f.may_mark op.threads)
         less in
         let a : total (time_then (round size)) op.threads + counted reads (local_of S t).call
         ≤ total f.time op.threads + price (sizes op) = total_then (round size) in
@@ -332,7 +310,7 @@ module _ (reads : Bool) (op : Opening) (last k : ℕ) (es : ℕ → Event) (r : 
 
     marking : (b j : ℕ) → Marks V W b j → (local_of S' t).pc ≡ 10 → Later
     marking b j q ten =
-        let fewer : total (put f.may_mark t 0) op.threads + 1 ≡ total f.may_mark op.threads =
+        let fewer : total (put f.may_mark t 0) op.threads + 1 ≤ total f.may_mark op.threads =
         total_less f.may_mark (put f.may_mark t 0) op.threads t tn
         (let e : put f.may_mark t 0 t ≡ 0 = put_this f.may_mark t 0 in
         let g : f.may_mark t ≡ 1 = f.markers t tn marked in omega arith)
@@ -349,7 +327,7 @@ module _ (reads : Bool) (op : Opening) (last k : ℕ) (es : ℕ → Event) (r : 
         let was : InChain V curr = unlink_curr V W i.memory.ordered pred curr q in
         let inn : curr < node_count (sizes op) = inside true (sizes op) S.words (used_in S) i.memory curr
         (in_chain_published V i.memory.ordered curr was) in
-        let fewer : total (put f.may_leave curr 0) size + 1 ≡ total f.may_leave size =
+        let fewer : total (put f.may_leave curr 0) size + 1 ≤ total f.may_leave size =
         total_less f.may_leave (put f.may_leave curr 0) size curr inn
         (let e : put f.may_leave curr 0 curr ≡ 0 = put_this f.may_leave curr 0 in
         let g : f.may_leave curr ≡ 1 = f.nodes curr inn was in omega arith)
@@ -374,14 +352,11 @@ module _ (reads : Bool) (op : Opening) (last k : ℕ) (es : ℕ → Event) (r : 
 
 -- A RUN of which so many steps count
 module _ (reads : Bool) (op : Opening) (last : ℕ) (es : ℕ → Event) (r : Run lock_free op es last) where
-  abbrev Then : ℕ → ℕ → Event → Type 0
-  Then k p e = ((t : ℕ) × (e ≡ Go t) × Answers lock_free (state_at lock_free op es k) t
-      × (counted reads (local_of (state_at lock_free op es k) t).call ≡ 1))
-      ⊎ ((p' : ℕ) × (p' + steps_of reads (state_at lock_free op es k) e ≤ p)
-      × Phase reads (sizes op) (after lock_free (state_at lock_free op es k) e) p')
+  abbrev Event' : ℕ → ℕ → Event → Type 0
+  Event' k p e = Then lock_free (steps_of reads) op es (Phase reads (sizes op)) k p e
 
   one_event : (k p : ℕ) → k < last → Phase reads (sizes op) (state_at lock_free op es k) p → (e : Event)
-      → Enabled (state_at lock_free op es k) e → Then k p e
+      → Enabled (state_at lock_free op es k) e → Event' k p e
   one_event k p l f (Begin t c) en = inr (p, omega arith, begins reads op last k es r (omega arith) t c en p f)
   one_event k p l f (Go t) en = elim (goes reads op last k es r l t en p f) [
     | inl a ↦ inl (t, refl, a.0, a.1)
@@ -395,44 +370,18 @@ module _ (reads : Bool) (op : Opening) (last : ℕ) (es : ℕ → Event) (r : Ru
       let w : price (sizes op) * (total f.may_leave (node_count (sizes op)) + total f.may_mark op.threads)
       + total f.time op.threads ≤ 0 = f.within in
       let z : f.time 0 ≡ 0 = omega arith in
-      elim (subst (λ n. Fits reads (sizes op) f.key (state_at lock_free op es k).words n (local_of (state_at lock_free op es k) 0)) z
+      elim (subst (λ n. Fits reads (sizes op) f.key (state_at lock_free op es k).words n
+      (local_of (state_at lock_free op es k) 0)) z
       (f.times 0 some)) [
         | inl g ↦ omega arith
         | inr g ↦ no_time shape (node_count (sizes op)) f.key (node_link (state_at lock_free op es k).words)
             (local_of (state_at lock_free op es k) 0) g.2
       ]
 
-  through : (n k p : ℕ) → k + n ≤ last → Phase reads (sizes op) (state_at lock_free op es k) p
-      → p ≤ steps_among reads lock_free op es k n → SomeEnds reads lock_free op es k n
-  through zero k p l f h =
-      let z : p ≡ 0 = omega arith in
-      absurd (none_left k (omega arith) (subst (λ x. Phase reads (sizes op) (state_at lock_free op es k) x) z f))
-  through (suc n) k p l f h = elim (one_event k p (omega arith) f (es k) (r.enabled k (omega arith))) [
-    | inl a ↦ record {
-      at = k;
-      from = omega arith;
-      before = omega arith;
-      thread = a.0;
-      own = a.1;
-      counts = a.3;
-      ends = a.2;
-    }
-    | inr x ↦
-        (let less : x.0 + steps_of reads (state_at lock_free op es k) (es k) ≤ p = x.1 in
-        let e : SomeEnds reads lock_free op es (suc k) n = through n (suc k) x.0 (omega arith) x.2 (omega arith) in record {
-          at = e.at;
-          from = (let g : suc k ≤ e.at = e.from in omega arith);
-          before = (let g : e.at < suc k + n = e.before in omega arith);
-          thread = e.thread;
-          own = e.own;
-          counts = e.counts;
-          ends = e.ends;
-        })
-  ]
-
   starts : (k : ℕ) → Phase reads (sizes op) (state_at lock_free op es k) (lock_free_window (sizes op))
   starts k =
-      let a : total (λ b. 1) (node_count (sizes op)) ≡ node_count (sizes op) = total_all 1 (node_count (sizes op)) ∙ (omega arith) in
+      let a : total (λ b. 1) (node_count (sizes op)) ≡ node_count (sizes op) = total_all 1 (node_count (sizes op))
+      ∙ (omega arith) in
       let b : total (λ u. 1) op.threads ≡ op.threads = total_all 1 op.threads ∙ (omega arith) in
       let c : total (λ u. lock_free_steps (sizes op)) op.threads ≡ op.threads * lock_free_steps (sizes op) =
       total_all (lock_free_steps (sizes op)) op.threads in
@@ -450,4 +399,6 @@ module _ (reads : Bool) (op : Opening) (last : ℕ) (es : ℕ → Event) (r : Ru
 
 pub lock_free_is_lock_free : IsLockFree lock_free lock_free_window
 lock_free_is_lock_free reads op k n es r h =
-    through reads op (k + n) es r n k (lock_free_window (sizes op)) (omega arith) (starts reads op (k + n) es r k) h
+    some_ends lock_free (steps_of reads) op es (Phase reads (sizes op)) (k + n)
+    (λ j p l f. one_event reads op (k + n) es r j p l f (es j) (r.enabled j l)) (none_left reads op (k + n) es r)
+    n k (lock_free_window (sizes op)) (omega arith) (starts reads op (k + n) es r k) h

@@ -64,8 +64,10 @@ module _ (round size : ℕ) (key : ℕ → ℕ) (ws : List ℕ) where
     ];
   })
 
-module _ {marks : Bool} {At : Outline} {sz : Sizes} {ws : List ℕ} {used : ℕ → ℕ} {t : ℕ} {vs : ℕ → View} {first now : ℕ} {done : Bool}
-    {l : Local} (h : Standing marks At sz ws used t vs first now done l) (key : ℕ → ℕ) (same : SameKeys key (view sz ws used)) (round : ℕ)
+module _ {marks : Bool} {At : Outline} {sz : Sizes} {ws : List ℕ} {used : ℕ → ℕ} {t : ℕ} {vs : ℕ → View} {first now : ℕ}
+    {done : Bool}
+    {l : Local} (h : Standing marks At sz ws used t vs first now done l) (key : ℕ → ℕ) (same : SameKeys key (view sz ws used))
+    (round : ℕ)
     (enough : 2 * node_count sz ≤ round) where
   abbrev size : ℕ
   size = node_count sz
@@ -95,7 +97,8 @@ module _ {marks : Bool} {At : Outline} {sz : Sizes} {ws : List ℕ} {used : ℕ 
       on round size key ws (inr (inl refl)) (λ z. omega arith) (λ v. tt) (omega arith)
 
   pub from_21 : Row 21
-  from_21 = by_below (From 21) (node_key ws l.curr) (target l.call) (λ lt. on round size key ws (inl refl) (λ z. omega arith) (λ v. tt)
+  from_21 = by_below (From 21) (node_key ws l.curr) (target l.call)
+      (λ lt. on round size key ws (inl refl) (λ z. omega arith) (λ v. tt)
       (omega arith))
       (λ ge. by_same (From 21) (node_key ws l.curr) (target l.call)
       (λ e. on round size key ws (inr (inr (inl refl))) (λ z. omega arith) (λ v. tt) (omega arith)) (λ d. inl (False, refl)))
@@ -122,7 +125,11 @@ module _ {marks : Bool} {At : Outline} {sz : Sizes} {ws : List ℕ} {used : ℕ 
     high = λ z. omega arith;
     near = λ plain n time. elim time [
       | inl v ↦ absurd (d (plain (omega arith) l.curr v.0))
-      | inr lt ↦ inl (no_steps (node_link ws) 0, (let head : rest_by size key 0 < size = few_by size key 0 (omega arith) in omega arith))
+      | inr lt ↦ inl (
+        no_steps (node_link ws) 0,
+        (let head : rest_by size key 0 < size = few_by size key 0 (omega arith) in
+            omega arith),
+      )
     ];
   }))
 

@@ -1,6 +1,6 @@
 -- What is left of a walk at a node, and that writes of locks leave it.
-use Rattle.std.specs.Prelude.{◌≡◌, ◌≢◌, ℕ, ◌/◌, ◌<◌, ◌⊎◌, Bool, List, slice_index, slice_set}
-use Rattle.std.proofs.Common.{arith, inl, inr, ◌∙◌, ap, refl}
+use Rattle.std.specs.Prelude.{◌≡◌, ◌≢◌, ℕ, ◌/◌, ◌<◌, Bool, List, slice_index, slice_set}
+use Rattle.std.proofs.Common.{arith, inl, inr, sym, subst, refl}
 use Rattle.lset_words.proofs.Numbers.{same_or_not, if_same, if_other}
 use Rattle.lset_words.specs.Words.{node_count, Sizes}
 use Rattle.lset_steps.specs.declared.Action.TheVariants.{Exchange}
@@ -43,30 +43,15 @@ module _ (marks : Bool) (sz : Sizes) (ws : List ℕ) (used : ℕ → ℕ) (m : M
   pub fewer : (a : ℕ) → V.published a → a ≢ 1 → rest (node_count sz) ws (node_link ws a / 2) < rest (node_count sz) ws a
   fewer a p d = fewer_by (node_key ws) (λ b q. refl) a p d
 
--- writes of a lock
-module _ (ws : List ℕ) (x v : ℕ) (is : IsLockWord x) where
-  pub keys_stay : node_key (slice_set ws x v) ≡ node_key ws
-  keys_stay = λ j a. key_after_lock ws x v a is j
+-- a write of a lock leaves keys and links, and so does a try of one
+abbrev pub SameList : List ℕ → List ℕ → Type 0
+SameList ws ws' = (node_key ws' ≡ node_key ws) × (node_link ws' ≡ node_link ws)
 
-  pub links_stay : node_link (slice_set ws x v) ≡ node_link ws
-  links_stay = λ j a. link_after_lock ws x v a is j
+pub stay : (ws : List ℕ) (x v : ℕ) → IsLockWord x → SameList ws (slice_set ws x v)
+stay ws x v is = (λ j a. key_after_lock ws x v a is j, λ j a. link_after_lock ws x v a is j)
 
--- and tries of one
-module _ (ws : List ℕ) (x o v : ℕ) (is : IsLockWord x) where
-  tried_or_not : (left_by ws (Exchange x o v) ≡ slice_set ws x v) ⊎ (left_by ws (Exchange x o v) ≡ ws)
-  tried_or_not = elim (same_or_not (slice_index ws x) o) [
-    | inl e ↦ inl (if_same (slice_index ws x) o e (slice_set ws x v) ws)
-    | inr d ↦ inr (if_other (slice_index ws x) o d (slice_set ws x v) ws)
-  ]
-
-  pub keys_tried : node_key (left_by ws (Exchange x o v)) ≡ node_key ws
-  keys_tried = elim tried_or_not [
-    | inl e ↦ ap (λ y. node_key y) e ∙ keys_stay ws x v is
-    | inr e ↦ ap (λ y. node_key y) e
-  ]
-
-  pub links_tried : node_link (left_by ws (Exchange x o v)) ≡ node_link ws
-  links_tried = elim tried_or_not [
-    | inl e ↦ ap (λ y. node_link y) e ∙ links_stay ws x v is
-    | inr e ↦ ap (λ y. node_link y) e
-  ]
+pub tried : (ws : List ℕ) (x o v : ℕ) → IsLockWord x → SameList ws (left_by ws (Exchange x o v))
+tried ws x o v is = elim (same_or_not (slice_index ws x) o) [
+  | inl e ↦ subst (λ ws'. SameList ws ws') (sym (if_same (slice_index ws x) o e (slice_set ws x v) ws)) (stay ws x v is)
+  | inr d ↦ subst (λ ws'. SameList ws ws') (sym (if_other (slice_index ws x) o d (slice_set ws x v) ws)) (refl, refl)
+]

@@ -1,8 +1,9 @@
 -- WHAT A LIST WITH LOCKS SHOWS OF EACH ROW, once: which locks a thread holds behind it, and how much is left of its call. From
 -- these rows follow all laws of progress of the list (LocksAlone).
-use Rattle.std.specs.Prelude.{◌≡◌, ◌≢◌, ℕ, ◌+◌, ◌-◌, ◌/◌, ◌<◌, ◌⊎◌, ◌&&◌, nat_le, not, Bool, true, false, MatchBool, Some, None, List}
-use Rattle.std.specs.Prelude.{slice_index, slice_set}
-use Rattle.std.proofs.Common.{arith, inl, inr, subst, sym, suc, refl}
+use Rattle.std.specs.Prelude.{◌≡◌, ◌≢◌, ℕ, ◌+◌, ◌-◌, ◌/◌, ◌<◌, ◌≤◌, ◌⊎◌, ◌&&◌, nat_le, nat_lt, Bool, true, false, MatchBool}
+use Rattle.std.specs.Prelude.{Some, None, List, slice_index, slice_set}
+use Rattle.std.proofs.Common.{arith, inl, inr, subst, sym, ap, suc, refl}
+use Rattle.lset_words.proofs.Numbers.{lower_number}
 use Rattle.lset_words.specs.declared.Reply.{Reply}
 use Rattle.lset_words.specs.Words.{lock_index, word_count, Sizes}
 use Rattle.lset_steps.specs.declared.Action.{Action}
@@ -27,14 +28,6 @@ When b A = MatchBool b A (Unit {0})
 
 abbrev pub Only : Bool → Type 0
 Only b = MatchBool b (Unit {0}) ⊥
-
-pub when : {A : Type 0} (b : Bool) → (b ≡ true → A) → When b A
-when true f = f refl
-when false f = tt
-
-pub only_when : (A : Type 0) (b : Bool) → Only b → When (not b) A
-only_when A true h = tt
-only_when A false h = absurd h
 
 -- the lock of pred at the rows P, that of curr at the rows C
 abbrev pub NodeLocks : (ℕ → Bool) → (ℕ → Bool) → Local → ℕ → Type 0
@@ -61,16 +54,22 @@ gave_curr d (inr c) = absurd (d c.0)
 abbrev pub rank : ℕ → List ℕ → ℕ → ℕ
 rank size ws w = rest size ws (w / 3 - 1)
 
-pub ranked : (size : ℕ) (ws : List ℕ) (a b x : ℕ) → x ≡ lock_index b → rest size ws a < rest size ws b
+ranked : (size : ℕ) (ws : List ℕ) (a b x : ℕ) → x ≡ lock_index b → rest size ws a < rest size ws b
     → rank size ws (lock_index a) < rank size ws x
 ranked size ws a b x e less =
     let here : lock_index a / 3 - 1 ≡ a = omega arith in
     let there : x / 3 - 1 ≡ b = omega arith in
     subst (λ i. rest size ws i < rank size ws x) (sym here) (subst (λ i. rest size ws a < rest size ws i) (sym there) less)
 
--- WHAT A LIST COUNTS: the lock words that a thread may hold; that its call is behind its decision, from where it tries no lock; what
--- its next step asks of the words; that its walk is valid, by the links; how many steps are left behind the next one of a valid walk,
--- by the number of nodes and their keys; and how many those of another walk are
+-- who has only the lock of pred comes to that of curr
+pub after_pred : {A : Type 0} (size : ℕ) (ws : List ℕ) (curr pred x : ℕ) → rest size ws curr < rest size ws pred
+    → ((x ≡ lock_index pred) × Unit {0}) ⊎ (A × ⊥) → rank size ws (lock_index curr) < rank size ws x
+after_pred size ws curr pred x less (inl p) = ranked size ws curr pred x p.0 less
+after_pred size ws curr pred x less (inr c) = absurd c.1
+
+-- WHAT A LIST COUNTS: the lock words that a thread may hold; that its call is behind its decision, from where it tries no lock;
+-- what its next step asks of the words; that its walk is valid, by the links; how many steps are left behind the next one of a
+-- valid walk, by the number of nodes and their keys; and how many those of another walk are
 pub record Shape : Type 1 where
   pub may : Local → ℕ → Type 0
   pub late : Local → Type 0
@@ -78,6 +77,10 @@ pub record Shape : Type 1 where
   pub valid : (ℕ → ℕ) → Local → Type 0
   pub left : ℕ → (ℕ → ℕ) → Local → ℕ
   pub round : ℕ → ℕ
+
+-- behind a decision fewer than n steps are left, whatever the words are
+abbrev pub LateBy : Shape → ℕ → Local → Type 0
+LateBy S n l = S.late l × (S.left 0 (λ a. 0) l < n)
 
 abbrev pub Any : ℕ → Type 0
 Any x = Unit {0}
@@ -95,6 +98,10 @@ module _ (S : Shape) (size : ℕ) where
   timed_same ws ws' n l keys links h = subst (λ k. TimedBy k (node_link ws') n l) (sym keys)
       (subst (λ f. TimedBy (node_key ws) f n l) (sym links) h)
 
+  pub timed_more : (key link : ℕ → ℕ) (l : Local) (n m : ℕ) → n ≤ m → TimedBy key link n l → TimedBy key link m l
+  timed_more key link l n m le (inl v) = let h : S.left size key l < n = v.1 in inl (v.0, omega arith)
+  timed_more key link l n m le (inr h) = inr (omega arith)
+
   pub no_time : (key link : ℕ → ℕ) (l : Local) → TimedBy key link 0 l → ⊥
   no_time key link l (inl v) = let h : S.left size key l < 0 = v.1 in omega arith
   no_time key link l (inr h) = omega arith
@@ -102,7 +109,7 @@ module _ (S : Shape) (size : ℕ) where
   -- A STEP of l over ws that leaves l' over ws' and ends no call: a walk that is valid stays so, or one that was not is given up
   pub record Goes (key : ℕ → ℕ) (ws : List ℕ) (l : Local) (key' : ℕ → ℕ) (ws' : List ℕ) (l' : Local) : Type 0 where
     pub busy : l'.pc ≢ 0
-    pub late : S.late l → S.late l'
+    pub late : S.late l → LateBy S (S.left 0 (λ a. 0) l) l'
     pub near : S.calm ws l → (n : ℕ) → TimedBy key (node_link ws) (suc n) l → TimedBy key' (node_link ws') n l'
 
   -- and one that is fed f, where only the words O may still be held
@@ -125,47 +132,63 @@ module _ (S : Shape) (size : ℕ) where
       pub own : to ≡ t + 1
       pub early : S.late l → ⊥
       pub last : (x : ℕ) → S.may l x → rank size ws w < rank size ws x
-      pub taken : Loads ws l (T.feed l 0)
+      pub taken : slice_index ws w ≡ 0 → Loads ws l (T.feed l 0)
       pub mine : S.may (T.feed l 0).local w
       pub missed : (seen : ℕ) → seen ≢ 0 → (T.feed l seen).local ≡ l
 
     -- a store of another word comes behind the decision
     abbrev pub RowBy : Action → Type 0
     RowBy (Load w) = Loads ws l (T.feed l (slice_index ws w))
-    RowBy (Store w v) = (Stores ws l w (slice_set ws w v) (T.feed l v) × S.late l × Timed ws 6 l)
+    RowBy (Store w v) = (Stores ws l w (slice_set ws w v) (T.feed l v) × LateBy S 5 l)
         ⊎ (IsLockWord w × Stores ws l w ws (T.feed l v))
     RowBy (Exchange w from to) = Tries w from to
 
-module _ {S : Shape} {size : ℕ} {key : ℕ → ℕ} {ws : List ℕ} {l : Local} {O : ℕ → Type 0} {key' : ℕ → ℕ} {ws' : List ℕ} {l' : Local}
+only_true : (b : Bool) → Only b → b ≡ true
+only_true true h = refl
+only_true false h = absurd h
+
+only_both : (a b : Bool) → Only (a && b) → Only a × Only b
+only_both true b h = (tt, h)
+only_both false b h = absurd h
+
+some_row : (n : ℕ) → Only (nat_lt 0 n) → n ≢ 0
+some_row n h = let low : 0 < n = lower_number 0 n (only_true (nat_lt 0 n) h) in λ z. omega arith
+
+module _ {S : Shape} {size : ℕ} {key : ℕ → ℕ} {ws : List ℕ} {l : Local} {O : ℕ → Type 0} {key' : ℕ → ℕ} {ws' : List ℕ}
+    {l' : Local}
     (keeps : (x : ℕ) → O x → S.may l x → S.may l' x) where
-  pub goes : l'.pc ≢ 0 → (S.late l → S.late l')
-      → (S.calm ws l → S.valid (node_link ws) l → S.valid (node_link ws') l')
-      → S.left size key' l' < S.left size key l
+  -- on to another row,
+  pub goes : Only (nat_lt 0 l'.pc) → (S.late l → LateBy S (S.left 0 (λ a. 0) l) l')
+      → (S.valid (node_link ws) l → S.valid (node_link ws') l') → S.left size key' l' < S.left size key l
       → Then S size key ws l O key' ws' (record { local = l'; answer = None })
   goes busy late valid less = record {
     keeps = keeps;
     then = inr (record {
-      busy = busy;
+      busy = some_row l'.pc busy;
       late = late;
       near = λ calm n time. elim time [
-        | inl v ↦ inl (let h : S.left size key l < suc n = v.1 in (valid calm v.0, omega arith))
+        | inl v ↦ inl (let h : S.left size key l < suc n = v.1 in (valid v.0, omega arith))
         | inr h ↦ inr (omega arith)
       ];
     });
   }
 
-  -- no walk that is valid gives up
-  pub fails : l'.pc ≢ 0 → (S.late l → S.late l')
-      → (S.calm ws l → S.valid (node_link ws) l → ⊥) → S.valid (node_link ws') l'
+  -- before the decision,
+  pub on : Only (nat_lt 0 l'.pc) → (S.late l → ⊥) → (S.valid (node_link ws) l → S.valid (node_link ws') l')
+      → S.left size key' l' < S.left size key l → Then S size key ws l O key' ws' (record { local = l'; answer = None })
+  on busy early valid less = goes busy (λ h. absurd (early h)) valid less
+
+  -- and again from the head, as no walk that is valid does
+  pub again : Only (nat_lt 0 l'.pc) → (S.late l → ⊥) → (S.valid (node_link ws) l → ⊥) → S.valid (node_link ws') l'
       → S.left size key' l' < S.left size key l + S.round size
       → Then S size key ws l O key' ws' (record { local = l'; answer = None })
-  fails busy late never valid less = record {
+  again busy early never valid less = record {
     keeps = keeps;
     then = inr (record {
-      busy = busy;
-      late = late;
+      busy = some_row l'.pc busy;
+      late = λ h. absurd (early h);
       near = λ calm n time. elim time [
-        | inl v ↦ absurd (never calm v.0)
+        | inl v ↦ absurd (never v.0)
         | inr h ↦ inl (valid, omega arith)
       ];
     });
@@ -173,3 +196,51 @@ module _ {S : Shape} {size : ℕ} {key : ℕ → ℕ} {ws : List ℕ} {l : Local
 
   pub stops : {r : Reply} → Then S size key ws l O key' ws' (record { local = l'; answer = Some r })
   stops {r} = record { keeps = keeps; then = inl (r, refl) }
+
+-- the lock w is given back
+pub unlocks : {A B C : Type 0} → B → C → A ⊎ (B × C)
+unlocks is_lock stores = inr (is_lock, stores)
+
+-- WHAT A LIST SHOWS of a row: how many steps are left there, and what its step does
+pub record RowOf (S : Shape) (size : ℕ) (T : Table) (sz : Sizes) (ws : List ℕ) (t most : ℕ) (l : Local) : Type 0 where
+  pub time : Timed S size ws most l
+  pub by : RowBy S size T sz ws t l (T.next l)
+
+module _ {S : Shape} {size : ℕ} {T : Table} {sz : Sizes} {ws : List ℕ} {t most : ℕ} {l : Local} where
+  pub timed : Timed S size ws most l → RowBy S size T sz ws t l (T.next l) → RowOf S size T sz ws t most l
+  timed time by = record { time = time; by = by }
+
+  -- a try of a lock
+  pub takes : {w : ℕ} → T.next l ≡ Exchange w 0 (l.thread + 1) → IsLockWord w → w < word_count sz → l.thread ≡ t → (S.late l → ⊥)
+      → ((x : ℕ) → S.may l x → rank size ws w < rank size ws x)
+      → (slice_index ws w ≡ 0 → Loads S size ws l (T.feed l 0)) → S.may (T.feed l 0).local w
+      → ((seen : ℕ) → seen ≢ 0 → (T.feed l seen).local ≡ l) → Timed S size ws most l → RowOf S size T sz ws t most l
+  takes {w = w} acts is_lock inside thread early last taken mine missed time =
+      timed time (subst (λ a. RowBy S size T sz ws t l a) (sym acts) (record {
+        is_lock = is_lock;
+        inside = inside;
+        free = refl;
+        own = ap (λ n. n + 1) thread;
+        early = early;
+        last = last;
+        taken = taken;
+        mine = mine;
+        missed = missed;
+      }))
+
+  -- a store behind the decision
+  pub writes : {l' : Local} {w v : ℕ} → T.next l ≡ Store w v → T.feed l v ≡ record { local = l'; answer = None }
+      → ((x : ℕ) → S.may l x → S.may l' x) → S.late l → S.late l'
+      → Only (nat_lt 0 l'.pc && (nat_lt (S.left 0 (λ a. 0) l') (S.left 0 (λ a. 0) l) && (nat_lt (S.left 0 (λ a. 0) l) 5
+      && nat_lt (S.left size (node_key (slice_set ws w v)) l') (S.left size (node_key ws) l))))
+      → (S.valid (node_link ws) l → S.valid (node_link (slice_set ws w v)) l')
+      → S.left size (node_key ws) l + S.round size < most → RowOf S size T sz ws t most l
+  writes {l' = l'} {w = w} {v = v} acts feeds may late late' few valid time =
+      let x = only_both (nat_lt 0 l'.pc) _ few in
+      let y = only_both (nat_lt (S.left 0 (λ a. 0) l') (S.left 0 (λ a. 0) l)) _ x.1 in
+      let z = only_both (nat_lt (S.left 0 (λ a. 0) l) 5) _ y.1 in
+      timed (inr time) (subst (λ a. RowBy S size T sz ws t l a) (sym acts) (inl (
+        subst (λ f. Stores S size ws l w (slice_set ws w v) f) (sym feeds) (goes (λ x o m. may x m) x.0
+            (λ h. (late', lower_number _ _ (only_true _ y.0))) valid (lower_number _ _ (only_true _ z.1))),
+        (late, lower_number _ _ (only_true _ z.0)),
+      )))

@@ -1,29 +1,11 @@
 -- Sums of what the first n threads, or nodes, have left.
-use Rattle.std.specs.Prelude.{◌≡◌, ◌≢◌, ℕ, ◌+◌, ◌*◌, ◌<◌, ◌≤◌, refl}
+use Rattle.std.specs.Prelude.{◌≡◌, ◌≢◌, ℕ, ◌+◌, ◌*◌, ◌<◌, ◌≤◌, ◌==◌, if◌then◌else◌, refl}
 use Rattle.std.proofs.Common.{arith, inl, inr, ap, zero, suc}
-use Rattle.lset_words.proofs.Numbers.{same_or_not}
+use Rattle.lset_words.proofs.Numbers.{same_or_not, if_same, if_other}
 
 abbrev pub total : (ℕ → ℕ) → ℕ → ℕ
 total b zero = 0
 total b (suc n) = b n + total b n
-
-pub total_same : (b c : ℕ → ℕ) (n : ℕ) → ((v : ℕ) → v < n → c v ≡ b v) → total c n ≡ total b n
-total_same b c zero h = refl
-total_same b c (suc n) h =
-    let e : c n ≡ b n = h n (omega arith) in
-    let r : total c n ≡ total b n = total_same b c n (λ v l. h v (omega arith)) in omega arith
-
--- one falls by 1
-pub total_less : (b c : ℕ → ℕ) (n u : ℕ) → u < n → c u + 1 ≡ b u → ((v : ℕ) → v ≢ u → c v ≡ b v) → total c n + 1 ≡ total b n
-total_less b c zero u l e h = absurd (omega arith)
-total_less b c (suc n) u l e h = elim (same_or_not n u) [
-  | inl y ↦
-      (let x : c n ≡ c u = ap c y in let x' : b n ≡ b u = ap b y in
-      let r : total c n ≡ total b n = total_same b c n (λ v k. h v (omega arith)) in omega arith)
-  | inr y ↦
-      (let x : c n ≡ b n = h n y in
-      let r : total c n + 1 ≡ total b n = total_less b c n u (omega arith) e h in omega arith)
-]
 
 pub total_all : (most n : ℕ) → total (λ t. most) n ≡ n * most
 total_all most zero = omega arith
@@ -59,3 +41,29 @@ total_step b c (suc n) u d x l e h =
           let r : total c n + x ≤ total b n + n * d = total_step b c n u d x (omega arith) e (λ v k. h v (omega arith)) in
           omega arith)
     ]
+
+-- one falls by 1, and the others stay
+pub total_less : (b c : ℕ → ℕ) (n u : ℕ) → u < n → c u + 1 ≤ b u → ((v : ℕ) → v ≢ u → c v ≡ b v) → total c n + 1 ≤ total b n
+total_less b c n u l e h =
+    let x : total c n + 1 ≤ total b n + n * 0 =
+    total_step b c n u 0 1 l e (λ v vn d. let y : c v ≡ b v = h v d in omega arith) in
+    omega arith
+
+-- what is one less c times is c less
+pub one_price : (c a b : ℕ) → a + 1 ≤ b → c * a + c ≤ c * b
+one_price zero a b l = omega arith
+one_price (suc c) a b l =
+    let h : c * a + c ≤ c * b = one_price c a b l in
+    let x : suc c * a ≡ c * a + a = grind arith in
+    let y : suc c * b ≡ c * b + b = grind arith in
+    omega arith
+
+-- the number given for one of them
+abbrev pub put : (ℕ → ℕ) → ℕ → ℕ → ℕ → ℕ
+put b u n t = if t == u then n else b t
+
+pub put_this : (b : ℕ → ℕ) (u n : ℕ) → put b u n u ≡ n
+put_this b u n = if_same u u refl n (b u)
+
+pub put_that : (b : ℕ → ℕ) (u n t : ℕ) → t ≢ u → put b u n t ≡ b t
+put_that b u n t d = if_other t u d n (b t)

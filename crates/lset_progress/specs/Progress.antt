@@ -1,5 +1,5 @@
--- Progress of calls, as laws of runs. Nothing is asked of the schedule: each law speaks of each moment of each run. The laws of
--- the lists with locks say that there is no deadlock; livelock is not excluded.
+-- Progress of calls, as laws of runs (Herlihy and Shavit's terms). Nothing is asked of the schedule: each law speaks of each
+-- moment of each run.
 use Rattle.std.specs.Prelude.{◌≡◌, ◌≢◌, ℕ, zero, suc, ◌+◌, ◌*◌, ◌%◌, ◌<◌, ◌≤◌, ◌⊎◌, Bool, true, false, Some, slice_index}
 use Rattle.lset_words.specs.declared.Call.{Call}
 use Rattle.lset_words.specs.declared.Call.TheVariants as call
@@ -77,22 +77,11 @@ pub record GetsOn (T : Table) (s : State) (t : ℕ) : Type 0 where
   pub enabled : Enabled s (Go t)
   pub tries : (x old new : ℕ) → IsLockWord x → T.next (local_of s t) ≡ Exchange x old new → slice_index s.words x ≡ old
 
--- [Some thread gets on]: while a call is pending, some thread has one whose next step is no failed try of a lock (no deadlock;
--- livelock is not excluded).
+-- [Some thread gets on]: while a call is pending, some thread has one whose next step is no failed try of a lock.
 abbrev pub SomeThreadGetsOn : Table → Type 0
 SomeThreadGetsOn T = (op : Opening) (k t : ℕ) (es : ℕ → Event) → Run T op es k → t < op.threads
     → IsPending (state_at T op es k) t
     → (u : ℕ) × (u < op.threads) × GetsOn T (state_at T op es k) u
-
--- [Some call can end]: threads that have calls can make steps, at most n, of which the last ends a call.
-abbrev pub CanEnd : Table → State → ℕ → Type 0
-CanEnd T s zero = ⊥
-CanEnd T s (suc n) = (u : ℕ) × Enabled s (Go u) × (Answers T s u ⊎ CanEnd T (after T s (Go u)) n)
-
-abbrev pub SomeCallCanEnd : Table → (Sizes → ℕ) → Type 0
-SomeCallCanEnd T most = (op : Opening) (k t : ℕ) (es : ℕ → Event) → Run T op es k → t < op.threads
-    → IsPending (state_at T op es k) t
-    → CanEnd T (state_at T op es k) (most (sizes op))
 
 -- whether a step of a call counts: that of an add or a remove, or also that of a contains, but never that of a ceiling
 abbrev pub counted : Bool → Call → ℕ
@@ -102,38 +91,34 @@ counted true (call.Contains k) = 1
 counted false (call.Contains k) = 0
 counted reads (call.Ceiling k) = 0
 
--- how many steps count among the n events from the moment k on
 abbrev pub steps_of : Bool → State → Event → ℕ
 steps_of reads s (Begin t call) = 0
 steps_of reads s (Go t) = counted reads (local_of s t).call
 
-abbrev pub steps_among : Bool → Table → Opening → (ℕ → Event) → ℕ → ℕ → ℕ
-steps_among reads T op es k zero = 0
-steps_among reads T op es k (suc n) = steps_of reads (state_at T op es k) (es k) + steps_among reads T op es (suc k) n
+-- how many steps count among the n events from the moment k on, where `count` is 1 for a step that counts
+abbrev pub steps_among : (State → Event → ℕ) → Table → Opening → (ℕ → Event) → ℕ → ℕ → ℕ
+steps_among count T op es k zero = 0
+steps_among count T op es k (suc n) = count (state_at T op es k) (es k) + steps_among count T op es (suc k) n
 
 -- one of those events is a step that counts, and ends its call
-pub record SomeEnds (reads : Bool) (T : Table) (op : Opening) (es : ℕ → Event) (k n : ℕ) : Type 0 where
+pub record SomeEnds (count : State → Event → ℕ) (T : Table) (op : Opening) (es : ℕ → Event) (k n : ℕ) : Type 0 where
   pub at : ℕ
   pub from : k ≤ at
   pub before : at < k + n
   pub thread : ℕ
   pub own : es at ≡ Go thread
-  pub counts : counted reads (local_of (state_at T op es at) thread).call ≡ 1
+  pub counts : count (state_at T op es at) (es at) ≡ 1
   pub ends : Answers T (state_at T op es at) thread
 
 -- of any `most` steps that count and follow one another in a run, one ends its call
-abbrev pub EndsAmong : Bool → Table → (Sizes → ℕ) → Type 0
-EndsAmong reads T most = (op : Opening) (k n : ℕ) (es : ℕ → Event) → Run T op es (k + n)
-    → most (sizes op) ≤ steps_among reads T op es k n → SomeEnds reads T op es k n
+abbrev pub EndsAmong : (State → Event → ℕ) → Table → (Sizes → ℕ) → Type 0
+EndsAmong count T most = (op : Opening) (k n : ℕ) (es : ℕ → Event) → Run T op es (k + n)
+    → most (sizes op) ≤ steps_among count T op es k n → SomeEnds count T op es k n
 
 -- [Lock freedom]: of any `most` steps of adds and removes that follow one another in a run, one ends its call, whichever
 -- threads make them, and whatever else happens between them; and of any `most` steps of adds, removes and contains too.
 abbrev pub IsLockFree : Table → (Sizes → ℕ) → Type 0
-IsLockFree T most = (reads : Bool) → EndsAmong reads T most
-
--- as many steps for each thread, and some from a decision to the end
-abbrev pub for_each : (Sizes → ℕ) → Sizes → ℕ
-for_each most sz = sz.threads * most sz + 7
+IsLockFree T most = (reads : Bool) → EndsAmong (steps_of reads) T most
 
 -- THE MOST STEPS, for N nodes: the head, the tail, n threads with q slots each, and those of the opening keys
 abbrev pub coarse_steps : Sizes → ℕ

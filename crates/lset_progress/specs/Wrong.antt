@@ -13,7 +13,8 @@ use Rattle.lset_steps.specs.ReadRows.{continued}
 use Rattle.lset_optimistic.specs.Optimistic.{optimistic}
 use Rattle.lset_lazy.specs.Lazy.{lazy}
 use Rattle.lset_lock_free.specs.LockFree.{lock_free}
-use Rattle.lset_progress.specs.Progress.{CallsEndAlone, CallsEndUnhindered, EndsAmong}
+use Rattle.lset_progress.specs.DeadlockFreedom.{IsLivelockFree}
+use Rattle.lset_progress.specs.Progress.{CallsEndAlone, CallsEndUnhindered, EndsAmong, steps_of}
 
 -- LockFreeList whose walk makes the exchange of row 3 again if it failed, and does not start again from the head
 abbrev pub spins_on : Local → ℕ → Fed
@@ -96,6 +97,33 @@ crossed = record {
   effect = lazy.effect;
 }
 
+-- The same, but no thread waits for its second lock: it looks at it (row 16), and if it is taken gives the first back (row 15),
+-- and starts again.
+abbrev pub looks_first : Fed → Fed
+looks_first f = record { local = if f.local.pc == 5 then record f.local { pc = 16 } else f.local; answer = f.answer }
+
+abbrev pub yielding_next : Local → Action
+yielding_next l =
+    if l.pc == 16 then Load (lock_index (second_lock l.call l))
+    else if l.pc == 15 then Store (lock_index (first_lock l.call l)) 0
+    else crossed_next l
+
+abbrev pub yielding_feed : Local → ℕ → Fed
+yielding_feed l seen =
+    if l.pc == 4 then looks_first (lazy.feed l seen)
+    else if l.pc == 16 then (if seen == 0 then continued (record l { pc = 5 }) else continued (record l { pc = 15 }))
+    else if l.pc == 15 then continued (record l { pc = 1 })
+    else lazy.feed l seen
+
+abbrev pub yielding : Table
+yielding = record {
+  marks = lazy.marks;
+  begin = lazy.begin;
+  next = yielding_next;
+  feed = yielding_feed;
+  effect = lazy.effect;
+}
+
 -- The law holds with no number of steps.
 abbrev pub NoCallsEndAlone : Table → Type 0
 NoCallsEndAlone T = (most : Sizes → ℕ) → CallsEndAlone T most → ⊥
@@ -104,4 +132,7 @@ abbrev pub NoCallsEndUnhindered : Table → Type 0
 NoCallsEndUnhindered T = (most : Sizes → ℕ) → CallsEndUnhindered T most → ⊥
 
 abbrev pub NotLockFree : Table → Type 0
-NotLockFree T = (reads : Bool) (most : Sizes → ℕ) → EndsAmong reads T most → ⊥
+NotLockFree T = (reads : Bool) (most : Sizes → ℕ) → EndsAmong (steps_of reads) T most → ⊥
+
+abbrev pub NotLivelockFree : (Call → ℕ) → Table → Type 0
+NotLivelockFree calls T = (most : Sizes → ℕ) → IsLivelockFree calls T most → ⊥

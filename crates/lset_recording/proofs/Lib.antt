@@ -1,6 +1,5 @@
 pub mod Pieces
 pub mod LineKinds
-pub mod MomentLaws
 pub mod NumbersBefore
 pub mod QuickLines
 pub mod Followed

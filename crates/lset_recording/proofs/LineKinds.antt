@@ -21,14 +21,14 @@ use Rattle.lset_judge.specs.declared.stream.StreamCall.{StreamCall}
 use Rattle.lset_judge.specs.declared.stream.TheConstants.{LAST_MOMENT}
 use Rattle.lset_judge.specs.Verdict.{is_plain, is_truth}
 use Rattle.lset_judge.specs.Stream.{record_of, behind_all}
-use Rattle.lset_recording.specs.declared.fault.RecordingCause.TheVariants as wrong
+use Rattle.lset_text.specs.declared.causes.Cause.TheVariants as wrong
 use Rattle.lset_recording.specs.declared.lines.Line.{Line}
 use Rattle.lset_recording.specs.declared.lines.Line.TheVariants as told
 use Rattle.lset_recording.specs.declared.lines.Section.{Section}
 use Rattle.lset_recording.specs.declared.lines.Section.TheVariants as section
 use Rattle.lset_recording.specs.declared.lines.TheConstants.{LONGEST_LINE}
 use Rattle.lset_recording.specs.Texts.{end_pieces, call_pieces, title}
-use Rattle.lset_recording.specs.Reading.{causes, kinds, from_calls, opening_kind, open_kind, true_kind, false_kind, key_kind, end_kind, cut_kind}
+use Rattle.lset_recording.specs.Reading.{kinds, from_calls, opening_kind, open_kind, true_kind, false_kind, key_kind, end_kind, cut_kind}
 use Rattle.lset_recording.specs.Reading.{Comes, IsFormed, line_told, line_behind_title}
 
 -- the pieces of a line
@@ -109,42 +109,26 @@ cut_known = ((refl, tt), λ t fit. (refl, tt))
 abbrev pub IsLineIn : Section → Line → Type 0
 IsLineIn s l = IsLine l × Comes s l
 
-known_in : (s : Section) (k : LineKind Line) → Knows One line_pieces IsLine k → ((t : Told k.0) → Comes s (k.1 t))
-    → Knows One line_pieces (IsLineIn s) k
-known_in s k known comes = (known.0, λ t fit. let m = known.1 t fit in (m.0, (m.1, comes t)))
+known_in : (s : Section) (ks : List (LineKind Line)) → AllByRecursion (Knows One line_pieces IsLine) ks
+    → AllByRecursion (λ (k : LineKind Line). (t : Told k.0) → Comes s (k.1 t)) ks
+    → AllByRecursion (Knows One line_pieces (IsLineIn s)) ks
+known_in s [] known come = tt
+known_in s (k ∷ ks) known come =
+    ((known.0.0, λ t fit. let m = known.0.1 t fit in (m.0, (m.1, come.0 t))), known_in s ks known.1 come.1)
 
-calls_in : (s : Section) → ((l : Line) → Comes section.Calls l → Comes s l)
-    → AllByRecursion (Knows One line_pieces (IsLineIn s)) from_calls
-calls_in s each = (
-  known_in s open_kind open_known (λ t. each (open_kind.1 t) tt),
-  (
-    known_in s true_kind true_known (λ t. each (true_kind.1 t) tt),
-    (
-      known_in s false_kind false_known (λ t. each (false_kind.1 t) tt),
-      (
-        known_in s cut_kind cut_known (λ t. each (cut_kind.1 t) tt),
-        (
-          known_in s key_kind key_known (λ t. each (key_kind.1 t) tt),
-          (known_in s end_kind end_known (λ t. each (end_kind.1 t) tt), tt),
-        ),
-      ),
-    ),
-  ),
-)
-
-called_in : (l : Line) → Comes section.Calls l → Comes section.Opening l
-called_in told.Title comes = comes
-called_in l comes = tt
+calls_known : AllByRecursion (Knows One line_pieces IsLine) from_calls
+calls_known = (open_known, (true_known, (false_known, (cut_known, (key_known, (end_known, tt))))))
 
 pub kinds_known : (s : Section) → AllByRecursion (Knows One line_pieces (IsLineIn s)) (kinds s)
 kinds_known section.Title = tt
 kinds_known section.Opening =
-    (known_in section.Opening opening_kind opening_known (λ t. tt), calls_in section.Opening called_in)
-kinds_known section.Calls = calls_in section.Calls (λ l comes. comes)
-kinds_known section.Keys = (
-  known_in section.Keys key_kind key_known (λ t. tt),
-  (known_in section.Keys end_kind end_known (λ t. tt), tt),
-)
+    known_in section.Opening (opening_kind ∷ from_calls) (opening_known, calls_known)
+    ((λ t. tt), ((λ t. tt), ((λ t. tt), ((λ t. tt), ((λ t. tt), ((λ t. tt), ((λ t. tt), tt)))))))
+kinds_known section.Calls =
+    known_in section.Calls from_calls calls_known
+    ((λ t. tt), ((λ t. tt), ((λ t. tt), ((λ t. tt), ((λ t. tt), ((λ t. tt), tt))))))
+kinds_known section.Keys =
+    known_in section.Keys (key_kind ∷ end_kind ∷ []) (key_known, (end_known, tt)) ((λ t. tt), ((λ t. tt), tt))
 kinds_known section.Done = tt
 
 -- ---- what a line says
@@ -156,8 +140,8 @@ short_line false e r x is = is
 behind_title : (s : Section) (line : List ℕ) (l : Line) → line_behind_title s line ≡ Ok l
     → (line ≡ line_of (line_pieces l)) × IsLine l × Comes s l
 behind_title s line l is =
-    let f = line_found One causes line_pieces (IsLineIn s) (kinds s) line l (kinds_known s)
-    (short_line (nat_lt LONGEST_LINE (length line)) wrong.Line (line_in One causes (kinds s) line) l is) in
+    let f = line_found One wrong.Line line_pieces (IsLineIn s) (kinds s) line l (kinds_known s)
+    (short_line (nat_lt LONGEST_LINE (length line)) wrong.Line (line_in One wrong.Line (kinds s) line) l is) in
     (f.0, f.1.0, f.1.1)
 
 titled : (b : Bool) (line : List ℕ) (l : Line) → bytes_eq line title ≡ b → cond b (Ok told.Title) (Err wrong.Header) ≡ Ok l

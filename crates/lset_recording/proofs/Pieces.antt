@@ -9,11 +9,11 @@ use Rattle.lset_text.proofs.WordLaws.{same_bytes}
 use Rattle.lset_text.proofs.KindLaws.{first_many}
 use Rattle.lset_recording.specs.declared.lines.Section.{Section}
 use Rattle.lset_recording.specs.declared.lines.Section.TheVariants as section
-use Rattle.lset_recording.specs.declared.fault.RecordingCause.TheVariants as wrong
-use Rattle.lset_recording.specs.Reading.{causes, call_kinds, kinds, takes_calls, open_kind, true_kind, false_kind}
+use Rattle.lset_text.specs.declared.causes.Cause.TheVariants as wrong
+use Rattle.lset_recording.specs.Reading.{call_kinds, kinds, takes_calls, open_kind, true_kind, false_kind}
 
-many_pieces : (s : Section) (a b c : List ℕ) (more : List (List ℕ)) → first_of One causes (kinds s) (a ∷ b ∷ c ∷ more)
-    ≡ cond (takes_calls s) (first_of One causes call_kinds (a ∷ b ∷ c ∷ more)) (Err wrong.Line)
+many_pieces : (s : Section) (a b c : List ℕ) (more : List (List ℕ)) → first_of One wrong.Line (kinds s) (a ∷ b ∷ c ∷ more)
+    ≡ cond (takes_calls s) (first_of One wrong.Line call_kinds (a ∷ b ∷ c ∷ more)) (Err wrong.Line)
 many_pieces section.Title a b c more = refl
 many_pieces section.Opening a b c more = refl
 many_pieces section.Calls a b c more = refl
@@ -22,10 +22,10 @@ many_pieces section.Done a b c more = refl
 
 -- a line of the word `call`
 call_word : (w : Bool) (a b c : List ℕ) (more : List (List ℕ)) → bytes_eq a (codes "call") ≡ w
-    → first_of One causes call_kinds (a ∷ b ∷ c ∷ more)
-    ≡ cond w (first_of One causes call_kinds (codes "call" ∷ b ∷ c ∷ more)) (Err wrong.Line)
+    → first_of One wrong.Line call_kinds (a ∷ b ∷ c ∷ more)
+    ≡ cond w (first_of One wrong.Line call_kinds (codes "call" ∷ b ∷ c ∷ more)) (Err wrong.Line)
 call_word true a b c more is =
-    ap (λ (x : List ℕ). first_of One causes call_kinds (x ∷ b ∷ c ∷ more)) (same_bytes a (codes "call") is)
+    ap (λ (x : List ℕ). first_of One wrong.Line call_kinds (x ∷ b ∷ c ∷ more)) (same_bytes a (codes "call") is)
 call_word false a b c more is =
     let ps = b ∷ c ∷ more in
     let other = bytes_eq a (codes "call") in
@@ -44,17 +44,17 @@ guarded true w x y e is = is
 guarded false w x y e is = refl
 
 pub call_pieces : (s : Section) (a b : List ℕ) (parts : List (List ℕ)) → 0 < length parts
-    → first_of One causes (kinds s) (a ∷ b ∷ parts) ≡ cond (takes_calls s && bytes_eq a (codes "call"))
-    (first_of One causes call_kinds (codes "call" ∷ b ∷ parts)) (Err wrong.Line)
+    → first_of One wrong.Line (kinds s) (a ∷ b ∷ parts) ≡ cond (takes_calls s && bytes_eq a (codes "call"))
+    (first_of One wrong.Line call_kinds (codes "call" ∷ b ∷ parts)) (Err wrong.Line)
 call_pieces s a b [] some = absurd (omega arith)
 call_pieces s a b (c ∷ more) some =
     many_pieces s a b c more
-    ∙ guarded (takes_calls s) (bytes_eq a (codes "call")) (first_of One causes call_kinds (a ∷ b ∷ c ∷ more))
-    (first_of One causes call_kinds (codes "call" ∷ b ∷ c ∷ more)) wrong.Line (call_word (bytes_eq a (codes "call")) a b c more refl)
+    ∙ guarded (takes_calls s) (bytes_eq a (codes "call")) (first_of One wrong.Line call_kinds (a ∷ b ∷ c ∷ more))
+    (first_of One wrong.Line call_kinds (codes "call" ∷ b ∷ c ∷ more)) wrong.Line (call_word (bytes_eq a (codes "call")) a b c more refl)
 
 -- more than seven
 pub call_many : (a b c d e f g : List ℕ) (more : List (List ℕ)) → 0 < length more
-    → first_of One causes call_kinds (a ∷ b ∷ c ∷ d ∷ e ∷ f ∷ g ∷ more) ≡ Err wrong.Line
+    → first_of One wrong.Line call_kinds (a ∷ b ∷ c ∷ d ∷ e ∷ f ∷ g ∷ more) ≡ Err wrong.Line
 call_many a b c d e f g more some =
-    first_many One causes call_kinds (a ∷ b ∷ c ∷ d ∷ e ∷ f ∷ g ∷ more)
+    first_many One wrong.Line call_kinds (a ∷ b ∷ c ∷ d ∷ e ∷ f ∷ g ∷ more)
     (omega (arith, some), (omega (arith, some), (omega (arith, some), tt)))

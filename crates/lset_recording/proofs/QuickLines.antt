@@ -16,7 +16,8 @@ use Rattle.lset_judge.specs.Verdict.{is_truth}
 use Rattle.lset_recording.specs.declared.lines.Line.TheVariants as told
 use Rattle.lset_recording.specs.declared.lines.Section.{Section}
 use Rattle.lset_recording.specs.declared.lines.Section.TheVariants as section
-use Rattle.lset_recording.specs.Reading.{causes, kinds, from_calls, takes_calls}
+use Rattle.lset_text.specs.declared.causes.Cause.TheVariants as wrong
+use Rattle.lset_recording.specs.Reading.{kinds, from_calls, takes_calls}
 use Rattle.lset_recording.proofs.LineKinds.{IsMoment, IsLineIn, kinds_known, line_pieces}
 
 -- a call of a word that has ended, and its line
@@ -56,10 +57,10 @@ spelled n k b e word.Ceiling r = refl
 
 pub ended_line_told : (s : Section) (n k b e : ℕ) (w : CallWord) (r : Reply) → takes_calls s ≡ true → n ≤ max_number → k ≤ max_number
     → HasWord One w → IsMoment b → IsMoment e → is_truth r ≡ true
-    → line_in One causes (kinds s) (ended_line n k b e w r) ≡ Ok (told.Call (ended_call n k b e w r))
+    → line_in One wrong.Line (kinds s) (ended_line n k b e w r) ≡ Ok (told.Call (ended_call n k b e w r))
 ended_line_told s n k b e w r takes nl kl has bl el truth =
-    ap (line_in One causes (kinds s)) (spelled n k b e w r)
-    ∙ line_made One causes line_pieces (IsLineIn s) (kinds s) (told.Call (ended_call n k b e w r)) (kinds_known s) (in_section s takes)
+    ap (line_in One wrong.Line (kinds s)) (spelled n k b e w r)
+    ∙ line_made One wrong.Line line_pieces (IsLineIn s) (kinds s) (told.Call (ended_call n k b e w r)) (kinds_known s) (in_section s takes)
   where
     in_section : (s : Section) → takes_calls s ≡ true → IsMade One line_pieces (kinds s) (told.Call (ended_call n k b e w r))
     in_section section.Title takes = absurd cc

@@ -13,9 +13,10 @@ use Rattle.lset_text.specs.Kinds.{line_in}
 use Rattle.lset_text.specs.declared.words.Version.TheVariants.{One}
 use Rattle.lset_text.proofs.PartLaws.{some_part, Lacks-append}
 use Rattle.lset_text.proofs.WordLaws.{same_bytes}
-use Rattle.lset_recording.specs.declared.fault.RecordingCause.{RecordingCause}
-use Rattle.lset_recording.specs.declared.fault.RecordingCause.TheVariants as wrong
-use Rattle.lset_recording.specs.declared.fault.RecordingFault.{RecordingFault}
+use Rattle.lset_text.specs.declared.causes.Cause.{Cause}
+use Rattle.lset_text.specs.declared.causes.Cause.TheVariants as wrong
+use Rattle.lset_text.specs.declared.causes.LineFault.{LineFault}
+use Rattle.lset_text.specs.Causes.{fault}
 use Rattle.lset_recording.specs.declared.lines.Line.{Line}
 use Rattle.lset_recording.specs.declared.lines.Line.TheVariants as told
 use Rattle.lset_recording.specs.declared.lines.Section.{Section}
@@ -24,7 +25,7 @@ use Rattle.lset_recording.specs.declared.lines.TheConstants.{LONGEST_LINE}
 use Rattle.lset_recording.specs.declared.reader.RecordingReader.{RecordingReader}
 use Rattle.lset_recording.specs.declared.judging.RecordingAnswer.{RecordingAnswer}
 use Rattle.lset_recording.specs.Texts.{Recording, title}
-use Rattle.lset_recording.specs.Reading.{SoFar, IsTaken, IsRefused, Reads, Says, cause_if_long, ending, fault, first_line, kinds, causes, line_behind_title, line_told}
+use Rattle.lset_recording.specs.Reading.{SoFar, IsTaken, IsRefused, Reads, Says, cause_if_long, ending, first_line, kinds, line_behind_title, line_told}
 use Rattle.lset_recording.specs.Kept.{IsAnswered, IsJudging, IsHeld, IsLineOf, IsRead, IsRefusedAt, newlines}
 
 -- ---- one whole line
@@ -32,12 +33,12 @@ use Rattle.lset_recording.specs.Kept.{IsAnswered, IsJudging, IsHeld, IsLineOf, I
 line_and : (line more : List ℕ) → Lacks 10 line → cut_at 10 (line ++ 10 ∷ more) ≡ line ∷ cut_at 10 more
 line_and line more lacks = slice_split_at (λ b. eqb b 10) line 10 more lacks refl
 
-reads_more : (n : ℕ) (s t : SoFar) (line : List ℕ) (parts : List (List ℕ)) (read : Result Recording RecordingFault) → 0 < length parts
+reads_more : (n : ℕ) (s t : SoFar) (line : List ℕ) (parts : List (List ℕ)) (read : Result Recording LineFault) → 0 < length parts
     → IsTaken s line t → Reads (n + 1) t parts read → Reads n s (line ∷ parts) read
 reads_more n s t line [] read some taken rest = absurd (omega arith)
 reads_more n s t line (y ∷ ys) read some taken rest = inl (t, taken, rest)
 
-reads_last : (n : ℕ) (s : SoFar) (line : List ℕ) (parts : List (List ℕ)) (cause : RecordingCause) → 0 < length parts
+reads_last : (n : ℕ) (s : SoFar) (line : List ℕ) (parts : List (List ℕ)) (cause : Cause) → 0 < length parts
     → IsRefused s line cause → Reads n s (line ∷ parts) (Err (fault n cause))
 reads_last n s line [] cause some refused = absurd (omega arith)
 reads_last n s line (y ∷ ys) cause some refused = inr (cause, refused, refl)
@@ -47,10 +48,10 @@ pub too_long : (s : SoFar) (line : List ℕ) → LONGEST_LINE < length line → 
 too_long s line many = inl (by s.section)
   where
     behind : (p : Section) → line_behind_title p line ≡ Err wrong.Line
-    behind p = ap (λ (b : Bool). cond b (Err wrong.Line) (line_in One causes (kinds p) line)) (lt-ltb LONGEST_LINE (length line) many)
+    behind p = ap (λ (b : Bool). cond b (Err wrong.Line) (line_in One wrong.Line (kinds p) line)) (lt-ltb LONGEST_LINE (length line) many)
 
     untitled : (b : Bool) → bytes_eq line title ≡ b
-        → ◌≡◌ {A = Result Line RecordingCause} (cond b (Ok told.Title) (Err wrong.Header)) (Err wrong.Header)
+        → ◌≡◌ {A = Result Line Cause} (cond b (Ok told.Title) (Err wrong.Header)) (Err wrong.Header)
     untitled true same = let long = ap length (same_bytes line title same) in absurd (omega (arith, long, many))
     untitled false same = refl
 
@@ -90,7 +91,7 @@ line_of_piece bytes done line more n at =
 -- where a text stands: what the lines above say is told, and some bytes of the next line are held
 pub record StandsAt (bytes held : List ℕ) (n : ℕ) (s : SoFar) : Type 0 where
   pub lacks : Lacks 10 held
-  pub goes : (more : List ℕ) (read : Result Recording RecordingFault) → Reads n s (cut_at 10 (held ++ more)) read → Says (bytes ++ more) read
+  pub goes : (more : List ℕ) (read : Result Recording LineFault) → Reads n s (cut_at 10 (held ++ more)) read → Says (bytes ++ more) read
   pub counted : n ≡ first_line + newlines bytes
 
 pub stands : (bytes : List ℕ) (r : RecordingReader) (is : IsRead bytes r) → StandsAt bytes is.held r.judging.number is.told
@@ -125,7 +126,7 @@ held_more bytes held more n s at lacks = record {
 }
 
 module _ (bytes held : List ℕ) (n : ℕ) (s : SoFar) (at : StandsAt bytes held n s) where
-  goes_by : (more : List ℕ) (read : Result Recording RecordingFault) → Reads n s (held ∷ cut_at 10 more) read
+  goes_by : (more : List ℕ) (read : Result Recording LineFault) → Reads n s (held ∷ cut_at 10 more) read
       → Says ((bytes ++ 10 ∷ []) ++ more) read
   goes_by more read h =
       subst (λ (t : List ℕ). Says t read) (sym (append_assoc bytes (10 ∷ []) more))
@@ -144,7 +145,7 @@ module _ (bytes held : List ℕ) (n : ℕ) (s : SoFar) (at : StandsAt bytes held
   }
 
   -- and one that is refused
-  pub line_refused : (cause : RecordingCause) → IsRefused s held cause → (more : List ℕ)
+  pub line_refused : (cause : Cause) → IsRefused s held cause → (more : List ℕ)
       → Says ((bytes ++ 10 ∷ []) ++ more) (Err (fault n cause))
   line_refused cause refused more =
       goes_by more (Err (fault n cause)) (reads_last n s held (cut_at 10 more) cause (some_part 10 more) refused)
@@ -156,7 +157,7 @@ module _ (bytes held : List ℕ) (n : ℕ) (s : SoFar) (at : StandsAt bytes held
       (subst (IsHeld [] q.line.items) (sym short) (sym none)) sound
 
   -- the end of the text
-  pub at_end : (read : Result Recording RecordingFault) → read ≡ ending n s held → Says bytes read
+  pub at_end : (read : Result Recording LineFault) → read ≡ ending n s held → Says bytes read
   at_end read ends =
       subst (λ (t : List ℕ). Says t read) (append-nil bytes)
       (at.goes [] read
@@ -195,7 +196,7 @@ some_left n s [] some = absurd (omega (arith, some))
 some_left n s (b ∷ bs) some = refl
 
 module _ (r : RecordingReader) where
-  pub finished : (res : Result RecordingAnswer RecordingFault) → r.is_long ≡ false → r.line.items ≡ []
+  pub finished : (res : Result RecordingAnswer LineFault) → r.is_long ≡ false → r.line.items ≡ []
       → IfOk res (λ answer. (s : SoFar) → IsJudging s r.judging → (ending r.judging.number s [] ≡ Ok s.told) × IsAnswered s.told answer)
       → IfOk res (λ answer. (bytes : List ℕ) → IsRead bytes r → (c : Recording) × Says bytes (Ok c) × IsAnswered c answer)
   finished (Ok answer) short none said = λ bytes is.
@@ -207,7 +208,7 @@ module _ (r : RecordingReader) where
       )
   finished (Err e) short none said = tt
 
-  pub not_finished : (res : Result RecordingAnswer RecordingFault) → r.is_long ≡ false → r.line.items ≡ []
+  pub not_finished : (res : Result RecordingAnswer LineFault) → r.is_long ≡ false → r.line.items ≡ []
       → IfErr res (λ e. e.cause ≢ wrong.Memory → (s : SoFar) → IsJudging s r.judging → ending r.judging.number s [] ≡ Err e)
       → IfErr res (λ e. e.cause ≢ wrong.Memory → (bytes : List ℕ) → IsRead bytes r → Says bytes (Err e))
   not_finished (Ok answer) short none said = tt
@@ -215,7 +216,7 @@ module _ (r : RecordingReader) where
       at_end bytes is.held r.judging.number is.told (stands bytes r is) (Err e)
       (sym (said other is.told is.judging) ∙ ap (ending r.judging.number is.told) (nothing_held bytes r is short none))
 
-  pub line_of_end : (res : Result RecordingAnswer RecordingFault) → IfErr res (λ e. e.line ≡ r.judging.number)
+  pub line_of_end : (res : Result RecordingAnswer LineFault) → IfErr res (λ e. e.line ≡ r.judging.number)
       → IfErr res (λ e. (bytes : List ℕ) → IsRead bytes r → e.line ≡ first_line + newlines bytes)
   line_of_end (Ok answer) line = tt
   line_of_end (Err e) line = λ bytes is. line ∙ is.counted
@@ -223,7 +224,7 @@ module _ (r : RecordingReader) where
 -- ---- the lines of a piece
 
 -- a text that has a fault has it whatever comes
-pub refused_on : (bytes done line more : List ℕ) (e : RecordingFault) → IsRefusedAt (bytes ++ done ++ line ++ 10 ∷ []) e
+pub refused_on : (bytes done line more : List ℕ) (e : LineFault) → IsRefusedAt (bytes ++ done ++ line ++ 10 ∷ []) e
     → IsRefusedAt (bytes ++ (done ++ (line ++ 10 ∷ more))) e
 refused_on bytes done line more e refused other rest =
     subst (λ (t : List ℕ). Says t (Err e)) regrouped (refused other (more ++ rest))
@@ -233,9 +234,9 @@ refused_on bytes done line more e refused other rest =
 
 -- ---- after a fault
 
-pub none_failed : (failed : Option RecordingFault) (e : RecordingFault) → failed ≡ None → failed ≡ Some e → ⊥
+pub none_failed : (failed : Option LineFault) (e : LineFault) → failed ≡ None → failed ≡ Some e → ⊥
 none_failed failed e none some = cc
 
-pub one_failed : {X : Type 0} (failed : Option RecordingFault) (e f : RecordingFault) → failed ≡ Some e → failed ≡ Some f
-    → ◌≡◌ {A = Result X RecordingFault} (Err e) (Err f)
+pub one_failed : {X : Type 0} (failed : Option LineFault) (e f : LineFault) → failed ≡ Some e → failed ≡ Some f
+    → ◌≡◌ {A = Result X LineFault} (Err e) (Err f)
 one_failed failed e f one other = cc

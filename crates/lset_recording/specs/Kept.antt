@@ -8,8 +8,8 @@ use Rattle.lset_text.specs.Openings.{is_above}
 use Rattle.lset_judge.specs.declared.judging.Judge.{Judge}
 use Rattle.lset_judge.specs.Judge.{IsJudgeOf}
 use Rattle.lset_judge.specs.Stream.{moment_of}
-use Rattle.lset_recording.specs.declared.fault.RecordingCause.TheVariants as wrong
-use Rattle.lset_recording.specs.declared.fault.RecordingFault.{RecordingFault}
+use Rattle.lset_text.specs.declared.causes.Cause.TheVariants as wrong
+use Rattle.lset_text.specs.declared.causes.LineFault.{LineFault}
 use Rattle.lset_recording.specs.declared.lines.Section.{Section}
 use Rattle.lset_recording.specs.declared.lines.Section.TheVariants as part
 use Rattle.lset_recording.specs.declared.lines.TheConstants.{LONGEST_LINE}
@@ -84,7 +84,7 @@ pub record IsRead (bytes : List ℕ) (r : RecordingReader) : Type 0 where
   pub held : List ℕ
   pub lacks : Lacks 10 held
   pub line : IsHeld held r.line.items r.is_long
-  pub goes : (more : List ℕ) (read : Result Recording RecordingFault) → Reads r.judging.number told (cut_at 10 (held ++ more)) read
+  pub goes : (more : List ℕ) (read : Result Recording LineFault) → Reads r.judging.number told (cut_at 10 (held ++ more)) read
       → Says (bytes ++ more) read
   pub counted : r.judging.number ≡ first_line + newlines bytes
   pub sound : r.failed ≡ None
@@ -94,11 +94,11 @@ abbrev pub IsLineOf : List ℕ → List ℕ → ℕ → Type 0
 IsLineOf bytes piece line = (first_line + newlines bytes ≤ line) × (line < first_line + newlines (bytes ++ piece))
 
 -- the reader has returned a fault
-abbrev pub HasFailed : RecordingReader → RecordingFault → Type 0
+abbrev pub HasFailed : RecordingReader → LineFault → Type 0
 HasFailed r e = r.failed ≡ Some e
 
 -- a text that begins so has the fault
-abbrev pub IsRefusedAt : List ℕ → RecordingFault → Type 0
+abbrev pub IsRefusedAt : List ℕ → LineFault → Type 0
 IsRefusedAt bytes e = e.cause ≢ wrong.Memory → (more : List ℕ) → Says (bytes ++ more) (Err e)
 
 -- THE ANSWER on a recording

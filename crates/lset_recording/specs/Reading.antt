@@ -5,13 +5,17 @@ use Rattle.std.specs.Str.{bytes_eq}
 use Rattle.lset_words.specs.declared.Reply.{Reply}
 use Rattle.lset_words.specs.declared.Reply.TheVariants as reply
 use Rattle.lset_words.specs.History.{MayFollow}
+use Rattle.lset_text.specs.declared.causes.Cause.{Cause}
+use Rattle.lset_text.specs.declared.causes.Cause.TheVariants as wrong
+use Rattle.lset_text.specs.declared.causes.LineFault.{LineFault}
+use Rattle.lset_text.specs.Causes.{fault}
 use Rattle.lset_text.specs.declared.words.CallWord.{CallWord}
 use Rattle.lset_text.specs.declared.words.Version.TheVariants.{One}
 use Rattle.lset_text.specs.Parts.{cut_at}
 use Rattle.lset_text.specs.Spellings.{with_key}
 use Rattle.lset_text.specs.Forms.{Form, Piece}
 use Rattle.lset_text.specs.Forms as piece
-use Rattle.lset_text.specs.Kinds.{LineKind, LineCauses, line_in}
+use Rattle.lset_text.specs.Kinds.{LineKind, line_in}
 use Rattle.lset_text.specs.Headers.{number_form}
 use Rattle.lset_text.specs.Numbers.{max_number}
 use Rattle.lset_text.specs.Openings.{opening_form, is_above}
@@ -20,9 +24,6 @@ use Rattle.lset_judge.specs.declared.judging.Verdict.{Verdict}
 use Rattle.lset_judge.specs.Verdict.{is_plain}
 use Rattle.lset_judge.specs.Stream.{record_of, IsBefore}
 use Rattle.lset_judge.specs.Judge.{IsVerdict, IsVerdictCutOff}
-use Rattle.lset_recording.specs.declared.fault.RecordingCause.{RecordingCause}
-use Rattle.lset_recording.specs.declared.fault.RecordingCause.TheVariants as wrong
-use Rattle.lset_recording.specs.declared.fault.RecordingFault.{RecordingFault}
 use Rattle.lset_recording.specs.declared.lines.Line.{Line as RecordingLine}
 use Rattle.lset_recording.specs.declared.lines.Line.TheVariants as told
 use Rattle.lset_recording.specs.declared.lines.Section.{Section}
@@ -30,13 +31,7 @@ use Rattle.lset_recording.specs.declared.lines.Section.TheVariants as section
 use Rattle.lset_recording.specs.declared.lines.TheConstants.{LONGEST_LINE}
 use Rattle.lset_recording.specs.Texts.{Recording, all_threads, dash, recording_text, title}
 
-abbrev pub fault : ℕ → RecordingCause → RecordingFault
-fault line cause = record { line = line; cause = cause }
-
 -- ---- the lines that may come
-
-abbrev pub causes : LineCauses RecordingCause
-causes = record { form = wrong.Line; number = wrong.Number }
 
 abbrev pub opening_kind : LineKind RecordingLine
 opening_kind = (opening_form, λ t. told.Opening t.1.0)
@@ -106,19 +101,19 @@ is_title section.Keys = false
 is_title section.Done = false
 
 -- what the first line says
-abbrev pub title_told : List ℕ → Result RecordingLine RecordingCause
+abbrev pub title_told : List ℕ → Result RecordingLine Cause
 title_told line = if bytes_eq line title then Ok told.Title else Err wrong.Header
 
 -- what any other line says; one of too many bytes says nothing
-abbrev pub line_behind_title : Section → List ℕ → Result RecordingLine RecordingCause
-line_behind_title s line = if nat_lt LONGEST_LINE (length line) then Err wrong.Line else line_in One causes (kinds s) line
+abbrev pub line_behind_title : Section → List ℕ → Result RecordingLine Cause
+line_behind_title s line = if nat_lt LONGEST_LINE (length line) then Err wrong.Line else line_in One wrong.Line (kinds s) line
 
 -- WHAT A LINE SAYS, in a text that has come to a section
-abbrev pub line_told : Section → List ℕ → Result RecordingLine RecordingCause
+abbrev pub line_told : Section → List ℕ → Result RecordingLine Cause
 line_told s line = if is_title s then title_told line else line_behind_title s line
 
 -- the cause if it has too many bytes
-abbrev pub cause_if_long : Section → RecordingCause
+abbrev pub cause_if_long : Section → Cause
 cause_if_long s = if is_title s then wrong.Header else wrong.Line
 
 -- ---- a line after those above it
@@ -163,7 +158,7 @@ GoesOn c told.End = Unit {0}
 GoesOn c told.Cut = Unit {0}
 
 -- the cause if it does not
-abbrev pub cause_of : RecordingLine → RecordingCause
+abbrev pub cause_of : RecordingLine → Cause
 cause_of (told.Call x) = wrong.History
 cause_of l = wrong.Opening
 
@@ -196,7 +191,7 @@ abbrev pub IsTaken : SoFar → List ℕ → SoFar → Type 0
 IsTaken s line t = (l : RecordingLine) × (line_told s.section line ≡ Ok l) × GoesOn s.told l × (t ≡ with_told s l)
 
 -- A LINE IS REFUSED by a cause
-abbrev pub IsRefused : SoFar → List ℕ → RecordingCause → Type 0
+abbrev pub IsRefused : SoFar → List ℕ → Cause → Type 0
 IsRefused s line cause = (line_told s.section line ≡ Err cause)
     ⊎ ((l : RecordingLine) × (line_told s.section line ≡ Ok l) × (GoesOn s.told l → ⊥) × (cause ≡ cause_of l))
 
@@ -211,29 +206,29 @@ is_done section.Keys = false
 is_done section.Done = true
 
 -- the cause if the text has no further byte
-abbrev pub cause_at_end : Section → RecordingCause
+abbrev pub cause_at_end : Section → Cause
 cause_at_end s = if is_title s then wrong.Header else wrong.NotEnded
 
 -- what the end of a text makes of the bytes behind its last newline
-abbrev pub ending : ℕ → SoFar → List ℕ → Result Recording RecordingFault
+abbrev pub ending : ℕ → SoFar → List ℕ → Result Recording LineFault
 ending line s [] = if is_done s.section then Ok s.told else Err (fault line (cause_at_end s.section))
 ending line s (b ∷ bs) = Err (fault line wrong.NotEnded)
 
 -- WHAT THE PARTS OF A TEXT SAY, its whole lines and then what comes after the last newline, from a line and from what the lines above
 -- say: each line is taken, or the first that is not has the fault
-abbrev pub Reads : ℕ → SoFar → List (List ℕ) → Result Recording RecordingFault → Type 0
+abbrev pub Reads : ℕ → SoFar → List (List ℕ) → Result Recording LineFault → Type 0
 Reads line s [] read = ⊥
 Reads line s (rest ∷ []) read = read ≡ ending line s rest
 Reads line s (x ∷ y ∷ more) read =
     ((next : SoFar) × IsTaken s x next × Reads (line + 1) next (y ∷ more) read)
-    ⊎ ((cause : RecordingCause) × IsRefused s x cause × (read ≡ Err (fault line cause)))
+    ⊎ ((cause : Cause) × IsRefused s x cause × (read ≡ Err (fault line cause)))
 
 -- the number of the first line
 abbrev pub first_line : ℕ
 first_line = 1
 
 -- WHAT BYTES SAY: a recording, or the first fault
-abbrev pub Says : List ℕ → Result Recording RecordingFault → Type 0
+abbrev pub Says : List ℕ → Result Recording LineFault → Type 0
 Says bytes read = Reads first_line nothing_told (cut_at 10 bytes) read
 
 -- if bytes say a recording, they are its text

@@ -10,11 +10,10 @@ ghost use Rattle.lset_recording.specs.Texts.{IsRecording, Recording, all_threads
 ghost use Rattle.lset_recording.specs.Reading.{Comes, GoesOn, IsFormed, IsTaken, IsRefused, IsVerdictOnRecording, SoFar, cause_at_end, cause_if_long, cause_of, ending, is_done, nothing_told, section_after, with_line, with_told};
 ghost use Rattle.lset_recording.specs.Kept.{IsAnswered, IsFirst, IsJudging, IsKept, IsJudgeKept};
 
-use crate::fault::{RecordingCause, RecordingFault};
 use crate::kept::Judging;
 use crate::lines::{Line, Section, line_told};
 use lset_judge::{Judge, Overlaps, StreamCall, StreamFault, Verdict};
-use lset_text::is_above;
+use lset_text::{Cause, LineFault, is_above};
 use std::alloc::{AllocError, Global};
 
 /// The number of the first line, the title.
@@ -34,6 +33,7 @@ pub struct RecordingAnswer {
 }
 
 /// The judge of the calls so far, or one of no calls of a set that opens with these keys.
+#[tactic(auto, using(crate::proofs::Followed::opened))]
 fn or_opened(alloc: Global, judge: Option<Judge>, opening: &[u32]) -> Result<Judge, AllocError>
     requires { IsStrictlyIncreasing opening.now }
     ensures { IfOk result (λ j. (calls : List RecordedCall) → IsJudgeKept opening.now calls judge → IsJudgeKept opening.now calls (Some j)) }
@@ -45,26 +45,26 @@ fn or_opened(alloc: Global, judge: Option<Judge>, opening: &[u32]) -> Result<Jud
 }
 
 /// Why a call cannot come next, as the cause of its line.
-fn cause_of_fault(fault: StreamFault) -> RecordingCause
-    ensures memory { result ≢ RecordingCause.Memory → fault ≢ StreamFault.Memory }
-    ensures other { result ≢ RecordingCause.Memory → result ≡ RecordingCause.History }
+fn cause_of_fault(fault: StreamFault) -> Cause
+    ensures memory { result ≢ Cause.Memory → fault ≢ StreamFault.Memory }
+    ensures other { result ≢ Cause.Memory → result ≡ Cause.History }
 {
     match fault {
-        StreamFault::Memory => RecordingCause::Memory,
+        StreamFault::Memory => Cause::Memory,
         StreamFault::Early
         | StreamFault::Ends
         | StreamFault::NotPlain
         | StreamFault::Taken
-        | StreamFault::Busy => RecordingCause::History,
+        | StreamFault::Busy => Cause::History,
     }
 }
 
 /// Gives the judge one more call.
-fn add_call(judge: &mut Judge, call: StreamCall) -> Result<(), RecordingCause>
+fn add_call(judge: &mut Judge, call: StreamCall) -> Result<(), Cause>
     requires { IsFormed (Line.Call call) }
     ensures added { OnOk result ((opening : List ℕ) (calls : List RecordedCall) → IsJudgeKept opening calls (Some judge.old)
         → MayFollow all_threads calls (record_of call) × IsJudgeKept opening (calls ++ record_of call ∷ []) (Some judge.new)) }
-    ensures refused { IfErr result (λ cause. cause ≢ RecordingCause.Memory → (cause ≡ RecordingCause.History)
+    ensures refused { IfErr result (λ cause. cause ≢ Cause.Memory → (cause ≡ Cause.History)
         × ((opening : List ℕ) (calls : List RecordedCall) → IsJudgeKept opening calls (Some judge.old)
         → MayFollow all_threads calls (record_of call) → ⊥)) }
 {
@@ -75,19 +75,17 @@ fn add_call(judge: &mut Judge, call: StreamCall) -> Result<(), RecordingCause>
 }
 
 /// Puts a key behind keys that rise, if it is above them.
-fn add_key(keys: &mut Vec<u32>, key: u32) -> Result<(), RecordingCause>
+fn add_key(keys: &mut Vec<u32>, key: u32) -> Result<(), Cause>
     requires { IsStrictlyIncreasing keys.old.items }
     ensures rise { IsStrictlyIncreasing keys.new.items }
     ensures added { OnOk result ((keys.new.items ≡ keys.old.items ++ key ∷ []) × (is_above keys.old.items key ≡ true)) }
-    ensures refused { IfErr result (λ cause. cause ≢ RecordingCause.Memory
-        → (cause ≡ RecordingCause.Opening) × (is_above keys.old.items key ≡ false)) }
+    ensures refused { IfErr result (λ cause. cause ≢ Cause.Memory
+        → (cause ≡ Cause.Opening) × (is_above keys.old.items key ≡ false)) }
 {
     if !is_above(keys, key) {
-        return Err(RecordingCause::Opening);
+        return Err(Cause::Opening);
     }
-    if keys.push(key).is_err() {
-        return Err(RecordingCause::Memory);
-    }
+    keys.push(key)?;
     Ok(())
 }
 
@@ -124,12 +122,12 @@ impl Judging {
         }
     }
 
-    fn keep_call(&mut self, call: StreamCall) -> Result<(), RecordingCause>
+    fn keep_call(&mut self, call: StreamCall) -> Result<(), Cause>
         requires { IsFormed (Line.Call call) }
         ensures kept { OnOk result ((c : Recording) → IsKept c self.old
             → GoesOn c (Line.Call call) × IsKept (with_line c (Line.Call call)) self.new) }
         ensures same { (self.new.section ≡ self.old.section) × (self.new.number ≡ self.old.number) }
-        ensures refused { IfErr result (λ cause. cause ≢ RecordingCause.Memory → (cause ≡ RecordingCause.History)
+        ensures refused { IfErr result (λ cause. cause ≢ Cause.Memory → (cause ≡ Cause.History)
             × ((c : Recording) → IsKept c self.old → GoesOn c (Line.Call call) → ⊥)) }
     {
         self.open()?;
@@ -147,12 +145,12 @@ impl Judging {
     }
 
     /// Keeps what a line says.
-    fn keep(&mut self, line: Line) -> Result<(), RecordingCause>
+    fn keep(&mut self, line: Line) -> Result<(), Cause>
         requires { IsFormed line }
         ensures kept { OnOk result ((s : SoFar) → IsJudging s self.old → Comes s.section line
             → GoesOn s.told line × IsKept (with_line s.told line) self.new × IsFirst (section_after line) self.new.judge) }
         ensures same { (self.new.section ≡ self.old.section) × (self.new.number ≡ self.old.number) }
-        ensures refused { IfErr result (λ cause. cause ≢ RecordingCause.Memory → (cause ≡ cause_of line)
+        ensures refused { IfErr result (λ cause. cause ≢ Cause.Memory → (cause ≡ cause_of line)
             × ((s : SoFar) → IsJudging s self.old → GoesOn s.told line → ⊥)) }
     {
         match line {
@@ -167,12 +165,12 @@ impl Judging {
         }
     }
 
-    fn put(&mut self, line: Line) -> Result<(), RecordingCause>
+    fn put(&mut self, line: Line) -> Result<(), Cause>
         requires { IsFormed line }
         ensures taken { OnOk result ((s : SoFar) → IsJudging s self.old → Comes s.section line
             → GoesOn s.told line × IsJudging (with_told s line) self.new × (self.new.number ≡ self.old.number + 1)) }
         ensures same { OnErr result (self.new.number ≡ self.old.number) }
-        ensures refused { IfErr result (λ cause. cause ≢ RecordingCause.Memory → (cause ≡ cause_of line)
+        ensures refused { IfErr result (λ cause. cause ≢ Cause.Memory → (cause ≡ cause_of line)
             × ((s : SoFar) → IsJudging s self.old → GoesOn s.told line → ⊥)) }
     {
         self.keep(line)?;
@@ -189,11 +187,11 @@ impl Judging {
     }
 
     /// Takes a line, or says what is wrong with it.
-    pub(crate) fn read_line(&mut self, line: &[u8]) -> Result<(), RecordingCause>
+    pub(crate) fn read_line(&mut self, line: &[u8]) -> Result<(), Cause>
         ensures taken { OnOk result ((s : SoFar) → IsJudging s self.old
             → (t : SoFar) × IsTaken s line.now t × IsJudging t self.new × (self.new.number ≡ self.old.number + 1)) }
         ensures same { OnErr result (self.new.number ≡ self.old.number) }
-        ensures refused { IfErr result (λ cause. cause ≢ RecordingCause.Memory → (s : SoFar) → IsJudging s self.old
+        ensures refused { IfErr result (λ cause. cause ≢ Cause.Memory → (s : SoFar) → IsJudging s self.old
             → IsRefused s line.now cause) }
     {
         let line = line_told(self.section, line)?;
@@ -201,26 +199,24 @@ impl Judging {
     }
 
     /// What is wrong with a line of too many bytes.
-    pub(crate) fn cause_if_long(&self) -> RecordingCause
+    pub(crate) fn cause_if_long(&self) -> Cause
         ensures { result ≡ cause_if_long self.now.section }
     {
-        match self.section {
-            Section::Title => RecordingCause::Header,
-            Section::Opening | Section::Calls | Section::Keys | Section::Done => {
-                RecordingCause::Line
-            }
+        if self.section.is_title() {
+            Cause::Header
+        } else {
+            Cause::Line
         }
     }
 
     /// What is wrong if the text has no further byte.
-    fn cause_at_end(&self) -> RecordingCause
+    fn cause_at_end(&self) -> Cause
         ensures { result ≡ cause_at_end self.now.section }
     {
-        match self.section {
-            Section::Title => RecordingCause::Header,
-            Section::Opening | Section::Calls | Section::Keys | Section::Done => {
-                RecordingCause::NotEnded
-            }
+        if self.section.is_title() {
+            Cause::Header
+        } else {
+            Cause::NotEnded
         }
     }
 
@@ -242,17 +238,17 @@ impl Judging {
     }
 
     /// What is said of the text, if it ends here with a newline.
-    pub(crate) fn finish(self) -> Result<RecordingAnswer, RecordingFault>
+    pub(crate) fn finish(self) -> Result<RecordingAnswer, LineFault>
         ensures said { IfOk result (λ answer. (s : SoFar) → IsJudging s self
             → (ending self.number s [] ≡ Ok s.told) × IsAnswered s.told answer) }
-        ensures refused { IfErr result (λ fault. fault.cause ≢ RecordingCause.Memory → (s : SoFar) → IsJudging s self
+        ensures refused { IfErr result (λ fault. fault.cause ≢ Cause.Memory → (s : SoFar) → IsJudging s self
             → ending self.number s [] ≡ Err fault) }
         ensures line { IfErr result (λ fault. fault.line ≡ self.number) }
     {
         let (number, calls, cut_off) = (self.number, self.calls, self.cut_off);
         let overlapped = self.overlaps.count();
         if !self.is_done() {
-            return Err(RecordingFault::at(number, self.cause_at_end()));
+            return Err(LineFault::at(number, self.cause_at_end()));
         }
         match self.verdict() {
             Ok(verdict) => Ok(RecordingAnswer {
@@ -261,7 +257,7 @@ impl Judging {
                 overlapped,
                 cut_off,
             }),
-            Err(_) => Err(RecordingFault::at(number, RecordingCause::Memory)),
+            Err(_) => Err(LineFault::at(number, Cause::Memory)),
         }
     }
 }

@@ -2,15 +2,12 @@
 //! began since no change of it was pending, so memory does not grow with the length of the text. (This project's own format.)
 #![tactic(auto)]
 
-mod fault;
 mod judging;
 mod kept;
 mod lines;
-mod moments;
 mod quick;
 mod reader;
 
-pub use fault::{RecordingCause, RecordingFault};
 pub use judging::RecordingAnswer;
 pub use lines::LONGEST_LINE;
 pub use reader::{RecordingReader, recordings_are_read};

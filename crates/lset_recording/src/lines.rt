@@ -4,7 +4,6 @@ ghost use Rattle.lset_text.specs.declared.words.Version.TheVariants.{One};
 ghost use Rattle.lset_text.specs.Parts.{cut_at};
 ghost use Rattle.lset_text.specs.Kinds.{first_of, line_in};
 ghost use Rattle.lset_recording.specs.Reading.{
-  causes,
   open_kind,
   true_kind,
   false_kind,
@@ -19,11 +18,9 @@ ghost use Rattle.lset_recording.specs.Reading.{
   is_title,
 };
 
-use crate::fault::RecordingCause;
-use crate::moments::moment;
 use crate::quick::quick_call;
-use lset_judge::StreamCall;
-use lset_text::{Version, cut, number, read_call};
+use lset_judge::{LAST_MOMENT, StreamCall};
+use lset_text::{Cause, Version, cut, long_number, number, read_call};
 use lset_words::{Key, Reply};
 
 /// The most bytes of a line, without its newline.
@@ -68,7 +65,7 @@ impl Line {
 }
 
 impl Section {
-    fn is_title(self) -> bool
+    pub(crate) fn is_title(self) -> bool
         ensures { result ≡ is_title self }
     {
         matches!(self, Section::Title)
@@ -126,14 +123,14 @@ fn is_false(piece: &[u8]) -> bool
     matches!(piece, b"false")
 }
 
-fn open_call(pieces: CallPieces<'_>) -> Result<Line, RecordingCause>
-    ensures { result ≡ first_of One causes (open_kind ∷ []) (codes "call" ∷ pieces.entry.thread.now
+fn open_call(pieces: CallPieces<'_>) -> Result<Line, Cause>
+    ensures { result ≡ first_of One Cause.Line (open_kind ∷ []) (codes "call" ∷ pieces.entry.thread.now
         ∷ pieces.entry.call.now ∷ pieces.entry.key.now ∷ pieces.entry.begun.now ∷ codes "-" ∷ codes "-" ∷ []) }
 {
-    let word = read_call(Version::One, pieces.call).ok_or(RecordingCause::Line)?;
-    let thread = number(pieces.thread, 0, u32::MAX).ok_or(RecordingCause::Number)?;
-    let key = number(pieces.key, 0, u32::MAX).ok_or(RecordingCause::Number)?;
-    let begun = moment(pieces.begun).ok_or(RecordingCause::Number)?;
+    let word = read_call(Version::One, pieces.call).ok_or(Cause::Line)?;
+    let thread = number(pieces.thread, 0, u32::MAX).ok_or(Cause::Number)?;
+    let key = number(pieces.key, 0, u32::MAX).ok_or(Cause::Number)?;
+    let begun = long_number(pieces.begun, 1, LAST_MOMENT).ok_or(Cause::Number)?;
     Ok(Line::Call(StreamCall {
         thread,
         call: word.with_key(Key(key)),
@@ -142,15 +139,15 @@ fn open_call(pieces: CallPieces<'_>) -> Result<Line, RecordingCause>
     }))
 }
 
-fn true_call(pieces: CallPieces<'_>, end: &[u8]) -> Result<Line, RecordingCause>
-    ensures { result ≡ first_of One causes (true_kind ∷ []) (codes "call" ∷ pieces.entry.thread.now
+fn true_call(pieces: CallPieces<'_>, end: &[u8]) -> Result<Line, Cause>
+    ensures { result ≡ first_of One Cause.Line (true_kind ∷ []) (codes "call" ∷ pieces.entry.thread.now
         ∷ pieces.entry.call.now ∷ pieces.entry.key.now ∷ pieces.entry.begun.now ∷ end.now ∷ codes "true" ∷ []) }
 {
-    let word = read_call(Version::One, pieces.call).ok_or(RecordingCause::Line)?;
-    let thread = number(pieces.thread, 0, u32::MAX).ok_or(RecordingCause::Number)?;
-    let key = number(pieces.key, 0, u32::MAX).ok_or(RecordingCause::Number)?;
-    let begun = moment(pieces.begun).ok_or(RecordingCause::Number)?;
-    let end = moment(end).ok_or(RecordingCause::Number)?;
+    let word = read_call(Version::One, pieces.call).ok_or(Cause::Line)?;
+    let thread = number(pieces.thread, 0, u32::MAX).ok_or(Cause::Number)?;
+    let key = number(pieces.key, 0, u32::MAX).ok_or(Cause::Number)?;
+    let begun = long_number(pieces.begun, 1, LAST_MOMENT).ok_or(Cause::Number)?;
+    let end = long_number(end, 1, LAST_MOMENT).ok_or(Cause::Number)?;
     Ok(Line::Call(StreamCall {
         thread,
         call: word.with_key(Key(key)),
@@ -159,15 +156,15 @@ fn true_call(pieces: CallPieces<'_>, end: &[u8]) -> Result<Line, RecordingCause>
     }))
 }
 
-fn false_call(pieces: CallPieces<'_>, end: &[u8]) -> Result<Line, RecordingCause>
-    ensures { result ≡ first_of One causes (false_kind ∷ []) (codes "call" ∷ pieces.entry.thread.now
+fn false_call(pieces: CallPieces<'_>, end: &[u8]) -> Result<Line, Cause>
+    ensures { result ≡ first_of One Cause.Line (false_kind ∷ []) (codes "call" ∷ pieces.entry.thread.now
         ∷ pieces.entry.call.now ∷ pieces.entry.key.now ∷ pieces.entry.begun.now ∷ end.now ∷ codes "false" ∷ []) }
 {
-    let word = read_call(Version::One, pieces.call).ok_or(RecordingCause::Line)?;
-    let thread = number(pieces.thread, 0, u32::MAX).ok_or(RecordingCause::Number)?;
-    let key = number(pieces.key, 0, u32::MAX).ok_or(RecordingCause::Number)?;
-    let begun = moment(pieces.begun).ok_or(RecordingCause::Number)?;
-    let end = moment(end).ok_or(RecordingCause::Number)?;
+    let word = read_call(Version::One, pieces.call).ok_or(Cause::Line)?;
+    let thread = number(pieces.thread, 0, u32::MAX).ok_or(Cause::Number)?;
+    let key = number(pieces.key, 0, u32::MAX).ok_or(Cause::Number)?;
+    let begun = long_number(pieces.begun, 1, LAST_MOMENT).ok_or(Cause::Number)?;
+    let end = long_number(end, 1, LAST_MOMENT).ok_or(Cause::Number)?;
     Ok(Line::Call(StreamCall {
         thread,
         call: word.with_key(Key(key)),
@@ -176,43 +173,43 @@ fn false_call(pieces: CallPieces<'_>, end: &[u8]) -> Result<Line, RecordingCause
     }))
 }
 
-fn ended_call(pieces: CallPieces<'_>, end: &[u8], reply: &[u8]) -> Result<Line, RecordingCause>
-    ensures { result ≡ first_of One causes call_kinds (codes "call" ∷ pieces.entry.thread.now
+fn ended_call(pieces: CallPieces<'_>, end: &[u8], reply: &[u8]) -> Result<Line, Cause>
+    ensures { result ≡ first_of One Cause.Line call_kinds (codes "call" ∷ pieces.entry.thread.now
         ∷ pieces.entry.call.now ∷ pieces.entry.key.now ∷ pieces.entry.begun.now ∷ end.now ∷ reply.now ∷ []) }
 {
     if is_dash(reply) {
         if is_dash(end) {
             open_call(pieces)
         } else {
-            Err(RecordingCause::Line)
+            Err(Cause::Line)
         }
     } else if is_true(reply) {
         true_call(pieces, end)
     } else if is_false(reply) {
         false_call(pieces, end)
     } else {
-        Err(RecordingCause::Line)
+        Err(Cause::Line)
     }
 }
 
 /// A call, of what comes after its thread.
-fn call(thread: &[u8], rest: &[u8]) -> Result<Line, RecordingCause>
-    ensures { result ≡ first_of One causes call_kinds (codes "call" ∷ thread.now ∷ cut_at 32 rest.now) }
+fn call(thread: &[u8], rest: &[u8]) -> Result<Line, Cause>
+    ensures { result ≡ first_of One Cause.Line call_kinds (codes "call" ∷ thread.now ∷ cut_at 32 rest.now) }
 {
     let Some((call, rest)) = cut(rest, b' ') else {
-        return Err(RecordingCause::Line);
+        return Err(Cause::Line);
     };
     let Some((key, rest)) = cut(rest, b' ') else {
-        return Err(RecordingCause::Line);
+        return Err(Cause::Line);
     };
     let Some((begun, rest)) = cut(rest, b' ') else {
-        return Err(RecordingCause::Line);
+        return Err(Cause::Line);
     };
     let Some((end, reply)) = cut(rest, b' ') else {
-        return Err(RecordingCause::Line);
+        return Err(Cause::Line);
     };
     if let Some((_, _more)) = cut(reply, b' ') {
-        return Err(RecordingCause::Line);
+        return Err(Cause::Line);
     }
     let pieces = CallPieces {
         thread,
@@ -223,34 +220,34 @@ fn call(thread: &[u8], rest: &[u8]) -> Result<Line, RecordingCause>
     ended_call(pieces, end, reply)
 }
 
-fn opening_or_key(section: Section, word: &[u8], key: &[u8]) -> Result<Line, RecordingCause>
-    ensures { result ≡ first_of One causes (kinds section) (word.now ∷ key.now ∷ []) }
+fn opening_or_key(section: Section, word: &[u8], key: &[u8]) -> Result<Line, Cause>
+    ensures { result ≡ first_of One Cause.Line (kinds section) (word.now ∷ key.now ∷ []) }
 {
     if section.takes_opening() && word == b"opening".as_slice() {
-        let key = number(key, 0, u32::MAX).ok_or(RecordingCause::Number)?;
+        let key = number(key, 0, u32::MAX).ok_or(Cause::Number)?;
         return Ok(Line::Opening(key));
     }
     if !section.takes_keys() || word != b"key".as_slice() {
-        return Err(RecordingCause::Line);
+        return Err(Cause::Line);
     }
-    let key = number(key, 0, u32::MAX).ok_or(RecordingCause::Number)?;
+    let key = number(key, 0, u32::MAX).ok_or(Cause::Number)?;
     Ok(Line::Key(key))
 }
 
-fn end(section: Section, word: &[u8]) -> Result<Line, RecordingCause>
-    ensures { result ≡ first_of One causes (kinds section) (word.now ∷ []) }
+fn end(section: Section, word: &[u8]) -> Result<Line, Cause>
+    ensures { result ≡ first_of One Cause.Line (kinds section) (word.now ∷ []) }
 {
     if section.takes_calls() && word == b"cut".as_slice() {
         return Ok(Line::Cut);
     }
     if !section.takes_keys() || word != b"end".as_slice() {
-        return Err(RecordingCause::Line);
+        return Err(Cause::Line);
     }
     Ok(Line::End)
 }
 
-fn line_in(section: Section, line: &[u8]) -> Result<Line, RecordingCause>
-    ensures { result ≡ line_in One causes (kinds section) line.now }
+fn line_in(section: Section, line: &[u8]) -> Result<Line, Cause>
+    ensures { result ≡ line_in One Cause.Line (kinds section) line.now }
 {
     let Some((word, rest)) = cut(line, b' ') else {
         return end(section, line);
@@ -259,31 +256,31 @@ fn line_in(section: Section, line: &[u8]) -> Result<Line, RecordingCause>
         return opening_or_key(section, word, rest);
     };
     if !section.takes_calls() || !is_call(word) {
-        return Err(RecordingCause::Line);
+        return Err(Cause::Line);
     }
     call(second, rest)
 }
 
 /// What the first line says.
-fn title_told(line: &[u8]) -> Result<Line, RecordingCause>
+fn title_told(line: &[u8]) -> Result<Line, Cause>
     ensures { result ≡ title_told line.now }
 {
     if line == TITLE {
         Ok(Line::Title)
     } else {
-        Err(RecordingCause::Header)
+        Err(Cause::Header)
     }
 }
 
 /// What a line says in a text that has come to a section.
-pub fn line_told(section: Section, line: &[u8]) -> Result<Line, RecordingCause>
+pub fn line_told(section: Section, line: &[u8]) -> Result<Line, Cause>
     ensures { result ≡ line_told section line.now }
 {
     if section.is_title() {
         return title_told(line);
     }
     if line.len() > LONGEST_LINE {
-        return Err(RecordingCause::Line);
+        return Err(Cause::Line);
     }
     if section.takes_calls() {
         if let Some(call) = quick_call(line) {

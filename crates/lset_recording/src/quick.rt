@@ -1,7 +1,7 @@
 //! The line of a call that has ended, read in one pass, as long recordings have one beside another. Any other line is left to the kinds of
 //! lines: `None` says nothing of it.
 
-ghost use Rattle.std.specs.Prelude.{◌≡◌, ◌≤◌, ◌++◌, ◌∷◌, ℕ, IfSome, Ok, true, codes};
+ghost use Rattle.std.specs.Prelude.{◌≡◌, ◌≤◌, ◌++◌, ◌∷◌, IfSome, Ok, true, codes};
 ghost use Rattle.std.specs.Fmt.{decimal};
 ghost use Rattle.lset_text.specs.declared.words.Version.TheVariants.{One};
 ghost use Rattle.lset_text.specs.Kinds.{line_in};
@@ -10,10 +10,10 @@ ghost use Rattle.lset_text.specs.Spellings.{call_word_text, reply_text, HasWord}
 ghost use Rattle.lset_judge.specs.Verdict.{is_truth};
 ghost use Rattle.lset_recording.specs.declared.lines.Section.{Section};
 ghost use Rattle.lset_recording.specs.declared.lines.Line.TheVariants.{Call};
-ghost use Rattle.lset_recording.specs.Reading.{causes, kinds, takes_calls};
+ghost use Rattle.lset_recording.specs.Reading.{kinds, takes_calls};
 
 use lset_judge::{LAST_MOMENT, StreamCall};
-use lset_text::CallWord;
+use lset_text::{CallWord, Cause};
 use lset_words::{Key, Reply};
 
 /// The last value that a further digit can follow here: ten times it and nine is a moment.
@@ -115,7 +115,7 @@ fn behind_call(line: &[u8]) -> Option<&[u8]>
 /// The call that a line tells where calls may come, if it is one that has ended.
 pub(crate) fn quick_call(line: &[u8]) -> Option<StreamCall>
     ensures { IfSome result (λ call. (section : Section) → takes_calls section ≡ true
-        → line_in One causes (kinds section) line.now ≡ Ok (Call call)) }
+        → line_in One Cause.Line (kinds section) line.now ≡ Ok (Call call)) }
 {
     let rest = behind_call(line)?;
     let (thread, rest) = number_before(rest)?;

@@ -1,14 +1,15 @@
 ghost use Rattle.std.specs.Prelude.{◌≡◌, ◌≢◌, ◌+◌, ◌++◌, ◌∷◌, [], Ok, Err, IfOk, IfErr, OnOk, List, ℕ, IsTrue, MatchOption, false};
+ghost use Rattle.lset_text.specs.Causes.{fault};
 ghost use Rattle.lset_text.specs.Parts.{Lacks};
-ghost use Rattle.lset_recording.specs.Reading.{RecordingsAreRead, Says, fault, first_line};
+ghost use Rattle.lset_recording.specs.Reading.{RecordingsAreRead, Says, first_line};
 ghost use Rattle.lset_recording.specs.Texts.{Recording};
 ghost use Rattle.lset_recording.specs.Kept.{HasFailed, IsAnswered, IsLineOf, IsRead, IsRefusedAt, newlines};
 
-use crate::fault::{RecordingCause, RecordingFault};
 use crate::judging::RecordingAnswer;
 use crate::kept::Judging;
 use crate::lines::LONGEST_LINE;
 use arrayvec::ArrayVec;
+use lset_text::{Cause, LineFault};
 use memchr::memchr;
 use std::alloc::Global;
 
@@ -30,7 +31,7 @@ pub struct RecordingReader {
     // (the line has more bytes than that)
     is_long: bool,
     // (what `feed` returned, once it was an error)
-    failed: Option<RecordingFault>,
+    failed: Option<LineFault>,
 }
 
 impl RecordingReader {
@@ -46,10 +47,10 @@ impl RecordingReader {
         }
     }
 
-    fn fault(&self, cause: RecordingCause) -> RecordingFault
+    fn fault(&self, cause: Cause) -> LineFault
         ensures { result ≡ fault self.now.judging.number cause }
     {
-        RecordingFault::at(self.judging.number(), cause)
+        LineFault::at(self.judging.number(), cause)
     }
 
     /// Whether no byte is held.
@@ -72,7 +73,7 @@ impl RecordingReader {
     }
 
     /// Takes the newline of the line that is held.
-    fn newline_in(&mut self) -> Result<(), RecordingFault>
+    fn newline_in(&mut self) -> Result<(), LineFault>
         ensures taken { OnOk result ((bytes : List ℕ) → IsRead bytes self.old → IsRead (bytes ++ 10 ∷ []) self.new) }
         ensures refused { IfErr result (λ fault. (bytes : List ℕ) → IsRead bytes self.old → IsRefusedAt (bytes ++ 10 ∷ []) fault) }
         ensures line { IfErr result (λ fault. fault.line ≡ self.old.judging.number) }
@@ -90,7 +91,7 @@ impl RecordingReader {
     }
 
     /// Takes a line of which no byte is held, and its newline. It is read where it lies.
-    fn whole_line_in(&mut self, line: &[u8]) -> Result<(), RecordingFault>
+    fn whole_line_in(&mut self, line: &[u8]) -> Result<(), LineFault>
         requires lacks { Lacks 10 line.now }
         requires none { self.old.line.items ≡ [] }
         requires short { self.old.is_long ≡ false }
@@ -106,7 +107,7 @@ impl RecordingReader {
     }
 
     /// Takes what comes of a line, and its newline.
-    fn line_in(&mut self, line: &[u8]) -> Result<(), RecordingFault>
+    fn line_in(&mut self, line: &[u8]) -> Result<(), LineFault>
         requires { Lacks 10 line.now }
         ensures taken { OnOk result ((bytes : List ℕ) → IsRead bytes self.old → IsRead (bytes ++ line.now ++ 10 ∷ []) self.new) }
         ensures refused { IfErr result (λ fault. (bytes : List ℕ) → IsRead bytes self.old
@@ -121,7 +122,7 @@ impl RecordingReader {
     }
 
     /// Takes the next bytes, if those before had no fault.
-    fn bytes_in(&mut self, piece: &[u8]) -> Result<(), RecordingFault>
+    fn bytes_in(&mut self, piece: &[u8]) -> Result<(), LineFault>
         ensures taken { OnOk result ((bytes : List ℕ) → IsRead bytes self.old → IsRead (bytes ++ piece.now) self.new) }
         ensures refused { IfErr result (λ fault. (bytes : List ℕ) → IsRead bytes self.old → IsRefusedAt (bytes ++ piece.now) fault) }
         ensures line { IfErr result (λ fault. (bytes : List ℕ) → IsRead bytes self.old → IsLineOf bytes piece.now fault.line) }
@@ -141,14 +142,15 @@ impl RecordingReader {
     ///
     /// # Errors
     ///
-    /// The first fault of the text, whatever comes after these bytes; `RecordingCause::Memory` if an allocation fails. Its line is one whose
+    /// The first fault of the text, whatever comes after these bytes; `Cause::Memory` if an allocation fails. Its line is one whose
     /// newline is in the piece. After an error each further call of `feed`, and `finish`, return that error.
-    pub fn feed(&mut self, piece: &[u8]) -> Result<(), RecordingFault>
+    #[tactic(auto, using(crate::proofs::ReadLaws::none_failed, crate::proofs::ReadLaws::one_failed))]
+    pub fn feed(&mut self, piece: &[u8]) -> Result<(), LineFault>
         ensures taken { OnOk result ((bytes : List ℕ) → IsRead bytes self.old → IsRead (bytes ++ piece.now) self.new) }
         ensures refused { IfErr result (λ fault. (bytes : List ℕ) → IsRead bytes self.old → IsRefusedAt (bytes ++ piece.now) fault) }
         ensures line { IfErr result (λ fault. (bytes : List ℕ) → IsRead bytes self.old → IsLineOf bytes piece.now fault.line) }
         ensures failed { IfErr result (HasFailed self.new) }
-        ensures still { (fault : RecordingFault) → HasFailed self.old fault → result ≡ Err fault }
+        ensures still { (fault : LineFault) → HasFailed self.old fault → result ≡ Err fault }
     {
         if let Some(fault) = self.failed {
             return Err(fault);
@@ -163,15 +165,15 @@ impl RecordingReader {
     }
 
     /// What is said of the text, if it ends here and had no fault before.
-    fn end(self) -> Result<RecordingAnswer, RecordingFault>
+    fn end(self) -> Result<RecordingAnswer, LineFault>
         ensures said { IfOk result (λ answer. (bytes : List ℕ) → IsRead bytes self
             → (c : Recording) × Says bytes (Ok c) × IsAnswered c answer) }
-        ensures refused { IfErr result (λ fault. fault.cause ≢ RecordingCause.Memory → (bytes : List ℕ) → IsRead bytes self
+        ensures refused { IfErr result (λ fault. fault.cause ≢ Cause.Memory → (bytes : List ℕ) → IsRead bytes self
             → Says bytes (Err fault)) }
         ensures line { IfErr result (λ fault. (bytes : List ℕ) → IsRead bytes self → fault.line ≡ first_line + newlines bytes) }
     {
         if self.is_long || !self.line.as_slice().is_empty() {
-            return Err(self.fault(RecordingCause::NotEnded));
+            return Err(self.fault(Cause::NotEnded));
         }
         self.judging.finish()
     }
@@ -181,14 +183,15 @@ impl RecordingReader {
     ///
     /// # Errors
     ///
-    /// The fault of the text, if it may not end here; `RecordingCause::Memory` if an allocation fails; the error of `feed`, if it returned one.
-    pub fn finish(self) -> Result<RecordingAnswer, RecordingFault>
+    /// The fault of the text, if it may not end here; `Cause::Memory` if an allocation fails; the error of `feed`, if it returned one.
+    #[tactic(auto, using(crate::proofs::ReadLaws::none_failed, crate::proofs::ReadLaws::one_failed))]
+    pub fn finish(self) -> Result<RecordingAnswer, LineFault>
         ensures said { IfOk result (λ answer. (bytes : List ℕ) → IsRead bytes self
             → (c : Recording) × Says bytes (Ok c) × IsAnswered c answer) }
-        ensures refused { IfErr result (λ fault. fault.cause ≢ RecordingCause.Memory → (bytes : List ℕ) → IsRead bytes self
+        ensures refused { IfErr result (λ fault. fault.cause ≢ Cause.Memory → (bytes : List ℕ) → IsRead bytes self
             → Says bytes (Err fault)) }
         ensures line { IfErr result (λ fault. (bytes : List ℕ) → IsRead bytes self → fault.line ≡ first_line + newlines bytes) }
-        ensures still { (fault : RecordingFault) → HasFailed self fault → result ≡ Err fault }
+        ensures still { (fault : LineFault) → HasFailed self fault → result ≡ Err fault }
     {
         match self.failed {
             Some(fault) => Err(fault),
@@ -198,6 +201,7 @@ impl RecordingReader {
 }
 
 /// The bytes that say a recording are the one text of it.
+#[tactic(auto, using(crate::proofs::TextFound::text_found))]
 pub fn recordings_are_read()
     ensures { RecordingsAreRead }
 {}

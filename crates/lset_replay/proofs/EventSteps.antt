@@ -1,20 +1,20 @@
 -- From event to event of a run: the recorder is ready for each enabled one, and follows it.
-use Rattle.std.proofs.Common.{◌≡◌, ℕ, suc, ◌<◌, ◌⊎◌, inl, inr, List, length, sym, refl, subst, ap, ◌∙◌, arith}
+use Rattle.std.proofs.Common.{◌≡◌, ℕ, suc, ◌+◌, ◌<◌, ◌⊎◌, inl, inr, List, sym, refl, subst, ap, ◌∙◌, add-one, arith}
 use Rattle.lset_words.specs.Account.{Account, Enters}
-use Rattle.lset_words.specs.Log.{Entry}
-use Rattle.lset_words.specs.Words.{Opening, Opens, sizes}
+use Rattle.lset_words.specs.Words.{Opening, sizes}
 use Rattle.lset_steps.specs.declared.Event.{Event}
 use Rattle.lset_steps.specs.declared.Event.TheVariants.{Begin, Go}
 use Rattle.lset_steps.specs.declared.Told.{Told}
 use Rattle.lset_steps.specs.declared.world.StepFault.{StepFault}
-use Rattle.lset_steps.specs.Steps.{Table, State, Run, Enabled, state_at, event_at, entry_of, log_of, told, after, opening}
+use Rattle.lset_steps.specs.declared.world.StepFault.TheVariants as step
+use Rattle.lset_steps.specs.Steps.{Table, State, Run, Enabled, state_at, event_at, entry_of, log_of, told, after}
 use Rattle.lset_steps.specs.Worlds.{WorldState, Refused}
 use Rattle.lset_replay.specs.declared.events.LineEvent.{LineEvent}
 use Rattle.lset_replay.specs.declared.recorder.Recorder.{Recorder}
-use Rattle.lset_replay.specs.Events.{only_events, line_at}
-use Rattle.lset_replay.specs.Reports.{IsFirstRefused}
-use Rattle.lset_replay.specs.Trace.{Trace, trace_of, trace_after, entry_told, MayRecord, MayChange, no_trace}
-use Rattle.lset_replay.specs.Follows.{HasFollowed, HasKept}
+use Rattle.lset_replay.specs.Events.{only_events}
+use Rattle.lset_replay.specs.Reports.{IsFirstRefused, IsRefusal, fault_at}
+use Rattle.lset_replay.specs.Trace.{trace_of, trace_after, entry_told, MayRecord, MayChange}
+use Rattle.lset_replay.specs.Follows.{HasFollowed, ComesNext}
 use Rattle.lset_history.specs.Changes.{moments_of}
 use Rattle.lset_replay.proofs.KeyChanges.{HoldsKeys}
 use Rattle.lset_replay.proofs.Followed.{TellsKeys, holds_keys, shown}
@@ -38,92 +38,75 @@ run_more T op es k r e = record {
     last_or_before : (j k : ℕ) → j < suc k → (j ≡ k) ⊎ (j < k)
     last_or_before j k l = grind arith
 
--- ---- WHATEVER IS KEPT of each event
-module _ (keep : ℕ → Entry → Trace → Trace) (T : Table) (op : Opening) (events : List LineEvent) (k : ℕ) (w : WorldState)
-    (r : Recorder) (h : HasKept keep T op events k w r) (e : Event) (is : event_at (only_events events) k ≡ e) where
+-- ---- what is kept of each event
+module _ (T : Table) (op : Opening) (events : List LineEvent) (k : ℕ) (w : WorldState)
+    (r : Recorder) (h : HasFollowed T op events k w r) (next : LineEvent) (there : ComesNext events k next) where
   abbrev es : ℕ → Event
   es = event_at (only_events events)
+
+  abbrev e : Event
+  e = next.event
 
   state_is : w.state ≡ state_at T op es k
   state_is = ap (λ (x : WorldState). x.state) h.world
 
-  enabled_now : Enabled w.state e → Enabled (state_at T op es k) (event_at (only_events events) k)
-  enabled_now en = subst (λ z. Enabled (state_at T op es k) z) (sym is) (subst (λ z. Enabled z e) state_is en)
-
   run_on : Enabled w.state e → Run T op es (suc k)
-  run_on en = run_more T op es k h.run (enabled_now en)
-
-  entry_now : log_of T op es k ≡ entry_of T (state_at T op es k) e
-  entry_now = ap (λ z. entry_of T (state_at T op es k) z) is
+  run_on en = run_more T op es k h.run
+      (subst (λ z. Enabled (state_at T op es k) z) (sym there.event_is) (subst (λ z. Enabled z e) state_is en))
 
   pub followed : (w' : WorldState) (r' : Recorder) (a : Told) → Enabled w.state e
       → w' ≡ record w { state = after T w.state e } → a ≡ told T w.state e
-      → trace_of r' ≡ keep (suc k) (entry_told e a) (trace_of r) → r'.history.opening ≡ r.history.opening
-      → HasKept keep T op events (suc k) w' r'
-  followed w' r' a en world says trace opens = record {
+      → trace_of r' ≡ trace_after (k + 1) (entry_told e a) (trace_of r) → r'.history.opening ≡ r.history.opening
+      → HasFollowed T op events (k + 1) w' r'
+  followed w' r' a en world says trace opens = subst (λ m. HasFollowed T op events m w' r') (sym (add-one k)) (record {
     run = run_on en;
     world = world ∙ ap (λ (z : WorldState). record z { state = after T z.state e }) h.world
-        ∙ ap (λ z. record { sizes = sizes op; state = after T (state_at T op es k) z }) (sym is);
-    trace = trace ∙ ap (λ z. keep (suc k) (entry_told e z) (trace_of r)) says
-        ∙ ap (λ z. keep (suc k) z (trace_of r)) (told_entry T w.state e ∙ ap (λ z. entry_of T z e) state_is
-        ∙ sym entry_now)
-        ∙ ap (λ z. keep (suc k) (log_of T op es k) z) h.trace;
+        ∙ ap (λ z. record { sizes = sizes op; state = after T (state_at T op es k) z }) (sym there.event_is);
+    trace = trace ∙ ap (λ m. trace_after m (entry_told e a) (trace_of r)) (add-one k)
+        ∙ ap (λ z. trace_after (suc k) (entry_told e z) (trace_of r)) says
+        ∙ ap (λ z. trace_after (suc k) z (trace_of r)) (told_entry T w.state e ∙ ap (λ z. entry_of T z e) state_is
+        ∙ sym (ap (λ z. entry_of T (state_at T op es k) z) there.event_is))
+        ∙ ap (λ z. trace_after (suc k) (log_of T op es k) z) h.trace;
     opening_is = opens ∙ h.opening_is;
-  }
+  })
 
-  pub stopped : (cause : StepFault) (line : ℕ) → k < length events → line ≡ line_at events k → Refused w e cause
-      → (first : IsFirstRefused T op events line cause) × (first.index ≡ k)
-  stopped cause line below line_is refused = (
-    record {
-      index = k;
-      known = below;
-      line_is = line_is;
-      before = h.run;
-      refused = subst (λ z. Refused (record { sizes = sizes op; state = state_at T op es k }) z cause) (sym is)
-          (subst (λ z. Refused z e cause) h.world refused);
-    },
-    refl,
-  )
-
--- ---- and of a list that keeps its promises
-module _ (T : Table) (accounts : TellsKeys T) (op : Opening) (events : List LineEvent) (k : ℕ) (w : WorldState) (r : Recorder)
-    (h : HasFollowed T op events k w r)
-    (e : Event) (is : event_at (only_events events) k ≡ e) where
-  run_there : Enabled w.state e → Run T op (event_at (only_events events)) (suc k)
-  run_there = run_on trace_after T op events k w r h e is
-
-  open shown T op events use {log, contents, counts}
-
-  pub ready : Enabled w.state e → (a : Told) → a ≡ told T w.state e → MayRecord r (suc k) e a
-  ready en a says = at e is a (says ∙ ap (λ z. told T z e) (state_is trace_after T op events k w r h e is))
+  pub stopped : (cause : StepFault) → Refused w e cause → IsRefusal T op events (fault_at next.line cause)
+  stopped cause refused = by_cause cause (record {
+    index = k;
+    known = there.known;
+    line_is = there.line_is;
+    before = h.run;
+    refused = subst (λ z. Refused (record { sizes = sizes op; state = state_at T op es k }) z cause) (sym there.event_is)
+        (subst (λ z. Refused z e cause) h.world refused);
+  })
     where
-      account : Account op (suc k) log contents counts
-      account = accounts.account op (suc k) (event_at (only_events events)) (run_there en)
+      by_cause : (cause : StepFault) → IsFirstRefused T op events next.line cause → IsRefusal T op events (fault_at next.line cause)
+      by_cause step.NoThread f = f
+      by_cause step.Busy f = f
+      by_cause step.Idle f = f
 
-      low : HoldsKeys (suc k) contents
-      low = holds_keys T accounts op (suc k) (event_at (only_events events)) (run_there en)
+  -- and a list that keeps its promises finds the recorder ready
+  module _ (accounts : TellsKeys T) where
+    open shown T op events use {log, contents, counts}
 
-      entered : (d : Event) → event_at (only_events events) k ≡ d → Enters op.threads op.quota log contents
-          counts k (entry_of T (state_at T op (event_at (only_events events)) k) d)
-      entered d i = subst (λ z. Enters op.threads op.quota log contents
-          counts k (entry_of T (state_at T op (event_at (only_events events)) k) z)) i (account.enters k (omega arith))
+    pub ready : Enabled w.state e → (a : Told) → a ≡ told T w.state e → MayRecord r (k + 1) e a
+    ready en a says = subst (λ m. MayRecord r m e a) (sym (add-one k))
+        (at e there.event_is a (says ∙ ap (λ z. told T z e) state_is))
+      where
+        account : Account op (suc k) log contents counts
+        account = accounts.account op (suc k) es (run_on en)
 
-      at : (d : Event) → event_at (only_events events) k ≡ d → (a : Told) → a ≡ told T (state_at T op (event_at (only_events events)) k) d
-          → MayRecord r (suc k) d a
-      at (Begin t call) i a says = may_begin op (suc k) log contents counts
-          account low k (omega arith) r (ap (λ (o : Opening). o.threads) h.opening_is) h.trace t call (entered (Begin t call) i)
-      at (Go t) i a says =
-          let may = may_step op (suc k) log contents counts
-          account low k (omega arith) r (ap (λ (o : Opening). o.threads) h.opening_is) h.trace t _ _ (entered (Go t) i) in
-          (may.0, subst (λ (z : Told). MayChange (moments_of r.changes) (suc k) z.change) (sym says) may.1)
+        low : HoldsKeys (suc k) contents
+        low = holds_keys T accounts op (suc k) es (run_on en)
 
--- nothing has been followed
-pub at_first : (keep : ℕ → Entry → Trace → Trace) (T : Table) (op : Opening) (events : List LineEvent) (w : WorldState) (r : Recorder) → Opens op
-    → w ≡ record { sizes = sizes op; state = opening op }
-    → trace_of r ≡ no_trace op → r.history.opening ≡ op → HasKept keep T op events 0 w r
-at_first keep T op events w r opens world trace opening_is = record {
-  run = record { opens = opens; enabled = λ k l. absurd (omega arith) };
-  world = world;
-  trace = trace;
-  opening_is = opening_is;
-}
+        entered : (d : Event) → es k ≡ d → Enters op.threads op.quota log contents counts k (entry_of T (state_at T op es k) d)
+        entered d i = subst (λ z. Enters op.threads op.quota log contents counts k (entry_of T (state_at T op es k) z)) i
+            (account.enters k (omega arith))
+
+        at : (d : Event) → es k ≡ d → (a : Told) → a ≡ told T (state_at T op es k) d → MayRecord r (suc k) d a
+        at (Begin t call) i a says = may_begin op (suc k) log contents counts
+            account low k (omega arith) r (ap (λ (o : Opening). o.threads) h.opening_is) h.trace t call (entered (Begin t call) i)
+        at (Go t) i a says =
+            let may = may_step op (suc k) log contents counts
+            account low k (omega arith) r (ap (λ (o : Opening). o.threads) h.opening_is) h.trace t _ _ (entered (Go t) i) in
+            (may.0, subst (λ (z : Told). MayChange (moments_of r.changes) (suc k) z.change) (sym says) may.1)

@@ -1,5 +1,5 @@
 -- Changes up to a moment, and one more.
-use Rattle.std.proofs.Common.{◌≡◌, ℕ, suc, ◌+◌, ◌<◌, ◌≤◌, not, Bool, true, false, List, get_or, length, ap, ◌∙◌, arith, refl, subst, sym}
+use Rattle.std.proofs.Common.{◌≡◌, ℕ, ◌<◌, ◌≤◌, not, Bool, true, false, List, get_or, ap, ◌∙◌, arith, refl, subst, sym}
 use mathlib.Core.Bool.{beq}
 use Rattle.std.specs.Prelude.{All}
 use Rattle.std.proofs.lemmas.List.Elements.{All-get_or, All-from_get_or}

@@ -1,5 +1,5 @@
 -- The least moment that the reply of a call without a change fits is the first at which its key is there, or is not.
-use Rattle.std.proofs.Common.{◌≡◌, ℕ, List, true, false, ◌+◌, ◌<◌, ◌≤◌, sym, refl, subst, ◌∙◌, arith}
+use Rattle.std.proofs.Common.{◌≡◌, ℕ, List, true, false, ◌<◌, ◌≤◌, sym, refl, subst, ◌∙◌, arith}
 use Rattle.std.specs.Prelude.{Option, Some, None}
 use Rattle.lset_words.specs.declared.Call.{Call}
 use Rattle.lset_words.specs.declared.Call.TheVariants as call
@@ -9,11 +9,10 @@ use Rattle.lset_words.specs.Words.{key_of}
 use Rattle.lset_words.specs.Log.{TracedCall}
 use Rattle.lset_words.specs.Account.{Contents, Counts, Fits, FitsSometime, IsCeiling}
 use Rattle.lset_words.specs.Placement.{IsLeastFit}
-use Rattle.lset_history.specs.Changes.{IsFirst, first_passing, has_ceiling, is_present, IsBounded}
-use Rattle.lset_history.proofs.Firsts.{first_passing_is}
+use Rattle.lset_history.specs.Changes.{IsFirst, has_ceiling, is_present, IsBounded}
 use Rattle.lset_history.proofs.CeilingTests.{tested, passes_test, ceiling_by}
 use Rattle.lset_words.specs.declared.Key.{Key}
-use Rattle.lset_replay.specs.Trace.{needs_key, found_in, fit_by}
+use Rattle.lset_replay.specs.Trace.{needs_key, shows}
 use Rattle.lset_replay.proofs.KeyChanges.{Tells, told_yes, told_no}
 
 -- the first moment of a call from `first` to `last` at which F holds
@@ -24,12 +23,12 @@ pub record LeastAt (F : ℕ → Type 0) (first last moment : ℕ) : Type 0 where
   pub least : (m : ℕ) → first ≤ m → m < moment → F m → ⊥
 
 -- of every call but a ceiling, by its key alone
-pub plain_fit : (changes : ℕ → List ℕ) (c : Call) (r : Reply) (first more : ℕ) → ((k : Key) → c ≡ call.Ceiling k → ⊥)
-    → fit_by changes c r first more ≡ first_passing (needs_key c r) (λ m. is_present changes (key_of c).0 m) first more
-plain_fit changes (call.Add k) r first more n = refl
-plain_fit changes (call.Remove k) r first more n = refl
-plain_fit changes (call.Contains k) r first more n = refl
-plain_fit changes (call.Ceiling k) r first more n = absurd (n k refl)
+pub plain_shows : (changes : ℕ → List ℕ) (c : Call) (r : Reply) → ((k : Key) → c ≡ call.Ceiling k → ⊥)
+    → shows changes c r ≡ (λ m. is_present changes (key_of c).0 m)
+plain_shows changes (call.Add k) r n = refl
+plain_shows changes (call.Remove k) r n = refl
+plain_shows changes (call.Contains k) r n = refl
+plain_shows changes (call.Ceiling k) r n = absurd (n k refl)
 
 module _ (P F : ℕ → Type 0) (first last : ℕ) (to : (m : ℕ) → first ≤ m → m ≤ last → F m → P m) (back :
     (m : ℕ) → first ≤ m → m ≤ last → P m → F m) where
@@ -53,21 +52,7 @@ module _ (q : ℕ) (contents : Contents) (counts : Counts) (first last t : ℕ) 
 
   -- what a moment has to show for a reply of a call that changes nothing
   abbrev pub Passes : (ℕ → List ℕ) → Call → Reply → ℕ → Type 0
-  Passes changes (call.Add k) r m = is_present changes k.0 m ≡ needs_key (call.Add k) r
-  Passes changes (call.Remove k) r m = is_present changes k.0 m ≡ needs_key (call.Remove k) r
-  Passes changes (call.Contains k) r m = is_present changes k.0 m ≡ needs_key (call.Contains k) r
-  Passes changes (call.Ceiling k) r m = has_ceiling changes k.0 (found_in r) m ≡ true
-
-  -- what the function finds is the first such moment
-  pub fit_is_first : (changes : ℕ → List ℕ) (c : Call) (r : Reply) (more : ℕ) → last ≡ first + more
-      → IsFirst (λ m. Passes changes c r m) first last (fit_by changes c r first more)
-  fit_is_first changes (call.Add k) r more e = first_passing_is (needs_key (call.Add k) r) (λ m. is_present changes k.0 m) first
-      more last e
-  fit_is_first changes (call.Remove k) r more e = first_passing_is (needs_key (call.Remove k) r) (λ m. is_present changes k.0 m)
-      first more last e
-  fit_is_first changes (call.Contains k) r more e =
-      first_passing_is (needs_key (call.Contains k) r) (λ m. is_present changes k.0 m) first more last e
-  fit_is_first changes (call.Ceiling k) r more e = first_passing_is true (has_ceiling changes k.0 (found_in r)) first more last e
+  Passes changes c r m = shows changes c r m ≡ needs_key c r
 
   -- a ceiling, by all keys at once
   ceiling_least : (changes : ℕ → List ℕ) (k : Key) (found : Option ℕ) (r : Reply) (o : Option ℕ)

@@ -1,7 +1,5 @@
 pub mod Kept
 pub mod EventLists
-pub mod Ranks
-pub mod Pointed
 pub mod KeyChanges
 pub mod LeastFits
 pub mod OpenCalls
@@ -13,6 +11,5 @@ pub mod Followed
 pub mod Ordered
 pub mod EventSteps
 pub mod Reported
-pub mod Fronts
 pub mod ReportWords
 pub mod Recorded

@@ -1,7 +1,7 @@
 -- How the list of calls changes at an entry: by a new call, or at the open one of a thread.
 use Rattle.std.proofs.Common.{◌≡◌, ◌≢◌, ℕ, zero, suc, ◌+◌, ◌<◌, ◌≤◌, ◌⊎◌, true, false, inl, inr, List, [], ◌∷◌, ◌++◌, length, map, set}
 use Rattle.std.proofs.Common.{sym, refl, subst, ap, ◌∙◌, arith}
-use Rattle.std.specs.Prelude.{Option, Some, None, if◌then◌else◌, IsSomeAnd}
+use Rattle.std.specs.Prelude.{Option, None, if◌then◌else◌, IsSomeAnd}
 use Rattle.std.proofs.lemmas.List.{length-append, length-map, get_or-map, get_or_append_left, get_or_push}
 use Rattle.lset_words.specs.declared.Call.{Call}
 use Rattle.lset_words.specs.declared.Reply.{Reply}

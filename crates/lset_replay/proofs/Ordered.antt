@@ -19,7 +19,7 @@ use Rattle.lset_replay.proofs.KeyChanges.{HoldsKeys}
 use Rattle.lset_replay.proofs.Following.{Follows, PlaceBy, PlaceOf}
 use Rattle.lset_replay.proofs.Ready.{follows}
 
-abbrev pub moment_of : Option Linearized → Option ℕ
+abbrev moment_of : Option Linearized → Option ℕ
 moment_of None = None
 moment_of (Some p) = Some p.moment
 
@@ -42,7 +42,7 @@ module _ (q : ℕ) (contents : Contents) (counts : Counts) where
   change_there x None None p h = absurd (cc)
   change_there x None (Some end) p h = let e = h.1 in cc
 
-  pub stands_there : (x : TracedCall) (changed : Option ℕ) (ended : Option (ℕ × Reply)) (p : Option Linearized)
+  stands_there : (x : TracedCall) (changed : Option ℕ) (ended : Option (ℕ × Reply)) (p : Option Linearized)
       → PlaceBy q contents counts x changed ended p
       → StandsBy q contents counts x changed ended (moment_of p)
   stands_there x (Some m) ended p h = ap moment_of h
@@ -79,7 +79,7 @@ module _ (q : ℕ) (contents : Contents) (counts : Counts) where
 
   module _ (xs : List TracedCall) (ps : List (Option Linearized)) (l : length ps ≡ length xs)
       (h : (i : ℕ) → i < length xs → PlaceOf q contents counts (traced_at xs i) (place_at ps i)) where
-    pub is_placement : (last : ℕ) → IsPlacement q last xs contents counts (blocks_upto ps last)
+    is_placement : (last : ℕ) → IsPlacement q last xs contents counts (blocks_upto ps last)
     is_placement last = record {
       places = map moment_of ps;
       one_each = length-map ps moment_of ∙ l;

@@ -1,6 +1,6 @@
 -- A replay tells calls and replies that its schedule's version has words for.
 use Rattle.std.proofs.Common.{ap, ◌≡◌, ℕ, zero, suc, ◌+◌, ◌<◌, Bool, true, false, List, [], ◌∷◌, length, get_or, map, replicate}
-use Rattle.std.proofs.Common.{take, refl, sym, subst, ◌∙◌, arith}
+use Rattle.std.proofs.Common.{refl, sym, subst, ◌∙◌, arith}
 use Rattle.std.specs.Prelude.{Option, Some, None, ◌==◌, Contains, if◌then◌else◌}
 use Rattle.std.specs.List.{AllByRecursion}
 use Rattle.std.proofs.lemmas.List.{get_or_default}
@@ -31,8 +31,7 @@ use Rattle.lset_report.specs.Report.{ReportValue}
 use Rattle.lset_report.specs.Texts.{HasEnd, HasWordsIn, HasWordsOfVersion}
 use Rattle.lset_replay.specs.declared.events.LineEvent.{LineEvent}
 use Rattle.lset_replay.specs.Events.{events_of_line, events_from, events_of, only_events}
-use Rattle.lset_replay.specs.Reports.{IsReplayOf, IsExplained}
-use Rattle.lset_replay.specs.Fronts.{first_events}
+use Rattle.lset_replay.specs.Reports.{IsReplay, IsExplained}
 
 -- ---- what begins has a word
 
@@ -176,21 +175,13 @@ words_in One q s calls order h are =
     )
 words_in Two q s calls order h are = tt
 
-first_begin : (v : Version) (k : ℕ) (es : List LineEvent) → AllByRecursion (BeginsLineIn v) es
-    → AllByRecursion (BeginsLineIn v) (take k es)
-first_begin v zero [] h = tt
-first_begin v zero (e ∷ es) h = tt
-first_begin v (suc k) [] h = tt
-first_begin v (suc k) (e ∷ es) h = (h.0, first_begin v k es h.1)
-
--- of the first k events
-pub words_of_version : (T : Table) (p : Plan) (k : ℕ) (r : ReportValue) → IsReplayOf T p (first_events p k) r → IsExplained r
+pub words_of_version : (T : Table) (p : Plan) (r : ReportValue) → IsReplay T p r → IsExplained r
     → plan.HasWordsOfVersion p → HasWordsOfVersion r
-words_of_version T p k r is explained words =
+words_of_version T p r is explained words =
     let are : AllByRecursion (IsRecordIn p.version) r.history.calls =
     subst (λ xs. AllByRecursion (IsRecordIn p.version) xs) (sym is.report.history_is)
-    (history_is_in p.version T (opening_in p) (length (first_events p k)) (take k (events_of p))
-    (first_begin p.version k (events_of p) (lines_begin p.version (first_event_line p) p.lines words.1))) in
+    (history_is_in p.version T (opening_in p) (length (only_events (events_of p))) (events_of p)
+    (lines_begin p.version (first_event_line p) p.lines words.1)) in
     record {
       opening = subst (λ (v : Version). HasOpening v r.history.opening.keys) (sym is.version_is)
           (subst (HasOpening p.version) (sym (ap (λ (o : Opening). o.keys) is.opening_is)) words.0);

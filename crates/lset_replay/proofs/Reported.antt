@@ -8,17 +8,17 @@ use Rattle.lset_words.specs.History.{Linearizes}
 use Rattle.lset_words.specs.SequentialSet.{opening_set}
 use Rattle.lset_words.specs.Words.{Opening}
 use Rattle.lset_steps.specs.declared.Event.{Event}
-use Rattle.lset_steps.specs.Steps.{Table, Run, event_at}
-use Rattle.lset_steps.specs.Chain.{View}
+use Rattle.lset_steps.specs.Steps.{Table, Run, event_at, log_of}
+use Rattle.lset_steps.specs.Chain.{View, contents_of, counts_of}
 use Rattle.lset_steps.specs.Laws.{view_of, views}
 use Rattle.lset_steps.specs.Worlds.{WorldState, IsContent, keys_in}
 use Rattle.lset_steps.proofs.Segments.{chain_once}
 use Rattle.lset_linearizable.specs.Headline.{history_of, keys_left, ExplainsRun, IsThePlacement, PlacementExplainsRuns}
 use Rattle.lset_replay.specs.declared.events.LineEvent.{LineEvent}
 use Rattle.lset_replay.specs.declared.recorder.Recorder.{Recorder}
-use Rattle.lset_replay.specs.Events.{only_events}
+use Rattle.lset_replay.specs.Events.{events_of, only_events}
 use Rattle.lset_report.specs.Report.{ReportValue}
-use Rattle.lset_replay.specs.Reports.{IsReportOf, IsReplayOf, IsExplained}
+use Rattle.lset_replay.specs.Reports.{IsReportOf, IsReplay, IsExplained}
 use Rattle.lset_replay.specs.Trace.{Trace}
 use Rattle.lset_replay.specs.Follows.{HasFollowed}
 use Rattle.lset_replay.proofs.Followed.{TellsKeys, shown, account_then, low_then, kept_then}
@@ -56,38 +56,32 @@ module _ (T : Table) (accounts : TellsKeys T) (op : Opening) (events : List Line
       (placement op k log contents counts (account_then T accounts op events k w r h)
       (low_then T accounts op events k w r h))
 
-  report_then : (order : List Placed) (keys : List ℕ) → length (only_events events) ≡ k → order ≡ blocks_upto r.places.items k
-      → IsContent (view_of w.sizes w.state) keys → IsReportOf T op (only_events events) r.history.calls order keys
-  report_then order keys e o c = record {
-    run = subst (λ z. Run T op (event_at (only_events events)) z) (sym e) h.run;
-    history_is = (kept_then T accounts op events k w r h).history ∙ ap (λ z. history_at log z) (sym e);
-    placement = subst (λ z. IsPlacement op.quota z (calls_at log z) contents
-        counts order) (sym e)
-        (subst (λ z. IsPlacement op.quota k (calls_at log k) contents counts z) (sym o) order_then);
-    content = subst (λ z. IsContent (views T op (event_at (only_events events)) z) keys) (sym e)
-        (subst (λ (z : WorldState). IsContent (view_of z.sizes z.state) keys) h.world c);
-  }
-
-pub replay_is : (T : Table) (accounts : TellsKeys T) (p : Plan) (op : Opening) (events : List LineEvent) (w : WorldState)
-    (r : Recorder)
-    (order : List Placed) (keys : List ℕ)
-    → HasFollowed T op events (length events) w r → op ≡ opening_in p
-    → order ≡ blocks_upto r.places.items (length events)
+-- and of all events
+pub replay_is : (T : Table) (accounts : TellsKeys T) (p : Plan) (w : WorldState) (r : Recorder) (order : List Placed) (keys : List ℕ)
+    → HasFollowed T (opening_in p) (events_of p) (length (events_of p)) w r
+    → order ≡ blocks_upto r.places.items (length (events_of p))
     → IsContent (view_of w.sizes w.state) keys
-    → IsReplayOf T p (only_events events) (record {
-      version = p.version;
-      kind = p.kind;
-      history = r.history;
-      order = order;
-      keys = keys;
-    })
-replay_is T accounts p op events w r order keys h a o c = record {
-  version_is = refl;
-  kind_is = refl;
-  opening_is = h.opening_is ∙ a;
-  report = subst (λ z. IsReportOf T z (only_events events) r.history.calls order keys) a
-      (report_then T accounts op events (length events) w r h order keys (as_many events) o c);
-}
+    → IsReplay T p (record { version = p.version; kind = p.kind; history = r.history; order = order; keys = keys })
+replay_is T accounts p w r order keys h o c =
+    let op : Opening = opening_in p in
+    let es : ℕ → Event = event_at (only_events (events_of p)) in
+    let n : ℕ = length (events_of p) in
+    let e : length (only_events (events_of p)) ≡ n = as_many (events_of p) in
+    record {
+      version_is = refl;
+      kind_is = refl;
+      opening_is = h.opening_is;
+      report = record {
+        run = subst (λ z. Run T op es z) (sym e) h.run;
+        history_is = (kept_then T accounts op (events_of p) n w r h).history ∙ ap (λ z. history_at (log_of T op es) z) (sym e);
+        placement = subst (λ z. IsPlacement op.quota z (calls_at (log_of T op es) z) (contents_of (views T op es))
+            (counts_of (views T op es)) order) (sym e)
+            (subst (λ z. IsPlacement op.quota n (calls_at (log_of T op es) n) (contents_of (views T op es))
+            (counts_of (views T op es)) z) (sym o) (order_then T accounts op (events_of p) n w r h));
+        content = subst (λ z. IsContent (views T op es z) keys) (sym e)
+            (subst (λ (z : WorldState). IsContent (view_of z.sizes z.state) keys) h.world c);
+      };
+    }
 
 -- THE HEADLINE of a report
 module _ (T : Table) (headline : PlacementExplainsRuns T) (op : Opening) (events : List Event) (history : List CallRecord)
@@ -109,13 +103,11 @@ module _ (T : Table) (headline : PlacementExplainsRuns T) (op : Opening) (events
       ∙ content_once (views T op (event_at events) (length events))
       (keys_left op (history_of T op (event_at events) (length events)) order) keys run_explained.content h.content
 
-pub explained_is : (T : Table) → PlacementExplainsRuns T → (p : Plan) (events : List Event) (v : ReportValue) →
-    IsReplayOf T p events v
-    → IsExplained v
-explained_is T headline p events v h = record {
+pub explained_is : (T : Table) → PlacementExplainsRuns T → (p : Plan) (v : ReportValue) → IsReplay T p v → IsExplained v
+explained_is T headline p v h = record {
   linearizes = subst (λ (o : Opening). Linearizes o.quota (opening_set o) v.history.calls v.order) (sym h.opening_is)
-      (explains T headline (opening_in p) events v.history.calls v.order v.keys h.report);
+      (explains T headline (opening_in p) (only_events (events_of p)) v.history.calls v.order v.keys h.report);
   leaves = subst (λ z. keys_left z v.history.calls v.order ≡ v.keys) (sym h.opening_is)
-      (leaves T headline (opening_in p) events v.history.calls v.order v.keys h.report);
+      (leaves T headline (opening_in p) (only_events (events_of p)) v.history.calls v.order v.keys h.report);
   rising = h.report.content.1;
 }

@@ -20,10 +20,11 @@ use Rattle.lset_replay.proofs.OpenCalls.{OpenNumber, open_stepped, length_steppe
 use Rattle.lset_replay.specs.declared.places.OpenCall.{OpenCall}
 use Rattle.lset_replay.specs.declared.places.Linearized.{Linearized}
 use Rattle.lset_replay.specs.Trace.{Trace, open_call_at, place_at, number_of, fit, changed_at, read_at, settled}
-use Rattle.lset_replay.specs.Trace.{changed_on, ended_on}
+use Rattle.lset_replay.specs.Trace.{changed_on, ended_on, needs_key, shows}
+use Rattle.lset_history.proofs.Firsts.{first_passing_is}
 use Rattle.lset_history.specs.Changes.{is_present, IsBounded}
 use Rattle.lset_replay.proofs.KeyChanges.{HoldsKeys, Tells, changes_by, changed_keys, changed_upto, changed_bounded}
-use Rattle.lset_replay.proofs.LeastFits.{fit_least, least_of, fit_is_first}
+use Rattle.lset_replay.proofs.LeastFits.{fit_least, least_of}
 use Rattle.lset_replay.proofs.Following.{IsWatched, Follows, PlaceBy, PlaceOf, change_place, end_place, changed_calls}
 use Rattle.lset_replay.proofs.Following.{changed_seats, changed_open, changed_changes, changed_count, changed_other, changed_here}
 use Rattle.lset_replay.proofs.Following.{ended_seats, ended_others, ended_seat, ended_count, ended_other, ended_here}
@@ -238,7 +239,7 @@ module _ (op : Opening) (last : ℕ) (log : Log) (contents : Contents) (counts :
       let since : watching.begun ≤ k = open_now.2.since in
       let w = fit_least op.quota contents counts watching.begun (suc k) t kept.changes watching.call a
       (fit kept.changes watching a (suc k)) step_bounded step_keys
-      (fit_is_first op.quota contents counts watching.begun (suc k) t kept.changes watching.call a (suc k - watching.begun)
+      (first_passing_is (needs_key watching.call a) (shows kept.changes watching.call a) watching.begun (suc k - watching.begun) (suc k)
       (omega arith))
       (steady_next log contents counts k t watching quiet_here open_now.2 still) sometime in (
         w.0,

@@ -1,9 +1,7 @@
 -- The order of placement, from the place of each call.
-use Rattle.std.specs.Prelude.{◌≡◌, ℕ, suc, ◌<◌, ◌≤◌, List, [], ◌∷◌, length, Option, Some, None, IfSome}
-use Rattle.std.specs.List.Sorted.{IsNonDecreasingBy}
+use Rattle.std.specs.Prelude.{ℕ, suc, ◌<◌, ◌≤◌, List, [], ◌∷◌, length, Option, Some, None, IfSome}
 use Rattle.lset_words.specs.declared.history.Placed.{Placed}
 use Rattle.lset_words.specs.declared.history.Point.{Point}
-use Rattle.lset_words.specs.Points.{place_numbered, point_numbered, moment_of}
 use Rattle.lset_report.specs.declared.order.Pointed.{Pointed}
 use Rattle.lset_report.specs.Order.{by_points, placed_in}
 use Rattle.lset_replay.specs.declared.places.Linearized.{Linearized}
@@ -26,10 +24,3 @@ blocks_upto ps last = placed_in (by_points last (pointed_from 0 ps))
 -- no call has its point after the last moment
 abbrev pub StandUpTo : ℕ → List (Option Linearized) → Type 0
 StandUpTo last ps = (i : ℕ) → i < length ps → IfSome (place_at ps i) (λ p. p.moment ≤ last)
-
--- the points of an order: each has the moment of its call's place, and the moments do not decrease
-pub record ArePointsAt (places : List (Option Linearized)) (order : List Placed) (points : List Point) : Type 0 where
-  pub one_each : length points ≡ length order
-  pub there : (i : ℕ) → i < length order
-      → (p : Linearized) × (place_at places (place_numbered order i).call ≡ Some p) × (point_numbered points i ≡ point_of p)
-  pub never_fall : IsNonDecreasingBy moment_of points

@@ -58,16 +58,12 @@ IsRefusal T op events (fault.Busy line) = IsFirstRefused T op events line step.B
 IsRefusal T op events (fault.Idle line) = IsFirstRefused T op events line step.Idle
 IsRefusal T op events fault.Memory = Unit {0}
 
--- a report of these events, from a schedule's opening
-pub record IsReplayOf (T : Table) (p : Plan) (events : List Event) (r : ReportValue) : Type 0 where
+-- the report of a schedule
+pub record IsReplay (T : Table) (p : Plan) (r : ReportValue) : Type 0 where
   pub version_is : r.version ≡ p.version
   pub kind_is : r.kind ≡ p.kind
   pub opening_is : r.history.opening ≡ opening_in p
-  pub report : IsReportOf T (opening_in p) events r.history.calls r.order r.keys
-
--- the report of a schedule
-abbrev pub IsReplay : Table → Plan → ReportValue → Type 0
-IsReplay T p r = IsReplayOf T p (only_events (events_of p)) r
+  pub report : IsReportOf T (opening_in p) (only_events (events_of p)) r.history.calls r.order r.keys
 
 -- what a replay by a machine answers
 abbrev pub Replays : Table → Plan → Result Report ReplayFault → Type 0

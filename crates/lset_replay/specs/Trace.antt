@@ -22,7 +22,8 @@ use Rattle.lset_replay.specs.declared.recorder.Recorder.{Recorder}
 
 -- ---- an open call
 
--- Whether a reply of a call that changes nothing is correct if the call's key is in the set, or if it is not
+-- Whether a reply of a call that changes nothing is correct if the call's key is in the set, or if it is not; of a ceiling, if what it
+-- answers is
 abbrev pub needs_key : Call → Reply → Bool
 needs_key (call.Add k) reply.True = false
 needs_key (call.Add k) reply.False = true
@@ -35,7 +36,7 @@ needs_key (call.Contains k) reply.False = false
 needs_key (call.Contains k) reply.Full = false
 needs_key (call.Contains k) (reply.At x) = false
 needs_key (call.Contains k) reply.Nothing = false
-needs_key (call.Ceiling k) r = false
+needs_key (call.Ceiling k) r = true
 
 -- the key that a ceiling answers, or none
 abbrev pub found_in : Reply → Option ℕ
@@ -45,18 +46,16 @@ found_in reply.True = None
 found_in reply.False = None
 found_in reply.Full = None
 
--- the first moment from one on, among itself and so many after it, at which a call with that reply finds the set as it has to be
-abbrev pub fit_by : (ℕ → List ℕ) → Call → Reply → ℕ → ℕ → Option ℕ
-fit_by changes (call.Add k) r first more = first_passing (needs_key (call.Add k) r) (λ m. is_present changes k.0 m) first more
-fit_by changes (call.Remove k) r first more = first_passing (needs_key (call.Remove k) r) (λ m. is_present changes k.0 m) first
-    more
-fit_by changes (call.Contains k) r first more =
-    first_passing (needs_key (call.Contains k) r) (λ m. is_present changes k.0 m) first more
-fit_by changes (call.Ceiling k) r first more = first_passing true (has_ceiling changes k.0 (found_in r)) first more
+-- whether it is so at a moment
+abbrev pub shows : (ℕ → List ℕ) → Call → Reply → ℕ → Bool
+shows changes (call.Add k) r = λ m. is_present changes k.0 m
+shows changes (call.Remove k) r = λ m. is_present changes k.0 m
+shows changes (call.Contains k) r = λ m. is_present changes k.0 m
+shows changes (call.Ceiling k) r = has_ceiling changes k.0 (found_in r)
 
 -- the first moment of the call, up to a last one, at which its reply is correct, if the call changes nothing
 abbrev pub fit : (ℕ → List ℕ) → OpenCall → Reply → ℕ → Option ℕ
-fit changes o reply last = fit_by changes o.call reply o.begun (last - o.begun)
+fit changes o reply last = first_passing (needs_key o.call reply) (shows changes o.call reply) o.begun (last - o.begun)
 
 -- ---- places
 
@@ -130,13 +129,9 @@ trace_after moment (stepped thread change reply) s = ended_on moment thread repl
 abbrev pub no_trace : Opening → Trace
 no_trace op = record { calls = []; under_way = replicate op.threads None; places = []; changes = opened_moments op.keys }
 
--- after the first k events, if `keep` says what is kept after each
-abbrev pub kept_by : (ℕ → Entry → Trace → Trace) → Opening → Log → ℕ → Trace
-kept_by keep op log zero = no_trace op
-kept_by keep op log (suc k) = keep (suc k) (log k) (kept_by keep op log k)
-
 abbrev pub trace_at : Opening → Log → ℕ → Trace
-trace_at = kept_by trace_after
+trace_at op log zero = no_trace op
+trace_at op log (suc k) = trace_after (suc k) (log k) (trace_at op log k)
 
 -- ---- what the code keeps
 

@@ -1,25 +1,26 @@
 //! Replays schedules step by step, and reports what happened: the history of the calls, an order of them that
-//! explains it, and the keys that are left.
+//! explains it, and the keys that are left. `replay` does so with a contract, and keeps what that speaks of (`Recorder`). A `Run`
+//! tells what each event did, also on a broken list, and `calls_of` gathers its calls: traces and pictures stand on these, with
+//! tests in place of contracts.
 #![tactic(auto)]
 
+mod calls;
 mod events;
 mod fault;
+mod fits;
 mod moments;
 mod order;
-mod placed_report;
 mod places;
 mod recorder;
 mod replaying;
 mod start;
 mod traced;
 mod tracing;
-mod upto;
 
+pub use calls::{RunCalls, calls_of};
 pub use events::{LineEvent, event_of};
 pub use fault::ReplayFault;
-pub use placed_report::PlacedReport;
-pub use replaying::{replay, replay_with_points};
+pub use replaying::replay;
 pub use start::run_of;
-pub use traced::{CallEnd, Deed, TracedEvent};
+pub use traced::{CallEnd, Deed, MadeEvent, TracedEvent};
 pub use tracing::{Run, Steps};
-pub use upto::{FrontReport, replay_upto};

@@ -4,9 +4,10 @@ ghost use Rattle.std.specs.Prelude.{◌≡◌, ℕ, ◌<◌, ◌≤◌, All};
 ghost use Rattle.std.specs.List.Sorted.{IsStrictlyIncreasing};
 ghost use Rattle.lset_history.specs.Changes.{is_present, moments_of};
 
-use crate::places::{found_in, needs_key};
+use crate::fits::fit;
+use crate::places::OpenCall;
 use lset_history::Changes;
-use lset_words::{Call, Key, Reply};
+use lset_words::{Key, Reply};
 use std::alloc::{AllocError, Global};
 
 /// When keys were put in and taken out, up to the last moment of a run.
@@ -62,20 +63,9 @@ impl Moments {
         Ok(())
     }
 
-    /// The first moment since `begun` at which this reply of a call that changes nothing is correct, or else the last moment.
-    pub(crate) fn fit(&self, call: Call, reply: Reply, begun: u32) -> u32 {
-        let from = begun.min(self.last);
-        let fit = match call {
-            Call::Ceiling(key) => {
-                self.changes
-                    .first_ceiling(key.0, found_in(reply), from, self.last)
-            }
-            Call::Add(key) | Call::Remove(key) | Call::Contains(key) => {
-                self.changes
-                    .first(key.0, needs_key(call, reply), from, self.last)
-                    .0
-            }
-        };
-        fit.unwrap_or(self.last)
+    /// The first moment at which this reply of a pending call that changes nothing is correct, or else the last moment.
+    pub(crate) fn fit(&self, open: OpenCall, reply: Reply) -> u32 {
+        let begun = open.begun.min(self.last);
+        fit(&self.changes, OpenCall { begun, ..open }, reply, self.last).unwrap_or(self.last)
     }
 }

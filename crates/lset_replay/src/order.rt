@@ -1,18 +1,11 @@
 ghost use Rattle.std.specs.Prelude.{◌≡◌, ℕ, ◌≤◌, length, IfOk};
 ghost use Rattle.lset_schedule.specs.declared.TheConstants.{MOST_EVENTS};
-ghost use Rattle.lset_replay.specs.Blocks.{ArePointsAt, blocks_upto, pointed_from, StandUpTo};
+ghost use Rattle.lset_replay.specs.Blocks.{blocks_upto, pointed_from, StandUpTo};
 
 use crate::places::Linearized;
-use lset_report::{Pointed, order_of, points_of, sort_by_points};
+use lset_report::{Pointed, order_of, sort_by_points};
 use lset_words::{Placed, Point};
 use std::alloc::{AllocError, Global};
-
-/// An order of calls, and for each of its places the linearization point.
-#[derive(Drop)]
-pub struct Ordered {
-    pub order: Vec<Placed>,
-    pub points: Vec<Point>,
-}
 
 /// The calls that stand, by their numbers.
 fn pointed_calls(alloc: Global, places: &[Option<Linearized>]) -> Result<Vec<Pointed>, AllocError>
@@ -38,16 +31,13 @@ fn pointed_calls(alloc: Global, places: &[Option<Linearized>]) -> Result<Vec<Poi
 }
 
 /// Returns the order of calls with these linearization points: by moment, and at one moment the change first, then the
-/// others by their numbers; and the points. Allocates; `AllocError` if that fails.
-pub fn in_order(alloc: Global, places: &[Option<Linearized>]) -> Result<Ordered, AllocError>
-    requires few { length places.now ≤ MOST_EVENTS }
-    requires inside { StandUpTo MOST_EVENTS places.now }
-    ensures order { IfOk result (λ o. (last : ℕ) → StandUpTo last places.now → o.order.items ≡ blocks_upto places.now last) }
-    ensures points { IfOk result (λ o. ArePointsAt places.now o.order.items o.points.items) }
+/// others by their numbers. Allocates; `AllocError` if that fails.
+pub fn in_order(alloc: Global, places: &[Option<Linearized>]) -> Result<Vec<Placed>, AllocError>
+    requires { length places.now ≤ MOST_EVENTS }
+    ensures { IfOk result (λ v. (last : ℕ) → StandUpTo last places.now → v.items ≡ blocks_upto places.now last) }
 {
     let mut pointed = pointed_calls(alloc, places)?;
     sort_by_points(&mut pointed)?;
     let order = order_of(alloc, &pointed)?;
-    let points = points_of(alloc, &pointed)?;
-    Ok(Ordered { order, points })
+    Ok(order)
 }

@@ -12,14 +12,15 @@ pub struct OpenCall {
 }
 
 /// Whether this reply of a call that changes nothing is correct if the call's key is in the set (`true`), or if it is not
-/// (`false`).
+/// (`false`); of a `ceiling`, if what it replies is.
 pub fn needs_key(call: Call, reply: Reply) -> bool
     ensures { result ≡ needs_key call reply }
 {
     match call {
         Call::Add(_) => reply == Reply::False,
         Call::Contains(_) => reply == Reply::True,
-        Call::Remove(_) | Call::Ceiling(_) => false,
+        Call::Remove(_) => false,
+        Call::Ceiling(_) => true,
     }
 }
 

@@ -1,8 +1,6 @@
-ghost use Rattle.std.specs.Prelude.{◌≡◌, ◌≢◌, ◌<◌, ◌≤◌, ℕ, [], ◌∷◌, ◌++◌, length, not, IfOk, OnOk, Some, None, slice_set, IsSomeAnd};
-ghost use Rattle.std.specs.List.Sorted.{IsStrictlyIncreasing};
-ghost use Rattle.lset_words.specs.Words.{IsWithin};
-ghost use Rattle.lset_words.specs.declared.Key.{Key};
-ghost use Rattle.lset_words.specs.declared.Call.TheVariants.{Ceiling};
+ghost use Rattle.std.specs.Prelude.{◌≡◌, ◌<◌, ℕ, [], ◌∷◌, ◌++◌, length, not, IfOk, OnOk, Some, None, slice_set, IsSomeAnd};
+ghost use Rattle.lset_words.specs.Words.{Opens};
+ghost use Rattle.lset_schedule.specs.Plan.{opening_in, view};
 ghost use Rattle.lset_history.specs.History.{MayBegin, with_begun, with_ended};
 ghost use Rattle.lset_history.specs.Changes.{moments_of, IsLaterThanAll, is_present_now, with_change};
 ghost use Rattle.lset_replay.specs.Trace.{
@@ -10,7 +8,6 @@ ghost use Rattle.lset_replay.specs.Trace.{
   place_at,
   changed_at,
   settled,
-  fit,
   fit_of,
   number_at,
   begun_call,
@@ -22,8 +19,10 @@ ghost use Rattle.lset_replay.specs.Trace.{
   MayRecord,
 };
 
-use crate::places::{Linearized, OpenCall, found_in, needs_key};
+use crate::fits::fit;
+use crate::places::{Linearized, OpenCall};
 use lset_history::{Changes, History, HistoryFault};
+use lset_schedule::Schedule;
 use lset_steps::{Event, Told};
 use lset_words::{Call, Key, Reply};
 use std::alloc::{AllocError, Global};
@@ -39,24 +38,17 @@ pub struct Recorder {
 }
 
 impl Recorder {
-    /// Returns the recorder before any event of a run that opens with these keys, which must be in strictly increasing
-    /// order. Allocates; `AllocError` if that fails.
-    pub fn new(
-        alloc: Global,
-        threads: u32,
-        quota: u32,
-        opening: Vec<u32>,
-    ) -> Result<Recorder, AllocError>
-        requires within { IsWithin (record { threads = threads; quota = quota; opening = length opening.items }) }
-        requires rising { IsStrictlyIncreasing opening.items }
+    /// Returns the recorder before any event of a schedule. Allocates; `AllocError` if that fails.
+    pub fn new(alloc: Global, schedule: &Schedule) -> Result<Recorder, AllocError>
+        requires { Opens (opening_in (view schedule.now)) }
         ensures trace { IfOk result (λ r. trace_of r ≡ no_trace r.history.opening) }
-        ensures opening { IfOk result (λ r. r.history.opening
-            ≡ record { threads = threads; quota = quota; keys = opening.items }) }
+        ensures opening { IfOk result (λ r. r.history.opening ≡ opening_in (view schedule.now)) }
     {
+        let opening = schedule.opening.as_slice().to_vec(alloc)?;
         let changes = Changes::opened(alloc, &opening)?;
         Ok(Recorder {
-            history: History::opened(alloc, threads, quota, opening),
-            under_way: vec![in alloc; None; threads as usize]?,
+            history: History::opened(alloc, schedule.threads, schedule.quota, opening),
+            under_way: vec![in alloc; None; schedule.threads as usize]?,
             places: Vec::new(alloc),
             changes,
         })
@@ -70,38 +62,6 @@ impl Recorder {
             Some(open) => open,
             None => unreachable!(),
         }
-    }
-
-    /// Returns the first moment of a pending call, up to `last`, at which this reply is correct, if the call changes
-    /// nothing; `None` if there is none.
-    pub fn fit(&self, made: OpenCall, reply: Reply, last: u32) -> Option<u32>
-        requires { made.begun ≤ last }
-        ensures { result ≡ fit (moments_of self.now.changes) made reply last }
-    {
-        match made.call {
-            Call::Ceiling(key) => {
-                self.changes
-                    .first_ceiling(key.0, found_in(reply), made.begun, last)
-            }
-            Call::Add(_) | Call::Remove(_) | Call::Contains(_) => {
-                self.fit_by_key(made, reply, last)
-            }
-        }
-    }
-
-    /// The same of a call whose reply speaks of its own key alone.
-    fn fit_by_key(&self, made: OpenCall, reply: Reply, last: u32) -> Option<u32>
-        requires span { made.begun ≤ last }
-        requires own_key { (k : Key) → made.call ≢ Ceiling k }
-        ensures { result ≡ fit (moments_of self.now.changes) made reply last }
-    {
-        let (first, _looked) = self.changes.first(
-            made.call.key().0,
-            needs_key(made.call, reply),
-            made.begun,
-            last,
-        );
-        first
     }
 
     // Few events begin, change or end anything: what follows those lies outside the loop of the many that tell nothing.
@@ -172,7 +132,7 @@ impl Recorder {
         };
         let number = open.number as usize;
         if self.places[number].is_none() {
-            self.places[number] = Linearized::read(self.fit(open, reply, moment), reply);
+            self.places[number] = Linearized::read(fit(&self.changes, open, reply, moment), reply);
         }
         self.under_way[thread as usize] = None;
     }

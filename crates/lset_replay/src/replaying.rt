@@ -1,18 +1,26 @@
-ghost use Rattle.std.specs.Prelude.{◌≡◌, IfOk};
-ghost use Rattle.lset_schedule.specs.Plan.{view};
+ghost use Rattle.std.specs.Prelude.{◌≡◌, ◌≤◌, ◌^◌, length, IfOk, OnOk, IfErr};
+ghost use Rattle.std.specs.List.{sum_by};
+ghost use Rattle.lset_schedule.specs.declared.TheConstants.{MOST_EVENTS};
+ghost use Rattle.lset_schedule.specs.Plan.{view, event_count};
 ghost use Rattle.lset_schedule.specs.Plan as plan;
-ghost use Rattle.lset_replay.specs.Events.{IsInLimits};
 ghost use Rattle.lset_lists.specs.Tables.{table_of};
-ghost use Rattle.lset_replay.specs.Reports.{Replays, IsExplained, fault_at};
 ghost use Rattle.lset_report.specs.Report as report;
 ghost use Rattle.lset_report.specs.Texts.{HasWordsOfVersion};
-ghost use Rattle.lset_replay.specs.PlacedReports.{ReplaysWithPoints};
+ghost use Rattle.lset_replay.specs.Events.{IsInLimits, events_from};
+ghost use Rattle.lset_replay.specs.Follows.{HasFollowed};
+ghost use Rattle.lset_replay.specs.Reports.{Replays, IsExplained, IsRefusal, fault_at};
 
-use crate::upto::replay_upto;
-use crate::{PlacedReport, ReplayFault};
+use crate::ReplayFault;
+use crate::events::event_of;
+use crate::order::in_order;
+use crate::recorder::Recorder;
+use crate::start::world_of;
+use lset_linearizable::placement_explains_runs;
+use lset_lists::{List, Task, on_list};
 use lset_report::Report;
-use lset_schedule::Schedule;
-use lset_steps::StepFault;
+use lset_schedule::{Line, Schedule};
+use lset_steps::laws::{has_account, listed_content};
+use lset_steps::{Machine, StepFault, World};
 use std::alloc::Global;
 
 fn refusal(cause: StepFault, line: u64) -> ReplayFault
@@ -22,6 +30,87 @@ fn refusal(cause: StepFault, line: u64) -> ReplayFault
         StepFault::NoThread => ReplayFault::NoThread(line),
         StepFault::Busy => ReplayFault::Busy(line),
         StepFault::Idle => ReplayFault::Idle(line),
+    }
+}
+
+/// Follows the events of the lines, one after another; the first line has the number `first`.
+fn follow<M: Machine>(
+    world: &mut World<M>,
+    recorder: &mut Recorder,
+    first: u64,
+    lines: &[Line],
+) -> Result<(), ReplayFault>
+    requires header { first ≤ 2 ^ 32 }
+    requires few { sum_by event_count lines.now ≤ MOST_EVENTS }
+    requires start { HasFollowed M.table recorder.old.history.opening (events_from first lines.now) 0
+        world.old recorder.old }
+    ensures followed { OnOk result (HasFollowed M.table recorder.old.history.opening (events_from first lines.now)
+        (length (events_from first lines.now)) world.new recorder.new) }
+    ensures refused { IfErr result (λ e. IsRefusal M.table recorder.old.history.opening (events_from first lines.now) e) }
+{
+    has_account::<M>();
+    listed_content::<M>();
+    let mut events = 0u32;
+    for (index, line) in lines.iter().enumerate() {
+        let (next, times) = event_of(first + index as u64, *line);
+        for _done in 0..times {
+            match world.step(next.event) {
+                Ok(told) => recorder.follow(next.event, told, events + 1)?,
+                Err(cause) => return Err(refusal(cause, next.line)),
+            }
+            events += 1;
+        }
+    }
+    Ok(())
+}
+
+/// Replays a schedule on the list of the machine `M`.
+fn replay_on<M: Machine>(alloc: Global, schedule: &Schedule) -> Result<Report, ReplayFault>
+    requires { IsInLimits (view schedule.now) }
+    ensures replays { Replays M.table (view schedule.now) result }
+    ensures explained { IfOk result (λ r. IsExplained (report.view r)) }
+    ensures in_words { plan.HasWordsOfVersion (view schedule.now) → IfOk result (λ r. HasWordsOfVersion (report.view r)) }
+{
+    has_account::<M>();
+    listed_content::<M>();
+    placement_explains_runs::<M>();
+    let mut world = world_of::<M>(alloc, schedule)?;
+    let mut recorder = Recorder::new(alloc, schedule)?;
+    follow(
+        &mut world,
+        &mut recorder,
+        schedule.first_event_line(),
+        &schedule.lines,
+    )?;
+    let order = in_order(alloc, &recorder.places)?;
+    let keys = world.content()?;
+    Ok(Report {
+        version: schedule.version,
+        kind: schedule.kind,
+        history: recorder.history,
+        order,
+        keys,
+    })
+}
+
+/// The replay of a schedule, whatever its list.
+#[derive(Clone, Copy)]
+struct Replaying<'a> {
+    alloc: Global,
+    schedule: &'a Schedule,
+}
+
+impl Task for Replaying<'_> {
+    type Out = Result<Report, ReplayFault>;
+
+    ghost may = { λ task kind. IsInLimits (view task.schedule.now) };
+
+    ghost done = { λ task table result. Replays table (view task.schedule.now) result
+        × IfOk result (λ r. IsExplained (report.view r))
+        × (plan.HasWordsOfVersion (view task.schedule.now) → IfOk result (λ r. HasWordsOfVersion (report.view r))) };
+
+    fn run<M: List>(self) -> Result<Report, ReplayFault> {
+        replay_on::<M>(self.alloc, self.schedule)
     }
 }
 
@@ -54,23 +143,5 @@ pub fn replay(alloc: Global, schedule: &Schedule) -> Result<Report, ReplayFault>
     ensures explained { IfOk result (λ r. IsExplained (report.view r)) }
     ensures in_words { plan.HasWordsOfVersion (view schedule.now) → IfOk result (λ r. HasWordsOfVersion (report.view r)) }
 {
-    let placed = replay_with_points(alloc, schedule)?;
-    Ok(placed.report)
-}
-
-/// Executes a schedule as `replay` does, with the same report or error, and returns for each place of the order the
-/// linearization point: the moment at which the call takes effect, and whether it changes the set there. Each point is in
-/// the bar of its call: from its begin to its end, or to the last moment of the run if it is pending. `schedule` must be
-/// within the limits, as every schedule from `read_schedule` is. Allocates. (Herlihy and Wing's linearization points.)
-pub fn replay_with_points(alloc: Global, schedule: &Schedule) -> Result<PlacedReport, ReplayFault>
-    requires { IsInLimits (view schedule.now) }
-    ensures replays { ReplaysWithPoints (table_of schedule.now.kind) (view schedule.now) result }
-    ensures explained { IfOk result (λ r. IsExplained (report.view r.report)) }
-    ensures in_words { plan.HasWordsOfVersion (view schedule.now) → IfOk result (λ r. HasWordsOfVersion (report.view r.report)) }
-{
-    let front = replay_upto(alloc, schedule)?;
-    match front.refused {
-        None => Ok(front.placed),
-        Some((line, cause)) => Err(refusal(cause, line)),
-    }
+    on_list(schedule.kind, Replaying { alloc, schedule })
 }

@@ -4,35 +4,32 @@ ghost use Rattle.std.specs.List.Sorted.{IsStrictlyIncreasing};
 
 use crate::events::LineEvent;
 use crate::moments::Moments;
-use crate::traced::{CallEnd, Deed, TracedEvent};
+use crate::places::OpenCall;
+use crate::traced::{CallEnd, Deed, MadeEvent, TracedEvent};
 use lset_steps::{Action, ChainKey, Event, Local, Machine, StepFault, Told, World};
-use lset_words::{Call, MOST_THREADS};
+use lset_text::Cause;
+use lset_words::{Call, MOST_THREADS, Reply};
 use std::alloc::{AllocError, Global};
 
 /// A world whose events can be told: that of a list, or that of a broken one.
 pub trait Steps {
-    /// Why an event is refused.
-    type Fault: Copy;
-
     /// What thread `t` holds; `None` if there is no such thread.
     fn held(&self, t: u32) -> Option<Local>;
 
     /// The next access of thread `t` and the value that it will see; `None` if it makes none.
     fn ahead(&self, t: u32) -> Option<(Action, u64)>;
 
-    /// Makes an event, and says what it did. A refused event changes nothing.
-    fn make(&mut self, event: Event) -> Result<Told, Self::Fault>;
+    /// Makes an event, and says what it did. A refused event changes nothing: `NoThread`, `Busy`, `Idle` or, on a broken list alone, `Lost`.
+    fn make(&mut self, event: Event) -> Result<Told, Cause>;
 
     /// The keys from the head to the tail, each with whether its node is marked. Allocates; `AllocError` if that fails.
     fn met(&self) -> Result<Vec<ChainKey>, AllocError>;
 
-    /// The fault of an event with which no history goes on: a thread changes something or replies, and has no call pending. No list has it.
-    fn lost() -> Self::Fault;
+    /// The keys of the unmarked nodes among these, in increasing order. Allocates; `AllocError` if that fails.
+    fn keys(&self) -> Result<Vec<u32>, AllocError>;
 }
 
 impl<M: Machine> Steps for World<M> {
-    type Fault = StepFault;
-
     fn held(&self, t: u32) -> Option<Local> {
         self.holds(t)
     }
@@ -41,25 +38,29 @@ impl<M: Machine> Steps for World<M> {
         self.next(t)
     }
 
-    fn make(&mut self, event: Event) -> Result<Told, StepFault> {
-        self.step(event)
+    #[inline(always)]
+    fn make(&mut self, event: Event) -> Result<Told, Cause> {
+        match self.step(event) {
+            Ok(told) => Ok(told),
+            Err(StepFault::NoThread) => Err(Cause::NoThread),
+            Err(StepFault::Busy) => Err(Cause::Busy),
+            Err(StepFault::Idle) => Err(Cause::Idle),
+        }
     }
 
     fn met(&self) -> Result<Vec<ChainKey>, AllocError> {
         self.chain()
     }
 
-    fn lost() -> StepFault {
-        StepFault::Idle
+    fn keys(&self) -> Result<Vec<u32>, AllocError> {
+        self.content()
     }
 }
 
-/// A pending call: its number, when it began, and when it changed the set, if it has.
+/// A pending call, and when it changed the set, if it has.
 #[derive(Clone, Copy)]
 struct Pending {
-    number: u32,
-    call: Call,
-    begun: u32,
+    open: OpenCall,
     changed: Option<u32>,
 }
 
@@ -77,7 +78,7 @@ fn is_node_word(word: u64) -> bool {
 /// Whether an event writes the key or the link of a node; any other leaves the chain as it was.
 fn writes_node(deed: Deed) -> bool {
     match deed {
-        Deed::Begin(_, _) | Deed::Access(Action::Load(_), _) => false,
+        Deed::Begin(_) | Deed::Access(Action::Load(_), _) => false,
         Deed::Access(Action::Store(word, _), _) => is_node_word(word),
         Deed::Access(Action::Exchange(word, old, _), seen) => seen == old && is_node_word(word),
     }
@@ -116,31 +117,40 @@ impl<W: Steps + Drop> Run<W> {
         &self.world
     }
 
-    /// Makes an event, and tells what it did; or, in the inner error, why it is refused. Allocates; `AllocError` if that fails.
-    pub fn make(&mut self, next: LineEvent) -> Result<Result<TracedEvent, W::Fault>, AllocError> {
-        let thread = thread_of(next.event);
-        let ahead = self.look(next.event);
-        let told = match self.world.make(next.event) {
+    /// The number of the last event, counted from 1.
+    pub fn last(&self) -> u32 {
+        self.moments.last()
+    }
+
+    /// Makes an event, and says what it did to the set and to its call; or, in the inner error, why it cannot be made. May allocate;
+    /// `AllocError` if that fails.
+    #[inline(always)]
+    pub fn step(&mut self, event: Event) -> Result<Result<MadeEvent, Cause>, AllocError> {
+        let told = match self.world.make(event) {
             Ok(told) => told,
-            Err(fault) => return Ok(Err(fault)),
+            Err(cause) => return Ok(Err(cause)),
         };
         self.moments.go_on(told.change)?;
-        let (Some((before, deed)), Some(after)) = (ahead, self.world.held(thread)) else {
-            return Ok(Err(W::lost()));
+        Ok(self.follow(event, told).ok_or(Cause::Lost))
+    }
+
+    /// Makes an event as `step` does, and tells what a trace has of it.
+    pub fn make(&mut self, next: LineEvent) -> Result<Result<TracedEvent, Cause>, AllocError> {
+        let ahead = self.look(next.event);
+        let made = match self.step(next.event)? {
+            Ok(made) => made,
+            Err(cause) => return Ok(Err(cause)),
         };
-        let Some(end) = self.follow(thread, deed, told) else {
-            return Ok(Err(W::lost()));
+        let (Some((before, deed)), Some(after)) = (ahead, self.world.held(made.thread)) else {
+            return Ok(Err(Cause::Lost));
         };
         let chain = self.changed_chain(deed)?;
         Ok(Ok(TracedEvent {
-            moment: self.moments.last(),
             line: next.line,
-            thread,
+            made,
             deed,
             before,
             after,
-            change: told.change,
-            end,
             chain,
         }))
     }
@@ -148,7 +158,7 @@ impl<W: Steps + Drop> Run<W> {
     /// What a thread holds before an event, and what the event will do, if it can be made.
     fn look(&self, event: Event) -> Option<(Local, Deed)> {
         let deed = match event {
-            Event::Begin(_, call) => Deed::Begin(call, self.calls),
+            Event::Begin(_, call) => Deed::Begin(call),
             Event::Go(thread) => {
                 let (action, seen) = self.world.ahead(thread)?;
                 Deed::Access(action, seen)
@@ -157,44 +167,73 @@ impl<W: Steps + Drop> Run<W> {
         Some((self.world.held(thread_of(event))?, deed))
     }
 
-    /// Follows what an event did to the calls: the end of one, if it ended one; `None` if the thread has not the call for it.
-    fn follow(&mut self, thread: u32, deed: Deed, told: Told) -> Option<Option<CallEnd>> {
-        let moment = self.moments.last();
-        let seat = self.pending.get_mut(thread as usize)?;
-        if let Deed::Begin(call, number) = deed {
-            if seat.is_some() {
-                return None;
-            }
-            *seat = Some(Pending {
+    /// Follows what an event did; `None` if its thread has no call for that.
+    #[inline(always)]
+    fn follow(&mut self, event: Event, told: Told) -> Option<MadeEvent> {
+        let made = MadeEvent {
+            moment: self.moments.last(),
+            thread: thread_of(event),
+            call: None,
+            change: told.change,
+            end: None,
+        };
+        match event {
+            Event::Begin(_, call) => self.begin(made, call),
+            Event::Go(_) if told.change.is_none() && told.answer.is_none() => Some(made),
+            Event::Go(_) => self.turn(made, told),
+        }
+    }
+
+    // Few events begin, change or end anything: what follows those lies outside the loop of the many that tell nothing.
+    #[inline(never)]
+    fn begin(&mut self, made: MadeEvent, call: Call) -> Option<MadeEvent> {
+        let seat = self.pending.get_mut(made.thread as usize)?;
+        if seat.is_some() {
+            return None;
+        }
+        let number = self.calls;
+        let begun = made.moment;
+        *seat = Some(Pending {
+            open: OpenCall {
                 number,
                 call,
-                begun: moment,
-                changed: None,
-            });
-            self.calls = self.calls.saturating_add(1);
-            return Some(None);
-        }
-        if told.change.is_none() && told.answer.is_none() {
-            return Some(None);
-        }
-        let mut open = (*seat)?;
+                begun,
+            },
+            changed: None,
+        });
+        self.calls = number.saturating_add(1);
+        Some(MadeEvent {
+            call: Some(number),
+            ..made
+        })
+    }
+
+    #[inline(never)]
+    fn turn(&mut self, made: MadeEvent, told: Told) -> Option<MadeEvent> {
+        let seat = self.pending.get_mut(made.thread as usize)?;
+        let mut pending = (*seat)?;
         if told.change.is_some() {
-            open.changed = Some(moment);
+            pending.changed = Some(made.moment);
         }
-        *seat = Some(open);
-        let Some(reply) = told.answer else {
-            return Some(None);
-        };
-        *seat = None;
-        let effect = match open.changed {
+        *seat = Some(pending);
+        let mut end = None;
+        if let Some(reply) = told.answer {
+            *seat = None;
+            end = Some(self.end_of(pending, reply));
+        }
+        Some(MadeEvent {
+            call: Some(pending.open.number),
+            end,
+            ..made
+        })
+    }
+
+    fn end_of(&self, pending: Pending, reply: Reply) -> CallEnd {
+        let moment = match pending.changed {
             Some(moment) => moment,
-            None => self.moments.fit(open.call, reply, open.begun),
+            None => self.moments.fit(pending.open, reply),
         };
-        Some(Some(CallEnd {
-            call: open.number,
-            reply,
-            moment: effect,
-        }))
+        CallEnd { reply, moment }
     }
 
     /// The chain after an event, if chains are asked for and it differs from the last one that was told.

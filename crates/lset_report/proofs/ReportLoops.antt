@@ -7,7 +7,10 @@ use Rattle.lset_words.specs.declared.TheConstants.{MOST_OPENING}
 use Rattle.lset_text.specs.declared.words.Version.{Version}
 use Rattle.lset_text.specs.declared.words.Version.TheVariants.{One, Two}
 use Rattle.lset_text.specs.declared.headers.Header.{Header}
-use Rattle.lset_text.specs.declared.headers.HeaderFault.{HeaderFault}
+use Rattle.lset_text.specs.declared.causes.Cause.{Cause}
+use Rattle.lset_text.specs.declared.causes.Cause.TheVariants as wrong
+use Rattle.lset_text.specs.declared.causes.LineFault.{LineFault}
+use Rattle.lset_text.specs.Causes.{fault}
 use Rattle.lset_text.specs.Parts.{cut_at}
 use Rattle.lset_text.specs.Headers.{header_of, header_lines, number_line}
 use Rattle.lset_text.specs.Kinds.{line_in, made}
@@ -25,14 +28,11 @@ use Rattle.lset_report.specs.declared.reading.lines.Line.{Line}
 use Rattle.lset_report.specs.declared.reading.lines.Line.TheVariants.{Opening, Call, Place, Key, End}
 use Rattle.lset_report.specs.declared.reading.lines.Section.{Section}
 use Rattle.lset_report.specs.declared.reading.lines.Section.TheVariants as section
-use Rattle.lset_report.specs.declared.report_fault.ReportCause.{ReportCause}
-use Rattle.lset_report.specs.declared.report_fault.ReportCause.TheVariants as wrong
-use Rattle.lset_report.specs.declared.report_fault.ReportFault.{ReportFault}
 use Rattle.lset_report.specs.Report.{ReportValue}
 use Rattle.lset_report.specs.Texts.{title, last_line}
-use Rattle.lset_report.specs.ReportReading.{fault, in_report, causes, kinds, may_follow, most_keys, is_next}
+use Rattle.lset_report.specs.ReportReading.{kinds, may_follow, most_keys, is_next}
 use Rattle.lset_report.specs.ReportReading.{judged, line_after, SoFar, with_told, step, grammar, text}
-use Rattle.lset_report.specs.ReportReading.{no_lines, nothing_told, version_told, reading, line_number, RunsOut}
+use Rattle.lset_report.specs.ReportReading.{no_lines, nothing_told, version_told, reading, RunsOut}
 use Rattle.lset_report.specs.ReportReader.{so_far, state, IsFull}
 
 -- ---- the judgement of a line
@@ -73,16 +73,16 @@ judged_good r End h = refl
 
 -- the line that was read, and judged good
 pub line_read : (s : Section) (r : ReportValue) (x : List ℕ) (l : Line) → line_after s r x ≡ Ok l
-    → (line_in r.version causes (kinds r.version s) x ≡ Ok l) × IsGood r l
+    → (line_in r.version wrong.Line (kinds r.version s) x ≡ Ok l) × IsGood r l
 line_read s r x l e =
-    let told = bind_ok (line_in r.version causes (kinds r.version s) x) (judged r) l e in
+    let told = bind_ok (line_in r.version wrong.Line (kinds r.version s) x) (judged r) l e in
     let good = judged_ok r told.0 l told.2 in
-    subst (λ (k : Line). (line_in r.version causes (kinds r.version s) x ≡ Ok k) × IsGood r k) good.0 (told.1, good.1)
+    subst (λ (k : Line). (line_in r.version wrong.Line (kinds r.version s) x ≡ Ok k) × IsGood r k) good.0 (told.1, good.1)
 
 -- ---- where memory ran out
 
 -- the line `end` tells the end
-end_is : (v : Version) (s : Section) (l : Line) → line_in v causes (kinds v s) last_line ≡ Ok l → End ≡ l
+end_is : (v : Version) (s : Section) (l : Line) → line_in v wrong.Line (kinds v s) last_line ≡ Ok l → End ≡ l
 end_is One section.Opening l e = ok_is End l e
 end_is Two section.Opening l e = ok_is End l e
 end_is v section.Calls l e = ok_is End l e
@@ -91,40 +91,40 @@ end_is v section.Keys l e = ok_is End l e
 end_is v section.Done l e = absurd cc
 
 -- what a loop over the lines of a text gives in the end
-abbrev pub AllOf : List ℕ → SoFar → Result SoFar ReportFault
+abbrev pub AllOf : List ℕ → SoFar → Result SoFar LineFault
 AllOf rest s = lines_from grammar first_line s (cut_at 10 rest)
 
 -- a line with a fault, or for which memory ran out
-pub stops_at : (all : List ℕ) (start s : SoFar) (line : ℕ) (rest x after : List ℕ) (e : ReportFault)
+pub stops_at : (all : List ℕ) (start s : SoFar) (line : ℕ) (rest x after : List ℕ) (e : LineFault)
     → cut_at 10 rest ≡ x ∷ cut_at 10 after
-    → ((cause : ReportCause) × (step s x ≡ Err cause) × (e ≡ fault line cause))
+    → ((cause : Cause) × (step s x ≡ Err cause) × (e ≡ fault line cause))
     ⊎ ((l : Line) × (line_after s.section s.report x ≡ Ok l) × (l ≢ End) × (e ≡ fault line wrong.Memory))
     → Stands grammar first_line all (AllOf all start) line s rest
     → (AllOf all start ≡ Err e) ⊎ IsFull (cut_at 10 all) (AllOf all start) e
 stops_at all start s line rest x after e parts (inl bad) stands =
     inl (stops grammar first_line all (AllOf all start) line s bad.0 rest x after parts bad.1 stands
-    ∙ ap (λ (f : ReportFault). Err f) (sym bad.2))
+    ∙ ap (λ (f : LineFault). Err f) (sym bad.2))
 stops_at all start s line rest x after e parts (inr full) stands =
     let read = (line_read s.section s.report x full.0 full.1).0 in
     let here = line_at grammar first_line all (AllOf all start) line s rest x after parts stands in
-    let good = is_good grammar line_number (λ n c. refl) first_line all (AllOf all start) line s (with_told s full.0) rest x after
+    let good = is_good grammar first_line all (AllOf all start) line s (with_told s full.0) rest x after
     parts (ap (made (with_told s)) full.1) stands in
     inr (
       length stands.above,
       full.3 ∙ ap (λ n. fault n wrong.Memory) stands.number,
-      subst (IsGoodLine line_number first_line (cut_at 10 all) (AllOf all start)) stands.number good,
+      subst (IsGoodLine first_line (cut_at 10 all) (AllOf all start)) stands.number good,
       λ is_end. full.2 (sym (end_is s.report.version s.section full.0
-          (subst (λ (y : List ℕ). line_in s.report.version causes (kinds s.report.version s.section) y ≡ Ok full.0)
+          (subst (λ (y : List ℕ). line_in s.report.version wrong.Line (kinds s.report.version s.section) y ≡ Ok full.0)
           (sym here ∙ is_end) read))),
     )
 
 -- ---- texts with their headers
 
 -- the report of a state
-abbrev pub report_told : SoFar → Result ReportValue ReportFault
+abbrev pub report_told : SoFar → Result ReportValue LineFault
 report_told s = Ok s.report
 
-abbrev told_by : Result SoFar ReportFault → Result ReportValue ReportFault
+abbrev told_by : Result SoFar LineFault → Result ReportValue LineFault
 told_by read = read >>= report_told
 
 module _ (bytes : List ℕ) (v : Version) (version_is : v ≡ version_told (cut_at 10 bytes)) where
@@ -132,17 +132,17 @@ module _ (bytes : List ℕ) (v : Version) (version_is : v ≡ version_told (cut_
   in_version = ap (λ (u : Version). told_by (text_from (text u) (cut_at 10 bytes))) (sym version_is)
 
   -- a text whose header has a fault
-  pub header_fault : (e : HeaderFault) → header_of (title v) (cut_at 10 bytes) ≡ Err e → reading bytes ≡ Err (in_report e)
+  pub header_fault : (e : LineFault) → header_of (title v) (cut_at 10 bytes) ≡ Err e → reading bytes ≡ Err e
   header_fault e is = in_version ∙ ap told_by (text_refused (text v) (cut_at 10 bytes) e is)
 
-  still_good : (line : ℕ) (read : Result SoFar ReportFault) → IsFaultlessTo line_number line read
-      → IsFaultlessTo line_number line (told_by read)
+  still_good : (line : ℕ) (read : Result SoFar LineFault) → IsFaultlessTo line read
+      → IsFaultlessTo line (told_by read)
   still_good line (Ok s) good = tt
   still_good line (Err e) good = good
 
   -- where memory ran out
   runs_out : (index : ℕ) → last_of_header ≤ 1 + index
-      → IsGoodLine line_number 1 (cut_at 10 bytes) (text_from (text v) (cut_at 10 bytes)) (1 + index)
+      → IsGoodLine 1 (cut_at 10 bytes) (text_from (text v) (cut_at 10 bytes)) (1 + index)
       → get_or (cut_at 10 bytes) index [] ≢ last_line → RunsOut 1 (cut_at 10 bytes) (reading bytes) (fault (1 + index) wrong.Memory)
   runs_out index low good asks = record {
     cause = refl;
@@ -151,7 +151,7 @@ module _ (bytes : List ℕ) (v : Version) (version_is : v ≡ version_told (cut_
     line_is = refl;
     whole = omega (arith, good.1);
     asks = asks;
-    good = subst (IsFaultlessTo line_number (1 + index)) (sym in_version)
+    good = subst (IsFaultlessTo (1 + index)) (sym in_version)
         (still_good (1 + index) (text_from (text v) (cut_at 10 bytes)) good.2);
   }
 
@@ -163,7 +163,7 @@ module _ (bytes : List ℕ) (v : Version) (version_is : v ≡ version_told (cut_
     runs_out_after_header =
         let here : get_or (cut_at 10 bytes) 3 [] ≡ number_line (codes "quota") h.quota =
         ap (λ (ps : List (List ℕ)). get_or ps 3 []) parts_are in
-        runs_out 3 (omega arith) (header_good (text v) line_number (λ n c. refl) bytes rest h head)
+        runs_out 3 (omega arith) (header_good (text v) bytes rest h head)
         (λ is_end. (let same = sym here ∙ is_end in cc))
 
     -- the lines after a header that was read
@@ -174,7 +174,7 @@ module _ (bytes : List ℕ) (v : Version) (version_is : v ≡ version_told (cut_
         in_version ∙ ap told_by (text_after (text v) (cut_at 10 bytes) (cut_at 10 rest) h head)
         ∙ ap (λ (t : SoFar). told_by (AllOf rest t)) (sym start)
 
-    pub whole_text : (s : Reader) (e : ReportFault) → s.section ≡ section.Opening → so_far s ≡ no_lines v h
+    pub whole_text : (s : Reader) (e : LineFault) → s.section ≡ section.Opening → so_far s ≡ no_lines v h
         → (AllOf rest (state s) ≡ Err e) ⊎ IsFull (cut_at 10 rest) (AllOf rest (state s)) e
         → (reading bytes ≡ Err e) ⊎ RunsOut 1 (cut_at 10 bytes) (reading bytes) e
     whole_text s e section_is so_far_is (inl bad) = inl (report_is s section_is so_far_is ∙ ap told_by bad)
@@ -183,10 +183,10 @@ module _ (bytes : List ℕ) (v : Version) (version_is : v ≡ version_told (cut_
         let here : get_or (cut_at 10 bytes) (last_of_header + full.0) [] ≡ get_or (cut_at 10 rest) full.0 [] =
         ap (λ (ps : List (List ℕ)). get_or ps (last_of_header + full.0) []) parts_are
         ∙ get_or-append-add (header_lines (title v) h) (cut_at 10 rest) full.0 [] in
-        let good = good_in_text (text v) line_number bytes rest h (first_line + full.0) head
-        (subst (λ (t : SoFar). IsGoodLine line_number first_line (cut_at 10 rest) (AllOf rest t) (first_line + full.0)) start full.2) in
+        let good = good_in_text (text v) bytes rest h (first_line + full.0) head
+        (subst (λ (t : SoFar). IsGoodLine first_line (cut_at 10 rest) (AllOf rest t) (first_line + full.0)) start full.2) in
         let number : first_line + full.0 ≡ 1 + (last_of_header + full.0) = omega arith in
         let out = runs_out (last_of_header + full.0) (omega arith)
-        (subst (IsGoodLine line_number 1 (cut_at 10 bytes) (text_from (text v) (cut_at 10 bytes))) number good)
+        (subst (IsGoodLine 1 (cut_at 10 bytes) (text_from (text v) (cut_at 10 bytes))) number good)
         (λ is_end. full.3 (sym here ∙ is_end)) in
         inr (subst (RunsOut 1 (cut_at 10 bytes) (reading bytes)) (ap (λ n. fault n wrong.Memory) (sym number) ∙ sym full.1) out)

@@ -36,12 +36,12 @@ use Rattle.lset_report.specs.declared.reading.lines.Section.{Section}
 use Rattle.lset_report.specs.declared.reading.lines.Section.TheVariants as section
 use Rattle.lset_report.specs.declared.report.Report.{Report}
 use Rattle.lset_report.specs.declared.report.TheConstants.{MOST_CALLS, MOST_PLACES}
-use Rattle.lset_report.specs.declared.report_fault.ReportCause.TheVariants as wrong
-use Rattle.lset_report.specs.declared.report_fault.ReportFault.{ReportFault}
+use Rattle.lset_text.specs.declared.causes.Cause.TheVariants as wrong
+use Rattle.lset_text.specs.declared.causes.LineFault.{LineFault}
 use Rattle.lset_report.specs.Report.{ReportValue, view}
 use Rattle.lset_report.specs.Texts.{title, header_in, call_line, call_lines, place_line, key_line, last_line}
 use Rattle.lset_report.specs.Texts.{report_lines, report_text, HasEnd, HasWordsIn, HasWordsOfVersion}
-use Rattle.lset_report.specs.ReportReading.{IsEnd, IsCall, IsPlace, IsReport, most_keys, causes, kinds, line_after}
+use Rattle.lset_report.specs.ReportReading.{IsEnd, IsCall, IsPlace, IsReport, most_keys, kinds, line_after}
 use Rattle.lset_report.specs.ReportReading.{section_after, with_line, SoFar, with_told, step, ends, is_done, grammar}
 use Rattle.lset_report.specs.ReportReading.{no_lines, nothing_told, text, version_told, report_of, reading, Gives}
 use Rattle.lset_report.proofs.ReportHistories.{history_more, may_again}
@@ -148,7 +148,7 @@ reaches_more r told.End next = tt
 
 -- ---- one line
 
-may_come : (v : Version) (s : Section) (x : List ℕ) (l : Line) → line_in v causes (kinds v s) x ≡ Ok l → is_done s ≡ false
+may_come : (v : Version) (s : Section) (x : List ℕ) (l : Line) → line_in v wrong.Line (kinds v s) x ≡ Ok l → is_done s ≡ false
 may_come v section.Opening x l is = refl
 may_come v section.Calls x l is = refl
 may_come v section.Order x l is = refl
@@ -166,14 +166,14 @@ one_line s t x holds is =
     let l = made_ok (with_told s) (line_after s.section r x) t is in
     let read = line_read s.section r x l.0 l.1 in
     let known = kinds_known r.version s.section r holds.1 in
-    let found = line_found r.version causes pieces_of (IsNext r.version r) (kinds r.version s.section) x l.0 known read.0 in
+    let found = line_found r.version wrong.Line pieces_of (IsNext r.version r) (kinds r.version s.section) x l.0 known read.0 in
     let before : to_end r ≡ lines_at s = rw (may_come r.version s.section x l.0 read.0) refl in
     let lines = more_lines r l.0 found.1.1 read.1 ∙ ap (λ (ls : List (List ℕ)). ls ++ line_text l.0 ∷ []) before
     ∙ ap (λ (y : List ℕ). lines_at s ++ y ∷ []) (sym found.0) in
     subst (λ (u : SoFar). IsSoFar u × (lines_at u ≡ lines_at s ++ x ∷ []) × Lacks 10 x) l.2 (
       (report_more r l.0 holds.0 found.1.0 read.1, reaches_more r l.0 found.1.1),
       lines,
-      line_found_lacks r.version causes pieces_of (IsNext r.version r) (kinds r.version s.section) x l.0 known read.0,
+      line_found_lacks r.version wrong.Line pieces_of (IsNext r.version r) (kinds r.version s.section) x l.0 known read.0,
     )
 
 same_end : (s t : SoFar) → ends s ≡ Ok t → s ≡ t
@@ -223,7 +223,7 @@ step_again s l is good =
     let v = s.report.version in
     let r = no_lines v (header_in s.report) in
     let known = kinds_known v s.section r (none_reached s.section v (header_in s.report)) in
-    rw (line_made v causes pieces_of (IsNext v r) (kinds v s.section) l known is, judged_good s.report l good) refl
+    rw (line_made v wrong.Line pieces_of (IsNext v r) (kinds v s.section) l known is, judged_good s.report l good) refl
 
 -- ---- the lines of each section lead on
 
@@ -337,16 +337,16 @@ reads_text r is =
     let regrouped : report_lines r ≡ header_lines (title v) h ++ body r = simp append_assoc in
     ap (λ (ls : List (List ℕ)). report_of (cut_at 10 (text_of ls))) regrouped ∙ ap report_of again.0
     ∙ ap (λ (u : Version). text_from (text u) parts >>= report_told) (version_again text refl v h (body r ++ [] ∷ []))
-    ∙ ap (λ (x : Result SoFar ReportFault). x >>= report_told) again.1
+    ∙ ap (λ (x : Result SoFar LineFault). x >>= report_told) again.1
 
 -- ---- as a reader's clauses
 
-pub found_in : (bytes : List ℕ) (r : Result Report ReportFault) → Gives view r bytes
+pub found_in : (bytes : List ℕ) (r : Result Report LineFault) → Gives view r bytes
     → IfOk r (λ s. IsReport (view s) × (bytes ≡ report_text (view s)))
 found_in bytes (Ok s) gives = is_found bytes (view s) gives
 found_in bytes (Err e) gives = tt
 
-pub only_in : (bytes : List ℕ) (r : Result Report ReportFault) → Gives view r bytes → (q : ReportValue) → IsReport q
+pub only_in : (bytes : List ℕ) (r : Result Report LineFault) → Gives view r bytes → (q : ReportValue) → IsReport q
     → bytes ≡ report_text q → MatchResult r (λ s. view s ≡ q) (λ e. e.cause ≡ wrong.Memory)
 only_in bytes (Ok s) gives q is text = ok_is (view s) q (sym gives ∙ ap reading text ∙ reads_text q is)
 only_in bytes (Err e) (inl bad) q is text = absurd (let read : reading bytes ≡ Ok q = ap reading text ∙ reads_text q is in cc)

@@ -2,17 +2,18 @@
 use Rattle.std.specs.Prelude.{◌≡◌, ◌≢◌, ◌⊎◌, ◌≤◌, ◌+◌, ℕ, List, [], length, slice_index_or, Result, Ok, Err}
 use Rattle.std.specs.List.Sorted.{IsStrictlyIncreasing}
 use Rattle.lset_words.specs.declared.TheConstants.{MOST_OPENING}
+use Rattle.lset_text.specs.declared.causes.Cause.{Cause}
+use Rattle.lset_text.specs.declared.causes.Cause.TheVariants.{Memory}
+use Rattle.lset_text.specs.declared.causes.LineFault.{LineFault}
+use Rattle.lset_text.specs.Causes.{fault}
 use Rattle.lset_text.specs.Lines.{IsGoodLine}
 use Rattle.lset_text.specs.Texts.{first_line}
 use Rattle.lset_report.specs.declared.reading.Reader.{Reader}
-use Rattle.lset_report.specs.declared.report_fault.ReportCause.{ReportCause}
-use Rattle.lset_report.specs.declared.report_fault.ReportCause.TheVariants.{Memory}
-use Rattle.lset_report.specs.declared.report_fault.ReportFault.{ReportFault}
 use Rattle.lset_report.specs.Report.{ReportValue}
 use Rattle.lset_report.specs.declared.reading.lines.Line.{Line}
 use Rattle.lset_report.specs.declared.reading.lines.Line.TheVariants.{End}
 use Rattle.lset_report.specs.Texts.{last_line}
-use Rattle.lset_report.specs.ReportReading.{fault, line_after, SoFar, step, line_number}
+use Rattle.lset_report.specs.ReportReading.{line_after, SoFar, step}
 use Rattle.lset_report.specs.ReportCalls.{Tracks, threads_of}
 
 -- the report of the lines that were read
@@ -39,17 +40,17 @@ abbrev pub state : Reader → SoFar
 state s = record { section = s.section; report = so_far s }
 
 -- memory ran out for a whole line of these parts, which is not `end` and has no fault, and neither has a line above it
-abbrev pub IsFull : List (List ℕ) → Result SoFar ReportFault → ReportFault → Type 0
+abbrev pub IsFull : List (List ℕ) → Result SoFar LineFault → LineFault → Type 0
 IsFull parts read e = (index : ℕ) × (e ≡ fault (first_line + index) Memory)
-    × IsGoodLine line_number first_line parts read (first_line + index) × (slice_index_or parts index [] ≢ last_line)
+    × IsGoodLine first_line parts read (first_line + index) × (slice_index_or parts index [] ≢ last_line)
 
 -- the reader of the parts after a header came to this state, or this is the first fault, or memory ran out
-abbrev pub GoesOn : {X : Type 0} → SoFar → Result X ReportFault → List (List ℕ) → Result SoFar ReportFault → Type 0
+abbrev pub GoesOn : {X : Type 0} → SoFar → Result X LineFault → List (List ℕ) → Result SoFar LineFault → Type 0
 GoesOn s (Ok x) parts read = read ≡ Ok s
 GoesOn s (Err e) parts read = (read ≡ Err e) ⊎ IsFull parts read e
 
 -- the reader read a line with that number
-abbrev pub ReadsLine : {X : Type 0} → Reader → Reader → ℕ → List ℕ → Result X ReportFault → Type 0
+abbrev pub ReadsLine : {X : Type 0} → Reader → Reader → ℕ → List ℕ → Result X LineFault → Type 0
 ReadsLine s t number line (Ok x) = step (state s) line ≡ Ok (state t)
-ReadsLine s t number line (Err e) = ((cause : ReportCause) × (step (state s) line ≡ Err cause) × (e ≡ fault number cause))
+ReadsLine s t number line (Err e) = ((cause : Cause) × (step (state s) line ≡ Err cause) × (e ≡ fault number cause))
     ⊎ ((l : Line) × (line_after s.section (so_far s) line ≡ Ok l) × (l ≢ End) × (e ≡ fault number Memory))

@@ -11,9 +11,9 @@ use Rattle.lset_words.specs.History.{IsHistory}
 use Rattle.lset_history.specs.History.{HistoryValue}
 use Rattle.lset_text.specs.declared.words.CallWord.{CallWord}
 use Rattle.lset_text.specs.declared.headers.Header.{Header as HeaderTold}
-use Rattle.lset_text.specs.declared.headers.HeaderCause.{HeaderCause}
-use Rattle.lset_text.specs.declared.headers.HeaderCause.TheVariants as head
-use Rattle.lset_text.specs.declared.headers.HeaderFault.{HeaderFault}
+use Rattle.lset_text.specs.declared.causes.Cause.{Cause}
+use Rattle.lset_text.specs.declared.causes.Cause.TheVariants as wrong
+use Rattle.lset_text.specs.declared.causes.LineFault.{LineFault}
 use Rattle.lset_text.specs.Parts.{cut_at}
 use Rattle.lset_text.specs.Spellings.{with_key, HasCall, HasReply}
 use Rattle.lset_text.specs.declared.words.Version.{Version}
@@ -21,7 +21,7 @@ use Rattle.lset_text.specs.declared.words.Version.TheVariants.{One, Two}
 use Rattle.lset_text.specs.Results.{◌>>=◌}
 use Rattle.lset_text.specs.Forms.{Form}
 use Rattle.lset_text.specs.Forms as piece
-use Rattle.lset_text.specs.Kinds.{LineKind, LineCauses, made, line_in}
+use Rattle.lset_text.specs.Kinds.{LineKind, made, line_in}
 use Rattle.lset_text.specs.Lines.{Grammar, IsFaultlessTo}
 use Rattle.lset_text.specs.Texts.{TextGrammar, last_of_header, versioned_from}
 use Rattle.lset_text.specs.Headers.{version_in}
@@ -31,9 +31,6 @@ use Rattle.lset_report.specs.declared.reading.lines.Line.{Line as ReportLine}
 use Rattle.lset_report.specs.declared.reading.lines.Line.TheVariants as told
 use Rattle.lset_report.specs.declared.reading.lines.Section.{Section}
 use Rattle.lset_report.specs.declared.reading.lines.Section.TheVariants as section
-use Rattle.lset_report.specs.declared.report_fault.ReportCause.{ReportCause}
-use Rattle.lset_report.specs.declared.report_fault.ReportCause.TheVariants as wrong
-use Rattle.lset_report.specs.declared.report_fault.ReportFault.{ReportFault}
 use Rattle.lset_report.specs.Report.{ReportValue}
 use Rattle.lset_report.specs.Texts.{title, last_line, report_text}
 
@@ -68,27 +65,7 @@ pub record IsReport (r : ReportValue) : Type 0 where
   pub few_places : length r.order ≤ MOST_PLACES
   pub few_keys : length r.keys ≤ most_keys r.version
 
--- ---- faults
-
-abbrev pub fault : ℕ → ReportCause → ReportFault
-fault line cause = record { line = line; cause = cause }
-
-abbrev pub cause_of : HeaderCause → ReportCause
-cause_of head.Header = wrong.Header
-cause_of head.Kind = wrong.Kind
-cause_of head.Threads = wrong.Threads
-cause_of head.Quota = wrong.Quota
-cause_of head.NotEnded = wrong.NotEnded
-
--- the fault of a header as one of a report
-abbrev pub in_report : HeaderFault → ReportFault
-in_report e = fault e.line (cause_of e.cause)
-
 -- ---- the lines that may come
-
--- what is wrong with a line that has the form of none that may come there, and with one that has a form and a wrong number
-abbrev pub causes : LineCauses ReportCause
-causes = record { form = wrong.Line; number = wrong.Number }
 
 abbrev pub opening_kind : LineKind ReportLine
 opening_kind = (opening_form, λ t. told.Opening t.1.0)
@@ -186,20 +163,20 @@ may_follow threads calls x =
     && is_idle calls x.thread x.begun)))
 
 -- a line whose section has room for it
-abbrev pub counted : ℕ → ℕ → ReportLine → Result ReportLine ReportCause
+abbrev pub counted : ℕ → ℕ → ReportLine → Result ReportLine Cause
 counted most count l = if nat_lt count most then Ok l else Err wrong.TooMany
 
 abbrev pub is_next : ReportValue → ℕ → CallRecord → Bool
 is_next r number x = number == length r.history.calls && may_follow r.history.opening.threads r.history.calls x
 
-abbrev pub following : ReportValue → ℕ → CallRecord → ReportLine → Result ReportLine ReportCause
+abbrev pub following : ReportValue → ℕ → CallRecord → ReportLine → Result ReportLine Cause
 following r number x l = if is_next r number x then Ok l else Err wrong.History
 
-abbrev pub rising : ReportValue → ℕ → ReportLine → Result ReportLine ReportCause
+abbrev pub rising : ReportValue → ℕ → ReportLine → Result ReportLine Cause
 rising r k l = if is_above r.history.opening.keys k then Ok l else Err wrong.Opening
 
 -- the count of a line, and that an opening key is above the one before, or the history of a call
-abbrev pub judged : ReportValue → ReportLine → Result ReportLine ReportCause
+abbrev pub judged : ReportValue → ReportLine → Result ReportLine Cause
 judged r (told.Opening k) = counted MOST_OPENING (length r.history.opening.keys) (told.Opening k) >>= rising r k
 judged r (told.Call number x) = counted MOST_CALLS (length r.history.calls) (told.Call number x) >>= following r number x
 judged r (told.Place p) = counted MOST_PLACES (length r.order) (told.Place p)
@@ -207,8 +184,8 @@ judged r (told.Key k) = counted (most_keys r.version) (length r.keys) (told.Key 
 judged r told.End = Ok told.End
 
 -- what a line adds to the report of the lines above
-abbrev pub line_after : Section → ReportValue → List ℕ → Result ReportLine ReportCause
-line_after s r line = line_in r.version causes (kinds r.version s) line >>= judged r
+abbrev pub line_after : Section → ReportValue → List ℕ → Result ReportLine Cause
+line_after s r line = line_in r.version wrong.Line (kinds r.version s) line >>= judged r
 
 abbrev pub section_after : ReportLine → Section
 section_after (told.Opening k) = section.Opening
@@ -243,7 +220,7 @@ pub record SoFar : Type 0 where
 abbrev pub with_told : SoFar → ReportLine → SoFar
 with_told s l = record { section = section_after l; report = with_line s.report l }
 
-abbrev pub step : SoFar → List ℕ → Result SoFar ReportCause
+abbrev pub step : SoFar → List ℕ → Result SoFar Cause
 step s line = made (with_told s) (line_after s.section s.report line)
 
 -- a text ends after the line `end`
@@ -254,12 +231,12 @@ is_done section.Order = false
 is_done section.Keys = false
 is_done section.Done = true
 
-abbrev pub ends : SoFar → Result SoFar ReportCause
+abbrev pub ends : SoFar → Result SoFar Cause
 ends s = if is_done s.section then Ok s else Err wrong.NotEnded
 
 -- THE GRAMMAR of the lines after the header
-abbrev pub grammar : Grammar SoFar ReportCause ReportFault
-grammar = record { step = step; ends = ends; not_ended = wrong.NotEnded; at = fault }
+abbrev pub grammar : Grammar SoFar
+grammar = record { step = step; ends = ends }
 
 abbrev pub no_lines : Version → HeaderTold → ReportValue
 no_lines version h = record {
@@ -278,13 +255,13 @@ abbrev pub version_told : List (List ℕ) → Version
 version_told parts = version_in (title Two) parts
 
 -- THE GRAMMAR of a text of a version
-abbrev pub text : Version → TextGrammar SoFar ReportCause ReportFault
-text version = record { title = title version; start = nothing_told version; lines = grammar; of_header = in_report }
+abbrev pub text : Version → TextGrammar SoFar
+text version = record { title = title version; start = nothing_told version; lines = grammar }
 
-abbrev pub report_of : List (List ℕ) → Result ReportValue ReportFault
+abbrev pub report_of : List (List ℕ) → Result ReportValue LineFault
 report_of parts = versioned_from text parts >>= λ last. Ok last.report
 
-abbrev pub reading : List ℕ → Result ReportValue ReportFault
+abbrev pub reading : List ℕ → Result ReportValue LineFault
 reading bytes = report_of (cut_at 10 bytes)
 
 -- what is read is the text of a report, and the text of each report is read
@@ -295,12 +272,9 @@ ReportsReadBack = (r : ReportValue) (bytes : List ℕ)
 
 -- ---- failed allocations
 
-abbrev pub line_number : ReportFault → ℕ
-line_number e = e.line
-
 -- Memory is answered for a line after its other checks. The parts are those of a text from the line `first` on, of which the last
 -- comes after the last newline, and reading the text gives `read` if memory is ample.
-pub record RunsOut (first : ℕ) (parts : List (List ℕ)) (read : Result ReportValue ReportFault) (e : ReportFault) : Type 0 where
+pub record RunsOut (first : ℕ) (parts : List (List ℕ)) (read : Result ReportValue LineFault) (e : LineFault) : Type 0 where
   pub cause : e.cause ≡ wrong.Memory
   -- the line is the last of the header, whose lines take no memory, or one after it,
   pub after_header : last_of_header ≤ e.line
@@ -311,9 +285,9 @@ pub record RunsOut (first : ℕ) (parts : List (List ℕ)) (read : Result Report
   -- but not `end`, for which nothing is asked,
   pub asks : slice_index_or parts index [] ≢ last_line
   -- and neither it nor a line above it has a fault
-  pub good : IsFaultlessTo line_number e.line read
+  pub good : IsFaultlessTo e.line read
 
 -- what a function returned, seen by `view`, is what reading the bytes gives, or that an allocation failed
-abbrev pub Gives : {X : Type 0} → (X → ReportValue) → Result X ReportFault → List ℕ → Type 0
+abbrev pub Gives : {X : Type 0} → (X → ReportValue) → Result X LineFault → List ℕ → Type 0
 Gives view (Ok x) bytes = reading bytes ≡ Ok (view x)
 Gives view (Err e) bytes = (reading bytes ≡ Err e) ⊎ RunsOut 1 (cut_at 10 bytes) (reading bytes) e

@@ -6,12 +6,11 @@
 mod order;
 mod reading;
 mod report;
-mod report_fault;
 mod title;
 mod writing;
 
+pub use lset_text::LineFault as ReportFault;
 pub use order::{Pointed, order_of, points_of, sort_by_points};
 pub use reading::{read_report, reports_read_back};
 pub use report::{MOST_CALLS, MOST_KEYS, MOST_KEYS_OPENED, MOST_PLACES, Report};
-pub use report_fault::{ReportCause, ReportFault};
 pub use writing::write_report;

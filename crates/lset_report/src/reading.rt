@@ -24,13 +24,12 @@ ghost use Rattle.lset_report.specs.ReportReader.{Holds, GoesOn, ReadsLine, so_fa
 mod calls;
 mod lines;
 
-use crate::report_fault::{ReportCause, ReportFault};
 use crate::title::title;
-use crate::{MOST_CALLS, MOST_KEYS, MOST_KEYS_OPENED, MOST_PLACES, Report};
+use crate::{MOST_CALLS, MOST_KEYS, MOST_KEYS_OPENED, MOST_PLACES, Report, ReportFault};
 use calls::CallsSoFar;
 use lines::{Line, Section, line_of_report};
 use lset_history::History;
-use lset_text::{Header, Version, cut, is_above, read_header, version_of};
+use lset_text::{Cause, Header, LineFault, Version, cut, is_above, read_header, version_of};
 use lset_words::{CallRecord, MOST_OPENING, Placed};
 use std::alloc::{AllocError, Global};
 
@@ -89,7 +88,7 @@ impl Reader {
 
     /// The line, if there is room for it after those that were read, and an opening key is above the one before, or a call
     /// goes on with their history.
-    fn judged(&self, line: Line) -> Result<Line, ReportCause>
+    fn judged(&self, line: Line) -> Result<Line, Cause>
         requires { Holds self.now }
         ensures { result ≡ judged (so_far self.now) line }
     {
@@ -101,16 +100,16 @@ impl Reader {
             Line::End => return Ok(line),
         };
         if count >= most {
-            return Err(ReportCause::TooMany);
+            return Err(Cause::TooMany);
         }
         match line {
-            Line::Opening(key) if !is_above(&self.opening, key) => Err(ReportCause::Opening),
-            Line::Call(number, made) if !self.is_next(number, made) => Err(ReportCause::History),
+            Line::Opening(key) if !is_above(&self.opening, key) => Err(Cause::Opening),
+            Line::Call(number, made) if !self.is_next(number, made) => Err(Cause::History),
             _ => Ok(line),
         }
     }
 
-    fn line_after(&self, line: &[u8]) -> Result<Line, ReportCause>
+    fn line_after(&self, line: &[u8]) -> Result<Line, Cause>
         requires { Holds self.now }
         ensures { result ≡ line_after self.now.section (so_far self.now) line.now }
     {
@@ -137,7 +136,7 @@ impl Reader {
         Ok(())
     }
 
-    fn read_line(&mut self, number: u64, text: &[u8]) -> Result<(), ReportFault>
+    fn read_line(&mut self, number: u64, text: &[u8]) -> Result<(), LineFault>
         requires { Holds self.old }
         ensures holds { OnOk result (Holds self.new) }
         ensures header { OnOk result (self.new.header ≡ self.old.header) }
@@ -145,16 +144,16 @@ impl Reader {
     {
         let line = match self.line_after(text) {
             Ok(line) => line,
-            Err(cause) => return Err(ReportFault::at(number, cause)),
+            Err(cause) => return Err(LineFault::at(number, cause)),
         };
         if self.put(line).is_err() {
-            return Err(ReportFault::at(number, ReportCause::Memory));
+            return Err(LineFault::at(number, Cause::Memory));
         }
         Ok(())
     }
 
     /// The lines after the header.
-    fn read_lines(&mut self, text: &[u8]) -> Result<(), ReportFault>
+    fn read_lines(&mut self, text: &[u8]) -> Result<(), LineFault>
         requires { Holds self.old }
         ensures holds { OnOk result (Holds self.new) }
         ensures header { OnOk result (self.new.header ≡ self.old.header) }
@@ -165,7 +164,7 @@ impl Reader {
         let mut rest = text;
         while !rest.is_empty() {
             let Some((first, after)) = cut(rest, b'\n') else {
-                return Err(ReportFault::at(number, ReportCause::NotEnded));
+                return Err(LineFault::at(number, Cause::NotEnded));
             };
             self.read_line(number, first)?;
             number += 1;
@@ -173,7 +172,7 @@ impl Reader {
         }
         match self.section {
             Section::Done => Ok(()),
-            _ => Err(ReportFault::at(number, ReportCause::NotEnded)),
+            _ => Err(LineFault::at(number, Cause::NotEnded)),
         }
     }
 
@@ -211,7 +210,7 @@ fn report(alloc: Global, bytes: &[u8]) -> Result<Report, ReportFault>
     let version = version_told(bytes);
     let (header, rest) = read_header(title(version).as_bytes(), bytes)?;
     let Ok(mut reader) = Reader::new(alloc, version, header) else {
-        return Err(ReportFault::at(LAST_OF_HEADER, ReportCause::Memory));
+        return Err(LineFault::at(LAST_OF_HEADER, Cause::Memory));
     };
     reader.read_lines(rest)?;
     Ok(reader.into_report())
@@ -227,7 +226,7 @@ fn report(alloc: Global, bytes: &[u8]) -> Result<Report, ReportFault>
 /// # Errors
 ///
 /// The first line that is wrong, and the first check that it fails. `NotEnded` comes before all others; the others come in
-/// the order of `ReportCause`. If a header line is due and no byte is left, it is the error of that line. `Memory`, in place
+/// the order of `Cause`. If a header line is due and no byte is left, it is the error of that line. `Memory`, in place
 /// of any other answer, if an allocation fails: its line is the last that was read, which is not `end` and has no other
 /// error, and neither has a line above it.
 pub fn read_report(alloc: Global, bytes: &[u8]) -> Result<Report, ReportFault>
@@ -237,7 +236,7 @@ pub fn read_report(alloc: Global, bytes: &[u8]) -> Result<Report, ReportFault>
     ensures words { IfOk result (λ r. HasWordsOfVersion (view r)) }
     // The text of such a report is read, unless memory runs out.
     ensures only { (r : ReportValue) → IsReport r → bytes.now ≡ report_text r
-        → MatchResult result (λ s. view s ≡ r) (λ e. e.cause ≡ ReportCause.Memory) }
+        → MatchResult result (λ s. view s ≡ r) (λ e. e.cause ≡ Cause.Memory) }
     // Which fault it is, and for which lines `Memory` may be answered.
     ensures exact { Gives view result bytes.now }
 {

@@ -7,7 +7,6 @@ use native.Mathlib.Decide.{ℕ_discrete}
 use lib.ListN.{get_elem?}
 use Rattle.atomic_table.specs.Table as table
 use Rattle.atomic_table.specs.Table.{Me, step, keeps, Allows}
-use Rattle.atomic_table.proofs.Lists.{at_set, set_else}
 use Rattle.lset_words.specs.declared.Call.{Call}
 use Rattle.lset_steps.specs.declared.Local.{Local}
 use Rattle.lset_steps.specs.declared.Action.{Action}
@@ -25,14 +24,12 @@ use Rattle.lset_steps.specs.Worlds.{thread_of, WorldState, IsRun}
 use Rattle.lset_rule.specs.Runs.{Here, here, under_after, log_by, end_of, at_end, IsRunOf, StartsWith}
 use Rattle.lset_rule.proofs.Stepped.{left, found, gone, begins, left_is, found_is, Tied, end_more, is_run_more, end_other, end_begin}
 use Rattle.lset_rule.proofs.Stepped.{end_go, end_laws, end_tied, in_locals}
-use Rattle.lset_rule.specs.Rule.{Holds, MatchesLog, StandsIn}
+use Rattle.lset_rule.specs.Rule.{Holds, MatchesLog}
+use Rattle.lset_rule.proofs.Fitting.{Fits, St, each_set, fits, holding, set_there, set_twice, stands_still}
 use Rattle.lset_rule.specs.Views.{Stands, HasThread, InTime, IsOpen, IsIdle}
 use Rattle.lset_rule.specs.Calls.{gone_view, begun_view, record_after, Goes, Starts}
 use Rattle.lset_rule.proofs.Runs.{still_quiet, quiet_append, starts_more, asides_stay, before_more, after_calls, after_calls_other}
 use Rattle.lset_rule.proofs.Runs.{after_root, after_apart, after_in, after_in_order, after_before, BegunBy, begun_by, after_in_time}
-
-abbrev pub St : Type 0
-St = table.State (Unit {0}) View
 
 -- the thread has a call under way after the run of these events, and holds this
 abbrev pub IsAt : Table → Opening → List Event → ℕ → Local → Type 0
@@ -41,27 +38,6 @@ IsAt m k es t l = UnderWay m k (event_at es) (length es) t × (local_of (end_of 
 -- the view after an event of its thread
 abbrev pub later : View → List Event → Event → Local → Option PendingCall → Past → View
 later v log e l u r = record v { local = l; under = u; past = r; seen = log ++ e ∷ [] }
-
-pub set_there : (l : List View) (i : ℕ) (a b : View) → get_elem? l i ≡ some a → get_elem? (set l i b) i ≡ some b
-set_there [] i a b e = absurd (some-ne-none a (sym e))
-set_there (x ∷ xs) zero a b e = refl
-set_there (x ∷ xs) (suc i) a b e = set_there xs i a b e
-
--- the same view has seen the same
-pub knows : (log : List Event) (v x : View) → v ≡ x → StartsWith log v.seen → StartsWith log x.seen
-knows log v x is = subst (λ (z : View). StartsWith log z.seen) is
-
--- a thread still stands in its view when one view becomes another that has it too
-pub stands_still : (views : List View) (id j t : ℕ) (v w : View) → get_elem? views id ≡ some v → w.spent ≡ false →
-    (HasThread v t → HasThread w t) → StandsIn views j t → StandsIn (set views id w) j t
-stands_still views id j t v w at alive more st = dite (ℕ_discrete j id)
-    (λ (e : j ≡ id). (
-      w,
-      subst (λ z. get_elem? (set views id w) z ≡ some w) (sym e) (set_there views id v w at),
-      alive,
-      more (subst (λ (x : View). HasThread x t) (some-injective st.0 v (sym st.1 ∙ (ap (get_elem? views) e ∙ at))) st.3),
-    ))
-    (λ (ne : j ≢ id). (st.0, set_else views id j w ne ∙ st.1, st.2, st.3))
 
 module _ (m : Table) where
   -- what the events of all say of a thread of the view
@@ -131,6 +107,7 @@ module _ (m : Table) where
         × (h'.log ≡ h.log ++ e ∷ []))
     moves e l u r ws mine enabled words me others same_root apart is_in in_order before in_time =
         let w : View = later v h.log e l u r in
+        let log' : List Event = h.log ++ e ∷ [] in
         let ran' : IsRunOf m v.shape (h.log ++ e ∷ []) = is_run_more m v.shape h.log e h.ran len enabled in
         let long = length-append h.log (e ∷ []) in
         let stands : Stands m w = record {
@@ -147,10 +124,10 @@ module _ (m : Table) where
           ended = before_more (length h.log + 2) (length (h.log ++ e ∷ []) + 1) r (omega arith) before;
           before = in_time;
         } in
-        let mine_fits : MatchesLog m v.shape (h.log ++ e ∷ []) h.seat_of id w = record {
+        let mine_fits : MatchesLog m v.shape log' h.seat_of id w = record {
           shape = refl;
           rest = [];
-          is = sym (append-nil (h.log ++ e ∷ []));
+          is = sym (append-nil log');
           quiet = tt;
           stands = stands;
           seat = fit.seat;
@@ -159,22 +136,13 @@ module _ (m : Table) where
         } in (
           stands,
           (
-            record {
-              log = h.log ++ e ∷ [];
-              ran = ran';
-              words = words ∙ ap (λ (z : State). z.words) (sym (end_more m v.shape h.log e));
-              seat_of = h.seat_of;
-              each = λ j x is alive. ⊎_elim (λ (t : (j ≡ id) × (w ≡ x)). subst
-                  (λ (z : ℕ × View). MatchesLog m v.shape (h.log ++ e ∷ []) h.seat_of z.0 z.1) (λ i. (sym t.0 i, t.1 i)) mine_fits)
-                  (λ (t : (j ≢ id) × (get_elem? s.views j ≡ some x)). let f = h.each j x t.1 alive in
-                  others_fit v.shape h.log h.seat_of j x e
-                  (λ has. t.0 (sym (f.seat (thread_of e) has) ∙ (ap h.seat_of mine ∙ fit.seat v.thread (inl refl)))) f)
-                  (at_set s.views id j w x is);
-              placed = λ t lt. stands_still s.views id (h.seat_of t) t v w at sp (λ has. has) (h.placed t lt);
-              known = λ j x is. ⊎_elim (λ (t : (j ≡ id) × (w ≡ x)). knows (h.log ++ e ∷ []) w x t.1 (mine_fits.rest, mine_fits.is))
-                  (λ (t : (j ≢ id) × (get_elem? s.views j ≡ some x)). starts_more h.log x.seen e (h.known j x t.1))
-                  (at_set s.views id j w x is);
-            },
+            holding m v.shape _ log' ran' (words ∙ ap (λ (z : State). z.words) (sym (end_more m v.shape h.log e))) h.seat_of
+                (each_set (Fits m v.shape log' h.seat_of) s.views id w (fits mine_fits) (λ j x ne is. (
+                  (λ alive. let f = h.each j x is alive in others_fit v.shape h.log h.seat_of j x e
+                      (λ has. ne (sym (f.seat (thread_of e) has) ∙ (ap h.seat_of mine ∙ fit.seat v.thread (inl refl)))) f),
+                  starts_more h.log x.seen e (h.known j x is),
+                )))
+                (λ t lt. stands_still s.views id (h.seat_of t) t v w at sp (λ has. has) (h.placed t lt)),
             refl,
           ),
         )
@@ -249,11 +217,6 @@ module _ (m : Table) where
         ) h.words
         (end_begin m v.shape h.log v.thread c inside ∙ (λ i. begins m (stood i) c now)) (λ x _. refl) refl (λ a. a) (λ x h. h)
         fit.stands.ordered (all_ended (length h.log + 2) (omega arith)) (all_ended now (omega arith))
-
-set_twice : (l : List View) (i : ℕ) (a b : View) → set (set l i a) i b ≡ set l i b
-set_twice [] i a b = refl
-set_twice (x ∷ xs) zero a b = refl
-set_twice (x ∷ xs) (suc i) a b = ap (λ l. x ∷ l) (set_twice xs i a b)
 
 abbrev pub M : Type 0
 M = Me (Unit {0}) View

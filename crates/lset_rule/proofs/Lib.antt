@@ -1,5 +1,6 @@
 pub mod Stepped
 pub mod Runs
+pub mod Fitting
 pub mod Keeps
 pub mod Calls
 pub mod Joins

@@ -1,5 +1,5 @@
 -- What a call of the interpreter knows before each of its further steps, and after it.
-use Rattle.std.proofs.Common.{◌≡◌, ℕ, ◌+◌, ◌≤◌, Some, None, sym, ap, ◌∙◌, arith}
+use Rattle.std.proofs.Common.{◌≡◌, Some, None, sym, ap, ◌∙◌}
 use Rattle.atomic_table.specs.Seated.{TableId}
 use Rattle.lset_words.specs.declared.Call.{Call}
 use Rattle.lset_words.specs.declared.Reply.{Reply}
@@ -9,11 +9,9 @@ use Rattle.lset_steps.specs.Steps.{Table}
 use Rattle.lset_steps.specs.Laws.{Lawful}
 use Rattle.lset_rule.specs.declared.slots.OwnSlots.{OwnSlots}
 use Rattle.lset_rule.specs.OwnSlots.{slots_of}
-use Rattle.lset_rule.specs.Calls.{steps_of}
-use Rattle.lset_rule.specs.Seats.{TableSeat, IsSeat, MayCall, HasCalled, HasGivenUp}
+use Rattle.lset_rule.specs.Seats.{TableSeat, IsSeat, MayCall, HasCalled}
 use Rattle.lset_rule.specs.RowSteps.{MayStep, HasStepped}
 use Rattle.lset_rule.proofs.Calls.{Comes, is_mid, mid_open, reached, comes_next, made}
-use Rattle.lset_rule.proofs.Ending.{one_more}
 
 -- the call c of the seat s has come to f, and the seat to s'
 abbrev pub Reached : Table → Call → TableSeat → Fed → TableSeat → Type 0
@@ -37,25 +35,6 @@ stepped m c s s' s'' f f' (come, seat) none step = (
   comes_next m c s.me.0 s'.me.0 f step.seen s''.me.0 f' come none step.goes step.fed,
   (step.place.0 ∙ seat.0, step.place.1 ∙ seat.1, step.place.2 ∙ seat.2),
 )
-
--- a call that has not answered has made at least k steps
-abbrev pub Counts : ℕ → Fed → TableSeat → Type 0
-Counts k f s' = f.answer ≡ None → k ≤ steps_of s'.me.0.under
-
--- and one more after the next
-pub counted : (m : Table) (c : Call) (k : ℕ) (s s' s'' : TableSeat) (f f' : Fed) → Reached m c s f s' → f.answer ≡ None →
-    HasStepped m f.local s' f' s'' → Counts k f s' → Counts (k + 1) f' s''
-counted m c k s s' s'' f f' (come, seat) none step least none' =
-    let next = comes_next m c s.me.0 s'.me.0 f step.seen s''.me.0 f' come none step.goes step.fed in
-    let more : steps_of s''.me.0.under ≡ steps_of s'.me.0.under + 1 =
-    one_more m step.seen s.me.0 s'.me.0 s''.me.0 f f' c come none next none' step.goes in
-    omega (arith, more, least none)
-
--- if it makes no more, it has given up
-pub gives_up : (m : Table) (c : Call) (k : ℕ) (s s' : TableSeat) (f : Fed) → Reached m c s f s' → Counts k f s' → f.answer ≡ None →
-    HasGivenUp m c k s s'
-gives_up m c k s s' f (come, seat) least none = let mid = is_mid m c s.me.0 s'.me.0 f come none in
-    record { place = seat; under_way = mid.0; stands = mid.1; steps = least none }
 
 -- and where that has answered, the call was made
 pub answered : (m : Table) (c : Call) (s s' : TableSeat) (f : Fed) (own : OwnSlots) (r : Reply) → Reached m c s f s' →

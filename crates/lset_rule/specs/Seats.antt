@@ -1,5 +1,5 @@
 -- SEATS of the table: what calls ask of one, and what they keep.
-use Rattle.std.specs.Prelude.{◌≡◌, ◌≤◌, ℕ}
+use Rattle.std.specs.Prelude.{◌≡◌}
 use Rattle.atomic_table.specs.declared.shared.Seat.{Seat}
 use Rattle.atomic_table.specs.Seated.{TableId}
 use Rattle.lset_words.specs.declared.Call.{Call}
@@ -10,7 +10,7 @@ use Rattle.lset_rule.specs.declared.slots.OwnSlots.{OwnSlots}
 use Rattle.lset_rule.specs.declared.view.View.{View}
 use Rattle.lset_rule.specs.OwnSlots.{slots_of}
 use Rattle.lset_rule.specs.Views.{IsIdle, Stands}
-use Rattle.lset_rule.specs.Calls.{IsMid, Makes, steps_of}
+use Rattle.lset_rule.specs.Calls.{Makes}
 
 -- a seat, as contracts of calls see it
 abbrev pub TableSeat : Type 0
@@ -37,11 +37,3 @@ pub record HasCalled (m : Table) (c : Call) (s : TableSeat) (answer : OwnSlots �
   pub place : IsSeat s s'
   pub slots : answer.0 ≡ slots_of s'.me.0.local
   pub made : Makes m c s.me.0 answer.1 s'.me.0
-
--- THE CALL c GAVE UP: from the seat s, which is now s', it has begun after all that the seat had seen, its thread has made at least
--- so many steps of it, and it has not answered. The same seat, with the same record.
-pub record HasGivenUp (m : Table) (c : Call) (most : ℕ) (s s' : TableSeat) : Type 0 where
-  pub place : IsSeat s s'
-  pub under_way : IsMid c s.me.0 s'.me.0
-  pub stands : Stands m s'.me.0
-  pub steps : most ≤ steps_of s'.me.0.under

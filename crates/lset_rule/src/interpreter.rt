@@ -1,7 +1,7 @@
 //! Whole calls on the shared words, made step by step as the machine's table says.
-ghost use Rattle.std.specs.Prelude.{MatchOption};
+ghost use Rattle.std.specs.Prelude.{IfSome};
 ghost use Rattle.lset_words.specs.declared.Call.TheVariants.{Contains};
-ghost use Rattle.lset_rule.specs.Seats.{HasCalled, HasGivenUp, MayCall};
+ghost use Rattle.lset_rule.specs.Seats.{HasCalled, MayCall};
 
 use crate::pause::Pause;
 use crate::rounds::Rounds;
@@ -34,8 +34,8 @@ macro_rules! ends_or_pauses {
 /// that was waited for is taken. It is never asked `taken`.
 ///
 /// An answer is the slots as this call leaves them, and the reply: of a call of the machine, begun after all that the place
-/// had seen, by which the record of the place grew. After `None` the call has made at least `N::MOST` steps and is still under
-/// way, with the locks that it has, and the place makes no other.
+/// had seen, by which the record of the place grew. After `None` the call is still under way, with the locks that it has, and the
+/// place makes no other.
 pub fn interpret_within<M: Machine, P: Pause, N: Rounds>(
     table: &Words<M>,
     place: &mut TableSeat,
@@ -44,7 +44,7 @@ pub fn interpret_within<M: Machine, P: Pause, N: Rounds>(
     pause: &P,
 ) -> Option<(OwnSlots, Reply)>
     requires { MayCall M.table table.now.table_id table.now.key slots place.old }
-    ensures { MatchOption result (HasGivenUp M.table call N.MOST place.old place.new) (λ r. HasCalled M.table call place.old r place.new) }
+    ensures { IfSome result (λ r. HasCalled M.table call place.old r place.new) }
 {
     let begun = M::begin(call, &slots.resting());
     let action = M::next(&begun);

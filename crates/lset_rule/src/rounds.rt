@@ -1,15 +1,12 @@
 //! How many rounds a loop of a call makes: at most a number, or as many as it takes.
-ghost use Rattle.std.specs.Prelude.{◌≡◌, ℕ, Some};
+ghost use Rattle.std.specs.Prelude.{◌≡◌, Some};
 
 use crate::slots::OwnSlots;
 use lset_words::Reply;
 use std::sync::Wait;
 
-/// A bound on the rounds of each loop of a call: one that has made them all gives up. It does not give up before its thread has
-/// made as many steps as that (`HasGivenUp`).
+/// A bound on the rounds of each loop of a call: one that has made them all gives up.
 pub trait Rounds {
-    ghost MOST: { ℕ };
-
     /// How many rounds a loop makes at most.
     const MOST: u64;
 }
@@ -18,13 +15,8 @@ pub trait Rounds {
 pub struct Countless;
 
 impl Rounds for Countless {
-    ghost MOST = { 18446744073709551615 };
-
     const MOST: u64 = u64::MAX;
 }
-
-/// What a call under `Wait`, and a call of C, is said to have.
-const _: () = prove!(Countless::MOST == u64::MAX);
 
 /// The answer of a call with [`Countless`] rounds, which are 2^64 - 1. If there is none, it waits for ever.
 #[inline(always)]

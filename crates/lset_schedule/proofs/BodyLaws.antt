@@ -25,10 +25,10 @@ use Rattle.lset_text.proofs.LineLaws.{leads_on, items_lead}
 use Rattle.lset_text.proofs.SectionLaws.{middle, openings_lead}
 use Rattle.lset_text.proofs.TextLaws.{all_both, text_found, text_again}
 use Rattle.lset_schedule.specs.declared.TheConstants.{MOST_EVENTS}
-use Rattle.lset_schedule.specs.declared.fault.Cause.{Cause}
-use Rattle.lset_schedule.specs.declared.fault.Cause.TheVariants.{TooMany, Opening}
+use Rattle.lset_text.specs.declared.causes.Cause.{Cause}
+use Rattle.lset_text.specs.declared.causes.Cause.TheVariants.{Event, TooMany, Opening}
 use Rattle.lset_text.specs.Texts.{text_from}
-use Rattle.lset_schedule.specs.ScheduleReading.{causes, EventLines, BodyValue, no_lines, Item, opens, event}
+use Rattle.lset_schedule.specs.ScheduleReading.{EventLines, BodyValue, no_lines, Item, opens, event}
 use Rattle.lset_schedule.specs.ScheduleReading.{opening_kind, kinds_after, with_item, with_line, grammar, texts}
 
 -- ---- what one line adds
@@ -98,12 +98,12 @@ module _ {L : Type 0} (text : EventLines L) (v : Version) (title : List ℕ) (pi
   no_key (Err c) k is = cc
 
   -- an opening key comes where no line of an event stands
-  none_above : (w : Version) (ls : List L) (ps : List (List ℕ)) (k : ℕ) → first_of v causes (kinds_after text w ls) ps ≡ Ok (opens k)
+  none_above : (w : Version) (ls : List L) (ps : List (List ℕ)) (k : ℕ) → first_of v Event (kinds_after text w ls) ps ≡ Ok (opens k)
       → ls ≡ []
-  none_above One ls ps k is = absurd (no_key (first_of v causes text.kinds ps) k (sym (first_as event v causes text.kinds ps) ∙ is))
+  none_above One ls ps k is = absurd (no_key (first_of v Event text.kinds ps) k (sym (first_as event v Event text.kinds ps) ∙ is))
   none_above Two [] ps k is = refl
   none_above Two (l ∷ ls) ps k is =
-      absurd (no_key (first_of v causes text.kinds ps) k (sym (first_as event v causes text.kinds ps) ∙ is))
+      absurd (no_key (first_of v Event text.kinds ps) k (sym (first_as event v Event text.kinds ps) ∙ is))
 
   -- ---- one line
 
@@ -156,7 +156,7 @@ module _ {L : Type 0} (text : EventLines L) (v : Version) (title : List ℕ) (pi
       )
 
   item_adds : (s t : BodyValue L) (ps : List (List ℕ)) (i : Item L) → HasText text v Good s → IsItem i
-      → first_of v causes (kinds_after text v s.lines) ps ≡ Ok i → with_item text s i ≡ Ok t → Adds s (line_of (item_pieces i)) t
+      → first_of v Event (kinds_after text v s.lines) ps ≡ Ok i → with_item text s i ≡ Ok t → Adds s (line_of (item_pieces i)) t
   item_adds s t ps (opens k) has is told e = key_adds s t k has is (none_above v s.lines ps k told) e
   item_adds s t ps (event l) has is told e = event_adds s t l has is e
 
@@ -165,11 +165,11 @@ module _ {L : Type 0} (text : EventLines L) (v : Version) (title : List ℕ) (pi
   line_adds s t x has is =
       let kinds = kinds_after text v s.lines in
       let known = known_after v s.lines refl in
-      let i = bind_ok (line_in v causes kinds x) (with_item text s) t is in
-      let found = line_found v causes item_pieces IsItem kinds x i.0 known i.1 in
+      let i = bind_ok (line_in v Event kinds x) (with_item text s) t is in
+      let found = line_found v Event item_pieces IsItem kinds x i.0 known i.1 in
       let added = item_adds s t (cut_at 32 x) i.0 has found.1 i.1 i.2 in (
         (added.0, added.1 ∙ ap (λ (y : List ℕ). text_lines s ++ y ∷ []) (sym found.0)),
-        line_found_lacks v causes item_pieces IsItem kinds x i.0 known i.1,
+        line_found_lacks v Event item_pieces IsItem kinds x i.0 known i.1,
       )
 
   -- ---- what stands there is read
@@ -179,7 +179,7 @@ module _ {L : Type 0} (text : EventLines L) (v : Version) (title : List ℕ) (pi
   event_step s l good few =
       let kinds = kinds_after text v s.lines in
       rw (
-        line_made v causes item_pieces IsItem kinds (event l) (known_after v s.lines refl) (made_after v s.lines l good),
+        line_made v Event item_pieces IsItem kinds (event l) (known_after v s.lines refl) (made_after v s.lines l good),
         le-ltb MOST_EVENTS (sum_by text.count s.lines + text.count l) few,
       ) refl
 
@@ -198,8 +198,8 @@ module _ {L : Type 0} (text : EventLines L) (v : Version) (title : List ℕ) (pi
       → with_line text v (of_keys h ks) (opening_line k) ≡ Ok (of_keys h (ks ++ k ∷ []))
   key_step h ks k two low few above =
       let kinds : List (LineKind (Item L)) = opening_kind ∷ map (kind_as event) text.kinds in
-      let told : line_in v causes kinds (opening_line k) ≡ Ok (opens k) =
-      line_made v causes item_pieces IsItem kinds (opens k) (opening_known two, events_known)
+      let told : line_in v Event kinds (opening_line k) ≡ Ok (opens k) =
+      line_made v Event item_pieces IsItem kinds (opens k) (opening_known two, events_known)
       (inl ((tt, (k, tt)), refl, (tt, ((omega arith, omega (arith, low)), tt)))) in
       let first : kinds_after text v [] ≡ kinds = ap (λ w. kinds_after text w []) two in
       rw (first, told, lt-ltb (length ks) MOST_OPENING few, above) refl

@@ -15,9 +15,9 @@ use Rattle.lset_text.specs.Openings.{opening_form, is_above}
 use Rattle.lset_text.proofs.KindLaws.{IsOneOf, first_fails, first_as}
 use Rattle.lset_text.proofs.LineLaws.{bind_err}
 use Rattle.lset_schedule.specs.declared.TheConstants.{MOST_EVENTS}
-use Rattle.lset_schedule.specs.declared.fault.Cause.{Cause}
-use Rattle.lset_schedule.specs.declared.fault.Cause.TheVariants.{Number, Memory}
-use Rattle.lset_schedule.specs.ScheduleReading.{causes, EventLines, BodyValue, Item, opens, event}
+use Rattle.lset_text.specs.declared.causes.Cause.{Cause}
+use Rattle.lset_text.specs.declared.causes.Cause.TheVariants.{Event, Number, Memory}
+use Rattle.lset_schedule.specs.ScheduleReading.{EventLines, BodyValue, Item, opens, event}
 use Rattle.lset_schedule.specs.ScheduleReading.{kinds_after, with_item, with_line}
 
 -- ---- a line that may be one of an opening key
@@ -30,17 +30,17 @@ number_told (Some n) = refl
 -- where no line of an event stands, in a text of the second version
 pub key_told : {L K : Type 0} (text : EventLines L) (ls : List L) (line : List ℕ) (now : K → List ℕ) (o : Option K) → ls ≡ []
     → MatchOption o (have_form Two opening_form (cut_at 32 line) ≡ false) (λ key. cut_at 32 line ≡ codes "opening" ∷ now key ∷ [])
-    → MatchOption o (line_in Two causes (kinds_after text Two ls) line ≡ made event (line_in Two causes text.kinds line))
-    (λ key. line_in Two causes (kinds_after text Two ls) line ≡ made opens (or_fail Number (number_in 0 max_number (now key))))
-key_told text ls line now None none other = rw (none, other) (first_as event Two causes text.kinds (cut_at 32 line))
+    → MatchOption o (line_in Two Event (kinds_after text Two ls) line ≡ made event (line_in Two Event text.kinds line))
+    (λ key. line_in Two Event (kinds_after text Two ls) line ≡ made opens (or_fail Number (number_in 0 max_number (now key))))
+key_told text ls line now None none other = rw (none, other) (first_as event Two Event text.kinds (cut_at 32 line))
 key_told text ls line now (Some key) none is = rw (none, is) (number_told (number_in 0 max_number (now key)))
 
 -- and where one may not come
 pub not_due : {L : Type 0} (text : EventLines L) (v : Version) (ls : List L) (line : List ℕ) → (v ≡ Two → ls ≡ [] → ⊥)
-    → line_in v causes (kinds_after text v ls) line ≡ made event (line_in v causes text.kinds line)
-not_due text One ls line not = first_as event One causes text.kinds (cut_at 32 line)
+    → line_in v Event (kinds_after text v ls) line ≡ made event (line_in v Event text.kinds line)
+not_due text One ls line not = first_as event One Event text.kinds (cut_at 32 line)
 not_due text Two [] line not = absurd (not refl refl)
-not_due text Two (l ∷ ls) line not = first_as event Two causes text.kinds (cut_at 32 line)
+not_due text Two (l ∷ ls) line not = first_as event Two Event text.kinds (cut_at 32 line)
 
 -- ---- no check fails by a failed allocation
 
@@ -55,13 +55,13 @@ item_fails text s (opens k) is =
 item_fails text s (event l) is =
     either_fails (ltb MOST_EVENTS (sum_by text.count s.lines + text.count l)) _ _ (λ e. cc) (λ e. cc) is
 
-no_cause : IsOneOf causes Memory → ⊥
+no_cause : IsOneOf Event Memory → ⊥
 no_cause (inl is) = cc
 no_cause (inr is) = cc
 
 pub never_memory : {L : Type 0} (text : EventLines L) (v : Version) (s : BodyValue L) (x : List ℕ) → with_line text v s x ≡ Err Memory → ⊥
 never_memory text v s x is =
-    elim (bind_err (line_in v causes (kinds_after text v s.lines) x) (with_item text s) Memory is) [
-      | inl bad ↦ no_cause (first_fails v causes (kinds_after text v s.lines) (cut_at 32 x) Memory bad)
+    elim (bind_err (line_in v Event (kinds_after text v s.lines) x) (with_item text s) Memory is) [
+      | inl bad ↦ no_cause (first_fails v Event (kinds_after text v s.lines) (cut_at 32 x) Memory bad)
       | inr bad ↦ item_fails text s bad.0 bad.2
     ]

@@ -20,9 +20,9 @@ use Rattle.lset_text.proofs.KindLaws.{Knows, IsMade}
 use Rattle.lset_schedule.specs.declared.value.Line.{Line}
 use Rattle.lset_schedule.specs.declared.value.Line.TheVariants.{Begin, Go}
 use Rattle.lset_schedule.specs.declared.value.Schedule.{Schedule}
-use Rattle.lset_schedule.specs.declared.fault.Cause.{Cause}
-use Rattle.lset_schedule.specs.declared.fault.Cause.TheVariants.{Memory}
-use Rattle.lset_schedule.specs.declared.fault.ScheduleFault.{ScheduleFault}
+use Rattle.lset_text.specs.declared.causes.Cause.{Cause}
+use Rattle.lset_text.specs.declared.causes.Cause.TheVariants.{Memory}
+use Rattle.lset_text.specs.declared.causes.LineFault.{LineFault}
 use Rattle.lset_schedule.specs.Plan.{Plan, view, planned, header_in, pieces_of, line_text, title, schedule_text, IsLine, IsSchedule}
 use Rattle.lset_schedule.specs.ScheduleReading.{begin_kind, events, schedules, plan_in, version_told, plan_of, reading, Gives}
 use Rattle.lset_text.proofs.TextLaws.{version_again}
@@ -91,17 +91,17 @@ is_memory Memory h = refl
 is_memory c h = absurd (h (λ e. cc))
 
 -- where a value is read, it is given, unless memory ran out
-pub gives_ok : {X Y : Type 0} (view : X → Y) (r : Result X ScheduleFault) (y : Y) → Gives view r (Ok y)
+pub gives_ok : {X Y : Type 0} (view : X → Y) (r : Result X LineFault) (y : Y) → Gives view r (Ok y)
     → MatchResult r (λ x. view x ≡ y) (λ e. e.cause ≡ Memory)
 gives_ok view (Ok x) y gives = sym (ok_is y (view x) gives)
 gives_ok view (Err e) y gives = is_memory e.cause (λ other. let bad = gives other in cc)
 
-pub found_in : (bytes : List ℕ) (r : Result Schedule ScheduleFault) → Gives view r (reading bytes)
+pub found_in : (bytes : List ℕ) (r : Result Schedule LineFault) → Gives view r (reading bytes)
     → IfOk r (λ s. IsSchedule (view s) × (bytes ≡ schedule_text (view s)))
 found_in bytes (Ok s) gives = is_found bytes (view s) gives
 found_in bytes (Err e) gives = tt
 
-pub only_in : (bytes : List ℕ) (r : Result Schedule ScheduleFault) → Gives view r (reading bytes) → (p : Plan) → IsSchedule p
+pub only_in : (bytes : List ℕ) (r : Result Schedule LineFault) → Gives view r (reading bytes) → (p : Plan) → IsSchedule p
     → bytes ≡ schedule_text p → MatchResult r (λ s. view s ≡ p) (λ e. e.cause ≡ Memory)
 only_in bytes r gives p is text =
     let read : reading bytes ≡ Ok p = ap reading text ∙ reads_text p is in

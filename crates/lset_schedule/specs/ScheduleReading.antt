@@ -5,14 +5,14 @@ use Rattle.std.specs.List.{sum_by}
 use Rattle.lset_words.specs.declared.TheConstants.{MOST_OPENING}
 use Rattle.lset_schedule.specs.declared.TheConstants.{MOST_EVENTS, MOST_STEPS}
 use Rattle.lset_text.specs.declared.headers.Header.{Header}
-use Rattle.lset_text.specs.declared.headers.HeaderCause.{HeaderCause}
-use Rattle.lset_text.specs.declared.headers.HeaderCause.TheVariants as head
-use Rattle.lset_text.specs.declared.headers.HeaderFault.{HeaderFault}
+use Rattle.lset_text.specs.declared.causes.Cause.{Cause}
+use Rattle.lset_text.specs.declared.causes.Cause.TheVariants.{Event, TooMany, Opening, Memory}
+use Rattle.lset_text.specs.declared.causes.LineFault.{LineFault}
 use Rattle.lset_text.specs.declared.words.Version.{Version}
 use Rattle.lset_text.specs.declared.words.Version.TheVariants.{One, Two}
 use Rattle.lset_text.specs.Parts.{cut_at}
 use Rattle.lset_text.specs.Forms.{word, number, call, any}
-use Rattle.lset_text.specs.Kinds.{LineKind, kind_as, LineCauses, line_in}
+use Rattle.lset_text.specs.Kinds.{LineKind, kind_as, line_in}
 use Rattle.lset_text.specs.Lines.{Grammar}
 use Rattle.lset_text.specs.Lines as lines
 use Rattle.lset_text.specs.Spellings.{with_key}
@@ -23,30 +23,7 @@ use Rattle.lset_text.specs.Openings.{opening_form, is_above}
 use Rattle.lset_schedule.specs.declared.value.Line.{Line}
 use Rattle.lset_schedule.specs.declared.value.Line.TheVariants.{Begin, Go}
 use Rattle.lset_schedule.specs.declared.body.Body.{Body as TextBody}
-use Rattle.lset_schedule.specs.declared.fault.Cause.{Cause}
-use Rattle.lset_schedule.specs.declared.fault.Cause.TheVariants.{Header as OfHeader, Kind, Threads, Quota, Event, Number, TooMany}
-use Rattle.lset_schedule.specs.declared.fault.Cause.TheVariants.{Opening, NotEnded, Memory}
-use Rattle.lset_schedule.specs.declared.fault.ScheduleFault.{ScheduleFault}
 use Rattle.lset_schedule.specs.Plan.{Plan, planned, IsSchedule, title, schedule_text, event_count}
-
--- ---- faults
-
-abbrev pub fault : ℕ → Cause → ScheduleFault
-fault line cause = record { line = line; cause = cause }
-
-abbrev pub cause_of : HeaderCause → Cause
-cause_of head.Header = OfHeader
-cause_of head.Kind = Kind
-cause_of head.Threads = Threads
-cause_of head.Quota = Quota
-cause_of head.NotEnded = NotEnded
-
--- the fault of a header as one of a schedule
-abbrev pub in_schedule : HeaderFault → ScheduleFault
-in_schedule e = fault e.line (cause_of e.cause)
-
-abbrev pub causes : LineCauses Cause
-causes = record { form = Event; number = Number }
 
 -- ---- WHAT COMES AFTER A HEADER: opening keys, and then lines of events
 
@@ -88,14 +65,14 @@ with_item text s (event l) =
     else Ok (record s { lines = s.lines ++ l ∷ [] })
 
 abbrev pub with_line : {L : Type 0} → EventLines L → Version → BodyValue L → List ℕ → Result (BodyValue L) Cause
-with_line text version s line = line_in version causes (kinds_after text version s.lines) line >>= with_item text s
+with_line text version s line = line_in version Event (kinds_after text version s.lines) line >>= with_item text s
 
-abbrev pub grammar : {L : Type 0} → EventLines L → Version → Grammar (BodyValue L) Cause ScheduleFault
-grammar text version = record { step = with_line text version; ends = Ok; not_ended = NotEnded; at = fault }
+abbrev pub grammar : {L : Type 0} → EventLines L → Version → Grammar (BodyValue L)
+grammar text version = record { step = with_line text version; ends = Ok }
 
 -- THE TEXTS of a version with this title
-abbrev pub texts : {L : Type 0} → EventLines L → Version → List ℕ → TextGrammar (BodyValue L) Cause ScheduleFault
-texts text version title = record { title = title; start = no_lines; lines = grammar text version; of_header = in_schedule }
+abbrev pub texts : {L : Type 0} → EventLines L → Version → List ℕ → TextGrammar (BodyValue L)
+texts text version title = record { title = title; start = no_lines; lines = grammar text version }
 
 -- ---- a schedule
 
@@ -108,11 +85,11 @@ go_kind = (word (codes "go") ∷ any ∷ number 1 MOST_STEPS ∷ [], λ t. Go t.
 abbrev pub events : EventLines Line
 events = record { kinds = begin_kind ∷ go_kind ∷ []; count = event_count }
 
-abbrev pub schedules : Version → TextGrammar (BodyValue Line) Cause ScheduleFault
+abbrev pub schedules : Version → TextGrammar (BodyValue Line)
 schedules version = texts events version (title version)
 
 -- the schedule of a text's parts, read as a text of this version
-abbrev pub plan_in : Version → List (List ℕ) → Result Plan ScheduleFault
+abbrev pub plan_in : Version → List (List ℕ) → Result Plan LineFault
 plan_in version parts = text_from (schedules version) parts >>= λ told. Ok (planned version told.header told.keys told.lines)
 
 -- The first line alone decides the version: it is the second if that line is the title of the second, else the first.
@@ -120,10 +97,10 @@ plan_in version parts = text_from (schedules version) parts >>= λ told. Ok (pla
 abbrev pub version_told : List (List ℕ) → Version
 version_told parts = version_in (title Two) parts
 
-abbrev pub plan_of : List (List ℕ) → Result Plan ScheduleFault
+abbrev pub plan_of : List (List ℕ) → Result Plan LineFault
 plan_of parts = plan_in (version_told parts) parts
 
-abbrev pub reading : List ℕ → Result Plan ScheduleFault
+abbrev pub reading : List ℕ → Result Plan LineFault
 reading bytes = plan_of (cut_at 10 bytes)
 
 -- what is read is the text of a schedule, and the text of each schedule is read
@@ -133,13 +110,13 @@ SchedulesReadBack = (p : Plan) (bytes : List ℕ)
     × (reading bytes ≡ Ok p → IsSchedule p × (bytes ≡ schedule_text p))
 
 -- what a function returned, seen by `view`, is what reading gives, unless memory ran out
-abbrev pub Gives : {X Y : Type 0} → (X → Y) → Result X ScheduleFault → Result Y ScheduleFault → Type 0
+abbrev pub Gives : {X Y : Type 0} → (X → Y) → Result X LineFault → Result Y LineFault → Type 0
 Gives view (Ok x) read = read ≡ Ok (view x)
 Gives view (Err e) read = e.cause ≢ Memory → read ≡ Err e
 
 -- a whole line after the header with no fault in it or above it, of a text that is read so
-abbrev pub IsGoodAfterHeader : {X : Type 0} → List ℕ → Result X ScheduleFault → ℕ → Type 0
-IsGoodAfterHeader bytes read line = (last_of_header < line) × lines.IsGoodLine (λ e. e.line) 1 (cut_at 10 bytes) read line
+abbrev pub IsGoodAfterHeader : {X : Type 0} → List ℕ → Result X LineFault → ℕ → Type 0
+IsGoodAfterHeader bytes read line = (last_of_header < line) × lines.IsGoodLine 1 (cut_at 10 bytes) read line
 
 abbrev pub IsGoodLine : List ℕ → ℕ → Type 0
 IsGoodLine bytes line = IsGoodAfterHeader bytes (reading bytes) line

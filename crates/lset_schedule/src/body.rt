@@ -9,7 +9,6 @@ ghost use Rattle.lset_text.specs.Results.{or_fail};
 ghost use Rattle.lset_text.specs.Texts.{first_line, text_from};
 ghost use Rattle.lset_schedule.specs.ScheduleReading.{
   EventLines,
-  causes,
   opens,
   event,
   kinds_after,
@@ -25,9 +24,8 @@ ghost use Rattle.lset_schedule.specs.ScheduleReading.{
   IsGoodAfterHeader,
 };
 
-use crate::fault::{Cause, ScheduleFault};
 use crate::{FIRST_LINE, MOST_EVENTS};
-use lset_text::{Header, Version, cut, is_above, number, read_header};
+use lset_text::{Cause, Header, LineFault, Version, cut, is_above, number, read_header};
 use lset_words::MOST_OPENING;
 use std::alloc::Global;
 
@@ -39,7 +37,7 @@ pub trait EventLine: Copy {
     /// Reads a line of a file of this version, without its newline. `Event` if the line does not have the fields and names
     /// of a line of events, `Number` if a number is none or outside its limits.
     fn read(version: Version, line: &[u8]) -> Result<Self, Cause>
-        ensures { result ≡ line_in version causes lines.kinds line.now };
+        ensures { result ≡ line_in version Cause.Event lines.kinds line.now };
 
     /// Returns how many events the line counts as.
     fn count(self) -> u32
@@ -86,9 +84,9 @@ impl<L: EventLine> Body<L> {
     /// The field of the key in a line, if the line may be one of an opening key and has its form.
     fn key_due<'a>(&self, version: Version, line: &'a [u8]) -> Option<&'a [u8]>
         ensures { MatchOption result
-            (line_in version causes (kinds_after L.lines version self.now.lines.items) line.now
-            ≡ made event (line_in version causes L.lines.kinds line.now))
-            (λ key. line_in version causes (kinds_after L.lines version self.now.lines.items) line.now
+            (line_in version Cause.Event (kinds_after L.lines version self.now.lines.items) line.now
+            ≡ made event (line_in version Cause.Event L.lines.kinds line.now))
+            (λ key. line_in version Cause.Event (kinds_after L.lines version self.now.lines.items) line.now
             ≡ made opens (or_fail Cause.Number (number_in 0 max_number key.now))) }
     {
         match version {
@@ -151,9 +149,9 @@ fn read_body<L: EventLine>(
     version: Version,
     header: Header,
     text: &[u8],
-) -> Result<Body<L>, ScheduleFault>
+) -> Result<Body<L>, LineFault>
     ensures exact { Gives told result (lines_from (grammar L.lines version) first_line (no_lines header) (cut_at 10 text.now)) }
-    ensures memory { IfErr result (λ e. e.cause ≡ Cause.Memory → IsGoodLine (λ e. e.line) first_line (cut_at 10 text.now)
+    ensures memory { IfErr result (λ e. e.cause ≡ Cause.Memory → IsGoodLine first_line (cut_at 10 text.now)
         (lines_from (grammar L.lines version) first_line (no_lines header) (cut_at 10 text.now)) e.line) }
 {
     let mut body = Body::new(alloc, header);
@@ -161,10 +159,10 @@ fn read_body<L: EventLine>(
     let mut rest = text;
     while !rest.is_empty() {
         let Some((line, after)) = cut(rest, b'\n') else {
-            return Err(ScheduleFault::at(number, Cause::NotEnded));
+            return Err(LineFault::at(number, Cause::NotEnded));
         };
         if let Err(cause) = body.read_line(version, line) {
-            return Err(ScheduleFault::at(number, cause));
+            return Err(LineFault::at(number, cause));
         }
         number += 1;
         rest = after;
@@ -179,7 +177,7 @@ pub fn read_text<L: EventLine>(
     version: Version,
     title: &[u8],
     text: &[u8],
-) -> Result<Body<L>, ScheduleFault>
+) -> Result<Body<L>, LineFault>
     ensures exact { Gives told result (text_from (texts L.lines version title.now) (cut_at 10 text.now)) }
     ensures memory { IfErr result (λ e. e.cause ≡ Cause.Memory
         → IsGoodAfterHeader text.now (text_from (texts L.lines version title.now) (cut_at 10 text.now)) e.line) }

@@ -12,9 +12,9 @@ mod writing;
 
 pub use body::{Body, EventLine, read_text};
 pub use draws::programs;
-pub use fault::{Cause, GenFault, ScheduleFault};
+pub use fault::GenFault;
 pub use generator::generate;
-pub use lset_text::Version;
+pub use lset_text::{LineFault as ScheduleFault, Version};
 pub use reading::{read_schedule, schedules_read_back};
 pub use value::{Line, Schedule};
 pub use writing::write_schedule;

@@ -4,7 +4,6 @@ ghost use Rattle.lset_text.specs.Kinds.{first_of, line_in};
 ghost use Rattle.lset_schedule.specs.Plan.{Plan, IsSchedule, view, schedule_text};
 ghost use Rattle.lset_schedule.specs.ScheduleReading.{
   Gives,
-  causes,
   events,
   version_told,
   reading,
@@ -12,16 +11,15 @@ ghost use Rattle.lset_schedule.specs.ScheduleReading.{
   SchedulesReadBack,
 };
 
-use crate::MOST_STEPS;
 use crate::body::{EventLine, read_text};
-use crate::fault::{Cause, ScheduleFault};
 use crate::value::{Line, Schedule, title};
-use lset_text::{Version, cut, number, read_call, version_of};
+use crate::{MOST_STEPS, ScheduleFault};
+use lset_text::{Cause, Version, cut, number, read_call, version_of};
 use lset_words::Key;
 use std::alloc::Global;
 
 fn go(version: Version, word: &[u8], thread: &[u8], steps: &[u8]) -> Result<Line, Cause>
-    ensures { result ≡ first_of version causes events.kinds (word.now ∷ thread.now ∷ steps.now ∷ []) }
+    ensures { result ≡ first_of version Cause.Event events.kinds (word.now ∷ thread.now ∷ steps.now ∷ []) }
 {
     if word != b"go".as_slice() {
         return Err(Cause::Event);
@@ -38,7 +36,7 @@ fn begin(
     call: &[u8],
     key: &[u8],
 ) -> Result<Line, Cause>
-    ensures { result ≡ first_of version causes events.kinds (word.now ∷ thread.now ∷ call.now ∷ key.now ∷ []) }
+    ensures { result ≡ first_of version Cause.Event events.kinds (word.now ∷ thread.now ∷ call.now ∷ key.now ∷ []) }
 {
     if word != b"begin".as_slice() {
         return Err(Cause::Event);
@@ -50,7 +48,7 @@ fn begin(
 }
 
 fn event(version: Version, line: &[u8]) -> Result<Line, Cause>
-    ensures { result ≡ line_in version causes events.kinds line.now }
+    ensures { result ≡ line_in version Cause.Event events.kinds line.now }
 {
     let Some((first, rest)) = cut(line, b' ') else {
         return Err(Cause::Event);
@@ -108,8 +106,9 @@ fn schedule(alloc: Global, bytes: &[u8]) -> Result<Schedule, ScheduleFault>
 ///
 /// The first line that is wrong, and the first check that it fails. `NotEnded`, if the line has bytes and no newline, comes
 /// before all others; the others come in the order of `Cause`. If a header line is due and no byte is left, it is the error
-/// of that line. Lines that only version 2 has are `Event` in version 1, as is an opening key below an event. `Memory` if an
-/// allocation fails; the line then has no other error.
+/// of that line. Lines that only version 2 has are `Event` in version 1, as is an opening key below an event. `Number` if a
+/// thread or a key is no number up to 4294967295, or the steps are none from 1 to 10000. `TooMany` if there are more than
+/// 1,000,000 events or 1,048,576 opening keys. `Memory` if an allocation fails; the line then has no other error.
 #[tactic(auto, using(crate::proofs::TextLaws::found_in, crate::proofs::TextLaws::only_in))]
 pub fn read_schedule(alloc: Global, bytes: &[u8]) -> Result<Schedule, ScheduleFault>
     // What is read is a schedule, and the bytes are its text.

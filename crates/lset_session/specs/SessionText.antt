@@ -9,6 +9,7 @@ use Rattle.lset_words.specs.declared.Call.{Call}
 use Rattle.lset_words.specs.declared.Call.TheVariants.{Add, Remove, Contains, Ceiling}
 use Rattle.lset_words.specs.declared.Reply.{Reply}
 use Rattle.lset_words.specs.declared.Reply.TheVariants as reply
+use Rattle.lset_text.specs.declared.causes.Cause.TheVariants.{Line}
 use Rattle.lset_text.specs.Parts.{cut_at, ended}
 use Rattle.lset_text.specs.declared.words.Version.TheVariants.{Two}
 use Rattle.lset_text.specs.Forms.{word, any}
@@ -33,8 +34,7 @@ request_lines =
     ∷ (word (codes "QUIT") ∷ [], λ t. request.Quit) ∷ []
 
 abbrev pub request_of_pieces : List (List ℕ) → Request
-request_of_pieces pieces =
-    result_unwrap_or (first_of Two (record { form = request.Bad; number = request.Bad }) request_lines pieces) request.Bad
+request_of_pieces pieces = result_unwrap_or (first_of Two Line request_lines pieces) request.Bad
 
 -- the request of a line, without its newline
 unfoldable pub request_of : List ℕ → Request

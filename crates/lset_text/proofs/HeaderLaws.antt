@@ -1,5 +1,5 @@
 -- A header is read from its four lines, and from nothing else.
-use Rattle.std.proofs.Common.{◌≡◌, Result, ℕ, ◌<◌, ◌≤◌, ◌^◌, true, List, [], ◌∷◌, ◌++◌, length, Option, Some, None, Ok}
+use Rattle.std.proofs.Common.{◌≡◌, Result, ℕ, ◌<◌, ◌≤◌, ◌^◌, Bool, true, false, cond, eqb, List, [], ◌∷◌, ◌++◌, length, Option, Some, None, Ok, Err}
 use Rattle.std.proofs.Common.{refl, ap, subst, ◌∙◌, arith, codes}
 use Rattle.std.specs.Prelude.{option_map}
 use Rattle.std.specs.List.{AllByRecursion}
@@ -8,14 +8,15 @@ use Rattle.std.proofs.lemmas.Slice.Eq.{bytes_eq-Decides}
 use Rattle.lset_words.specs.declared.TheConstants.{MOST_THREADS, MOST_QUOTA}
 use Rattle.lset_words.specs.declared.Kind.{Kind}
 use Rattle.lset_text.specs.declared.headers.Header.{Header}
-use Rattle.lset_text.specs.declared.headers.HeaderCause.{HeaderCause}
-use Rattle.lset_text.specs.declared.headers.HeaderFault.{HeaderFault}
-use Rattle.lset_text.specs.declared.headers.HeaderCause.TheVariants as wrong
+use Rattle.lset_text.specs.declared.causes.Cause.{Cause}
+use Rattle.lset_text.specs.declared.causes.LineFault.{LineFault}
+use Rattle.lset_text.specs.declared.causes.Cause.TheVariants as wrong
 use Rattle.lset_text.specs.declared.words.Version.TheVariants.{Two}
+use Rattle.lset_text.specs.Causes.{fault}
 use Rattle.lset_text.specs.Parts.{cut_at, text_of, all_from, Lacks}
 use Rattle.lset_text.specs.Forms.{told_in}
 use Rattle.lset_text.specs.Results.{◌>>=◌, or_fail}
-use Rattle.lset_text.specs.Headers.{kind_line, number_line, header_lines, IsHeader, fault, title_in, kind_form, kind_in, number_form}
+use Rattle.lset_text.specs.Headers.{kind_line, number_line, header_lines, IsHeader, title_in, kind_form, kind_in, number_form}
 use Rattle.lset_text.specs.Headers.{number_after, line_due, told_by_line, title_told, kind_told, threads_told, quota_told, header_of}
 use Rattle.lset_text.proofs.PartLaws.{some_part, cut_text, text_from_cut}
 use Rattle.lset_text.proofs.ReadingLaws.{bind_ok, or_fail_ok, test_some, ok_is}
@@ -57,7 +58,7 @@ number_after_again w low high n letters wide low_ok high_ok =
 
 -- ---- a line that is due
 
-pub line_due_goes : (line : ℕ) (cause : HeaderCause) (x : List ℕ) (parts : List (List ℕ)) → 0 < length parts
+pub line_due_goes : (line : ℕ) (cause : Cause) (x : List ℕ) (parts : List (List ℕ)) → 0 < length parts
     → line_due line cause (x ∷ parts) ≡ Ok (x, parts)
 line_due_goes line cause x [] h = absurd (omega arith)
 line_due_goes line cause x (y ∷ more) h = refl
@@ -69,7 +70,7 @@ Due = List ℕ × List (List ℕ)
 abbrev IsDue : List (List ℕ) → Due → Type 0
 IsDue parts due = (parts ≡ due.0 ∷ due.1) × (0 < length due.1)
 
-line_due_ok : (line : ℕ) (cause : HeaderCause) (parts : List (List ℕ)) (due : Due)
+line_due_ok : (line : ℕ) (cause : Cause) (parts : List (List ℕ)) (due : Due)
     → line_due line cause parts ≡ Ok due → IsDue parts due
 line_due_ok line cause [] due is = absurd cc
 line_due_ok line cause (rest ∷ []) due is = absurd cc
@@ -79,7 +80,7 @@ line_due_ok line cause (a ∷ b ∷ more) due is = subst (IsDue (a ∷ b ∷ mor
 abbrev IsToldBy : {A : Type 0} → (List ℕ → Option A) → List (List ℕ) → A × List (List ℕ) → Type 0
 IsToldBy read parts told = (x : List ℕ) × (parts ≡ x ∷ told.1) × (read x ≡ Some told.0) × (0 < length told.1)
 
-told_ok : {A : Type 0} (line : ℕ) (cause : HeaderCause) (read : List ℕ → Option A) (parts : List (List ℕ))
+told_ok : {A : Type 0} (line : ℕ) (cause : Cause) (read : List ℕ → Option A) (parts : List (List ℕ))
     (told : A × List (List ℕ)) → told_by_line line cause read parts ≡ Ok told → IsToldBy read parts told
 unfolding told_by_line
 told_ok line cause read parts told is =
@@ -89,7 +90,7 @@ told_ok line cause read parts told is =
     let some = or_fail_ok (fault line cause) (read due.0.0) value.0 value.1 in
     subst (IsToldBy read parts) (ok_is (value.0, due.0.1) told value.2) (due.0.0, first.0, some, first.1)
 
-told_again : {A : Type 0} (line : ℕ) (cause : HeaderCause) (read : List ℕ → Option A) (x y : List ℕ) (more : List (List ℕ))
+told_again : {A : Type 0} (line : ℕ) (cause : Cause) (read : List ℕ → Option A) (x y : List ℕ) (more : List (List ℕ))
     (told : A) → read x ≡ Some told → told_by_line line cause read (x ∷ y ∷ more) ≡ Ok (told, y ∷ more)
 unfolding told_by_line
 told_again line cause read x y more told is = rw is refl
@@ -100,21 +101,69 @@ abbrev Found : Type 0
 Found = Header × List (List ℕ)
 
 -- what is left to read after each of the lines
-abbrev after_quota : Kind → ℕ → ℕ × List (List ℕ) → Result Found HeaderFault
+abbrev after_quota : Kind → ℕ → ℕ × List (List ℕ) → Result Found LineFault
 after_quota kind threads quota = Ok (record { kind = kind; threads = threads; quota = quota.0 }, quota.1)
 
-abbrev after_threads : Kind → ℕ × List (List ℕ) → Result Found HeaderFault
+abbrev after_threads : Kind → ℕ × List (List ℕ) → Result Found LineFault
 after_threads kind threads = quota_told threads.1 >>= after_quota kind threads.0
 
-abbrev after_kind : Kind × List (List ℕ) → Result Found HeaderFault
+abbrev after_kind : Kind × List (List ℕ) → Result Found LineFault
 after_kind kind = threads_told kind.1 >>= after_threads kind.0
 
-abbrev after_title : List ℕ × List (List ℕ) → Result Found HeaderFault
+abbrev after_title : List ℕ × List (List ℕ) → Result Found LineFault
 after_title first = kind_told first.1 >>= after_kind
 
 -- the lines of a header stand first, and further parts after them
 abbrev BeginsWith : List ℕ → List (List ℕ) → Found → Type 0
 BeginsWith title parts found = (parts ≡ header_lines title found.0 ++ found.1) × IsHeader found.0 × (0 < length found.1)
+
+-- ---- no check of a header fails for want of memory
+
+abbrev NeverMemory : {A : Type 0} → Result A LineFault → Type 0
+NeverMemory r = (e : LineFault) → r ≡ Err e → e.cause ≡ wrong.Memory → ⊥
+
+then_never : {A B : Type 0} (r : Result A LineFault) (f : A → Result B LineFault) → NeverMemory r → ((x : A) → NeverMemory (f x))
+    → NeverMemory (r >>= f)
+then_never (Ok x) f first next e is memory = next x e is memory
+then_never (Err d) f first next e is memory = first e (cc) memory
+
+-- a fault of a cause that is another
+named_never : {A : Type 0} (line : ℕ) (cause : Cause) → (cause ≡ wrong.Memory → ⊥) → NeverMemory {A = A} (Err (fault line cause))
+named_never line cause other e is memory =
+    let same : fault line cause ≡ e = cc in other (ap (λ (f : LineFault). f.cause) same ∙ memory)
+
+due_never : (line : ℕ) (cause : Cause) (parts : List (List ℕ)) → (cause ≡ wrong.Memory → ⊥) → NeverMemory (line_due line cause parts)
+due_never line cause [] other = named_never line cause other
+due_never line cause (rest ∷ []) other = by (eqb (length rest) 0)
+  where
+    by : (b : Bool) → NeverMemory {A = Due} (Err (fault line (cond b cause wrong.NotEnded)))
+    by true = named_never line cause other
+    by false = named_never line wrong.NotEnded (λ e. cc)
+due_never line cause (x ∷ y ∷ more) other = λ e is memory. cc
+
+value_never : {A : Type 0} (line : ℕ) (cause : Cause) (o : Option A) → (cause ≡ wrong.Memory → ⊥)
+    → NeverMemory (or_fail (fault line cause) o)
+value_never line cause None other = named_never line cause other
+value_never line cause (Some x) other = λ e is memory. cc
+
+told_never : {A : Type 0} (line : ℕ) (cause : Cause) (read : List ℕ → Option A) (parts : List (List ℕ)) → (cause ≡ wrong.Memory → ⊥)
+    → NeverMemory (told_by_line line cause read parts)
+unfolding told_by_line
+told_never line cause read parts other =
+    then_never (line_due line cause parts) (λ due. or_fail (fault line cause) (read due.0) >>= λ told. Ok (told, due.1))
+    (due_never line cause parts other)
+    (λ due. then_never (or_fail (fault line cause) (read due.0)) (λ told. Ok (told, due.1))
+    (value_never line cause (read due.0) other) (λ told e is memory. cc))
+
+pub header_never : (title : List ℕ) (parts : List (List ℕ)) → NeverMemory (header_of title parts)
+unfolding header_of
+header_never title parts =
+    then_never (title_told title parts) after_title (told_never 1 wrong.Header (title_in title) parts (λ e. cc))
+    (λ first. then_never (kind_told first.1) after_kind (told_never 2 wrong.Kind kind_in first.1 (λ e. cc))
+    (λ kind. then_never (threads_told kind.1) (after_threads kind.0)
+    (told_never 3 wrong.Threads (number_after (codes "threads") 1 MOST_THREADS) kind.1 (λ e. cc))
+    (λ threads. then_never (quota_told threads.1) (after_quota kind.0 threads.0)
+    (told_never 4 wrong.Quota (number_after (codes "quota") 0 MOST_QUOTA) threads.1 (λ e. cc)) (λ quota e is memory. cc))))
 
 joined : {xs ys zs : List (List ℕ)} {x y : List ℕ} → xs ≡ x ∷ ys → x ≡ y → ys ≡ zs → xs ≡ y ∷ zs
 joined e f g = cc

@@ -5,6 +5,10 @@ use Rattle.std.specs.List.{AllByRecursion}
 use Rattle.std.proofs.Math.Seq.{get_or-append_seam}
 use Rattle.std.proofs.lemmas.Bool.{eqb-true, ne_eqb}
 use Rattle.std.proofs.lemmas.List.{append-nil, nil_from_length}
+use Rattle.lset_text.specs.declared.causes.Cause.{Cause}
+use Rattle.lset_text.specs.declared.causes.Cause.TheVariants.{NotEnded, Memory}
+use Rattle.lset_text.specs.declared.causes.LineFault.{LineFault}
+use Rattle.lset_text.specs.Causes.{fault}
 use Rattle.lset_text.specs.Parts.{cut_at}
 use Rattle.lset_text.specs.Results.{◌>>=◌, map_fault}
 use Rattle.lset_text.specs.Lines.{Grammar, lines_from, Leads, IsFaultlessTo, IsGoodLine, Stands}
@@ -13,14 +17,14 @@ use Rattle.lset_text.proofs.ReadingLaws.{bind_ok, map_fault_ok}
 
 -- ---- one whole line
 
-lines_go : {S C E : Type 0} (g : Grammar S C E) (line : ℕ) (s t : S) (x : List ℕ) (parts : List (List ℕ)) → 0 < length parts
+lines_go : {S : Type 0} (g : Grammar S) (line : ℕ) (s t : S) (x : List ℕ) (parts : List (List ℕ)) → 0 < length parts
     → g.step s x ≡ Ok t → lines_from g line s (x ∷ parts) ≡ lines_from g (line + 1) t parts
 unfolding lines_from
 lines_go g line s t x [] some is = absurd (omega arith)
 lines_go g line s t x (y ∷ more) some is = rw is refl
 
-lines_stop : {S C E : Type 0} (g : Grammar S C E) (d : C) (line : ℕ) (s : S) (x : List ℕ) (parts : List (List ℕ)) → 0 < length parts
-    → g.step s x ≡ Err d → lines_from g line s (x ∷ parts) ≡ Err (g.at line d)
+lines_stop : {S : Type 0} (g : Grammar S) (d : Cause) (line : ℕ) (s : S) (x : List ℕ) (parts : List (List ℕ)) → 0 < length parts
+    → g.step s x ≡ Err d → lines_from g line s (x ∷ parts) ≡ Err (fault line d)
 unfolding lines_from
 lines_stop g d line s x [] some is = absurd (omega arith)
 lines_stop g d line s x (y ∷ more) some is = rw is refl
@@ -32,44 +36,38 @@ pub bind_err : {A B E : Type 0} (r : Result A E) (f : A → Result B E) (d : E) 
 bind_err (Ok x) f d is = inr (x, refl, is)
 bind_err (Err e) f d is = inl cc
 
--- the number of a fault's line
-abbrev pub IsNumber : {S C E : Type 0} → Grammar S C E → (E → ℕ) → Type 0
-IsNumber {C = C} g number = (line : ℕ) (c : C) → number (g.at line c) ≡ line
+fault_line : {A : Type 0} (line : ℕ) (r : Result A Cause) (e : LineFault) → map_fault (fault line) r ≡ Err e → e.line ≡ line
+fault_line line (Ok x) e bad = absurd cc
+fault_line line (Err d) e bad = let same : fault line d ≡ e = cc in ap (λ (f : LineFault). f.line) (sym same)
 
-fault_line : {S C E A : Type 0} (g : Grammar S C E) (number : E → ℕ) → IsNumber g number → (line : ℕ) (r : Result A C) (e : E)
-    → map_fault (g.at line) r ≡ Err e → number e ≡ line
-fault_line g number is line (Ok x) e bad = absurd cc
-fault_line {E = E} g number is line (Err d) e bad = let same : g.at line d ≡ e = cc in ap number (sym same) ∙ is line d
-
-faults_below : {S C E : Type 0} (g : Grammar S C E) (number : E → ℕ) → IsNumber g number
-    → (line : ℕ) (s : S) (parts : List (List ℕ)) (e : E) → lines_from g line s parts ≡ Err e → line ≤ number e
+faults_below : {S : Type 0} (g : Grammar S) (line : ℕ) (s : S) (parts : List (List ℕ)) (e : LineFault)
+    → lines_from g line s parts ≡ Err e → line ≤ e.line
 unfolding lines_from
-faults_below g number is line s [] e bad = omega (arith, fault_line g number is line (g.ends s) e bad)
-faults_below g number is line s (x ∷ []) e bad =
-    omega (arith, fault_line g number is line (cond (eqb (length x) 0) (g.ends s) (Err g.not_ended)) e bad)
-faults_below {S} g number is line s (x ∷ y ∷ more) e bad =
-    elim (bind_err (map_fault (g.at line) (g.step s x)) (λ (t : S). lines_from g (line + 1) t (y ∷ more)) e bad) [
-      | inl here ↦ omega (arith, fault_line g number is line (g.step s x) e here)
-      | inr later ↦ omega (arith, faults_below g number is (line + 1) later.0 (y ∷ more) e later.2)
+faults_below g line s [] e bad = omega (arith, fault_line line (g.ends s) e bad)
+faults_below g line s (x ∷ []) e bad = omega (arith, fault_line line (cond (eqb (length x) 0) (g.ends s) (Err NotEnded)) e bad)
+faults_below {S} g line s (x ∷ y ∷ more) e bad =
+    elim (bind_err (map_fault (fault line) (g.step s x)) (λ (t : S). lines_from g (line + 1) t (y ∷ more)) e bad) [
+      | inl here ↦ omega (arith, fault_line line (g.step s x) e here)
+      | inr later ↦ omega (arith, faults_below g (line + 1) later.0 (y ∷ more) e later.2)
     ]
 
-pub faultless_from : {S C E : Type 0} (g : Grammar S C E) (number : E → ℕ) → IsNumber g number
-    → (above line : ℕ) (s : S) (parts : List (List ℕ)) → above < line → IsFaultlessTo number above (lines_from g line s parts)
-faultless_from {S} {C} {E} g number is above line s parts below =
-    faultless (lines_from g line s parts) (λ e bad. omega (arith, below, faults_below g number is line s parts e bad))
+pub faultless_from : {S : Type 0} (g : Grammar S) (above line : ℕ) (s : S) (parts : List (List ℕ)) → above < line
+    → IsFaultlessTo above (lines_from g line s parts)
+faultless_from {S} g above line s parts below =
+    faultless (lines_from g line s parts) (λ e bad. omega (arith, below, faults_below g line s parts e bad))
   where
-    faultless : (r : Result S E) → ((e : E) → r ≡ Err e → above < number e) → IsFaultlessTo number above r
+    faultless : (r : Result S LineFault) → ((e : LineFault) → r ≡ Err e → above < e.line) → IsFaultlessTo above r
     faultless (Ok x) all = tt
     faultless (Err e) all = all e refl
 
 -- ---- A LOOP'S TURNS
 
-pub starts : {S C E : Type 0} (g : Grammar S C E) (first : ℕ) (text : List ℕ) (s : S)
+pub starts : {S : Type 0} (g : Grammar S) (first : ℕ) (text : List ℕ) (s : S)
     → Stands g first text (lines_from g first s (cut_at 10 text)) first s text
 starts g first text s = record { so_far = refl; above = []; parts = refl; number = omega arith; left = omega arith }
 
 -- a line that is taken
-pub goes_on : {S C E : Type 0} (g : Grammar S C E) (first : ℕ) (text : List ℕ) (read : Result S E) (line : ℕ) (s t : S)
+pub goes_on : {S : Type 0} (g : Grammar S) (first : ℕ) (text : List ℕ) (read : Result S LineFault) (line : ℕ) (s t : S)
     (rest x after : List ℕ) → cut_at 10 rest ≡ x ∷ cut_at 10 after → length x + length after + 1 ≡ length rest → g.step s x ≡ Ok t
     → Stands g first text read line s rest → Stands g first text read (line + 1) t after
 goes_on g first text read line s t rest x after parts shorter is stands = record {
@@ -83,33 +81,32 @@ goes_on g first text read line s t rest x after parts shorter is stands = record
 }
 
 -- a line that is refused
-pub stops : {S C E : Type 0} (g : Grammar S C E) (first : ℕ) (text : List ℕ) (read : Result S E) (line : ℕ) (s : S) (d : C)
+pub stops : {S : Type 0} (g : Grammar S) (first : ℕ) (text : List ℕ) (read : Result S LineFault) (line : ℕ) (s : S) (d : Cause)
     (rest x after : List ℕ) → cut_at 10 rest ≡ x ∷ cut_at 10 after → g.step s x ≡ Err d
-    → Stands g first text read line s rest → read ≡ Err (g.at line d)
+    → Stands g first text read line s rest → read ≡ Err (fault line d)
 stops g first text read line s d rest x after parts is stands =
     sym stands.so_far ∙ ap (lines_from g line s) parts ∙ lines_stop g d line s x (cut_at 10 after) (some_part 10 after) is
 
 -- a line that has bytes and no newline
-pub not_ended : {S C E : Type 0} (g : Grammar S C E) (first : ℕ) (text : List ℕ) (read : Result S E) (line : ℕ) (s : S)
+pub not_ended : {S : Type 0} (g : Grammar S) (first : ℕ) (text : List ℕ) (read : Result S LineFault) (line : ℕ) (s : S)
     (rest : List ℕ) → cut_at 10 rest ≡ rest ∷ [] → (length rest ≡ 0 → ⊥)
-    → Stands g first text read line s rest → read ≡ Err (g.at line g.not_ended)
+    → Stands g first text read line s rest → read ≡ Err (fault line NotEnded)
 unfolding lines_from
 not_ended g first text read line s rest parts some stands =
     sym stands.so_far ∙ rw (parts, ne_eqb (length rest) 0 some) refl
 
 -- no byte is left
-pub is_done : {S C E : Type 0} (g : Grammar S C E) (first : ℕ) (text : List ℕ) (read : Result S E) (line : ℕ) (s : S)
-    (rest : List ℕ) → length rest ≡ 0 → Stands g first text read line s rest → read ≡ map_fault (g.at line) (g.ends s)
+pub is_done : {S : Type 0} (g : Grammar S) (first : ℕ) (text : List ℕ) (read : Result S LineFault) (line : ℕ) (s : S)
+    (rest : List ℕ) → length rest ≡ 0 → Stands g first text read line s rest → read ≡ map_fault (fault line) (g.ends s)
 unfolding lines_from
 is_done g first text read line s rest none stands =
     let empty : rest ≡ [] = nil_from_length rest none in sym stands.so_far ∙ rw empty refl
 
 -- a line that would be taken has no fault, and no line above it has
-pub is_good : {S C E : Type 0} (g : Grammar S C E) (number : E → ℕ) → IsNumber g number
-    → (first : ℕ) (text : List ℕ) (read : Result S E) (line : ℕ) (s t : S) (rest x after : List ℕ)
+pub is_good : {S : Type 0} (g : Grammar S) (first : ℕ) (text : List ℕ) (read : Result S LineFault) (line : ℕ) (s t : S) (rest x after : List ℕ)
     → cut_at 10 rest ≡ x ∷ cut_at 10 after → g.step s x ≡ Ok t
-    → Stands g first text read line s rest → IsGoodLine number first (cut_at 10 text) read line
-is_good {S} {C} {E} g number is_number first text read line s t rest x after parts is stands =
+    → Stands g first text read line s rest → IsGoodLine first (cut_at 10 text) read line
+is_good {S} g first text read line s t rest x after parts is stands =
     let next = lines_from g (line + 1) t (cut_at 10 after) in
     let more : next ≡ read = sym (lines_go g line s t x (cut_at 10 after) (some_part 10 after) is)
     ∙ ap (lines_from g line s) (sym parts) ∙ stands.so_far in
@@ -118,29 +115,27 @@ is_good {S} {C} {E} g number is_number first text read line s t rest x after par
     let counted = ap length split ∙ length-append stands.above (x ∷ cut_at 10 after) in (
       omega (arith, stands.number),
       omega (arith, stands.number, counted, some_part 10 after),
-      subst (IsFaultlessTo number line) more
-          (faultless_from g number is_number line (line + 1) t (cut_at 10 after) (omega arith)),
+      subst (IsFaultlessTo line) more
+          (faultless_from g line (line + 1) t (cut_at 10 after) (omega arith)),
     )
 
 -- a line that is not taken, since it has a fault or memory ran out
-module _ {S C E : Type 0} (g : Grammar S C E) (memory : C) (first : ℕ) (text : List ℕ) (read : Result S E) (line : ℕ) (s : S)
+module _ {S : Type 0} (g : Grammar S) (first : ℕ) (text : List ℕ) (read : Result S LineFault) (line : ℕ) (s : S)
     (rest x after : List ℕ) (parts : cut_at 10 rest ≡ x ∷ cut_at 10 after) (stands : Stands g first text read line s rest)
-    (cause : C) where
+    (cause : Cause) where
   abbrev IsNotTaken : Type 0
-  IsNotTaken = (g.step s x ≡ Err cause) ⊎ ((cause ≡ memory) × (t : S) × (g.step s x ≡ Ok t))
+  IsNotTaken = (g.step s x ≡ Err cause) ⊎ ((cause ≡ Memory) × (t : S) × (g.step s x ≡ Ok t))
 
-  pub refused : IsNotTaken → (cause ≡ memory → ⊥) → read ≡ Err (g.at line cause)
+  pub refused : IsNotTaken → (cause ≡ Memory → ⊥) → read ≡ Err (fault line cause)
   refused (inl is) other = stops g first text read line s cause rest x after parts is stands
   refused (inr none) other = absurd (other none.0)
 
-  pub ran_out : (number : E → ℕ) → IsNumber g number → (g.step s x ≡ Err memory → ⊥) → IsNotTaken → cause ≡ memory
-      → IsGoodLine number first (cut_at 10 text) read line
-  ran_out number is_number never (inl is) same = absurd (never (is ∙ ap (λ (c : C). Err c) same))
-  ran_out number is_number never (inr none) same =
-      is_good g number is_number first text read line s none.1 rest x after parts none.2 stands
+  pub ran_out : (g.step s x ≡ Err Memory → ⊥) → IsNotTaken → cause ≡ Memory → IsGoodLine first (cut_at 10 text) read line
+  ran_out never (inl is) same = absurd (never (is ∙ ap (λ (c : Cause). Err c) same))
+  ran_out never (inr none) same = is_good g first text read line s none.1 rest x after parts none.2 stands
 
 -- the part of the text that it is
-pub line_at : {S C E : Type 0} (g : Grammar S C E) (first : ℕ) (text : List ℕ) (read : Result S E) (line : ℕ) (s : S)
+pub line_at : {S : Type 0} (g : Grammar S) (first : ℕ) (text : List ℕ) (read : Result S LineFault) (line : ℕ) (s : S)
     (rest x after : List ℕ) → cut_at 10 rest ≡ x ∷ cut_at 10 after → (stands : Stands g first text read line s rest)
     → get_or (cut_at 10 text) (length stands.above) [] ≡ x
 line_at g first text read line s rest x after parts stands =
@@ -150,14 +145,14 @@ line_at g first text read line s rest x after parts stands =
 
 -- ---- BOTH WAYS
 
-ended : {S C E : Type 0} (g : Grammar S C E) (line : ℕ) (b : Bool) (s t : S)
-    → map_fault (g.at line) (cond b (g.ends s) (Err g.not_ended)) ≡ Ok t → (b ≡ true) × (g.ends s ≡ Ok t)
-ended g line true s t e = (refl, map_fault_ok (g.at line) (g.ends s) t e)
+ended : {S : Type 0} (g : Grammar S) (line : ℕ) (b : Bool) (s t : S)
+    → map_fault (fault line) (cond b (g.ends s) (Err NotEnded)) ≡ Ok t → (b ≡ true) × (g.ends s ≡ Ok t)
+ended g line true s t e = (refl, map_fault_ok (fault line) (g.ends s) t e)
 ended g line false s t e = absurd cc
 
 -- WHAT IS READ STANDS THERE: where each line that is taken stands behind those of the state, so do all, and there the text may end.
 -- Of the states on the way it may be known that each line that is taken keeps `P`.
-pub lines_hold : {S C E : Type 0} (g : Grammar S C E) (P : S → Type 0) (text : S → List (List ℕ))
+pub lines_hold : {S : Type 0} (g : Grammar S) (P : S → Type 0) (text : S → List (List ℕ))
     → ((s t : S) (x : List ℕ) → P s → g.step s x ≡ Ok t → P t × (text t ≡ text s ++ x ∷ []))
     → ((s t : S) → g.ends s ≡ Ok t → s ≡ t)
     → (line : ℕ) (s t : S) (parts : List (List ℕ)) → 0 < length parts → P s → lines_from g line s parts ≡ Ok t
@@ -173,8 +168,8 @@ lines_hold {S} g P text one same line s t (x ∷ []) some holds is =
       subst P at_end holds,
     )
 lines_hold {S} g P text one same line s t (x ∷ y ∷ more) some holds is =
-    let next = bind_ok (map_fault (g.at line) (g.step s x)) (λ (u : S). lines_from g (line + 1) u (y ∷ more)) t is in
-    let moved = one s next.0 x holds (map_fault_ok (g.at line) (g.step s x) next.0 next.1) in
+    let next = bind_ok (map_fault (fault line) (g.step s x)) (λ (u : S). lines_from g (line + 1) u (y ∷ more)) t is in
+    let moved = one s next.0 x holds (map_fault_ok (fault line) (g.step s x) next.0 next.1) in
     let others = lines_hold g P text one same (line + 1) next.0 t (y ∷ more) (omega arith) moved.0 next.2 in (
       sym (append_assoc (text s) (x ∷ []) (y ∷ more)) ∙ ap (λ (ls : List (List ℕ)). ls ++ y ∷ more) (sym moved.1) ∙ others.0,
       others.1,
@@ -186,20 +181,20 @@ some_more [] = omega arith
 some_more (l ∷ ls) = omega arith
 
 -- WHAT STANDS THERE IS READ: lines that lead from one state to another, at which a text may end, are read so
-pub lines_again : {S C E : Type 0} (g : Grammar S C E) (line : ℕ) (s t : S) (xs : List (List ℕ)) → Leads g s xs t
+pub lines_again : {S : Type 0} (g : Grammar S) (line : ℕ) (s t : S) (xs : List (List ℕ)) → Leads g s xs t
     → g.ends t ≡ Ok t → lines_from g line s (xs ++ [] ∷ []) ≡ Ok t
 unfolding lines_from
 lines_again g line s t [] leads at_end = rw (leads, at_end) refl
 lines_again g line s t (x ∷ xs) leads at_end =
     lines_go g line s leads.0 x (xs ++ [] ∷ []) (some_more xs) leads.1 ∙ lines_again g (line + 1) leads.0 t xs leads.2 at_end
 
-pub leads_on : {S C E : Type 0} (g : Grammar S C E) (s t u : S) (xs ys : List (List ℕ)) → Leads g s xs t → Leads g t ys u
+pub leads_on : {S : Type 0} (g : Grammar S) (s t u : S) (xs ys : List (List ℕ)) → Leads g s xs t → Leads g t ys u
     → Leads g s (xs ++ ys) u
 leads_on {S} g s t u [] ys a b = subst (λ (v : S). Leads g v ys u) (sym a) b
 leads_on g s t u (x ∷ xs) ys a b = (a.0, a.1, leads_on g a.0 t u xs ys a.2 b)
 
 -- and each of them is as every line that is taken
-pub leads_all : {S C E : Type 0} (g : Grammar S C E) (P : S → Type 0) (Q : List ℕ → Type 0)
+pub leads_all : {S : Type 0} (g : Grammar S) (P : S → Type 0) (Q : List ℕ → Type 0)
     → ((s t : S) (x : List ℕ) → P s → g.step s x ≡ Ok t → P t × Q x)
     → (s t : S) (xs : List (List ℕ)) → P s → Leads g s xs t → AllByRecursion Q xs
 leads_all g P Q one s t [] holds leads = tt
@@ -207,7 +202,7 @@ leads_all g P Q one s t (x ∷ xs) holds leads =
     let moved = one s leads.0 x holds leads.1 in (moved.1, leads_all g P Q one leads.0 t xs moved.0 leads.2)
 
 -- THE LINES OF A LIST: where each item leads from the state of those before it to the state with it, so do all
-pub items_lead : {S C E X : Type 0} (g : Grammar S C E) (state : List X → S) (lines : ℕ → List X → List (List ℕ))
+pub items_lead : {S X : Type 0} (g : Grammar S) (state : List X → S) (lines : ℕ → List X → List (List ℕ))
     (line : ℕ → X → List ℕ) → ((n : ℕ) → lines n [] ≡ [])
     → ((n : ℕ) (x : X) (xs : List X) → lines n (x ∷ xs) ≡ line n x ∷ lines (n + 1) xs)
     → (before xs : List X)
@@ -226,15 +221,3 @@ items_lead {X = X} g state lines line none some before (x ∷ xs) each =
     let all = subst (λ (ys : List X). Leads g (state next) (lines (length before + 1) xs) (state ys)) grouped named in
     subst (λ (ls : List (List ℕ)). Leads g (state before) ls (state (before ++ x ∷ xs))) (sym (some (length before) x xs))
     (state next, each before xs x refl, all)
-
--- what each line that is taken keeps, all of them keep
-pub lines_keep : {S C E : Type 0} (g : Grammar S C E) (P : S → Type 0) → ((s t : S) (x : List ℕ) → P s → g.step s x ≡ Ok t → P t)
-    → ((s t : S) → g.ends s ≡ Ok t → s ≡ t)
-    → (line : ℕ) (s t : S) (parts : List (List ℕ)) → P s → lines_from g line s parts ≡ Ok t → P t
-unfolding lines_from
-lines_keep g P one same line s t [] holds is = subst P (same s t (map_fault_ok (g.at line) (g.ends s) t is)) holds
-lines_keep g P one same line s t (x ∷ []) holds is = subst P (same s t (ended g line (eqb (length x) 0) s t is).1) holds
-lines_keep {S} g P one same line s t (x ∷ y ∷ more) holds is =
-    let next = bind_ok (map_fault (g.at line) (g.step s x)) (λ (u : S). lines_from g (line + 1) u (y ∷ more)) t is in
-    lines_keep g P one same (line + 1) next.0 t (y ∷ more)
-    (one s next.0 x holds (map_fault_ok (g.at line) (g.step s x) next.0 next.1)) next.2

@@ -36,10 +36,6 @@ pub push_before : {X : Type 0} (f a : List (List ℕ)) (line : X → List ℕ) (
     → f ++ map line (xs ++ x ∷ []) ++ a ≡ f ++ map line xs ++ a ++ line x ∷ []
 push_before f a line xs x none = rw (none, map_push line xs x) (simp (append-nil, append_assoc))
 
-pub push_before_two : {X : Type 0} (f a b : List (List ℕ)) (line : X → List ℕ) (xs : List X) (x : X) → a ≡ [] → b ≡ []
-    → f ++ map line (xs ++ x ∷ []) ++ a ++ b ≡ f ++ map line xs ++ a ++ b ++ line x ∷ []
-push_before_two f a b line xs x none no_more = rw (none, no_more, map_push line xs x) (simp (append-nil, append_assoc))
-
 -- ---- the section to which a text has come
 
 -- behind some items it is another
@@ -53,7 +49,7 @@ later_pushed (y ∷ ys) x s t = refl
 
 -- ---- THE LINES OF A SECTION with a greatest number of items: where each of them leads on, so do all
 
-pub section_leads : {S C E X : Type 0} (g : Grammar S C E) (state : List X → S) (line : X → List ℕ) (P : X → Type 0) (most : ℕ)
+pub section_leads : {S X : Type 0} (g : Grammar S) (state : List X → S) (line : X → List ℕ) (P : X → Type 0) (most : ℕ)
     (xs : List X) → length xs ≤ most → AllByRecursion P xs
     → ((front more : List X) (x : X) → front ++ x ∷ more ≡ xs → length front < most → P x
     → g.step (state front) (line x) ≡ Ok (state (front ++ x ∷ [])))
@@ -63,7 +59,7 @@ section_leads g state line P most xs few are each =
     (λ front more x is. each front more x is (omega (arith, shorter front more xs x is, few)) (middle P front more xs x is are))
 
 -- the opening keys, of which a text of the first version has none
-pub openings_lead : {S C E : Type 0} (g : Grammar S C E) (state : List ℕ → S) (v : Version) (o : Opening) → Opens o
+pub openings_lead : {S : Type 0} (g : Grammar S) (state : List ℕ → S) (v : Version) (o : Opening) → Opens o
     → HasOpening v o.keys
     → ((front : List ℕ) (k : ℕ) → v ≡ Two → length front < MOST_OPENING → k < 2 ^ 32 → is_above front k ≡ true
     → g.step (state front) (opening_line k) ≡ Ok (state (front ++ k ∷ [])))

@@ -9,9 +9,10 @@ use Rattle.lset_words.specs.Words.{IsWithin}
 use Rattle.lset_text.specs.declared.words.Version.{Version}
 use Rattle.lset_text.specs.declared.words.Version.TheVariants.{One, Two}
 use Rattle.lset_text.specs.declared.headers.Header.{Header}
-use Rattle.lset_text.specs.declared.headers.HeaderCause.{HeaderCause}
-use Rattle.lset_text.specs.declared.headers.HeaderCause.TheVariants as wrong
-use Rattle.lset_text.specs.declared.headers.HeaderFault.{HeaderFault}
+use Rattle.lset_text.specs.declared.causes.Cause.{Cause}
+use Rattle.lset_text.specs.declared.causes.Cause.TheVariants as wrong
+use Rattle.lset_text.specs.declared.causes.LineFault.{LineFault}
+use Rattle.lset_text.specs.Causes.{fault}
 use Rattle.lset_text.specs.Parts.{cut_at, line_of, text_of, Lacks}
 use Rattle.lset_text.specs.Forms.{Form, told_in}
 use Rattle.lset_text.specs.Forms as piece
@@ -43,9 +44,6 @@ version_in title (first ∷ more) = if bytes_eq first title then Two else One
 
 -- ---- reading a header
 
-abbrev pub fault : ℕ → HeaderCause → HeaderFault
-fault line cause = record { line = line; cause = cause }
-
 abbrev pub title_in : List ℕ → List ℕ → Option (List ℕ)
 title_in title line = if bytes_eq line title then Some title else None
 
@@ -64,33 +62,33 @@ abbrev pub number_after : List ℕ → ℕ → ℕ → List ℕ → Option ℕ
 number_after word low high line = option_map (λ t. t.1.0) (told_in Two (number_form word low high) (cut_at 32 line))
 
 -- The header line that is due, and the parts after it. If no byte is left the error is the one of the line that is due.
-abbrev pub line_due : ℕ → HeaderCause → List (List ℕ) → Result (List ℕ × List (List ℕ)) HeaderFault
+abbrev pub line_due : ℕ → Cause → List (List ℕ) → Result (List ℕ × List (List ℕ)) LineFault
 line_due line cause [] = Err (fault line cause)
 line_due line cause (rest ∷ []) = Err (fault line (if length rest == 0 then cause else wrong.NotEnded))
 line_due line cause (x ∷ y ∷ more) = Ok (x, y ∷ more)
 
 -- what the line that is due has, and the parts after it
-unfoldable pub told_by_line : {A : Type 0} → ℕ → HeaderCause → (List ℕ → Option A) → List (List ℕ)
-    → Result (A × List (List ℕ)) HeaderFault
+unfoldable pub told_by_line : {A : Type 0} → ℕ → Cause → (List ℕ → Option A) → List (List ℕ)
+    → Result (A × List (List ℕ)) LineFault
 told_by_line line cause read parts = do
   due ← line_due line cause parts
   told ← or_fail (fault line cause) (read due.0)
   Ok (told, due.1)
 
-abbrev pub title_told : List ℕ → List (List ℕ) → Result (List ℕ × List (List ℕ)) HeaderFault
+abbrev pub title_told : List ℕ → List (List ℕ) → Result (List ℕ × List (List ℕ)) LineFault
 title_told title = told_by_line 1 wrong.Header (title_in title)
 
-abbrev pub kind_told : List (List ℕ) → Result (Kind × List (List ℕ)) HeaderFault
+abbrev pub kind_told : List (List ℕ) → Result (Kind × List (List ℕ)) LineFault
 kind_told = told_by_line 2 wrong.Kind kind_in
 
-abbrev pub threads_told : List (List ℕ) → Result (ℕ × List (List ℕ)) HeaderFault
+abbrev pub threads_told : List (List ℕ) → Result (ℕ × List (List ℕ)) LineFault
 threads_told = told_by_line 3 wrong.Threads (number_after (codes "threads") 1 MOST_THREADS)
 
-abbrev pub quota_told : List (List ℕ) → Result (ℕ × List (List ℕ)) HeaderFault
+abbrev pub quota_told : List (List ℕ) → Result (ℕ × List (List ℕ)) LineFault
 quota_told = told_by_line 4 wrong.Quota (number_after (codes "quota") 0 MOST_QUOTA)
 
 -- the header of a text's parts, and the parts after it
-unfoldable pub header_of : List ℕ → List (List ℕ) → Result (Header × List (List ℕ)) HeaderFault
+unfoldable pub header_of : List ℕ → List (List ℕ) → Result (Header × List (List ℕ)) LineFault
 header_of title parts = do
   first ← title_told title parts
   kind ← kind_told first.1

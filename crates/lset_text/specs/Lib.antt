@@ -1,3 +1,4 @@
+pub mod Causes
 pub mod Parts
 pub mod Numbers
 pub mod Spellings

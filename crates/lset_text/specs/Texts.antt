@@ -3,17 +3,16 @@ use Rattle.std.specs.Prelude.{ℕ, ◌+◌, List, Result}
 use Rattle.lset_text.specs.declared.words.Version.{Version}
 use Rattle.lset_text.specs.declared.words.Version.TheVariants.{Two}
 use Rattle.lset_text.specs.declared.headers.Header.{Header}
-use Rattle.lset_text.specs.declared.headers.HeaderFault.{HeaderFault}
+use Rattle.lset_text.specs.declared.causes.LineFault.{LineFault}
 use Rattle.lset_text.specs.Headers.{header_of, version_in}
 use Rattle.lset_text.specs.Lines.{Grammar, lines_from}
-use Rattle.lset_text.specs.Results.{◌>>=◌, map_fault}
+use Rattle.lset_text.specs.Results.{◌>>=◌}
 
--- THE GRAMMAR OF A TEXT: its first line, what its header makes of the state of its lines, their grammar, and a header's fault
-pub record TextGrammar (S C E : Type 0) : Type 0 where
+-- THE GRAMMAR OF A TEXT: its first line, what its header makes of the state of its lines, and their grammar
+pub record TextGrammar (S : Type 0) : Type 0 where
   pub title : List ℕ
   pub start : Header → S
-  pub lines : Grammar S C E
-  pub of_header : HeaderFault → E
+  pub lines : Grammar S
 
 -- the last line of a header, and the first one after it
 abbrev pub last_of_header : ℕ
@@ -23,11 +22,11 @@ abbrev pub first_line : ℕ
 first_line = last_of_header + 1
 
 -- READING A TEXT from its parts: whole lines, and what comes after the last newline
-unfoldable pub text_from : {S C E : Type 0} → TextGrammar S C E → List (List ℕ) → Result S E
+unfoldable pub text_from : {S : Type 0} → TextGrammar S → List (List ℕ) → Result S LineFault
 text_from g parts = do
-  head ← map_fault g.of_header (header_of g.title parts)
+  head ← header_of g.title parts
   lines_from g.lines first_line (g.start head.0) head.1
 
 -- if there are two versions, the first line alone says which
-abbrev pub versioned_from : {S C E : Type 0} → (Version → TextGrammar S C E) → List (List ℕ) → Result S E
+abbrev pub versioned_from : {S : Type 0} → (Version → TextGrammar S) → List (List ℕ) → Result S LineFault
 versioned_from g parts = text_from (g (version_in (g Two).title parts)) parts

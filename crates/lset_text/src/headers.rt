@@ -1,9 +1,8 @@
-ghost use Rattle.std.specs.Prelude.{◌≡◌, ◌<◌, ◌++◌, length, string_bytes, IfOk, OnOk, Ok, Err, MatchResult};
+ghost use Rattle.std.specs.Prelude.{◌≡◌, ◌≢◌, ◌<◌, ◌++◌, length, string_bytes, IfOk, IfErr, OnOk, Ok, Err, MatchResult};
 ghost use Rattle.lset_text.specs.Parts.{cut_at, text_of};
 ghost use Rattle.lset_text.specs.Headers.{
   kind_in,
   number_after,
-  fault,
   line_due,
   header_of,
   version_in,
@@ -12,12 +11,12 @@ ghost use Rattle.lset_text.specs.Headers.{
   HeadersReadBack,
 };
 
+use crate::causes::{Cause, LineFault};
 use crate::numbers::number;
 use crate::parts::cut;
 use crate::words::{Version, kind_word, read_kind};
 use lset_words::{Kind, MOST_QUOTA, MOST_THREADS};
 use std::alloc::AllocError;
-use thiserror::Error;
 
 /// What the header of a file states: the kind of list, its threads, 1 to 64, and the slots of each, 0 to 16,384.
 #[derive(Clone, Copy, Debug, PartialEq, Eq)]
@@ -25,37 +24,6 @@ pub struct Header {
     pub kind: Kind,
     pub threads: u32,
     pub quota: u32,
-}
-
-/// What is wrong with a line of a header.
-#[derive(Clone, Copy, Debug, PartialEq, Eq)]
-pub enum HeaderCause {
-    /// The line is not the title.
-    Header,
-    /// The line is not `list` and the word for a kind.
-    Kind,
-    /// The line is not `threads` and a number from 1 to 64.
-    Threads,
-    /// The line is not `quota` and a number from 0 to 16384.
-    Quota,
-    /// The line has bytes and no newline.
-    NotEnded,
-}
-
-/// The first error of a header: its line, counted from 1, and the cause.
-#[derive(Clone, Copy, Debug, PartialEq, Eq, Error)]
-#[error("line {line}: {cause:?}")]
-pub struct HeaderFault {
-    pub line: u64,
-    pub cause: HeaderCause,
-}
-
-impl HeaderFault {
-    fn at(line: u64, cause: HeaderCause) -> HeaderFault
-        ensures { result ≡ fault line cause }
-    {
-        HeaderFault { line, cause }
-    }
 }
 
 fn kind_of_line(line: &[u8]) -> Option<Kind>
@@ -86,7 +54,7 @@ pub fn number_of_line(line: &[u8], word: &[u8], low: u32, high: u32) -> Option<u
 }
 
 /// The header line that is due, and what comes after it.
-fn due(text: &[u8], line: u64, cause: HeaderCause) -> Result<(&[u8], &[u8]), HeaderFault>
+fn due(text: &[u8], line: u64, cause: Cause) -> Result<(&[u8], &[u8]), LineFault>
     ensures value { MatchResult result
         (λ p. line_due line cause (cut_at 10 text.now) ≡ Ok (p.0.now, cut_at 10 p.1.now))
         (λ e. line_due line cause (cut_at 10 text.now) ≡ Err e) }
@@ -98,9 +66,9 @@ fn due(text: &[u8], line: u64, cause: HeaderCause) -> Result<(&[u8], &[u8]), Hea
     let cause = if text.is_empty() {
         cause
     } else {
-        HeaderCause::NotEnded
+        Cause::NotEnded
     };
-    Err(HeaderFault::at(line, cause))
+    Err(LineFault::at(line, cause))
 }
 
 /// Returns the version of a file: the second if the file begins with a line that is `title`, the title of its second
@@ -126,13 +94,15 @@ pub fn version_of(text: &[u8], title: &[u8]) -> Version
 /// The first error, with its line from 1 to 4. If a header line is due and no byte is left, it is the error of that line:
 /// `Header`, `Kind`, `Threads` or `Quota`. A line that has bytes and no newline is `NotEnded`, before anything else of it is
 /// looked at.
-pub fn read_header<'a>(title: &[u8], text: &'a [u8]) -> Result<(Header, &'a [u8]), HeaderFault>
+pub fn read_header<'a>(title: &[u8], text: &'a [u8]) -> Result<(Header, &'a [u8]), LineFault>
     // What is read is in the text.
     ensures found { IfOk result (λ p. IsHeader p.0 × (text.now ≡ text_of (header_lines title.now p.0) ++ p.1.now)) }
     // Which fault it is.
     ensures exact { MatchResult result
         (λ p. header_of title.now (cut_at 10 text.now) ≡ Ok (p.0, cut_at 10 p.1.now))
         (λ e. header_of title.now (cut_at 10 text.now) ≡ Err e) }
+    // No line of a header takes memory.
+    ensures asks { IfErr result (λ e. e.cause ≢ Cause.Memory) }
     ensures shorter { IfOk result (λ p. length p.1.now < length text.now) }
 {
     header_due(title, text)
@@ -144,27 +114,27 @@ pub fn headers_read_back()
 {}
 
 #[tactic(auto, unfolding(crate::specs::Headers::header_of, crate::specs::Headers::told_by_line))]
-fn header_due<'a>(title: &[u8], text: &'a [u8]) -> Result<(Header, &'a [u8]), HeaderFault>
+fn header_due<'a>(title: &[u8], text: &'a [u8]) -> Result<(Header, &'a [u8]), LineFault>
     ensures value { MatchResult result
         (λ p. header_of title.now (cut_at 10 text.now) ≡ Ok (p.0, cut_at 10 p.1.now))
         (λ e. header_of title.now (cut_at 10 text.now) ≡ Err e) }
     ensures shorter { IfOk result (λ p. length p.1.now < length text.now) }
 {
-    let (first, rest) = due(text, 1, HeaderCause::Header)?;
+    let (first, rest) = due(text, 1, Cause::Header)?;
     if first != title {
-        return Err(HeaderFault::at(1, HeaderCause::Header));
+        return Err(LineFault::at(1, Cause::Header));
     }
-    let (line, rest) = due(rest, 2, HeaderCause::Kind)?;
-    let kind = kind_of_line(line).ok_or(HeaderFault::at(2, HeaderCause::Kind))?;
-    let (line, rest) = due(rest, 3, HeaderCause::Threads)?;
-    let threads = number_of_line(line, b"threads", 1, MOST_THREADS).ok_or(HeaderFault::at(
+    let (line, rest) = due(rest, 2, Cause::Kind)?;
+    let kind = kind_of_line(line).ok_or(LineFault::at(2, Cause::Kind))?;
+    let (line, rest) = due(rest, 3, Cause::Threads)?;
+    let threads = number_of_line(line, b"threads", 1, MOST_THREADS).ok_or(LineFault::at(
         3,
-        HeaderCause::Threads,
+        Cause::Threads,
     ))?;
-    let (line, rest) = due(rest, 4, HeaderCause::Quota)?;
-    let quota = number_of_line(line, b"quota", 0, MOST_QUOTA).ok_or(HeaderFault::at(
+    let (line, rest) = due(rest, 4, Cause::Quota)?;
+    let quota = number_of_line(line, b"quota", 0, MOST_QUOTA).ok_or(LineFault::at(
         4,
-        HeaderCause::Quota,
+        Cause::Quota,
     ))?;
     let header = Header {
         kind,

@@ -2,6 +2,7 @@
 //! opening keys.
 #![tactic(auto)]
 
+mod causes;
 mod forms;
 mod headers;
 mod numbers;
@@ -9,12 +10,10 @@ mod openings;
 mod parts;
 mod words;
 
+pub use causes::{Cause, LineFault};
 pub use forms::forms_read_back;
-pub use headers::{
-    Header, HeaderCause, HeaderFault, headers_read_back, number_of_line, put_header, read_header,
-    version_of,
-};
-pub use numbers::{number, numbers_read_back};
+pub use headers::{Header, headers_read_back, number_of_line, put_header, read_header, version_of};
+pub use numbers::{long_number, number, numbers_read_back};
 pub use openings::{is_above, put_openings};
 pub use parts::cut;
 pub use words::{

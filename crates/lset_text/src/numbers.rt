@@ -1,4 +1,4 @@
-ghost use Rattle.std.specs.Prelude.{◌≡◌};
+ghost use Rattle.std.specs.Prelude.{◌≡◌, ◌<◌, ◌≤◌, ◌^◌, IfSome};
 ghost use Rattle.lset_text.specs.Numbers.{number_in, NumbersReadBack};
 
 /// Returns the number from `low` to `high` that a field spells: `0`, or digits of which the first is not `0`. `None` for any
@@ -24,6 +24,37 @@ pub fn number(piece: &[u8], low: u32, high: u32) -> Option<u32>
         return None;
     }
     Some(value as u32)
+}
+
+/// Returns what `number` does of a range that may go past 32 bits; it takes a test more for each digit.
+#[tactic(auto, unfolding(crate::specs::Numbers::number_in))]
+pub fn long_number(piece: &[u8], low: u64, high: u64) -> Option<u64>
+    requires { high < 2 ^ 63 }
+    ensures value { result ≡ number_in low high piece.now }
+    ensures within { IfSome result (λ n. n ≤ high) }
+{
+    if piece.is_empty() || (piece.len() > 1 && piece[0] == b'0') {
+        return None;
+    }
+    let last = high / 10;
+    let mut value: u64 = 0;
+    for b in piece {
+        if !b.is_ascii_digit() {
+            return None;
+        }
+        if value > last {
+            return None;
+        }
+        let more = value * 10 + u64::from(*b - b'0');
+        if more > high {
+            return None;
+        }
+        value = more;
+    }
+    if value < low {
+        return None;
+    }
+    Some(value)
 }
 
 /// Lemma: the numbers of a range are read from their decimals, and from nothing else.

@@ -1,8 +1,8 @@
 //! Random runs of each broken list: the order of some run is refused.
 
 use crate::prelude::*;
-use broken_lists::{ALL, BrokenList, BrokenWorld, Listener, run_broken};
-use lset_replay::{Steps, TracedEvent};
+use broken_lists::{ALL, BrokenList, BrokenWorld, broken_run};
+use lset_replay::{Steps, calls_of};
 use lset_schedule::read_schedule;
 use lset_text::{call_word, kind_word};
 
@@ -13,16 +13,6 @@ const EVENTS: u32 = 120;
 
 /// The key with which a list opens.
 const OPENING: [u32; 1] = [5];
-
-/// Hears of events, and keeps nothing.
-#[derive(Drop)]
-struct Silent {}
-
-impl Listener for Silent {
-    fn hear(&mut self, _event: &TracedEvent) -> Result<(), AllocError> {
-        Ok(())
-    }
-}
 
 fn drawn_call(rng: &mut Pcg32) -> Call {
     let key = Key(3 + 2 * (rng.next_u32() % 3));
@@ -64,13 +54,12 @@ fn drawn_schedule(alloc: Global, broken: BrokenList, seed: u64) -> Result<String
 fn is_run_refused(alloc: Global, broken: BrokenList, seed: u64) -> Result<bool, Fail> {
     let text = drawn_schedule(alloc, broken, seed)?;
     let schedule = read_schedule(alloc, text.as_bytes())?;
-    let run = run_broken(alloc, broken, &schedule, false, &mut Silent {})?;
-    match run {
-        Ok(report) => {
-            Ok(check_order(alloc, &report.history, &report.order, &report.keys).is_err())
-        }
-        Err((_line, fault)) => Err(fault.into()),
-    }
+    let run = broken_run(alloc, broken, &schedule, false)?;
+    let calls = calls_of(alloc, &schedule, run)?;
+    Ok(
+        calls.refused.is_none()
+            && check_order(alloc, &calls.history, &calls.order, &calls.keys).is_err(),
+    )
 }
 
 /// Whether some random run is refused.

@@ -86,7 +86,7 @@ fn an_answer_is_written_byte_by_byte(rt: HostRuntime) -> Result<(), Fail> {
         text: Vec::from_slice(alloc, &text)?,
         status: 1,
     };
-    assert!(rt; deliver(alloc, Ok(answer), &mut output, &mut faults) == 1);
+    assert!(rt; deliver(Ok(answer), &mut output, &mut faults) == 1);
     assert!(rt; faults.is_empty() && output.calls >= text.len());
     assert!(rt; output.taken.as_slice() == text.as_slice());
     Ok(())

@@ -35,7 +35,7 @@ fn ran<R: Host + Net<Listener = TcpListener, Stream = TcpStream>>(
         Ok(request) => serve_set_of(rt, alloc, request, &mut input, &mut output),
         Err(wrong) => Err(Trouble::Bad(wrong)),
     };
-    let status = deliver(alloc, made, &mut output, &mut faults);
+    let status = deliver(made, &mut output, &mut faults);
     Ok(Run {
         status,
         calls: input.calls,

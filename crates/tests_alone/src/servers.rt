@@ -138,7 +138,7 @@ fn ran<'r, R: Host + Net<Listener = TcpListener, Stream = TcpStream>>(
         Ok(request) => serve_set(rt, alloc, request, &[], &mut door),
         Err(wrong) => Err(Trouble::Bad(wrong)),
     };
-    let status = deliver(alloc, made, &mut door, &mut faults);
+    let status = deliver(made, &mut door, &mut faults);
     Ok(Run {
         status,
         door,

@@ -173,7 +173,7 @@ pub fn ran<R: Host>(
             let values = texts_of(alloc, &[kind, "1", "4", "2", "8", "1"])?;
             tool_run(rt, alloc, &values, to, also)
         }
-        Tool::Judge => deliver(alloc, judge_input(alloc, from), to, also),
+        Tool::Judge => deliver(judge_input(alloc, from), to, also),
         Tool::Draft => run_tool(alloc, &Expand {}, from, to, also),
         Tool::Show => run_tool(alloc, &SHOW, from, to, also),
         Tool::Svg => {
@@ -185,7 +185,7 @@ pub fn ran<R: Host>(
         }
         Tool::Trace => {
             let made = trace_events(alloc, from, to);
-            deliver(alloc, made, to, also)
+            deliver(made, to, also)
         }
         Tool::TraceChains => run_tool(alloc, &Trace { chains: true }, from, to, also),
         Tool::Broken(command, broken) => match command {
@@ -207,7 +207,7 @@ pub fn ran<R: Host>(
                 Ok(request) => print_example(alloc, request),
                 Err(wrong) => Err(Trouble::Bad(wrong)),
             };
-            deliver(alloc, made, to, also)
+            deliver(made, to, also)
         }
     };
     Ok(Run {

@@ -10,8 +10,6 @@ use lset_live::Rounds;
 struct UpTo<const N: u64>;
 
 impl<const N: u64> Rounds for UpTo<N> {
-    ghost MOST = { N };
-
     const MOST: u64 = N;
 }
 

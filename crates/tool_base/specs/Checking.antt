@@ -5,12 +5,12 @@ use Rattle.lset_history.specs.declared.fault.OrderFault.{OrderFault}
 use Rattle.lset_history.specs.declared.fault.OrderFault.TheVariants.{Unknown, Twice, Missing, WrongReply, TooEarly, WrongSet}
 use Rattle.lset_history.specs.declared.fault.OrderFault.TheVariants.{Memory}
 use Rattle.lset_history.specs.Faults.{Explains, IsFault}
-use Rattle.lset_report.specs.declared.report_fault.ReportFault.{ReportFault}
+use Rattle.lset_text.specs.declared.causes.LineFault.{LineFault}
 use Rattle.lset_report.specs.Report.{ReportValue}
 use Rattle.lset_report.specs.Texts.{report_text}
 use Rattle.lset_report.specs.ReportReading.{IsReport, reading}
 use Rattle.tool_base.specs.declared.trouble.Trouble.{Trouble}
-use Rattle.tool_base.specs.Trouble.{of_report}
+use Rattle.tool_base.specs.Trouble.{of_line_fault}
 use Rattle.tool_base.specs.declared.trouble.Trouble.TheVariants as trouble
 use Rattle.tool_base.specs.Tools.{AnswerValue, Made, OnInput}
 
@@ -45,8 +45,8 @@ abbrev pub IsAnswerOn : ReportValue → AnswerValue → Type 0
 IsAnswerOn r answer = (verdict : Option OrderFault) × IsVerdict r verdict × (answer ≡ answer_of verdict)
 
 -- the first fault of the text
-abbrev pub IsFirstFault : Result ReportValue ReportFault → Trouble → Type 0
-IsFirstFault (Err fault) t = t ≡ of_report fault
+abbrev pub IsFirstFault : Result ReportValue LineFault → Trouble → Type 0
+IsFirstFault (Err fault) t = t ≡ of_line_fault fault
 IsFirstFault (Ok r) t = ⊥
 
 -- what is made of the bytes of a text: the answer on the report whose text they are, or its first fault

@@ -1,7 +1,7 @@
 -- What `replay` makes of an input.
 use Rattle.std.specs.Prelude.{◌≡◌, ℕ, ◌⊎◌, List, Result, Ok, Err}
 use Rattle.lset_lists.specs.Tables.{table_of}
-use Rattle.lset_schedule.specs.declared.fault.ScheduleFault.{ScheduleFault}
+use Rattle.lset_text.specs.declared.causes.LineFault.{LineFault}
 use Rattle.lset_schedule.specs.Plan.{Plan, IsSchedule, schedule_text, opening_in}
 use Rattle.lset_schedule.specs.ScheduleReading.{reading}
 use Rattle.lset_replay.specs.declared.fault.ReplayFault.{ReplayFault}
@@ -10,7 +10,7 @@ use Rattle.lset_report.specs.Report.{ReportValue}
 use Rattle.lset_replay.specs.Reports.{IsReplay, IsRefusal, IsExplained}
 use Rattle.lset_report.specs.Texts.{report_text}
 use Rattle.tool_base.specs.declared.trouble.Trouble.{Trouble}
-use Rattle.tool_base.specs.Trouble.{of_schedule, of_replay}
+use Rattle.tool_base.specs.Trouble.{of_line_fault, of_replay}
 use Rattle.tool_base.specs.declared.trouble.Trouble.TheVariants.{Memory}
 use Rattle.tool_base.specs.Tools.{Made, OnInput}
 
@@ -23,8 +23,8 @@ pub record IsReported (bytes : List ℕ) (p : Plan) (r : ReportValue) : Type 0 w
   pub explained : IsExplained r
 
 -- the first fault of the text, or of the replay
-abbrev pub IsFirstFault : Result Plan ScheduleFault → Trouble → Type 0
-IsFirstFault (Err fault) t = t ≡ of_schedule fault
+abbrev pub IsFirstFault : Result Plan LineFault → Trouble → Type 0
+IsFirstFault (Err fault) t = t ≡ of_line_fault fault
 IsFirstFault (Ok p) t = (refusal : ReplayFault) × (t ≡ of_replay refusal) × IsRefusal (table_of p.kind) (opening_in p) (events_of p) refusal
 
 -- what is made of the bytes of a text: the text of the report, or its first fault

@@ -110,7 +110,7 @@ Other messages
   listset: cannot write   A write failed; exit status 1.
   listset: cannot listen  The system refused the port; exit status 1.
   listset: bad NAME       The argument or option NAME is missing or out of range, or FROM is past the last moment; exit status 2.
-  listset: bad NAME: ..   --lacks takes one of the names listed; exit status 2.
+  listset: bad NAME: ..   --lacks takes one of the names that 'listset help replay' lists; exit status 2.
   listset: out of memory  An allocation failed; exit status 3.
 ";
 

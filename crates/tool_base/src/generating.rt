@@ -107,5 +107,5 @@ pub fn tool_gen<W: Write, F: Write>(
         (W.contents output.old) (W.contents output.new) (F.contents faults.old) (F.contents faults.new) result }
 {
     let made = generate_for(alloc, values);
-    deliver(alloc, made, output, faults)
+    deliver(made, output, faults)
 }

@@ -13,7 +13,7 @@ mod replaying;
 mod tool;
 mod trouble;
 
-pub use answer::{Answer, deliver, line_of_trouble};
+pub use answer::{Answer, deliver, line_of};
 pub use arguments::{
     LivesRequest, MOST_CALLS_ASKED, MOST_KEYS_ASKED, MOST_LIVES, MOST_PORT, MOST_SEED,
     MOST_SESSIONS_ASKED, RandomRequest, ServeRequest, read_lives_request, read_random_request,
@@ -26,4 +26,4 @@ pub use input::{Input, LONGEST, READ_SIZE, put, read_all};
 pub use number_lines::{put_keys, put_number};
 pub use replaying::{Replay, tool_replay};
 pub use tool::{Tool, answer_text, run_tool};
-pub use trouble::{KeyCause, LineCause, ServeName, Trouble, ValueName, WorkName};
+pub use trouble::{SystemCause, Trouble, ValueName};

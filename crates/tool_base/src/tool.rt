@@ -47,5 +47,5 @@ pub fn run_tool<T: Tool, R: Read, W: Write, E: Write>(
         (W.contents output.old) (W.contents output.new) (E.contents stderr.old) (E.contents stderr.new) result }
 {
     let made = answer_input(alloc, tool, input);
-    deliver(alloc, made, output, stderr)
+    deliver(made, output, stderr)
 }

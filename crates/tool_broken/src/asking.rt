@@ -3,12 +3,13 @@ ghost use Rattle.lset_words.specs.Words.{Opens};
 ghost use Rattle.lset_text.specs.declared.words.Version.TheVariants.{Two};
 ghost use Rattle.lset_schedule.specs.Plan.{opening_in, view};
 
-use broken_lists::{BrokenList, BrokenStepError, Listener, run_broken};
-use lset_replay::TracedEvent;
+use broken_lists::{BrokenList, broken_run};
+use lset_replay::calls_of;
 use lset_report::Report;
-use lset_schedule::{Cause, Schedule, read_schedule};
-use std::alloc::{AllocError, Global};
-use tool_base::{Input, LineCause, Trouble};
+use lset_schedule::{Schedule, Version, read_schedule};
+use lset_text::Cause;
+use std::alloc::Global;
+use tool_base::{Input, Trouble};
 
 /// The line of a schedule's text that names the list.
 const KIND_LINE: u64 = 2;
@@ -19,29 +20,9 @@ pub fn schedule_of(alloc: Global, broken: BrokenList, input: Input<'_>) -> Resul
 {
     let schedule = read_schedule(alloc, input.bytes())?;
     if schedule.kind != broken.kind() {
-        return Err(Trouble::Line(KIND_LINE, LineCause::Schedule(Cause::Kind)));
+        return Err(Trouble::Line(KIND_LINE, Cause::Kind));
     }
     Ok(schedule)
-}
-
-/// Returns the cause of the line about the event at which a run ends.
-pub fn cause_of(fault: BrokenStepError) -> LineCause {
-    match fault {
-        BrokenStepError::NoThread => LineCause::NoThread,
-        BrokenStepError::Busy => LineCause::Busy,
-        BrokenStepError::Idle => LineCause::Idle,
-        BrokenStepError::Lost => LineCause::Lost,
-    }
-}
-
-/// Hears of events, and keeps nothing.
-#[derive(Drop)]
-struct Silent {}
-
-impl Listener for Silent {
-    fn hear(&mut self, _event: &TracedEvent) -> Result<(), AllocError> {
-        Ok(())
-    }
 }
 
 /// Runs a schedule on the broken list, and returns the report.
@@ -49,8 +30,16 @@ pub fn report_of(alloc: Global, broken: BrokenList, input: Input<'_>) -> Result<
     ensures { IfOk result (λ r. r.version ≡ Two) }
 {
     let schedule = schedule_of(alloc, broken, input)?;
-    match run_broken(alloc, broken, &schedule, false, &mut Silent {})? {
-        Ok(report) => Ok(report),
-        Err((line, fault)) => Err(Trouble::Line(line, cause_of(fault))),
+    let run = broken_run(alloc, broken, &schedule, false)?;
+    let calls = calls_of(alloc, &schedule, run)?;
+    match calls.refused {
+        Some((line, cause)) => Err(Trouble::Line(line, cause)),
+        None => Ok(Report {
+            version: Version::Two,
+            kind: schedule.kind,
+            history: calls.history,
+            order: calls.order,
+            keys: calls.keys,
+        }),
     }
 }

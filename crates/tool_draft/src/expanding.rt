@@ -1,24 +1,25 @@
 ghost use Rattle.std.specs.Prelude.{IfOk};
 ghost use Rattle.lset_schedule.specs.Plan.{HasWordsOfVersion, view};
 
-use crate::fault::{DraftCause, DraftFault};
-use crate::stepping::{steps_to, take_steps};
+use crate::stepping::{cause_of, steps_to, take_steps};
 use crate::value::{Draft, DraftLine};
 use crate::version::least_version;
 use lset_lists::{List, Task, on_list};
 use lset_schedule::{Line, MOST_EVENTS, MOST_STEPS, Schedule};
 use lset_steps::{Event, Machine, World};
+use lset_text::{Cause, LineFault};
 use lset_words::layout_opening;
 use std::alloc::{AllocError, Global};
+use tool_base::Trouble;
 
 /// Executes the events of a line of a schedule, if that many events are left.
-fn make_plain<M: Machine>(world: &mut World<M>, line: Line, left: u32) -> Result<(), DraftCause> {
+fn make_plain<M: Machine>(world: &mut World<M>, line: Line, left: u32) -> Result<(), Cause> {
     if line.event_count() > left {
-        return Err(DraftCause::TooMany);
+        return Err(Cause::TooMany);
     }
     match line {
         Line::Begin(thread, call) => {
-            world.step(Event::Begin(thread, call))?;
+            world.step(Event::Begin(thread, call)).map_err(cause_of)?;
         }
         Line::Go(thread, steps) => take_steps(world, thread, steps)?,
     }
@@ -26,11 +27,7 @@ fn make_plain<M: Machine>(world: &mut World<M>, line: Line, left: u32) -> Result
 }
 
 /// Executes the events that a line stands for, if that many events are left, and returns the line of a schedule.
-fn make_line<M: Machine>(
-    world: &mut World<M>,
-    line: DraftLine,
-    left: u32,
-) -> Result<Line, DraftCause> {
+fn make_line<M: Machine>(world: &mut World<M>, line: DraftLine, left: u32) -> Result<Line, Cause> {
     let most = left.min(MOST_STEPS);
     match line {
         DraftLine::Plain(line) => {
@@ -58,13 +55,13 @@ fn start_of<M: Machine>(alloc: Global, draft: &Draft) -> Result<World<M>, AllocE
 }
 
 /// The lines of a schedule that the lines of a draft stand for on the list of the machine `M`.
-fn lines_on<M: Machine>(alloc: Global, draft: &Draft) -> Result<Vec<Line>, DraftFault> {
+fn lines_on<M: Machine>(alloc: Global, draft: &Draft) -> Result<Vec<Line>, Trouble> {
     let mut world = start_of::<M>(alloc, draft)?;
     let mut number = draft.first_event_line();
     let mut lines = Vec::new(alloc);
     let mut left = MOST_EVENTS;
     for line in &draft.lines {
-        let made = make_line(&mut world, *line, left).map_err(|cause| DraftFault::Line(
+        let made = make_line(&mut world, *line, left).map_err(|cause| LineFault::at(
             number, cause,
         ))?;
         lines.push(made)?;
@@ -82,13 +79,13 @@ struct Expanding<'a> {
 }
 
 impl Task for Expanding<'_> {
-    type Out = Result<Vec<Line>, DraftFault>;
+    type Out = Result<Vec<Line>, Trouble>;
 
     ghost may = { λ task kind. Unit {0} };
 
     ghost done = { λ task table result. Unit {0} };
 
-    fn run<M: List>(self) -> Result<Vec<Line>, DraftFault> {
+    fn run<M: List>(self) -> Result<Vec<Line>, Trouble> {
         lines_on::<M>(self.alloc, self.draft)
     }
 }
@@ -101,13 +98,13 @@ impl Task for Expanding<'_> {
 ///
 /// # Errors
 ///
-/// For the first line that stands for no line of a schedule, with its number:
+/// `Line` for the first line that stands for no line of a schedule, with its number:
 /// - `TooMany`: with it there are more than 1,000,000 events;
-/// - `Refused`: an event is not enabled;
+/// - `NoThread`, `Busy`, `Idle`: an event is not enabled;
 /// - `Waits`: the thread does not get to where the line sends it within 10,000 steps or the events left.
 ///
 /// `Memory`: an allocation failed.
-pub fn schedule_of(alloc: Global, draft: &Draft) -> Result<Schedule, DraftFault>
+pub fn schedule_of(alloc: Global, draft: &Draft) -> Result<Schedule, Trouble>
     ensures { IfOk result (λ s. HasWordsOfVersion (view s)) }
 {
     let lines = on_list(draft.kind, Expanding { alloc, draft })?;

@@ -3,7 +3,6 @@
 #![tactic(auto)]
 
 mod expanding;
-mod fault;
 mod reading;
 mod stepping;
 mod tool;
@@ -11,7 +10,6 @@ mod value;
 mod version;
 
 pub use expanding::schedule_of;
-pub use fault::{DraftCause, DraftFault};
 pub use reading::read_draft;
 pub use tool::Expand;
 pub use value::{Draft, DraftLine};

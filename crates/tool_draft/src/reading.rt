@@ -4,8 +4,8 @@ ghost use Rattle.lset_words.specs.declared.TheConstants.{MOST_OPENING};
 
 use crate::value::{Draft, DraftLine};
 use crate::{MOST_ROW, TITLE};
-use lset_schedule::{Cause, EventLine, FIRST_LINE, Line, MOST_EVENTS, ScheduleFault, Version};
-use lset_text::{cut, is_above, number, read_header};
+use lset_schedule::{EventLine, FIRST_LINE, Line, MOST_EVENTS, Version};
+use lset_text::{Cause, LineFault, cut, is_above, number, read_header};
 use lset_words::MOST_OPENING;
 use std::alloc::Global;
 
@@ -64,9 +64,7 @@ fn add_opening(opening: &mut Vec<u32>, key: u32) -> Result<(), Cause>
     if !is_above(opening, key) {
         return Err(Cause::Opening);
     }
-    if opening.push(key).is_err() {
-        return Err(Cause::Memory);
-    }
+    opening.push(key)?;
     Ok(())
 }
 
@@ -82,9 +80,7 @@ impl Draft {
         }
         let event = event(line)?;
         let left = left.checked_sub(event.least_count()).ok_or(Cause::TooMany)?;
-        if self.lines.push(event).is_err() {
-            return Err(Cause::Memory);
-        }
+        self.lines.push(event)?;
         Ok(left)
     }
 }
@@ -95,7 +91,7 @@ impl Draft {
 ///
 /// The first line that is wrong, and the first check that it fails, in the order in which `read_schedule` makes them on a
 /// schedule of version 2. A thread or a row that is not a number is `Number`, and so is a row outside 1 to 255.
-pub fn read_draft(alloc: Global, bytes: &[u8]) -> Result<Draft, ScheduleFault> {
+pub fn read_draft(alloc: Global, bytes: &[u8]) -> Result<Draft, LineFault> {
     let (header, text) = read_header(TITLE.as_bytes(), bytes)?;
     let mut draft = Draft {
         kind: header.kind,
@@ -108,10 +104,7 @@ pub fn read_draft(alloc: Global, bytes: &[u8]) -> Result<Draft, ScheduleFault> {
     let mut number = FIRST_LINE;
     let mut rest = text;
     while !rest.is_empty() {
-        let fault = |cause| ScheduleFault {
-            line: number,
-            cause,
-        };
+        let fault = |cause| LineFault::at(number, cause);
         let (line, after) = cut(rest, b'\n').ok_or(fault(Cause::NotEnded))?;
         left = draft.add_line(line, left).map_err(fault)?;
         number = number.saturating_add(1);

@@ -17,7 +17,6 @@ mod svg;
 mod text;
 
 pub use clashes::is_clash;
-pub use lset_steps::StepFault;
 pub use moments::is_past_the_last;
 pub use picture::{Picture, Window};
 pub use refusal::Refusal;

@@ -2,44 +2,13 @@
 
 use crate::picture::points_of;
 use crate::{MOST_COLUMNS, Picture, Window};
-use lset_words::{CallRecord, Point, Reply};
 use std::alloc::{AllocError, Global};
-
-fn ends_from(ended: Option<(u32, Reply)>, moment: u32) -> bool {
-    match ended {
-        None => false,
-        Some((end, _)) => moment <= end,
-    }
-}
-
-fn reaches(made: &CallRecord, moment: u32) -> bool {
-    moment <= made.begun || ends_from(made.ended, moment)
-}
-
-fn stands_from(point: &Point, moment: u32) -> bool {
-    moment <= point.moment
-}
-
-fn any_reaches(calls: &[CallRecord], moment: u32) -> bool {
-    calls.iter().any(|made| reaches(made, moment))
-}
-
-fn any_stands(points: &[Point], moment: u32) -> bool {
-    points.iter().any(|point| stands_from(point, moment))
-}
-
-fn is_told(calls: &[CallRecord], points: &[Point]) -> bool {
-    !(calls.is_empty() && points.is_empty())
-}
-
-fn is_past(calls: &[CallRecord], points: &[Point], from: u32) -> bool {
-    is_told(calls, points) && !(any_reaches(calls, from) || any_stands(points, from))
-}
 
 /// Whether a moment, counted from 1, comes after the last one at which a call of the picture begins, takes effect or ends,
 /// so that a window from there has no column. Of a picture without calls no moment does.
 pub fn is_past_the_last(picture: &Picture, from: u32) -> bool {
-    is_past(picture.history.calls(), points_of(picture), from)
+    let is_empty = picture.history.calls().is_empty() && points_of(picture).is_empty();
+    !is_empty && next_moment(picture, u64::from(from)).is_none()
 }
 
 /// The earlier of two moments; the second counts if it is not before `from`.

@@ -1,7 +1,6 @@
 //! The lines above and below the rows of a picture: its heading, which moments are drawn, and its order.
 use crate::columns::{Drawing, Side, put_call};
 use crate::picture::{Standing, standing_at};
-use crate::refusals::put_refused;
 use crate::sets::put_keys_line;
 use crate::{Picture, Refusal};
 use lset_text::{kind_word, reply_word};
@@ -174,7 +173,7 @@ pub fn put_lines_below(
         writeln!(out, "\n{legend}")?;
     }
     match picture.refused {
-        Some((line, cause)) => put_refused(out, line, cause),
+        Some((line, cause)) => writeln!(out, "\nrefused line {line} {cause}"),
         None => Ok(()),
     }
 }

@@ -1,6 +1,5 @@
 use crate::Refusal;
 use lset_history::History;
-use lset_steps::StepFault;
 use lset_words::{CallRecord, Kind, Placed, Point};
 
 /// The picture of a history: its bars are the calls, by number; the order of the calls, with the point of each place if they
@@ -17,8 +16,8 @@ pub struct Picture {
     pub points: Vec<Point>,
     pub keys: Vec<u32>,
     pub refusal: Option<Refusal>,
-    /// Of a schedule: the number of the line of its first event that is not enabled, and the cause.
-    pub refused: Option<(u64, StepFault)>,
+    /// Of a schedule: the number of the line of its first event that is not enabled, and the name of the cause.
+    pub refused: Option<(u64, &'static str)>,
 }
 
 /// The moments that are drawn, from the first to the last, counted from 1; of those only the first 64 at which something

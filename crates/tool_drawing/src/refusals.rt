@@ -1,7 +1,6 @@
 //! Why an order, or an event of a schedule, is refused.
 use crate::sets::put_set;
 use crate::{Picture, Refusal};
-use lset_steps::StepFault;
 use lset_text::reply_word;
 use lset_words::Reply;
 use std::alloc::AllocError;
@@ -118,14 +117,4 @@ pub fn put_refusal(out: &mut String, picture: &Picture) -> Result<(), AllocError
         out.push_str("\n")?;
     }
     Ok(())
-}
-
-/// Appends, after an empty line, which event of a schedule is refused, in the words of a trace.
-pub fn put_refused(out: &mut String, line: u64, cause: StepFault) -> Result<(), AllocError> {
-    let word = match cause {
-        StepFault::NoThread => "NoThread",
-        StepFault::Busy => "Busy",
-        StepFault::Idle => "Idle",
-    };
-    writeln!(out, "\nrefused line {line} {word}")
 }

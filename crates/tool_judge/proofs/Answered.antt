@@ -2,25 +2,26 @@
 use Rattle.std.proofs.Common.{◌≡◌, ◌≢◌, ℕ, inl, inr, List, ◌++◌, Ok, Err, Option, Some, None, sym, subst}
 use Rattle.std.specs.Prelude.{IfSome}
 use Rattle.std.specs.Io.KnownBytes.{Consumes}
-use Rattle.lset_recording.specs.declared.fault.RecordingCause.{RecordingCause}
-use Rattle.lset_recording.specs.declared.fault.RecordingCause.TheVariants as wrong
-use Rattle.lset_recording.specs.declared.fault.RecordingFault.{RecordingFault}
+use Rattle.lset_text.specs.declared.causes.Cause.{Cause}
+use Rattle.lset_text.specs.declared.causes.Cause.TheVariants as wrong
+use Rattle.lset_text.specs.declared.causes.LineFault.{LineFault}
 use Rattle.lset_recording.specs.declared.judging.RecordingAnswer.{RecordingAnswer}
-use Rattle.lset_recording.specs.Reading.{Says, fault}
+use Rattle.lset_text.specs.Causes.{fault}
+use Rattle.lset_recording.specs.Reading.{Says}
 use Rattle.lset_recording.specs.Texts.{Recording}
 use Rattle.lset_recording.specs.Kept.{IsAnswered}
 use Rattle.lset_recording.proofs.TextFound.{text_found}
 use Rattle.tool_base.specs.declared.trouble.Trouble.{Trouble}
 use Rattle.tool_base.specs.Tools.{AnswerValue}
-use Rattle.tool_base.specs.Trouble.{of_recording, of_recording_line}
+use Rattle.tool_base.specs.Trouble.{of_line_fault, of_line}
 use Rattle.tool_judge.specs.Judging.{IsAnswerTo, Judges}
 
 -- a fault as a trouble
-pub of_fault : (bytes : List ℕ) (e : RecordingFault) (t : Trouble) → t ≡ of_recording e → (e.cause ≢ wrong.Memory → Says bytes (Err e))
+pub of_fault : (bytes : List ℕ) (e : LineFault) (t : Trouble) → t ≡ of_line_fault e → (e.cause ≢ wrong.Memory → Says bytes (Err e))
     → Judges bytes (Err t)
 of_fault bytes e t is says = by e.line e.cause is says
   where
-    by : (line : ℕ) (cause : RecordingCause) → t ≡ of_recording_line line cause
+    by : (line : ℕ) (cause : Cause) → t ≡ of_line line cause
         → (cause ≢ wrong.Memory → Says bytes (Err (fault line cause))) → Judges bytes (Err t)
     by line wrong.Memory is says = inr (inl is)
     by line cause is says = inr (inr (fault line cause, says (λ bad. absurd cc), is))

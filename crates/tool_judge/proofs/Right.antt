@@ -5,7 +5,7 @@ use Rattle.std.specs.Fmt.{decimal}
 use Rattle.lset_judge.specs.declared.judging.Verdict.{Verdict}
 use Rattle.lset_judge.specs.declared.judging.Verdict.TheVariants.{Linearizable, NotLinearizable}
 use Rattle.lset_judge.specs.declared.stream.Refusal.{Refusal}
-use Rattle.lset_recording.specs.declared.fault.RecordingFault.{RecordingFault}
+use Rattle.lset_text.specs.declared.causes.LineFault.{LineFault}
 use Rattle.lset_recording.specs.Texts.{Recording}
 use Rattle.lset_recording.specs.Reading.{IsVerdictIf, Says, first_line, nothing_told}
 use Rattle.lset_text.specs.Parts.{cut_at}
@@ -14,7 +14,7 @@ use Rattle.tool_judge.specs.Judging.{Begins, IsAnswerTo, Judges, extent, refused
 use Rattle.tool_judge.specs.Exact.{HasOrderIf, IsRight, JudgesRightly, SaysOnly}
 use Rattle.tool_judge.proofs.OneReading.{one_reading}
 
-only : (bytes : List ℕ) (read : Result Recording RecordingFault) → Says bytes read → SaysOnly bytes read
+only : (bytes : List ℕ) (read : Result Recording LineFault) → Says bytes read → SaysOnly bytes read
 only bytes read says = (says, λ other also. one_reading first_line nothing_told (cut_at 10 bytes) other read also says)
 
 -- the order that would explain it

@@ -3,11 +3,11 @@ use Rattle.std.specs.Prelude.{◌≡◌, ℕ, ◌⊎◌, Bool, true, false, List
 use Rattle.lset_history.specs.History.{HistoryValue}
 use Rattle.lset_judge.specs.Verdict.{IsExplained}
 use Rattle.lset_judge.specs.Stream.{stream_history}
-use Rattle.lset_recording.specs.declared.fault.RecordingFault.{RecordingFault}
+use Rattle.lset_text.specs.declared.causes.LineFault.{LineFault}
 use Rattle.lset_recording.specs.Texts.{Recording, all_threads}
 use Rattle.lset_recording.specs.Reading.{Says}
 use Rattle.tool_base.specs.declared.trouble.Trouble.TheVariants.{CannotRead, Memory}
-use Rattle.tool_base.specs.Trouble.{of_recording}
+use Rattle.tool_base.specs.Trouble.{of_line_fault}
 use Rattle.tool_base.specs.Tools.{AnswerValue, Made}
 use Rattle.tool_judge.specs.Judging.{Begins, Judges, ok_line}
 
@@ -28,15 +28,15 @@ IsRight c answer = (HasOrder c × (answer.status ≡ 0) × Begins (ok_line (leng
     ⊎ ((HasOrder c → ⊥) × (answer.status ≡ 1) × Begins (codes "not linearizable\n") answer.text)
 
 -- the bytes say this, and nothing else
-abbrev pub SaysOnly : List ℕ → Result Recording RecordingFault → Type 0
-SaysOnly bytes read = Says bytes read × ((other : Result Recording RecordingFault) → Says bytes other → other ≡ read)
+abbrev pub SaysOnly : List ℕ → Result Recording LineFault → Type 0
+SaysOnly bytes read = Says bytes read × ((other : Result Recording LineFault) → Says bytes other → other ≡ read)
 
 -- THE ANSWER IS RIGHT: the bytes are a recording, and it is told whether some order explains that; or the first wrong line is told, and its
 -- cause; or a read failed, or memory was refused
 abbrev pub JudgesRightly : List ℕ → Made → Type 0
 JudgesRightly bytes (Ok answer) = (c : Recording) × SaysOnly bytes (Ok c) × IsRight c answer
 JudgesRightly bytes (Err t) =
-    (t ≡ CannotRead) ⊎ ((t ≡ Memory) ⊎ ((fault : RecordingFault) × SaysOnly bytes (Err fault) × (t ≡ of_recording fault)))
+    (t ≡ CannotRead) ⊎ ((t ≡ Memory) ⊎ ((fault : LineFault) × SaysOnly bytes (Err fault) × (t ≡ of_line_fault fault)))
 
 abbrev pub AnswersAreRight : Type 0
 AnswersAreRight = (bytes : List ℕ) (made : Made) → Judges bytes made → JudgesRightly bytes made

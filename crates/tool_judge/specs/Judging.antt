@@ -4,11 +4,11 @@ use Rattle.std.specs.Fmt.{decimal}
 use Rattle.lset_judge.specs.declared.stream.Refusal.{Refusal}
 use Rattle.lset_judge.specs.declared.judging.Verdict.{Verdict}
 use Rattle.lset_judge.specs.declared.judging.Verdict.TheVariants.{Linearizable, NotLinearizable}
-use Rattle.lset_recording.specs.declared.fault.RecordingFault.{RecordingFault}
+use Rattle.lset_text.specs.declared.causes.LineFault.{LineFault}
 use Rattle.lset_recording.specs.Texts.{Recording, IsRecording, recording_text}
 use Rattle.lset_recording.specs.Reading.{Says, IsVerdictOnRecording}
 use Rattle.tool_base.specs.declared.trouble.Trouble.TheVariants.{CannotRead, Memory}
-use Rattle.tool_base.specs.Trouble.{of_recording}
+use Rattle.tool_base.specs.Trouble.{of_line_fault}
 use Rattle.tool_base.specs.Tools.{AnswerValue, Made}
 
 -- ---- what is written
@@ -46,4 +46,4 @@ pub record IsAnswerOn (c : Recording) (answer : AnswerValue) : Type 0 where
 -- failed, or memory was refused
 abbrev pub Judges : List ℕ → Made → Type 0
 Judges bytes (Ok answer) = (c : Recording) × Says bytes (Ok c) × (bytes ≡ recording_text c) × IsAnswerOn c answer
-Judges bytes (Err t) = (t ≡ CannotRead) ⊎ ((t ≡ Memory) ⊎ ((fault : RecordingFault) × Says bytes (Err fault) × (t ≡ of_recording fault)))
+Judges bytes (Err t) = (t ≡ CannotRead) ⊎ ((t ≡ Memory) ⊎ ((fault : LineFault) × Says bytes (Err fault) × (t ≡ of_line_fault fault)))

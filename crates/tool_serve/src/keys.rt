@@ -1,33 +1,8 @@
 //! The keys with which a set opens, as the lines of a text.
 
-use lset_text::{cut, is_above, number};
+use lset_text::{Cause, LineFault, cut, is_above, number};
 use lset_words::MOST_OPENING;
-use std::alloc::{AllocFailed, Global};
-use tool_base::{Input, KeyCause, LineCause, Trouble};
-
-/// Why a text has no keys with which a set can open.
-#[derive(Clone, Copy)]
-pub enum KeysFault {
-    /// A line, counted from 1, is refused.
-    Line(u64, KeyCause),
-    /// Memory was refused.
-    Memory,
-}
-
-impl<T: Drop> From<AllocFailed<T>> for KeysFault {
-    fn from(_refused: AllocFailed<T>) -> KeysFault {
-        KeysFault::Memory
-    }
-}
-
-impl From<KeysFault> for Trouble {
-    fn from(fault: KeysFault) -> Trouble {
-        match fault {
-            KeysFault::Line(line, cause) => Trouble::Line(line, LineCause::Keys(cause)),
-            KeysFault::Memory => Trouble::Memory,
-        }
-    }
-}
+use std::alloc::Global;
 
 /// What is left of a text, and the number of its first line.
 #[derive(Clone, Copy)]
@@ -71,34 +46,33 @@ fn after_head(text: &[u8]) -> Remaining<'_> {
 }
 
 /// The key in a line.
-fn key_of_line(line: &[u8]) -> Result<u32, KeyCause> {
-    let piece = piece_after(line, b"key").ok_or(KeyCause::Line)?;
-    number(piece, 0, u32::MAX).ok_or(KeyCause::Number)
+fn key_of_line(line: &[u8]) -> Result<u32, Cause> {
+    let piece = piece_after(line, b"key").ok_or(Cause::Line)?;
+    number(piece, 0, u32::MAX).ok_or(Cause::Number)
 }
 
-/// The key of a line that comes after these keys.
-fn next_key(line: &[u8], keys: &[u32]) -> Result<u32, KeyCause> {
+/// Puts the key of a line behind these keys.
+fn add_key(keys: &mut Vec<u32>, line: &[u8]) -> Result<(), Cause> {
     let key = key_of_line(line)?;
     if keys.len() >= MOST_OPENING as usize {
-        return Err(KeyCause::TooMany);
+        return Err(Cause::TooMany);
     }
     if !is_above(keys, key) {
-        return Err(KeyCause::Opening);
+        return Err(Cause::Opening);
     }
-    Ok(key)
+    keys.push(key)?;
+    Ok(())
 }
 
 /// The keys of the lines that are left, all of them lines of keys.
-fn keys_of_lines(alloc: Global, left: Remaining<'_>) -> Result<Vec<u32>, KeysFault> {
+fn keys_of_lines(alloc: Global, left: Remaining<'_>) -> Result<Vec<u32>, LineFault> {
     let mut keys = Vec::new(alloc);
     let mut line = left.line;
     let mut rest = left.text;
     while !rest.is_empty() {
-        let Some((first, after)) = cut(rest, b'\n') else {
-            return Err(KeysFault::Line(line, KeyCause::NotEnded));
-        };
-        let key = next_key(first, &keys).map_err(|cause| KeysFault::Line(line, cause))?;
-        keys.push(key)?;
+        let fault = |cause| LineFault::at(line, cause);
+        let (first, after) = cut(rest, b'\n').ok_or(fault(Cause::NotEnded))?;
+        add_key(&mut keys, first).map_err(fault)?;
         line = line.saturating_add(1);
         rest = after;
     }
@@ -112,14 +86,13 @@ fn keys_of_lines(alloc: Global, left: Remaining<'_>) -> Result<Vec<u32>, KeysFau
 ///
 /// # Errors
 ///
-/// `KeysFault::Line` for the first line that is refused, with the first check that it fails:
+/// The first line that is refused, with the first check that it fails:
 /// - `NotEnded`: it has bytes and no newline;
 /// - `Line`: it is not `key` and one further field;
 /// - `Number`: the key is not a decimal from 0 to 4,294,967,295 without leading zeros;
 /// - `TooMany`: there are `MOST_OPENING` keys above it;
-/// - `Opening`: the key is not above the one before.
-///
-/// `KeysFault::Memory`: an allocation failed.
-pub fn read_keys(alloc: Global, input: Input<'_>) -> Result<Vec<u32>, KeysFault> {
-    keys_of_lines(alloc, after_head(input.bytes()))
+/// - `Opening`: the key is not above the one before;
+/// - `Memory`: an allocation failed.
+pub fn read_keys(alloc: Global, text: &[u8]) -> Result<Vec<u32>, LineFault> {
+    keys_of_lines(alloc, after_head(text))
 }

@@ -5,5 +5,5 @@ mod keys;
 mod text;
 mod tool;
 
-pub use keys::{KeysFault, read_keys};
+pub use keys::read_keys;
 pub use tool::{serve_set, serve_set_of};

@@ -16,16 +16,16 @@ use std::net::{Ipv4Addr, Net, TcpListener, TcpStream};
 use std::sync::Wait;
 use std::thread::Threads;
 use std::time::Clock;
-use tool_base::{Answer, Input, ServeName, ServeRequest, Trouble, ValueName, put, read_all};
+use tool_base::{Answer, Input, ServeRequest, SystemCause, Trouble, ValueName, put, read_all};
 
 fn trouble_of(cause: ServeCause) -> Trouble {
     match cause {
-        ServeCause::Seats => Trouble::Serve(ServeName::Seats),
-        ServeCause::Accept => Trouble::Serve(ServeName::Accept),
-        ServeCause::Spawn => Trouble::Serve(ServeName::Spawn),
-        ServeCause::Send => Trouble::Serve(ServeName::Send),
+        ServeCause::Seats => Trouble::Serve(SystemCause::Seats),
+        ServeCause::Accept => Trouble::Serve(SystemCause::Accept),
+        ServeCause::Spawn => Trouble::Serve(SystemCause::Spawn),
+        ServeCause::Send => Trouble::Serve(SystemCause::Send),
         ServeCause::Memory => Trouble::Memory,
-        ServeCause::Left => Trouble::Serve(ServeName::Left),
+        ServeCause::Left => Trouble::Serve(SystemCause::Left),
     }
 }
 
@@ -131,6 +131,6 @@ pub fn serve_set_of<
     output: &mut W,
 ) -> Result<Answer, Trouble> {
     let bytes = read_all(alloc, input)?;
-    let keys = read_keys(alloc, Input::new(&bytes)?)?;
+    let keys = read_keys(alloc, Input::new(&bytes)?.bytes())?;
     serve_set(rt, alloc, request, &keys, output)
 }

@@ -1,39 +1,51 @@
 ghost use Rattle.lset_schedule.specs.Plan.{IsSchedule, view};
 
-use lset_replay::{FrontReport, PlacedReport, replay_upto};
-use lset_report::Report;
+use lset_lists::{List, Task, on_list};
+use lset_replay::{RunCalls, calls_of, run_of};
 use lset_schedule::Schedule;
 use std::alloc::{AllocError, Global};
 use tool_drawing::Picture;
 
-/// Returns the picture of a schedule's replay: the calls of its history, the order that explains it, with the linearization
-/// points of the run (`replay_upto`), and the remaining keys. `schedule` must be within the limits, as every schedule from
-/// `read_schedule` is. If an event is not enabled, it is the picture of the events before the first such one, with the
-/// number of its line and the cause (`NoThread`, `Busy` or `Idle`). Allocates; `AllocError` if that fails. (The pictures of
-/// Herlihy and Wing's histories, with their linearization points.)
+/// The run of a schedule, whatever its list.
+#[derive(Clone, Copy)]
+struct Running<'a> {
+    alloc: Global,
+    schedule: &'a Schedule,
+}
+
+impl Task for Running<'_> {
+    type Out = Result<RunCalls, AllocError>;
+
+    ghost may = { λ task kind. IsSchedule (view task.schedule.now) };
+
+    ghost done = { λ task table result. Unit {0} };
+
+    fn run<M: List>(self) -> Result<RunCalls, AllocError> {
+        let run = run_of::<M>(self.alloc, self.schedule, false)?;
+        calls_of(self.alloc, self.schedule, run)
+    }
+}
+
+/// Returns the picture of a schedule's run: the calls of its history, the order that explains it, with the linearization
+/// points of the run, and the remaining keys. `schedule` must be within the limits, as every schedule from `read_schedule` is.
+/// If an event is not enabled, it is the picture of the events before the first such one, with the number of its line and the
+/// cause (`NoThread`, `Busy` or `Idle`). Allocates; `AllocError` if that fails. (The pictures of Herlihy and Wing's histories,
+/// with their linearization points.)
 pub fn picture_of_replay(alloc: Global, schedule: &Schedule) -> Result<Picture, AllocError>
     requires { IsSchedule (view schedule.now) }
 {
-    let FrontReport {
-        placed,
-        events,
-        refused,
-    } = replay_upto(alloc, schedule)?;
-    let PlacedReport { report, points } = placed;
-    let Report {
-        kind,
-        history,
-        order,
-        keys,
-        ..
-    } = report;
+    let calls = on_list(schedule.kind, Running { alloc, schedule })?;
+    let refused = match calls.refused {
+        Some((line, cause)) => Some((line, cause.name())),
+        None => None,
+    };
     Ok(Picture {
-        kind,
-        history,
-        events: Some(events),
-        order,
-        points,
-        keys,
+        kind: schedule.kind,
+        history: calls.history,
+        events: Some(calls.events),
+        order: calls.order,
+        points: calls.points,
+        keys: calls.keys,
         refusal: None,
         refused,
     })

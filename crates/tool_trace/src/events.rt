@@ -83,25 +83,32 @@ fn put_changes(out: &mut Chunk, before: &Local, after: &Local) {
     }
 }
 
-fn put_begin(out: &mut Chunk, call: Call, number: u32) {
+/// Writes the number of the call that an event began or ended.
+fn put_call(out: &mut Chunk, number: Option<u32>) {
+    if let Some(number) = number {
+        put(out, " call ");
+        put_number(out, u64::from(number));
+    }
+}
+
+fn put_begin(out: &mut Chunk, call: Call, number: Option<u32>) {
     put(out, "begin ");
     put(out, call_word(call));
     put(out, " ");
     put_number(out, u64::from(call.key().0));
-    put(out, " call ");
-    put_number(out, u64::from(number));
+    put_call(out, number);
 }
 
 /// Writes what was done, the row at which the thread is then, and the registers that are new.
-fn put_deed(out: &mut Chunk, deed: Deed, before: &Local, after: &Local) {
-    match deed {
-        Deed::Begin(call, number) => put_begin(out, call, number),
+fn put_deed(out: &mut Chunk, event: &TracedEvent) {
+    match event.deed {
+        Deed::Begin(call) => put_begin(out, call, event.made.call),
         Deed::Access(action, seen) => put_access(out, action, seen),
     }
     put(out, " pc ");
-    put_number(out, u64::from(after.pc));
-    if let Deed::Access(_, _) = deed {
-        put_changes(out, before, after);
+    put_number(out, u64::from(event.after.pc));
+    if let Deed::Access(_, _) = event.deed {
+        put_changes(out, &event.before, &event.after);
     }
 }
 
@@ -112,35 +119,28 @@ fn put_change(out: &mut Chunk, change: Option<(Key, bool)>) {
     }
 }
 
-fn put_end(out: &mut Chunk, end: Option<CallEnd>) {
-    if let Some(
-        CallEnd {
-            call,
-            reply,
-            moment,
-        },
-    ) = end
-    {
-        put(out, " answer ");
-        put_reply(out, reply);
-        put(out, " call ");
-        put_number(out, u64::from(call));
-        put(out, " at ");
-        put_number(out, u64::from(moment));
-    }
+fn put_end(out: &mut Chunk, number: Option<u32>, end: CallEnd) {
+    put(out, " answer ");
+    put_reply(out, end.reply);
+    put_call(out, number);
+    put(out, " at ");
+    put_number(out, u64::from(end.moment));
 }
 
 /// Appends the line of an event.
 pub fn put_event(out: &mut Chunk, event: &TracedEvent) {
+    let made = event.made;
     put(out, "event ");
-    put_number(out, u64::from(event.moment));
+    put_number(out, u64::from(made.moment));
     put(out, " line ");
     put_number(out, event.line);
     put(out, " thread ");
-    put_number(out, u64::from(event.thread));
+    put_number(out, u64::from(made.thread));
     put(out, " ");
-    put_deed(out, event.deed, &event.before, &event.after);
-    put_change(out, event.change);
-    put_end(out, event.end);
+    put_deed(out, event);
+    put_change(out, made.change);
+    if let Some(end) = made.end {
+        put_end(out, made.call, end);
+    }
     put(out, "\n");
 }

@@ -8,8 +8,5 @@ mod running;
 mod table_words;
 mod tool;
 
-pub use lines::EventLines;
+pub use running::trace_of_run;
 pub use tool::{Trace, trace_events};
-
-/// Line 1 of a trace.
-pub const TITLE: &str = "listset-trace 1";

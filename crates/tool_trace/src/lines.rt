@@ -1,58 +1,85 @@
-//! What a trace has before and after the lines of its events, and its text in memory.
+//! The text of a trace as it is made, and where it goes.
 
-use crate::TITLE;
 use crate::chunks::{Chunk, is_full, put, put_number};
 use crate::events::put_event;
 use lset_replay::TracedEvent;
 use lset_schedule::Schedule;
 use lset_steps::ChainKey;
-use lset_text::{Header, put_header, put_openings};
+use lset_text::{kind_word, put_openings};
 use std::alloc::{AllocError, Global};
+use std::io::Write;
+use tool_base::{Trouble, put as put_out};
 
-/// Returns what a trace has before its first event: its header, and the keys with which the set opens, which are the first
-/// chain.
-pub fn head_of(alloc: Global, schedule: &Schedule) -> Result<String, AllocError> {
-    let header = Header {
-        kind: schedule.kind,
-        threads: schedule.threads,
-        quota: schedule.quota,
-    };
-    let mut head = String::new(alloc);
-    put_header(&mut head, TITLE, header)?;
+/// Line 1 of a trace.
+const TITLE: &str = "listset-trace 1";
+
+/// Where a text goes, piece by piece.
+pub trait Sink {
+    /// Takes the next piece.
+    fn take(&mut self, text: &str) -> Result<(), Trouble>;
+}
+
+/// A text in memory.
+impl Sink for Vec<u8> {
+    fn take(&mut self, text: &str) -> Result<(), Trouble> {
+        Ok(self.extend_from_slice(text.as_bytes())?)
+    }
+}
+
+/// What is written to an output.
+#[derive(Drop)]
+pub struct Output<'a, W> {
+    pub output: &'a mut W,
+}
+
+impl<W: Write> Sink for Output<'_, W> {
+    fn take(&mut self, text: &str) -> Result<(), Trouble> {
+        if put_out(self.output, text.as_bytes()) {
+            Ok(())
+        } else {
+            Err(Trouble::CannotWrite)
+        }
+    }
+}
+
+/// Returns what a trace has before its first event: its header, in which a check that the list lacks comes after it, and the
+/// keys with which the set opens, which are the first chain.
+pub fn head_of(
+    alloc: Global,
+    schedule: &Schedule,
+    lacks: Option<&str>,
+) -> Result<String, AllocError> {
+    let list = kind_word(schedule.kind);
+    let threads = schedule.threads;
+    let quota = schedule.quota;
+    let mut head = format!(in alloc; "{TITLE}\nlist {list}\n")?;
+    if let Some(lacks) = lacks {
+        writeln!(&mut head, "lacks {lacks}")?;
+    }
+    writeln!(&mut head, "threads {threads}\nquota {quota}")?;
     put_openings(&mut head, &schedule.opening)?;
     Ok(head)
 }
 
-/// Appends how a trace ends: with all events, or at an event, by the number of its line and the word for the cause.
-pub fn put_end(chunk: &mut Chunk, end: Option<(u64, &str)>) {
-    let Some((line, cause)) = end else {
-        return put(chunk, "end\n");
-    };
-    put(chunk, "refused line ");
-    put_number(chunk, line);
-    put(chunk, " ");
-    put(chunk, cause);
-    put(chunk, "\n");
-}
-
-/// The text of a trace in memory, with the chain after each event that has one.
+/// The lines of a trace, of which full chunks have gone to a sink.
 #[derive(Drop)]
-pub struct EventLines {
-    text: Vec<u8>,
+pub struct Lines<'a, S> {
     chunk: Chunk,
+    sink: &'a mut S,
 }
 
-impl EventLines {
-    /// Returns the text before the first event.
-    pub fn after(head: String) -> EventLines {
-        EventLines {
-            text: head.into_bytes(),
+impl<S: Sink> Lines<'_, S> {
+    /// Before the first event.
+    pub fn to(sink: &mut S) -> Lines<'_, S> {
+        Lines {
             chunk: Chunk::new(),
+            sink,
         }
     }
 
-    /// Adds the lines of an event. `AllocError` if an allocation fails.
-    pub fn add(&mut self, event: &TracedEvent) -> Result<(), AllocError> {
+    /// Adds the lines of an event.
+    #[inline(always)]
+    pub fn add(&mut self, event: &TracedEvent) -> Result<(), Trouble> {
         self.pour_full()?;
         put_event(&mut self.chunk, event);
         match &event.chain {
@@ -61,23 +88,30 @@ impl EventLines {
         }
     }
 
-    /// Returns the whole text, if all events were made, or that up to the line at which the run ended for this cause.
-    /// `AllocError` if an allocation fails.
-    pub fn ended(self, end: Option<(u64, &str)>) -> Result<Vec<u8>, AllocError> {
-        let mut lines = self;
-        lines.pour_full()?;
-        put_end(&mut lines.chunk, end);
-        lines.pour()?;
-        Ok(lines.text)
+    /// Adds the last line: the trace ends with all events, or at an event, by the number of its line and the word for the
+    /// cause.
+    pub fn end(&mut self, refused: Option<(u64, &str)>) -> Result<(), Trouble> {
+        self.pour_full()?;
+        match refused {
+            None => put(&mut self.chunk, "end\n"),
+            Some((line, cause)) => {
+                put(&mut self.chunk, "refused line ");
+                put_number(&mut self.chunk, line);
+                put(&mut self.chunk, " ");
+                put(&mut self.chunk, cause);
+                put(&mut self.chunk, "\n");
+            }
+        }
+        self.pour()
     }
 
-    fn pour(&mut self) -> Result<(), AllocError> {
-        self.text.extend_from_slice(self.chunk.as_str().as_bytes())?;
+    fn pour(&mut self) -> Result<(), Trouble> {
+        self.sink.take(self.chunk.as_str())?;
         self.chunk.clear();
         Ok(())
     }
 
-    fn pour_full(&mut self) -> Result<(), AllocError> {
+    fn pour_full(&mut self) -> Result<(), Trouble> {
         if is_full(&self.chunk) {
             self.pour()?;
         }
@@ -85,7 +119,7 @@ impl EventLines {
     }
 
     /// Adds the line of a chain, each of whose nodes that is marked has a star.
-    fn add_chain(&mut self, chain: &[ChainKey]) -> Result<(), AllocError> {
+    fn add_chain(&mut self, chain: &[ChainKey]) -> Result<(), Trouble> {
         put(&mut self.chunk, "chain");
         for place in chain {
             self.pour_full()?;

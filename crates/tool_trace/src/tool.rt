@@ -15,7 +15,7 @@ pub struct Trace {
 impl Tool for Trace {
     fn answer(&self, alloc: Global, input: Input<'_>) -> Result<Answer, Trouble> {
         let schedule = read_schedule(alloc, input.bytes())?;
-        Ok(trace_of(alloc, &schedule, self.chains)?)
+        trace_of(alloc, &schedule, self.chains)
     }
 }
 

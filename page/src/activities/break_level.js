@@ -1,13 +1,10 @@
 // Break, a level: a story and three hints, the verdict on the schedule, and once the list is broken the question what it lacks. Only
 // when that is answered the page says where the whole list does something else. A break that was shown, and not found, does not count.
-import { CLASSICS, LACKING } from "../../made/classics.js";
-import { addressOfLevel, fillBreaks, numberOf, openLevel, ORDER, titleOfLevel, whyWrong, wordOf } from "./break_map.js";
-import { brokenLines, isNamed, isShownBreak, keepBrokenLine, keepNamed, noteShown } from "./broken_kept.js";
-import { beginJudging } from "./judging.js";
+import { CLASSICS } from "../../made/classics.js";
 import { BREAK_LEVELS, GRADES } from "../data/levels.js";
-import { byId, redraw, setAble, setHidden } from "../page/dom.js";
+import { byId, setAble, setHidden } from "../page/dom.js";
 import { exampleText } from "../page/example.js";
-import { askNow, goTo, page, tellLine } from "../page/now.js";
+import { askNow, change, goTo, now, show, tellLine } from "../page/now.js";
 import { goByHand } from "../page/play.js";
 import { openLacking } from "../page/work.js";
 import { addressOf } from "../run/address.js";
@@ -15,21 +12,25 @@ import { departureOf, isTaskDone, NO_TASK, verdictOnLacking } from "../run/broke
 import { escaped, tag } from "../run/markup.js";
 import { scheduleOfTrace, versionOf } from "../run/schedule_text.js";
 import { isTrace, Trace } from "../run/trace.js";
+import { fillBreaks, numberOf, openLevel, titleOfLevel, whyWrong, wordOf } from "./break_map.js";
+import { drawDeparture, drawWin, level } from "./break_win.js";
+import { brokenLines, isNamed, isShownBreak, keepBrokenLine, keepNamed, noteShown } from "./broken_kept.js";
+import { beginJudging } from "./judge_begin.js";
 
 const MOST_BROKEN = 1000; // events of a run that is judged
-const level = { lacks: null, trace: null, hints: 0, wrong: new Set() };
+
+// Judges the run of a broken list that is going to be shown, and keeps it where it breaks the list.
+export function judgeBreaking(trace) {
+  if (trace.lacks === null || now.task.kind === "lesson") return;
+  const verdict = verdictOfRun(trace);
+  change("verdict", { verdict });
+  if (isTaskDone(trace.lacks, verdict)) keepBroken(trace);
+}
 
 export function showBreaking() {
-  const { trace } = page;
-  byId("break-box").hidden = trace.lacks === null;
-  document.body.classList.remove("won");
-  if (trace.lacks === null) byId("break-win").hidden = true;
-  if (trace.lacks === null) return;
-  if (level.trace === trace) return drawLevel(trace, page.verdict);
-  level.trace = trace;
-  page.verdict = verdictOfRun(trace);
-  if (isTaskDone(trace.lacks, page.verdict)) keepBroken(trace);
-  drawBreaking(trace, page.verdict);
+  byId("break-win").hidden = true;
+  const { trace } = now.run;
+  if (now.place.activity === "break" && now.task.verdict !== null) drawLevel(trace, now.task.verdict);
 }
 
 function verdictOfRun(trace) {
@@ -45,26 +46,6 @@ function keepBroken(trace) {
   if (address === null || isKept || isShownBreak(trace.lacks, schedule)) return;
   keepBrokenLine(trace.lacks, `break ${trace.lacks} ${address}`);
   fillBreaks();
-}
-
-function drawBreaking(trace, verdict) {
-  const { lacks } = trace;
-  drawDeparture(verdict.kind === "broken");
-  drawLevel(trace, verdict);
-  document.body.classList.toggle("refuted", verdict.kind === "broken");
-  const line = Object.fromEntries(brokenLines())[lacks];
-  byId("break-line").innerHTML = line === undefined ? "" : `Kept; you hand it in with the lessons: <code>${escaped(line)}</code>`;
-}
-
-// What the list lacks is told by the comparison of its run with that of the whole list, once it is broken and named.
-function drawDeparture(isBroken) {
-  const found = isBroken && isNamed(page.lacks) ? departureOf(askNow, page.trace) : null;
-  byId("break-departs").hidden = found === null;
-  if (found === null) return;
-  byId("break-event").textContent = `event ${found.event}`;
-  byId("break-event").dataset.event = found.event;
-  byId("break-here").innerHTML = found.here;
-  byId("break-whole").innerHTML = found.whole;
 }
 
 // ---- the state of a level
@@ -95,7 +76,7 @@ function stateOf(trace, verdict) {
 const reasonOf = ({ says }) => says.replace(/^Broken: /, "").replace(/the set (has|does not have) it/, "the list $1 it");
 
 function stateOfShown(verdict) {
-  if (page.count < page.trace.total) return { kind: "shown", says: "Step on, and watch.", why: "At the end the page says why it is broken." };
+  if (now.run.count < now.run.trace.total) return { kind: "shown", says: "Step on, and watch.", why: "At the end the page says why it is broken." };
   const why = `${reasonOf(verdict)} This schedule was shown to you and does not count: find one of your own.`;
   return { kind: "shown", says: "Broken, as shown.", why };
 }
@@ -113,12 +94,12 @@ function drawLevel(trace, verdict) {
   byId("break-question").textContent = GRADES[grade] === undefined ? "" : TO_DO;
   byId("break-state").className = shown.kind;
   if (byId("break-verdict").textContent !== shown.says) byId("break-verdict").textContent = shown.says; // a reader hears it once
-  byId("break-why").textContent = shown.why;
+  byId("break-why").textContent = isWon ? "" : shown.why; // then it stands beside the two sets
   byId("break-judge").hidden = verdict.kind !== "points";
   drawHints(name, isWon);
   byId("break-win").hidden = !isWon;
-  document.body.classList.toggle("won", isWon);
-  if (isWon) drawWin(trace);
+  if (isWon) drawWin(trace, shown.why);
+  drawDeparture(verdict.kind === "broken");
 }
 
 function drawHints(name, isWon) {
@@ -131,39 +112,11 @@ function drawHints(name, isWon) {
   if (byId("break-hints").children.length !== items.length) byId("break-hints").innerHTML = items.join("");
 }
 
-function drawWin({ lacks, total, calls }) {
-  const { shortest } = BREAK_LEVELS[lacks];
-  const own = `${total} events, ${calls.length} ${calls.length === 1 ? "call" : "calls"}`;
-  const isShorter = shortest !== null && total < shortest[0];
-  const best = shortest === null ? "" : isShorter ? `That is shorter than the shortest one known, of ${shortest[0]} events.` : `The shortest one known has ${shortest[0]} events.`;
-  byId("break-count").innerHTML = `You did it with <b>${own}</b>. ${best}`;
-  const next = ORDER[ORDER.indexOf(lacks) + 1];
-  byId("break-next").hidden = next === undefined;
-  if (next !== undefined) byId("break-next").href = addressOfLevel(next);
-  byId("break-next").classList.toggle("primary", isNamed(lacks));
-  drawAsk(lacks);
-}
-
-// What it lacks is asked, of the checks of its list.
-function drawAsk(name) {
-  const kin = ORDER.filter((other) => LACKING[other] === LACKING[name]);
-  const words = [...new Set([...kin.map(wordOf), ...Object.keys(BREAK_LEVELS[name].others ?? {})])].sort();
-  const isTold = isNamed(name);
-  const button = (word) => {
-    const kind = isTold ? "right" : level.wrong.has(word) ? "wrong" : "";
-    const unable = kind === "" ? {} : { "aria-disabled": "true" };
-    return tag("button", { "data-word": word, class: kind, ...unable }, escaped(word));
-  };
-  redraw(byId("break-options"), words.filter((word) => !isTold || word === wordOf(name)).map(button).join(""));
-  if (isTold) byId("break-told").textContent = "Right. That check is missing.";
-  else if (level.wrong.size === 0) byId("break-told").textContent = "";
-}
-
 function answerAsk(word) {
-  const name = page.lacks;
+  const name = now.run.lacks;
   if (word === wordOf(name)) keepNamed(name);
   else level.wrong.add(word);
-  drawBreaking(page.trace, page.verdict);
+  show();
   if (!isNamed(name)) byId("break-told").textContent = whyWrong(name, word);
 }
 
@@ -171,14 +124,14 @@ function answerAsk(word) {
 
 // An example's schedule on the broken list of its kind, as far as that list can go on with it: one event before it departs.
 function openWithoutCheck() {
-  const [name] = CLASSICS[page.example].lacks;
-  const example = exampleText(page.example);
+  const [name] = CLASSICS[now.task.id].lacks;
+  const example = exampleText(now.task.id);
   const { text } = askNow("listset_trace_lacking", name, example);
   if (!isTrace(text)) return tellLine(text.trim());
   const schedule = scheduleOfTrace(new Trace(text, versionOf(example)));
   noteShown(name, schedule);
   openLacking(name, schedule, "The same schedule, on a list without the check. Press Step.");
-  const departs = departureOf(askNow, page.trace);
+  const departs = departureOf(askNow, now.run.trace);
   if (departs !== null) goTo(departs.event - 1);
 }
 
@@ -186,11 +139,11 @@ export function listenToBreaking() {
   byId("see-broken").onclick = openWithoutCheck;
   byId("break-judge").onclick = beginJudging;
   byId("break-event").onclick = () => goByHand(Number(byId("break-event").dataset.event));
-  byId("break-again").onclick = () => openLevel(numberOf(page.lacks));
+  byId("break-again").onclick = () => openLevel(numberOf(now.run.lacks));
   byId("break-options").onclick = ({ target }) => target.dataset.word !== undefined && answerAsk(target.dataset.word);
   byId("break-hint").onclick = () => {
-    level.hints = Math.min(level.hints + 1, BREAK_LEVELS[page.lacks].hints.length);
-    drawLevel(page.trace, page.verdict);
+    level.hints = Math.min(level.hints + 1, BREAK_LEVELS[now.run.lacks].hints.length);
+    drawLevel(now.run.trace, now.task.verdict);
     byId("break-hints").scrollIntoView({ block: "nearest" });
   };
 }

@@ -1,16 +1,15 @@
 // Break, the map: the broken lists as graded levels, each a link, with a tick at each that was broken.
 import { LACKING } from "../../made/classics.js";
 import { LISTS } from "../../made/rows.js";
-import { brokenLines } from "./broken_kept.js";
 import { BREAK_LEVELS, GRADES, LACKS_IN_WORDS } from "../data/levels.js";
 import { byId } from "../page/dom.js";
-import { BREAK } from "../page/menu.js";
-import { page } from "../page/now.js";
+import { fillLacking } from "../page/menu.js";
+import { now } from "../page/now.js";
 import { setProgress } from "../page/places.js";
 import { forgetBefore, openLacking } from "../page/work.js";
 import { AddressFault } from "../run/address.js";
-import { startOfLacking, titleOfLacking } from "../run/broken.js";
 import { escaped, tag } from "../run/markup.js";
+import { brokenLines } from "./broken_kept.js";
 
 export const ORDER = Object.keys(BREAK_LEVELS);
 const counted = ORDER.filter((name) => BREAK_LEVELS[name].grade < GRADES.length);
@@ -48,24 +47,21 @@ export function drawBreakMap() {
     threads until no order of the calls explains their replies. Then say which check is missing.</p>${groups.join("")}${rest}`;
 }
 
-// The broken lists, in the list of what can be opened, with a tick at each that was broken; and the map.
+// What was broken is ticked, in the list of what can be opened and on the map.
 export function fillBreaks() {
-  const broken = new Set(brokenLines().map(([name]) => name));
-  const textOf = (name) => `${broken.has(name) ? "✓ " : ""}${titleOfLacking(name)}`;
-  byId("break-options-list").replaceChildren(...Object.keys(LACKING).map((name) => new Option(textOf(name), `${BREAK}${name}`)));
+  fillLacking(new Set(brokenLines().map(([name]) => name)));
   drawBreakMap();
 }
 
 export function openLevel(number) {
   const name = ORDER[number - 1];
   if (name === undefined) throw new AddressFault(`there is no level ${number}`);
-  openLacking(name, startOfLacking(name));
+  openLacking(name);
   forgetBefore();
-  return true;
 }
 
 export function showTaskOfBreak() {
-  const at = ORDER.indexOf(page.lacks);
+  const at = ORDER.indexOf(now.run.lacks);
   const to = (index) => (ORDER[index] === undefined ? null : addressOfLevel(ORDER[index]));
   return { before: to(at - 1), all: ["#break", "All levels"], next: to(at + 1) };
 }

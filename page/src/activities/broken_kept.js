@@ -2,7 +2,7 @@
 // schedule that showed it, and the lists of which the reader has said what they lack.
 import { LACKING } from "../../made/classics.js";
 import { isText, keepUnder, keptUnder } from "../page/kept.js";
-import { page } from "../page/now.js";
+import { now } from "../page/now.js";
 
 const BROKEN = "listset-broken";
 const SHOWN = "listset-shown-breaks";
@@ -15,7 +15,7 @@ export const noteShown = (name, schedule) => keepUnder(SHOWN, { ...keptUnder(SHO
 
 // Whether a schedule is the one that was shown, by a link or an example, or goes on with it.
 export function isShownBreak(name, schedule) {
-  if (page.text === page.begun) return true;
+  if (now.run.text === now.task.begun) return true;
   const shown = keptUnder(SHOWN)?.[name];
   return typeof shown === "string" && schedule.trimEnd().startsWith(shown.trimEnd());
 }

@@ -1,13 +1,13 @@
 // Compare: two lists side by side, under one program of calls, with some programs to begin with.
 import { LISTS } from "../../made/rows.js";
-import { drawCalls, drawContents, scaleOf } from "../draw/history.js";
+import { drawContents } from "../draw/contents.js";
+import { drawCalls, scaleOf } from "../draw/history.js";
 import { drawList, LOCK_HEIGHT } from "../draw/list.js";
 import { LEAST } from "../draw/room.js";
 import { byId, redraw } from "../page/dom.js";
 import { toggleLecture } from "../page/keys.js";
-import { askNow, page } from "../page/now.js";
-import { goToPlace, where } from "../page/places.js";
-import { copied, keepAddressOf, linkTo } from "../page/visit.js";
+import { askNow, change, now, show } from "../page/now.js";
+import { copied, keepSoon, linkTo, visit } from "../page/visit.js";
 import { addressOf, readAddress, warningOf } from "../run/address.js";
 import { chipOf, escaped, tag } from "../run/markup.js";
 import { momentAt, sentenceOf } from "../run/sentences.js";
@@ -25,15 +25,17 @@ export function drawCompare() {
 
 // Opens what an address says of two lists; of one that names none what was shown before, or the first program.
 export function openCompare(named) {
-  goToPlace("compare", "map");
-  if (named === null && shownSides.sides !== null) drawSides();
-  else openSides(named ?? readAddress(PRESETS[0][1]).sides);
-  return true;
+  change("place", { activity: "compare", screen: "map" });
+  if (named !== null || shownSides.sides === null) openSides(named ?? readAddress(PRESETS[0][1]).sides);
+  show();
 }
+
+// What is shown, for the title of the window.
+export const titleOfSides = () => ["one", "other"].map((name) => LISTS[sidesPart(name).value].name).join(" beside ");
 
 const sidesPart = (name) => byId(`sides-${name}`);
 
-export const shownSides = { sides: null, at: 0, quota: 4, opening: [] }; // at: how many turns are shown
+const shownSides = { sides: null, at: 0, quota: 4, opening: [] }; // at: how many turns are shown
 
 // Begins at the first turn, with the program that stands there.
 function beginSides(turns = []) {
@@ -69,7 +71,7 @@ function drawSide(side, thread, place) {
   const hasWaited = shownSides.at > 0 && count === side.counts[shownSides.at - 1];
   const said = hasWaited ? `${chipOf(thread)} has ended its call here, and waits for the other list.` : sentenceOf(moment);
   const width = Math.max(320, sidesPart("pictures").clientWidth / (innerWidth < 940 ? 1 : 2) - 48);
-  const scale = scaleOf(side.trace, count, width, page.hides);
+  const scale = scaleOf(side.trace, count, width, now.prefs.hides);
   side.said = said;
   return tag(
     "section",
@@ -84,9 +86,14 @@ function drawSide(side, thread, place) {
 
 // On a slide of 720 pixels the list has what the bars of the history and the rest leave.
 function drawSideList({ state }, event, width, place, ofBars) {
-  const most = page.view === "lecture" ? Math.max(220, 420 - ofBars) : 230;
+  const most = now.place.view === "lecture" ? Math.max(220, 420 - ofBars) : 230;
   const height = LEAST.atWork + (state.trace.kind === "coarse" ? 0 : LOCK_HEIGHT); // so that both are drawn in one scale
   return drawList(state, event, width, most, { width: 0, height }, `side-${place}`);
+}
+
+function turnTo(at) {
+  shownSides.at = Math.min(Math.max(at, 0), shownSides.sides.turns.length);
+  drawSides();
 }
 
 // A turn by its digit; an arrow, and a presenter's key, goes on and back.
@@ -96,9 +103,8 @@ export function pressForSides(event) {
   if (sides === null) return;
   if (by !== undefined) {
     event.preventDefault();
-    shownSides.at = Math.min(Math.max(at + by, 0), sides.turns.length);
-    drawSides();
-  } else if (/^[0-9]$/.test(event.key) && byId("single-keys").checked && Number(event.key) < sides.program.length) {
+    turnTo(at + by);
+  } else if (/^[0-9]$/.test(event.key) && now.prefs.letters && Number(event.key) < sides.program.length) {
     turnOf(Number(event.key));
   }
 }
@@ -113,16 +119,17 @@ function drawSides() {
   sidesPart("where").textContent = words;
   sidesPart("pictures").innerHTML = sides.sides.map((side, place) => drawSide(side, sides.turns[at - 1], place)).join("");
   sidesPart("heard").innerHTML = sides.sides.map((side) => `${LISTS[side.kind].name}: ${side.said}`).join(" ");
-  keepAddressOf("compare", addressOfSides());
+  visit.sides = addressOfSides();
+  keepSoon();
 }
 
 // Draws the lists anew where they are shown, as in another size or view.
 export function showSides() {
-  if (where.activity === "compare" && shownSides.sides !== null) drawSides();
+  if (now.place.activity === "compare" && shownSides.sides !== null) drawSides();
 }
 
 // The address of what is shown, from # on.
-export function addressOfSides() {
+function addressOfSides() {
   const { sides, quota, opening } = shownSides;
   const calls = sides.program.flatMap((own, thread) => own.map((call) => `${thread}.${call.replace(" ", ".")}`));
   const parts = [`sides=${sides.sides.map(({ kind }) => kind).join(".")}`, `quota=${quota}`];
@@ -159,13 +166,10 @@ export function listenToSides() {
   sidesPart("begin").onclick = () => beginSides();
   sidesPart("link").onclick = copySides;
   sidesPart("lecture").onclick = toggleLecture;
-  sidesPart("back").onclick = () => pressForSides({ key: "ArrowLeft", preventDefault() {} });
+  sidesPart("back").onclick = () => turnTo(shownSides.at - 1);
   sidesPart("turns").onclick = ({ target }) => {
     const thread = target.closest("[data-thread]")?.dataset.thread;
     if (thread !== undefined) turnOf(Number(thread));
   };
-  sidesPart("slider").oninput = () => {
-    shownSides.at = Number(sidesPart("slider").value);
-    drawSides();
-  };
+  sidesPart("slider").oninput = () => turnTo(Number(sidesPart("slider").value));
 }

@@ -1,15 +1,14 @@
 // Courses on the page: one is chosen, opened from a file or a link, written, tried, and handed out as a link or a file.
 import { BOOK, BOOK_NAME } from "../../made/book.js";
-import { learning } from "./kept_lessons.js";
-import { drawLearnMap, lessonPart } from "./learn_map.js";
 import { courseAddress, courseOfAddress } from "../course/course_link.js";
 import { triedCourse } from "../course/lesson.js";
 import { saveText } from "../page/files.js";
-import { askNow, page } from "../page/now.js";
-import { goToPlace } from "../page/places.js";
+import { askNow, held } from "../page/now.js";
 import { copied, linkTo } from "../page/visit.js";
 import { AddressFault, warningOf } from "../run/address.js";
 import { counted } from "../run/markup.js";
+import { drawLearnMap, lessonPart } from "./learn_map.js";
+import { learning } from "./learning.js";
 
 // Takes the text of a course: its lessons are shown, or its faults by their lines. Whether it is one.
 function takeCourseText(panel, text) {
@@ -17,29 +16,29 @@ function takeCourseText(panel, text) {
   const { faults, name, lessons } = course;
   const lines = faults.map(({ line, fault }) => `line ${line}: ${fault}`);
   lessonPart("faults").textContent = lines.length > 0 ? lines.join("\n") : `${name}: ${counted(lessons.length, "lesson")}, all good.`;
-  if (faults.length > 0) return false;
-  panel.takeCourse(course);
+  lessonPart("faults").dataset.isGood = faults.length > 0 ? "no" : "yes";
+  lessonPart("link-text").hidden = true;
+  if (faults.length === 0) panel.takeCourse(course);
   drawLearnMap();
-  return true;
+  return faults.length === 0;
 }
 
-// Opens the course that an address has, at its first lesson that is not solved.
-export async function openCourseOfAddress(letters) {
-  if (page.engine === null) throw new AddressFault("the address names a course of lessons, which cannot be run here");
-  const panel = learning.panel;
+// Takes the course that an address has.
+export async function takeCourseOfAddress(letters) {
+  if (held.engine === null) throw new AddressFault("the address names a course of lessons, which cannot be run here");
   const text = await courseOfAddress(letters);
-  lessonPart("course-text").value = text;
-  if (!takeCourseText(panel, text)) {
-    drawLearnMap();
-    goToPlace("learn", "map");
-    lessonPart("write").open = true;
+  if (text === learning.panel.course.text) return;
+  showCourseText(text);
+  if (lessonPart("faults").dataset.isGood !== "yes") {
     throw new AddressFault(`the course of the address has faults: ${lessonPart("faults").textContent.split("\n")[0]}`);
   }
-  const first = panel.course.lessons.find(({ name }) => !panel.isSolved(name)) ?? panel.course.lessons[0];
-  panel.choose(first);
-  goToPlace("learn", "stage");
-  panel.begin();
-  return true;
+}
+
+// A course that was opened as a file: it is taken, or its faults are told beside its text.
+export function showCourseText(text) {
+  lessonPart("course-text").value = text;
+  lessonPart("write").open = true;
+  takeCourseText(learning.panel, text);
 }
 
 async function copyCourseLink(panel) {

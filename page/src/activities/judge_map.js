@@ -1,10 +1,10 @@
 // Judge: choose a run, an example by its question or any number, and say what each call answers and where it takes effect; or let the
 // judge decide on calls that were recorded.
+import { byId } from "../page/dom.js";
+import { keptUnder } from "../page/kept.js";
 import { JUDGED } from "./judging.js";
 import { drawRecordedBox, listenToRecorded } from "./recorded.js";
 import { listenToSeedForm, questionsByList, seedForm } from "./watch.js";
-import { byId } from "../page/dom.js";
-import { keptUnder } from "../page/kept.js";
 
 export function drawJudgeMap() {
   const judged = Object.keys(keptUnder(JUDGED) ?? {});

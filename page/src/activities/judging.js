@@ -4,41 +4,41 @@ import { CLASSICS } from "../../made/classics.js";
 import { drawJudged, drawOwnOrder, judgeScale, momentOfReport } from "../draw/judged.js";
 import { byId, redraw } from "../page/dom.js";
 import { keepUnder, keptUnder } from "../page/kept.js";
-import { askNow, isJudging, page, show, tell } from "../page/now.js";
+import { askNow, dispatch, exampleShown, isJudging, now, tell } from "../page/now.js";
 import { addressOf } from "../run/address.js";
-import { exerciseOf, LEVELS, MOST_JUDGED, OwnAnswer, repliesOf, verdictOn, wordOfAnswer } from "../run/judged.js";
+import { exerciseOf, LEVELS, OwnAnswer, repliesOf, verdictOn, wordOfAnswer } from "../run/judged.js";
 import { callText, chipOf, escaped } from "../run/markup.js";
 
 export const JUDGED = "listset-judged"; // in the browser's storage: of each run and level the order that was right
 
 const HALF_STEPS = { ArrowLeft: -0.5, ArrowDown: -0.5, ArrowRight: 0.5, ArrowUp: 0.5 };
 const SLIDER_KEYS = { ...HALF_STEPS, PageDown: -5, PageUp: 5, Home: -Infinity, End: Infinity };
-const judgePart = (name) => byId(`judge-${name}`);
+export const judgePart = (name) => byId(`judge-${name}`);
 
 class Judging {
+  exercise = null;
+  answer = null;
+  verdict = null;
+  held = null; // the call whose point is dragged
+  tries = 0; // that were refused
+  moment = 0; // of a claim
+  told = "";
+
   // Begins an exercise of this level about the run that is shown. At the third the report may be that of a broken list.
   begin(level) {
-    if (page.lacks !== null) return this.take(exerciseOf(page.verdict.report, "claim", false));
-    const broken = page.example === "" ? null : askNow("listset_broken_example", page.example);
+    if (now.run.lacks !== null) return this.take(exerciseOf(now.task.verdict.report, "claim", false));
+    const broken = exampleShown() === "" ? null : askNow("listset_broken_example", exampleShown());
     const isBroken = level === "claim" && broken?.status === 0 && Math.random() < 0.5;
-    const report = isBroken ? broken : askNow("listset_replay", page.text);
+    const report = isBroken ? broken : askNow("listset_replay", now.run.text);
     if (report.status === 0) this.take(exerciseOf(report.text, level, !isBroken));
     else tell(`This run cannot be judged: ${escaped(report.text.trim())}.`);
   }
 
   take(exercise) {
-    page.exercise = exercise;
     Object.assign(this, { exercise, answer: new OwnAnswer(exercise) });
     Object.assign(this, { held: null, verdict: null, tries: 0, moment: 0, told: LEVELS[exercise.level].task });
-    document.body.classList.toggle("claim", exercise.level === "claim");
-    document.body.classList.add("judging");
-    if (page.lacks === null) judgePart("level").value = exercise.level;
-    show();
-  }
-
-  end() {
-    page.exercise = null;
-    document.body.classList.remove("judging", "claim");
+    if (now.run.lacks === null) judgePart("level").value = exercise.level;
+    dispatch("exercise", { exercise });
   }
 
   // ---- what the reader does
@@ -103,7 +103,7 @@ class Judging {
 
   // What is handed in of a run that was judged right: it goes with the solutions of the lessons.
   keep() {
-    const run = page.example === "" ? addressOf(page.text, page.count) : page.example;
+    const run = exampleShown() === "" ? addressOf(now.run.text, now.run.count) : exampleShown();
     this.line = `judge ${run} ${this.exercise.level} ${wordOfAnswer(this.answer)}`;
     if (run !== null) keepUnder(JUDGED, { ...keptUnder(JUDGED), [`${run} ${this.exercise.level}`]: this.line });
   }
@@ -112,7 +112,7 @@ class Judging {
 
   draw() {
     const { level, calls } = this.exercise;
-    this.count = page.count;
+    this.count = now.run.count;
     this.scale = judgeScale(this.exercise, Math.max(300, judgePart("bars").clientWidth));
     judgePart("task").textContent = this.told;
     judgePart("none").hidden = level !== "claim";
@@ -163,51 +163,10 @@ class Judging {
 export const judging = new Judging();
 export const drawJudging = () => isJudging() && judging.draw();
 
-// Another run is shown: the exercise was about the one before.
-export function endJudging() {
-  if (!isJudging()) return;
-  judging.end();
-  if (byId("judge").contains(document.activeElement)) byId("judge-begin").focus();
-}
-
 // After two wrong tries: the events at which it turns; of a run that is no example, those that change the set.
 function hintOfRun() {
-  const turns = CLASSICS[page.example]?.turns;
+  const turns = CLASSICS[exampleShown()]?.turns;
   if (turns !== undefined) return `The deciding events: ${turns.join(", ")}.`;
-  const changes = page.trace.changes.map(({ number }) => number);
+  const changes = now.run.trace.changes.map(({ number }) => number);
   return changes.length === 0 ? "No event changes the set." : `The set changes at the events ${changes.join(", ")}.`;
-}
-
-export function beginJudging() {
-  const { trace } = page;
-  if (page.engine === null) return tell("The replayer does not run in this browser: nothing can be judged.");
-  if (!page.isRun || trace.refused !== null) return tell("A run with a refused event cannot be judged: delete the red line of the schedule first.");
-  if (trace.calls.length === 0) return tell("There is no call to judge yet.");
-  if (trace.total > MOST_JUDGED) return tell(`A run of at most ${MOST_JUDGED} events can be judged; this one has ${trace.total}.`);
-  if (page.lacks !== null && page.verdict.report === null) return tell(escaped(page.verdict.says));
-  tell("");
-  judging.begin(judgePart("level").value);
-  judgePart("level").focus();
-}
-
-export function listenToJudging() {
-  byId("judge-begin").onclick = beginJudging;
-  judgePart("level").append(...Object.entries(LEVELS).map(([level, { name }]) => new Option(name, level)));
-  judgePart("level").value = "replies";
-  judgePart("level").onchange = judgePart("again").onclick = () => judging.begin(judgePart("level").value);
-  judgePart("ask").onclick = () => judging.judge(false);
-  judgePart("none").onclick = () => judging.judge(true);
-  judgePart("moment").oninput = () => {
-    judging.moment = Number(judgePart("moment").value);
-    judging.draw();
-  };
-  judgePart("end").onclick = () => {
-    endJudging();
-    show();
-  };
-  const bars = judgePart("bars");
-  bars.onpointerdown = (event) => judging.grasp(event);
-  bars.onpointermove = (event) => judging.held !== null && judging.drag(event);
-  bars.onpointerup = bars.onpointercancel = () => (judging.held = null);
-  bars.onkeydown = (event) => judging.press(event);
 }

@@ -8,8 +8,6 @@ const LESSONS_KEPT_BEFORE = "listset-lessons-1"; // the book's alone, as the pag
 const textsKept = (kept) => Object.entries(kept ?? {}).filter(([, text]) => isText(text));
 const namesKept = (kept) => (Array.isArray(kept) ? kept.filter(isText) : []);
 
-export const learning = { panel: null }; // the panel of the lessons, once it is there
-
 export class KeptLessons {
   constructor() {
     const kept = keptUnder(LESSONS_KEPT) ?? { isOpen: false, of: { [BOOK_NAME]: keptUnder(LESSONS_KEPT_BEFORE) } };

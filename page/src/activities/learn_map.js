@@ -1,13 +1,12 @@
 // Learn: the lessons of a course as levels with their progress; the strip of levels above the lesson that is open.
 import { BOOK_NAME } from "../../made/book.js";
 import { LISTS } from "../../made/rows.js";
-import { learning } from "./kept_lessons.js";
 import { byId } from "../page/dom.js";
-import { works } from "../page/kept.js";
 import { setProgress } from "../page/places.js";
-import { forgetBefore, openText, openWork } from "../page/work.js";
+import { forgetBefore, openWork } from "../page/work.js";
 import { AddressFault } from "../run/address.js";
 import { escaped, tag } from "../run/markup.js";
+import { learning } from "./learning.js";
 
 export const lessonPart = (name) => byId(`lesson-${name}`);
 const panel = () => learning.panel;
@@ -47,7 +46,7 @@ function progressOf(course) {
 }
 
 function linkToNext(course) {
-  const first = course.lessons.find(({ name }) => !panel().isSolved(name));
+  const first = panel().firstUnsolved();
   if (first === undefined) return "";
   const word = solvedOf(course) === 0 ? "Begin" : "Continue";
   return tag("a", { class: "button primary", href: addressOfLesson(first) }, `${word} with ${escaped(first.title)}`);
@@ -84,11 +83,11 @@ export function openLesson(name, text, event) {
   const lesson = panel().lessonNamed(name);
   if (lesson === undefined) throw new AddressFault(`no course that is kept here has a lesson "${name}"`);
   panel().choose(lesson);
-  if (text !== null) openText(text, event, panel().ownWorkOf(text) ?? works.newName(panel().workName()), "", lesson.lacks);
-  else if (panel().ownWork() !== null) openWork(panel().ownWork());
+  const own = text === null ? panel().lastTry() : panel().tryOf(text);
+  if (own !== null) openWork(own, text === null ? null : event);
+  else if (text !== null) panel().open(text, "", event);
   else panel().begin();
   forgetBefore();
-  return true;
 }
 
 export function showTaskOfLearn() {

@@ -3,37 +3,29 @@ import { CLASSICS } from "../../made/classics.js";
 import { LISTS } from "../../made/rows.js";
 import { IDEAS } from "../data/book_code.js";
 import { byId } from "../page/dom.js";
+import { examples } from "../page/example.js";
 import { works } from "../page/kept.js";
-import { askNow, isJudging, page } from "../page/now.js";
-import { openText } from "../page/work.js";
+import { askNow, exampleShown, isJudging, now } from "../page/now.js";
+import { openTask } from "../page/work.js";
 import { escaped, tag } from "../run/markup.js";
 import { anotherSeed, partsOfSeed, scheduleOfSeed, seedOf } from "../run/seed.js";
-
-const seeds = { shown: null };
 
 // The first example, and the events that a first visit plays: as long as one looks at a picture, and then it waits for the reader.
 export const FIRST = {
   example: "marked-in-chain",
   from: 15,
-  to: 20,
-  says: {
+  stop: {
+    event: 20,
     before: "It plays up to event 20, where the question arises.",
     there: "The play stops here, at the question. Press Step, or choose the next step below.",
   },
 };
 
-const kindsOfExamples = () => {
-  const kinds = {};
-  for (const option of byId("example-options").children) kinds[option.value] = /\((.+)\)$/.exec(option.textContent)[1];
-  return kinds;
-};
-
 // Cards by list, each a question and a link; `more` is what the address has behind the example, and `isDone` gives a tick.
-export function questionsByList(more = "", isDone = () => false) {
-  const kinds = kindsOfExamples();
+export function questionsByList(more = "", isDone = (_) => false) {
   const columns = Object.entries(LISTS).map(([kind, { name }]) => {
-    const items = Object.keys(kinds).filter((example) => kinds[example] === kind).map((example) => {
-      const here = example === page.example && more === "" ? { "aria-current": "true" } : {};
+    const items = examples().filter((one) => one.kind === kind).map(({ name: example }) => {
+      const here = example === exampleShown() && more === "" ? { "aria-current": "true" } : {};
       const given = { href: `#example=${example}${more}`, ...(isDone(example) ? { class: "done" } : {}), ...here };
       return tag("li", {}, tag("a", given, escaped(CLASSICS[example].question), tag("small", {}, example)));
     });
@@ -57,7 +49,7 @@ export function listenToSeedForm(id, more) {
   byId(`${id}-go`).onclick = () => {
     const kind = byId(`${id}-list`).value;
     const number = Number(byId(`${id}-number`).value);
-    location.hash = `#seed=${number > 0 ? seedOf(kind, number) : anotherSeed(seeds.shown, kind)}${more}`;
+    location.hash = `#seed=${number > 0 ? seedOf(kind, number) : anotherSeed(now.task.kind === "seed" ? now.task.id : null, kind)}${more}`;
   };
 }
 
@@ -76,31 +68,25 @@ export function drawWatchMap(isBelow = false) {
 // ---- the task above the stage
 
 export function openSeed(seed, count) {
-  const text = scheduleOfSeed((...words) => askNow(...words), seed);
-  Object.assign(seeds, { shown: seed, text });
-  openText(text, count, works.newName(`run ${partsOfSeed(seed).number}`));
+  const text = scheduleOfSeed(askNow, seed);
+  openTask({ kind: "seed", id: seed, work: works.newName(`run ${partsOfSeed(seed).number}`) }, text, count);
 }
 
-// The address of the run by its number, while its text is the one that is shown.
-export const seedAddress = (count) => (seeds.shown !== null && page.text === seeds.text ? `#seed=${seeds.shown}&event=${count}` : null);
-
-export function showTaskOfWatch() {
-  const isSeed = seedAddress(0) !== null && page.example === "";
+export function taskOfWatch() {
   const more = isJudging() ? "&judge" : "";
-  byId("seed-box").hidden = !isSeed;
-  if (isSeed) drawSeedBox(more);
-  const names = Object.keys(kindsOfExamples());
-  const at = names.indexOf(page.example);
+  if (now.task.kind === "seed") drawSeedBox(now.task.id, more);
+  const names = examples().map(({ name }) => name);
+  const at = now.task.kind === "example" ? names.indexOf(now.task.id) : -1;
   const to = (index) => (at >= 0 && names[index] !== undefined ? `#example=${names[index]}${more}` : null);
   return { before: to(at - 1), all: more === "" ? ["#watch", "All questions"] : ["#judge", "All runs"], next: to(at + 1) };
 }
 
-function drawSeedBox(more) {
-  const { kind, number } = partsOfSeed(seeds.shown);
+function drawSeedBox(seed, more) {
+  const { kind, number } = partsOfSeed(seed);
   byId("seed-number").textContent = number;
   if (document.activeElement !== byId("seed-input")) byId("seed-input").value = number;
-  byId("seed-another").href = `#seed=${anotherSeed(seeds.shown, kind)}${more}`;
-  byId("seed-judge").href = `#seed=${seeds.shown}&judge`;
+  byId("seed-another").href = `#seed=${anotherSeed(seed, kind)}${more}`;
+  byId("seed-judge").href = `#seed=${seed}&judge`;
   byId("seed-judge").hidden = more !== "";
   byId("seed-open").onclick = () => {
     const wanted = Number(byId("seed-input").value);

@@ -1,8 +1,8 @@
 // Lessons as text, so that a teacher writes them without a script. A course is a title line, its name, and one lesson after
 // another; the head of book.course tells of each word. Each fault is told by its line.
 import { LACKING } from "../../made/classics.js";
-import { GoalFault, readGoal } from "./goal_words.js";
 import { titleOf } from "../run/schedule_text.js";
+import { GoalFault, readGoal } from "./goal_words.js";
 
 export const COURSE_TITLE = "listset-course 1";
 const MOST_COURSE = 1000000; // characters of a course
@@ -42,7 +42,11 @@ class CourseReader {
     this.block = null; // the part to which lines belong that begin with two spaces
     const lines = withoutIndent(text).map((line, index) => ({ line, number: index + 1 }));
     const [title, ...rest] = lines.filter(({ line }) => line !== "" && !line.startsWith("#"));
-    if (title?.line !== COURSE_TITLE) return this.fault(title?.number ?? 1, `expected "${COURSE_TITLE}" here`);
+    if (title?.line !== COURSE_TITLE) this.fault(title?.number ?? 1, `expected "${COURSE_TITLE}" here`);
+    else this.takeAll(title, rest);
+  }
+
+  takeAll(title, rest) {
     rest.forEach(({ line, number }) => this.take(line, number));
     if (this.name === "") this.fault(title.number, 'expected the line "course NAME" below it');
     if (this.lessons.length === 0) this.fault(title.number, "there is no lesson below");

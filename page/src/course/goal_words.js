@@ -119,15 +119,23 @@ function foundBy(line, run, bound) {
   return steps.filter(({ event }) => event.deed !== "begin" && (thread === null || event.thread === thread));
 }
 
-// Whether all lines can be met at once: tried one after another.
-function canMeet(lines, run, bound = new Map(), at = 0) {
-  if (at === lines.length) return true;
-  const line = lines[at];
-  if (line.says !== undefined) return canMeet(lines, run, bound, at + 1);
-  if (line.isWhole !== undefined) return line.isWhole(run) && canMeet(lines, run, bound, at + 1);
-  const fits = foundBy(line, run, bound).filter((found) => line.tests.every((test) => test(found, run, bound)));
-  if (line.count !== null) return fits.length >= line.count && canMeet(lines, run, bound, at + 1);
-  return fits.some((found) => canMeet(lines, run, new Map(bound).set(line.name, found), at + 1));
+const MOST_WAYS = 100000; // to meet the lines of a goal, that are tried: some 0.2 s
+export class TooManyWays extends Error {}
+
+// Whether all lines can be met at once: tried one after another, up to a bound.
+function canMeet(lines, run) {
+  let left = MOST_WAYS;
+  const from = (at, bound) => {
+    if (at === lines.length) return true;
+    if (left-- === 0) throw new TooManyWays();
+    const line = lines[at];
+    if (line.says !== undefined) return from(at + 1, bound);
+    if (line.isWhole !== undefined) return line.isWhole(run) && from(at + 1, bound);
+    const fits = foundBy(line, run, bound).filter((found) => line.tests.every((test) => test(found, run, bound)));
+    if (line.count !== null) return fits.length >= line.count && from(at + 1, bound);
+    return fits.some((found) => from(at + 1, new Map(bound).set(line.name, found)));
+  };
+  return from(0, new Map());
 }
 
 // The conditions of a goal in a run, each { says, isMet }, and of one that is not met the first of its lines that is missing, in words.

@@ -12,13 +12,13 @@
 // It comes by mail as often as not: lines may be quoted, folded or coded as mail does that, and others may stand around the text.
 // One file may have the texts of a whole class, and courses too.
 import { CLASSICS, LACKING } from "../../made/classics.js";
-import { COURSE_TITLE } from "./course_text.js";
-import { judged, missingIn, MOST_EVENTS } from "./lesson.js";
 import { AddressFault, addressOf, readAddress } from "../run/address.js";
 import { isTaskDone, NO_TASK, verdictOnLacking } from "../run/broken.js";
 import { answerOfWord, exerciseOf, LEVELS, verdictOn } from "../run/judged.js";
 import { eventsAsked, scheduleOfTrace, versionOf } from "../run/schedule_text.js";
 import { Trace } from "../run/trace.js";
+import { COURSE_TITLE } from "./course_text.js";
+import { judged, missingIn, MOST_EVENTS } from "./lesson.js";
 
 const HAND_IN_TITLE = /^listset-lessons [12]$/;
 
@@ -48,6 +48,7 @@ function unmailed(text) {
 
 // The texts that a file has, by their titles: courses as they stand, and what was handed in.
 export function textsIn(text) {
+  /** @type {any[]} */
   const found = [];
   const given = text.split(/\r\n|\r|\n/);
   for (const { line, number } of unmailed(text)) {

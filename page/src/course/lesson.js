@@ -1,13 +1,14 @@
 // What a lesson says of a schedule: whether it is a solution, which conditions of the goal its run meets, and why none is looked
 // at. A lesson is tried when it is read: its start does not reach its goal, and its answer does.
-import { lessonText, readCourse } from "./course_text.js";
-import { conditionsOf } from "./goal_words.js";
+import { readFault } from "../engine/answers.js";
 import { askList, TO_BREAK, verdictOnLacking } from "../run/broken.js";
 import { scheduleOfDraft } from "../run/draft.js";
 import { CAUSES } from "../run/faults.js";
 import { Run } from "../run/moments.js";
 import { eventsAsked, versionOf } from "../run/schedule_text.js";
 import { HEADER_LINES, isTrace, Trace } from "../run/trace.js";
+import { lessonText, readCourse } from "./course_text.js";
+import { conditionsOf, TooManyWays } from "./goal_words.js";
 
 export const MOST_EVENTS = 1000; // of a solution
 export const OTHER_SET = "The list, the number of threads, the quota and the opening keys are to be those of the lesson.";
@@ -33,9 +34,27 @@ export function judged(ask, lesson, schedule) {
   const { trace, fault } = runOfSchedule(ask, schedule, lesson.lacks);
   if (trace === null) return unjudged(`${fault[0].toUpperCase()}${fault.slice(1)}.`);
   const run = new Run(trace);
-  const conditions = conditionsOfLesson(ask, lesson, schedule, run);
+  const conditions = withinBound(() => conditionsOfLesson(ask, lesson, schedule, run));
+  if (conditions === null) return unjudged("This run is not judged: there are too many ways in which it could meet the goal.");
   const isSolved = conditions.every(({ isMet }) => isMet);
-  return { isSolved, reason: null, conditions, deadEnd: isSolved ? null : deadEndIn(lesson, run) };
+  return { isSolved, reason: null, conditions, deadEnd: isSolved ? null : withinBound(() => deadEndIn(lesson, run)) };
+}
+
+// What a search of a goal finds, or null where it has too many ways to look at.
+function withinBound(search) {
+  try {
+    return search();
+  } catch (fault) {
+    if (!(fault instanceof TooManyWays)) throw fault;
+    return null;
+  }
+}
+
+// Whether a goal can be looked for in a run of some sixty events, which the engine makes, of the lesson's list and threads.
+function isBounded(ask, { list, threads, goal }) {
+  const { text, status } = ask("listset_gen", [list, Math.max(threads, 2), 4, 6, 3, 1].join("\0"));
+  const { trace } = status === 0 ? runOfSchedule(ask, text, null) : { trace: null };
+  return trace === null || withinBound(() => conditionsOf(goal, new Run(trace))) !== null;
 }
 
 // What a solution shows, as the student reads it: the conditions of the goal, and of a broken list that the schedule breaks it.
@@ -67,7 +86,10 @@ function troubleOf(ask, lesson) {
   lesson.begun = start.text;
   const begin = runOfSchedule(ask, start.text, lesson.lacks);
   if (begin.trace === null) return refusedLine(lesson, "start", begin.fault);
-  const met = conditionsOfLesson(ask, lesson, start.text, new Run(begin.trace));
+  if (!isBounded(ask, lesson)) {
+    return { line: lesson.line, says: "there are too many ways to meet its goal: name fewer steps, or say more of each" };
+  }
+  const met = withinBound(() => conditionsOfLesson(ask, lesson, start.text, new Run(begin.trace))) ?? [{ isMet: false }];
   if (met.every(({ isMet }) => isMet)) return { line: lesson.line, says: "its start meets the goal already" };
   lesson.solution = null;
   if (lesson.answer.length === 0) return null;
@@ -82,8 +104,8 @@ function troubleOf(ask, lesson) {
 
 // A fault of the schedule of a start or an answer, told by the line of the course and in words.
 function refusedLine(lesson, part, fault) {
-  const [, number, cause] = /line (\d+)(?: of the schedule is refused)?: (\w+)/i.exec(fault) ?? [];
-  const given = lesson.events[Number(number) - HEADER_LINES - lesson.opening.length - 1];
+  const { line, cause } = readFault(fault);
+  const given = lesson.events[line - HEADER_LINES - lesson.opening.length - 1];
   if (given === undefined || !(cause in CAUSES)) return { line: lesson.line, says: `its ${part} is refused: ${fault}` };
   return { line: given.number, says: `its ${part} is refused at "${given.line}": ${CAUSES[cause]}` };
 }

@@ -30,7 +30,8 @@ function drawLine(line, number, { made, next }) {
   const isMade = rows.includes(made);
   const threads = next.filter(({ row }) => rows.includes(row)).map(({ thread }) => thread);
   const depth = text.match(/^ */)[0].length;
-  const words = escaped(text.trim()).replace(KEYWORDS, "<b>$1</b>");
+  const [code, colon = "", prose = ""] = rows.length === 0 ? text.trim().split(/(?<=\)(:)) {2}/) : [text.trim()]; // a heading ends in a remark
+  const words = escaped(code).replace(KEYWORDS, "<b>$1</b>") + (colon === "" ? "" : `&ensp;<i>${escaped(prose)}</i>`);
   const kind = ["code-line", rows.length === 0 && !line.isPlain ? "heads" : "", isMade ? "made" : "", threads.length > 0 ? "next" : ""];
   const names = threads.map((thread) => `t${thread}`).join(" and ");
   const told = threads.length > 0 ? tag("span", { class: "unseen" }, `, next of ${names}`) : "";

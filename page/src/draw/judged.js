@@ -1,8 +1,8 @@
 // Draws the bars on which the reader puts points: each is a slider for the keyboard; the call that clashes is red.
-import { placeLabels, ROW_HEIGHT, signOf, widthOf } from "./labels.js";
 import { lastMoment, nameOfCall } from "../run/judged.js";
 import { callText, chipOf, colourOf, escaped, label, tag, title } from "../run/markup.js";
 import { recordedInWords } from "../run/recorded.js";
+import { placeLabels, ROW_HEIGHT, signOf, widthOf } from "./labels.js";
 
 const JUDGE_LEFT = 50;
 const JUDGE_RIGHT = 20;
@@ -120,9 +120,15 @@ function drawFrom(says, { x, step, width, height }, moment) {
 function drawOwnPoint(call, at, y, scale) {
   const x = scale.x(at);
   const stem = tag("line", { x1: x, x2: x, y1: y - 15, y2: y + 15 });
-  const beside = x + SLOT_WIDTH > scale.width ? { x: x - 11, "text-anchor": "end" } : { x: x + 11 };
-  const words = label({ ...beside, y: y + 5 }, momentInWords(at));
-  return tag("g", { class: `point own ${colourOf(call.thread)}` }, stem, tag("circle", { cx: x, cy: y, r: 8 }), words);
+  return tag("g", { class: `point own ${colourOf(call.thread)}` }, stem, tag("circle", { cx: x, cy: y, r: 8 }), drawWhen(call, at, y, scale));
+}
+
+// When a point is, beside it where its own bar has room for that: over the bar of another call it would be read as that one's.
+function drawWhen(call, at, y, scale) {
+  const x = scale.x(at);
+  const isRoomy = (room) => room >= SLOT_WIDTH;
+  if (isRoomy(rightOf(call, scale) - x)) return label({ x: x + 11, y: y + 5 }, momentInWords(at));
+  return isRoomy(x - leftOf(call, scale)) ? label({ x: x - 11, y: y + 5, "text-anchor": "end" }, momentInWords(at)) : "";
 }
 
 export function drawJudged(judged) {

@@ -5,8 +5,10 @@ export const LARGE_MEMORY = 1 << 28; // past so many bytes an instance is not us
 
 export class Engine {
   // `read` puts bytes of an input of the host at the front of a piece of the memory, and tells how many, or -1.
+  /** @param {(input: bigint, room: Uint8Array) => number} read */
   constructor(module, read = () => -1) {
     this.module = module;
+    /** @type {any} */
     this.instance = null;
     this.host = { env: { read: (input, at, count) => BigInt(read(input, this.piece(Number(at), Number(count)))) } };
   }

@@ -1,23 +1,23 @@
 // What the buttons, the slider, the box of the schedule and the history do.
 import { HISTORY_LEFT } from "../draw/history.js";
+import { escaped } from "../run/markup.js";
 import { byId } from "./dom.js";
 import { openFile, refreshReport, saveText } from "./files.js";
 import { keepUnder, keptUnder } from "./kept.js";
 import { toggleKeys, toggleLecture } from "./keys.js";
 import { cancelLong } from "./long_run.js";
 import { chooseInList } from "./menu.js";
-import { page, show, tell } from "./now.js";
-import { isAtWork, where } from "./places.js";
+import { change, dispatch, now, show, tell } from "./now.js";
+import { isAtWork, PHONE } from "./places.js";
 import { changeSpeed, goByHand, togglePlay, wantsLessMotion } from "./play.js";
 import { savePicture } from "./save_picture.js";
-import { showMarks, watchEditor } from "./view.js";
+import { drawnHistory, showMarks, watchEditor } from "./view.js";
 import { copyLink, keepSoon } from "./visit.js";
-import { newSchedule, redo, runBox, runWithOpening, undo } from "./work.js";
-import { escaped } from "../run/markup.js";
+import { leaveWhatIf, newSchedule, redo, runBox, runWithOpening, undo } from "./work.js";
 
 function clickHistory(event) {
   const drawn = byId("calls").firstElementChild.getBoundingClientRect();
-  goByHand(page.scale.first - 1 + Math.ceil((event.clientX - drawn.left - HISTORY_LEFT) / page.scale.step));
+  goByHand(drawnHistory.scale.first - 1 + Math.ceil((event.clientX - drawn.left - HISTORY_LEFT) / drawnHistory.scale.step));
 }
 
 // What a tooltip says, where a finger or the mouse is put on a part of a drawing.
@@ -37,10 +37,9 @@ export function listenToDrawings() {
     tell(escaped(said));
   };
   byId("all-threads").onclick = () => {
-    page.allThreads = !page.allThreads;
-    show();
+    dispatch("prefs", { allThreads: !now.prefs.allThreads });
   };
-  for (const name of ["table-box", "listing-box", "turns-box"]) byId(name).ontoggle = show;
+  for (const name of ["table-box", "listing-box", "threads-box", "turns-box"]) byId(name).ontoggle = show;
 }
 
 // What cannot be pressed now does nothing.
@@ -53,8 +52,8 @@ export function stopUnable(event) {
 // Past the links of the frame, for whoever comes by the key Tab: to the step, to the first move of a lesson or level, or to the first
 // link of a map.
 function skipToRun() {
-  const first = { map: `#map-${where.activity} a, [data-activity=compare] #sides-turns button`, stage: isAtWork() ? "#moves button" : "#next" };
-  document.querySelector(first[where.screen])?.focus();
+  const first = { map: `#map-${now.place.activity} a, [data-activity=compare] #sides-turns button`, stage: isAtWork() ? "#moves button" : "#next" };
+  document.querySelector(first[now.place.screen])?.focus();
 }
 
 // On a phone the controls stay at its foot: what they do is shown above them.
@@ -63,14 +62,13 @@ function bringList() {
   const isSeen = top >= 0 && byId("list").getBoundingClientRect().bottom <= byId("dock").getBoundingClientRect().top;
   if (innerWidth <= PHONE && !isSeen) scrollTo(0, scrollY + top - 8);
 }
-const PHONE = 560; // pixels, as in the style sheets
 
 export function listenToBar() {
   byId("dock").addEventListener("click", bringList);
   byId("first").onclick = () => goByHand(0);
-  byId("back").onclick = () => goByHand(page.count - 1);
-  byId("next").onclick = () => goByHand(page.count + 1);
-  byId("last").onclick = () => goByHand(page.trace.total);
+  byId("back").onclick = () => goByHand(now.run.count - 1);
+  byId("next").onclick = () => goByHand(now.run.count + 1);
+  byId("last").onclick = () => goByHand(now.run.trace.total);
   byId("play").onclick = togglePlay;
   byId("speed").onchange = changeSpeed;
   byId("speed").value = wantsLessMotion() ? "slow" : "medium";
@@ -85,15 +83,15 @@ export function listenToBar() {
 // What the reader has set is kept: whether what is to come is hidden, and whether single letters are keys.
 export function listenToSettings() {
   const kept = keptUnder(SETTINGS) ?? {};
-  byId("hides").checked = page.hides = kept.hides !== false;
-  byId("single-keys").checked = kept.letters !== false;
-  const keep = () => keepUnder(SETTINGS, { hides: page.hides, letters: byId("single-keys").checked });
-  byId("single-keys").onchange = keep;
-  byId("hides").onchange = () => {
-    page.hides = byId("hides").checked;
-    keep();
-    show();
-  };
+  change("prefs", { hides: kept.hides !== false, letters: kept.letters !== false });
+  byId("hides").checked = now.prefs.hides;
+  byId("single-keys").checked = now.prefs.letters;
+  for (const [name, id] of [["hides", "hides"], ["letters", "single-keys"]]) {
+    byId(id).onchange = () => {
+      dispatch("prefs", { [name]: byId(id).checked });
+      keepUnder(SETTINGS, { hides: now.prefs.hides, letters: now.prefs.letters });
+    };
+  }
 }
 const SETTINGS = "listset-settings";
 
@@ -104,6 +102,10 @@ export function listenToWork() {
   byId("opening").onchange = runWithOpening;
   byId("undo").onclick = undo;
   byId("redo").onclick = redo;
+  byId("what-if-back").onclick = () => {
+    leaveWhatIf();
+    byId("next").focus();
+  };
   byId("link").onclick = copyLink;
   byId("new").onclick = () => newSchedule(byId("new-list").value, byId("new-threads").value, byId("new-quota").value);
   box.onscroll = showMarks;
@@ -121,7 +123,7 @@ export function listenToFiles() {
   byId("report-box").ontoggle = refreshReport;
   byId("file").onchange = () => openFile(byId("file").files[0]).then(() => (byId("file").value = ""));
   byId("save-schedule").onclick = () => saveText("page.schedule", byId("schedule").value);
-  byId("save-trace").onclick = () => saveText("page.trace", page.trace.text);
+  byId("save-trace").onclick = () => saveText("now.run.trace", now.run.trace.text);
   byId("save-picture").onclick = savePicture;
 }
 

@@ -1,18 +1,20 @@
 // The parts of the page by their names, and what is done to them so that nobody loses the focus.
 
+/** @type {(id: string) => any} */
 export const byId = (id) => document.getElementById(id);
 
-// Puts a text of elements in place of what a box has; what had the focus there has it again, or the box's first part that can.
+// Puts a text of elements in place of what a box has; what had the focus there has it again, or else the first button:
+// never a field, in which the next key would be another one than the reader means.
 export function redraw(box, html) {
+  /** @type {any} */
   const before = box.contains(document.activeElement) ? document.activeElement : null;
   const keyOf = (part) => JSON.stringify({ ...part.dataset, name: part.tagName });
   const key = before === null ? "" : keyOf(before);
   if (typeof html === "string") box.innerHTML = html;
   else box.replaceChildren(...html);
   if (before === null) return;
-  const parts = [...box.querySelectorAll("button, select, input, a, [tabindex]")];
-  const isOfSame = (part) => part.dataset.of !== undefined && part.dataset.of === before.dataset.of;
-  (parts.find((part) => keyOf(part) === key) ?? parts.find(isOfSame) ?? parts[0] ?? box).focus();
+  const same = [...box.querySelectorAll("button, select, input, a, [tabindex]")].find((part) => keyOf(part) === key);
+  (same ?? box.querySelector("button, a") ?? box).focus();
 }
 
 // A button that does nothing now is told as such, and keeps the focus that it has.
@@ -20,6 +22,27 @@ export const setAble = (id, isAble) => byId(id).setAttribute("aria-disabled", St
 
 // Hides a part, or shows it; if it had the focus another one has it then.
 export function setHidden(part, isHidden, other) {
-  if (isHidden && part === document.activeElement) other.focus();
+  if (part.hidden === isHidden) return;
+  if (isHidden && part.contains(document.activeElement)) other.focus();
   part.hidden = isHidden;
 }
+
+// Puts a text of elements in place of what a box has, where that is another one.
+export function setHtml(box, html) {
+  if (texts.get(box) === html) return;
+  texts.set(box, html);
+  box.innerHTML = html;
+}
+const texts = new WeakMap();
+
+// A box keeps the height that it has had for one thing, so that what stands below it moves once at most.
+export function keepHeight(box, of) {
+  const key = `${of} ${innerWidth}`;
+  const isSame = heights.get(box)?.key === key;
+  if (!isSame) box.style.minHeight = "";
+  const height = box.offsetHeight;
+  if (isSame && height <= heights.get(box).height) return;
+  heights.set(box, { key, height });
+  box.style.minHeight = `${height}px`;
+}
+const heights = new WeakMap();

@@ -1,15 +1,14 @@
 // Files: a schedule, a trace or a report that is opened; a schedule and a trace that are saved. And the box of the report.
-import { byId } from "./dom.js";
-import { chooseExample } from "./example.js";
-import { works } from "./kept.js";
-import { askLong, LONG_TEXT } from "./long_run.js";
-import { announce, askNow, NO_ENGINE, page, show, takeScheduleOfTrace, takeTrace, tellFault } from "./now.js";
-import { keepBefore, openText, takeName } from "./work.js";
+import { readShow } from "../engine/answers.js";
 import { askList } from "../run/broken.js";
 import { faultOfTrace } from "../run/check_trace.js";
-import { otherOrders } from "../run/judged.js";
+import { recordedInWords } from "../run/recorded.js";
 import { scheduleOfTrace } from "../run/schedule_text.js";
 import { isTrace, Trace } from "../run/trace.js";
+import { byId } from "./dom.js";
+import { askLong, LONG_TEXT } from "./long_run.js";
+import { announce, askNow, dispatch, held, NO_ENGINE, now, takeScheduleOfTrace, takeTrace, tellTrouble } from "./now.js";
+import { beginTask, keepBefore, openTask, ownTask } from "./work.js";
 
 const REPLY_WIDTH = 60; // of a call in the picture of a report: what stands right of its bar
 
@@ -25,6 +24,7 @@ export function saveText(name, text) {
 function kindOfFile(text) {
   if (text.startsWith("listset-trace")) return "trace";
   if (text.startsWith("listset-calls")) return "calls";
+  if (text.startsWith("listset-course")) return "course";
   return text.startsWith("listset-report") ? "report" : "schedule";
 }
 
@@ -47,27 +47,27 @@ export async function openFile(file) {
   const text = new TextDecoder().decode(new Uint8Array(await file.arrayBuffer()));
   const kind = kindOfFile(text);
   const isJudged = kind === "report" || kind === "calls";
-  if (isJudged && page.engine === null) return tellFault(page.faultLine, "", NO_ENGINE, !page.isRun);
+  tellTrouble("");
+  if ((isJudged || kind === "course") && held.engine === null) return tellTrouble(NO_ENGINE);
+  if (kind === "course") return announce("course", text);
   if (kind === "calls") return announce("recorded", text);
   if (kind === "report") {
     await openReportBox();
     return showReport(text, `The report in ${file.name}:`);
   }
-  const name = works.newName(`from ${file.name}`);
-  if (kind === "schedule") return openText(text, 0, name);
-  openTrace(text, name);
+  const task = ownTask(`from ${file.name}`);
+  if (kind === "schedule") return openTask(task, text, 0);
+  openTrace(text, task);
 }
 
-function openTrace(text, name) {
+function openTrace(text, task) {
   const fault = faultOfTrace(text);
-  if (fault !== null) return tellFault(null, "", `this is no trace: ${fault}`);
+  if (fault !== null) return tellTrouble(`this is no trace: ${fault}`);
   keepBefore();
-  takeName(name, "");
-  chooseExample("");
+  beginTask(task);
   takeTrace(new Trace(text), 0, "a trace from a file");
   takeScheduleOfTrace();
-  page.source = comparedTrace(page.engine === null ? null : askNow, page.trace);
-  show();
+  dispatch("source", { source: comparedTrace(held.engine === null ? null : askNow, now.run.trace) });
 }
 
 // Unfolds the box of the report, and waits until that is told: a box that is unfolded shows the schedule's own report first.
@@ -107,9 +107,9 @@ function drawPicture(text) {
 
 // The lines of a picture that say why its order is refused, or which event is, and why no order explains the report.
 function refusalIn(drawn) {
-  const { kind, lines } = otherOrders(drawn);
-  const refused = drawn.text.split("\n").filter((line) => line.startsWith("refused "));
-  return [...refused, ...(kind === "none" ? lines.filter((line) => !line.endsWith(":")) : [])].join("; ");
+  const { refused, why } = readShow(drawn);
+  const reasons = (why?.told ?? []).flatMap(({ says, calls }) => (calls.length === 0 ? [says] : calls.map(recordedInWords)));
+  return [...(refused === null ? [] : [refused.says]), ...reasons].join("; ");
 }
 
 // Brings the first call that clashes into sight, with its reply, where the picture is wider than its place.
@@ -122,9 +122,9 @@ function scrollToClash() {
 
 // The report of the schedule that is shown, or the line about its first fault.
 async function showOwnReport(schedule) {
-  const { lacks } = page;
+  const { lacks } = now.run;
   const answer = lacks === null ? await askLong("listset_replay", schedule) : askList(askNow, "listset_replay", lacks, schedule);
-  if (page.text !== schedule) return;
+  if (now.run.text !== schedule) return;
   if (answer.status === 0) return showReport(answer.text, "The report of this schedule:");
   byId("report").textContent = answer.text;
   byId("report-of").textContent = "There is no report:";
@@ -134,5 +134,5 @@ async function showOwnReport(schedule) {
 }
 
 export function refreshReport() {
-  if (byId("report-box").open && page.engine !== null) showOwnReport(page.text);
+  if (byId("report-box").open && held.engine !== null) showOwnReport(now.run.text);
 }

@@ -1,10 +1,13 @@
-// What is kept in this browser from one visit to the next: each schedule that the reader made, under the name of where it began (a
-// lesson, an example, a link, a file, or none of these), and what the reader has set. Nothing takes the place of another work.
+// What is kept in this browser from one visit to the next: each schedule that the reader made, under a name and with the task it is for,
+// and where the reader was. Nothing takes the place of another work.
+import { BOOK_NAME } from "../../made/book.js";
+import { CLASSICS } from "../../made/classics.js";
 import { byId } from "./dom.js";
-import { announce, page } from "./now.js";
+import { announce, held, now } from "./now.js";
 
 const KEPT = "listset-page-2";
 const KEPT_BEFORE = "listset-page"; // one text, as the page kept it before
+export const HERE = "listset-here"; // the address of what was shown last
 const MOST_WORKS = 60; // the oldest ones go
 
 // What stands in the browser's storage under a name, or null where it keeps nothing, or something else stands there.
@@ -28,9 +31,24 @@ export function keepUnder(name, value) {
 
 export const isText = (value) => typeof value === "string";
 const isWork = (kept) => typeof kept?.text === "string" && typeof kept.box === "string" && Number.isInteger(kept.count);
+const KINDS = ["own", "example", "lesson", "level", "seed"];
+const isTask = (task) => KINDS.includes(task?.kind) && isText(task.id) && isText(task.course);
 
-// The works by their names, the last one last: of each its text, that of the box, and its event.
+// The task of a work that an earlier version of the page kept: its name told what it was for.
+function taskOfName(name, lacks) {
+  const [, lesson, course = BOOK_NAME] = /^lesson ([a-z0-9-]+)(?: of (.+?))?(?: \d+)?$/.exec(name) ?? [];
+  if (lesson !== undefined) return { kind: "lesson", id: lesson, course };
+  const [, example] = /^from ([a-z-]+)(?: \d+)?$/.exec(name) ?? [];
+  if (Object.hasOwn(CLASSICS, example)) return { kind: "example", id: example, course: "" };
+  return lacks === null ? { kind: "own", id: "", course: "" } : { kind: "level", id: lacks, course: "" };
+}
+
+/** @type {(entry: any[]) => [string, any]} */
+const workOf = ([name, kept]) => [name, { ...kept, task: isTask(kept.task) ? kept.task : taskOfName(name, kept.lacks ?? null) }];
+
+// The works by their names, the last one last: of each its text, that of the box, its event, and its task.
 export const works = {
+  /** @type {Map<string, any>} */
   byName: new Map(),
   isKept: true,
 
@@ -38,8 +56,8 @@ export const works = {
     const kept = keptUnder(KEPT);
     const before = keptUnder(KEPT_BEFORE);
     const entries = Array.isArray(kept) ? kept : isWork(before) ? [["my schedule", before]] : [];
-    const isGood = (entry) => Array.isArray(entry) && typeof entry[0] === "string" && isWork(entry[1]);
-    this.byName = new Map(entries.filter(isGood));
+    const isGood = (entry) => Array.isArray(entry) && isText(entry[0]) && isWork(entry[1]);
+    this.byName = new Map(entries.filter(isGood).map(workOf));
   },
 
   set(name, work) {
@@ -50,9 +68,14 @@ export const works = {
     this.isKept = keepUnder(KEPT, [...this.byName]);
   },
 
+  // The name of the last work of which this is so, or null.
+  last(isWanted) {
+    return [...this.byName].findLast(([, work]) => isWanted(work))?.[0] ?? null;
+  },
+
   // The name of the work with this text, run on the same list, or null.
   nameOf(text, lacks = null) {
-    return [...this.byName].findLast(([, work]) => work.text === text && (work.lacks ?? null) === lacks)?.[0] ?? null;
+    return this.last((work) => work.text === text && (work.lacks ?? null) === lacks);
   },
 
   // A name that no work has yet.
@@ -67,10 +90,12 @@ export const works = {
 // Keeps what the reader made; what was only looked at, an example, a link or the start of a lesson, is not kept.
 export function keepWork() {
   const box = byId("schedule").value;
-  const isLookedAt = box === page.text && page.text === page.begun;
-  if (page.engine === null || page.text === "" || isLookedAt) return;
-  const before = works.byName.get(page.name);
-  if (before?.text === page.text && before.box === box && before.count === page.count) return;
-  works.set(page.name, { text: page.text, box, count: page.count, lacks: page.lacks });
+  const { run, task } = now;
+  const isLookedAt = box === run.text && run.text === task.begun;
+  if (held.engine === null || run.text === "" || isLookedAt || task.work === "") return;
+  const before = works.byName.get(task.work);
+  if (before?.text === run.text && before.box === box && before.count === run.count) return;
+  const { kind, id, course } = task;
+  works.set(task.work, { text: run.text, box, count: run.count, lacks: run.lacks, task: { kind, id, course } });
   announce("kept");
 }

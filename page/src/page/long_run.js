@@ -1,9 +1,9 @@
 // Long runs: the engine works in a worker if the browser can start one, so that the run can be cancelled. If it cannot, the page says
 // that it runs, before it does.
 import { askInWorker } from "../engine/worker.js";
-import { byId } from "./dom.js";
-import { askNow, page, tellFault } from "./now.js";
 import { eventsAsked } from "../run/schedule_text.js";
+import { byId } from "./dom.js";
+import { askNow, held, now, tellFault } from "./now.js";
 
 export const MANY_EVENTS = 20000; // so many run beside the page, with a button to cancel that
 export const LONG_TEXT = 200000; // characters of a report that has no picture here
@@ -14,7 +14,7 @@ export async function askLong(name, text, isOfRun = true) {
   const events = eventsAsked(text);
   if (text.length < LONG_TEXT && events < MANY_EVENTS) return askNow(name, text);
   try {
-    const { worker, answer } = askInWorker(page.engine.module, name, text, events);
+    const { worker, answer } = askInWorker(held.engine.module, name, text, events);
     if (isOfRun) longRun.worker = worker;
     const came = await answer;
     if (came !== null) return came;
@@ -37,7 +37,7 @@ export async function runLong(text, asked, take) {
   longRun.timer = setInterval(tellTime, 1000);
   byId("long").hidden = false;
   const answer = await askLong("listset_trace", text);
-  if (page.text !== text || byId("long").hidden) return;
+  if (now.run.text !== text || byId("long").hidden) return;
   stopLong();
   take(answer);
 }

@@ -1,79 +1,67 @@
-// What can be opened by its name: the reader's works, the broken lists, and the classic examples with their texts, questions, and the
-// events at which they turn.
-import { CLASSICS } from "../../made/classics.js";
-import { TRACES } from "../../made/traces.js";
-import { byId, redraw } from "./dom.js";
-import { chooseExample, exampleText } from "./example.js";
-import { keepWork, works } from "./kept.js";
-import { isJudging, page, takeScheduleOfTrace, takeTrace } from "./now.js";
-import { runText } from "./run_text.js";
-import { showMarks } from "./view.js";
-import { keepBefore, openLacking, openWork, takeName } from "./work.js";
-import { startOfLacking } from "../run/broken.js";
+// What can be opened by its name: the reader's works, the broken lists, and the classic examples; and the question of the example that
+// is shown, with the events at which it turns.
+import { CLASSICS, LACKING } from "../../made/classics.js";
+import { titleOfLacking } from "../run/broken.js";
 import { tag } from "../run/markup.js";
 import { eventsAsked } from "../run/schedule_text.js";
-import { Trace } from "../run/trace.js";
+import { byId, redraw } from "./dom.js";
+import { examples, openKept } from "./example.js";
+import { works } from "./kept.js";
+import { exampleShown, held, isForked, isJudging, now } from "./now.js";
+import { openExample, openLacking, openWork } from "./work.js";
 
 const WORK = "work: ";
+const BREAK = "break: ";
 
-// The works of the reader, the last one first, in the list of what can be opened; and what is shown is chosen there.
+// The list of what can be opened: the works, the last one first; and what is shown is chosen there.
 export function fillWorks() {
   const options = [...works.byName].reverse().map(([name, { text }]) => {
     const [, list] = text.split("\n");
     return new Option(`${name} (${list?.slice("list ".length)}): ${eventsAsked(text)} events`, `${WORK}${name}`);
   });
   byId("work-options").replaceChildren(...options);
-  byId("work-options").hidden = options.length === 0 || page.engine === null;
-  const chosen = page.example === "" ? `${WORK}${page.name}` : page.example;
-  const isThere = page.example !== "" || works.byName.has(page.name);
-  byId("nothing-kept").textContent = page.name; // what was opened, and not changed yet
-  byId("examples").value = isThere ? chosen : "";
+  byId("work-options").hidden = options.length === 0 || held.engine === null;
+  const example = exampleShown();
+  byId("nothing-kept").textContent = now.task.work; // what was opened, and not changed yet
+  byId("examples").value = example !== "" ? example : works.byName.has(now.task.work) ? `${WORK}${now.task.work}` : "";
+}
+
+export function fillExamples() {
+  byId("example-options").replaceChildren(...examples().map(({ name, kind }) => new Option(`${name} (${kind})`, name)));
+}
+
+// The broken lists, with a tick at each that was broken.
+export function fillLacking(broken) {
+  const textOf = (name) => `${broken.has(name) ? "✓ " : ""}${titleOfLacking(name)}`;
+  byId("break-options-list").replaceChildren(...Object.keys(LACKING).map((name) => new Option(textOf(name), `${BREAK}${name}`)));
 }
 
 // What was chosen in the list of what can be opened.
 export function chooseInList(value) {
   if (value.startsWith(WORK)) openWork(value.slice(WORK.length));
-  else if (value.startsWith(BREAK)) openLacking(value.slice(BREAK.length), startOfLacking(value.slice(BREAK.length)));
+  else if (value.startsWith(BREAK)) openLacking(value.slice(BREAK.length));
   else if (value !== "") pickExample(value, 0);
 }
 
-export function pickExample(name, count) {
-  if (page.engine === null) return pickKept(name, count);
-  const text = exampleText(name);
-  keepWork();
-  keepBefore();
-  takeName(works.newName(`from ${name}`), text);
-  chooseExample(name);
-  runText(text, count);
-}
-
-// An example from its trace.
-export function pickKept(name, count) {
-  chooseExample(name);
-  takeTrace(new Trace(TRACES[name]), count, "a trace that is kept beside the page");
-  takeScheduleOfTrace();
-  showMarks();
-}
+export const pickExample = (name, count, told = "") => (held.engine === null ? openKept(name, count) : openExample(name, count, told));
 
 // The question of the example. Where it turns is told where that is asked for: by ticks on the slider, and a button for each event.
 export function showQuestion() {
-  const classic = CLASSICS[page.example];
-  byId("question-box").hidden = classic === undefined;
-  byId("see-broken").hidden = page.engine === null || !(classic?.lacks.length > 0);
+  if (now.task.kind !== "example") return;
+  const classic = CLASSICS[now.task.id];
+  byId("see-broken").hidden = held.engine === null || classic.lacks.length === 0;
   const box = byId("turns-box");
-  if (classic === undefined || box.dataset.example !== page.example) {
+  if (box.dataset.example !== now.task.id) {
     box.open = byId("without-box").open = false;
-    box.dataset.example = page.example;
+    box.dataset.example = now.task.id;
   }
-  const { total } = page.trace;
-  const turns = box.open && !isJudging() ? (classic?.turns ?? []) : [];
+  const { total } = now.run.trace;
+  const turns = isForked() ? [] : classic.turns;
   const place = (event) => `left: calc(8px + (100% - 16px) * ${event / total})`;
-  byId("ticks").innerHTML = turns.map((event) => `<i style="${place(event)}"></i>`).join("");
-  if (classic === undefined) return;
+  byId("ticks").innerHTML = box.open && !isJudging() ? turns.map((event) => `<i style="${place(event)}"></i>`).join("") : "";
   byId("question").textContent = classic.question;
   byId("turns-on").textContent = classic.turnsOn;
   byId("without").textContent = classic.without;
-  const here = (event) => (event === page.count ? { "aria-current": "true" } : {});
+  const here = (event) => (event === now.run.count ? { "aria-current": "true" } : {});
   redraw(byId("turns"), turns.map((event) => tag("button", { "data-event": event, ...here(event) }, event)).join(" "));
 }
-export const BREAK = "break: ";

@@ -1,84 +1,103 @@
-// What the page holds, and who is told of a change: what draws, and the others. No other module of the page is imported here, and so
-// none has to be imported in a circle.
-import { byId } from "./dom.js";
+// The state of the page as it is now, and what changes it. Each change is an action of state.js; then all is drawn anew by one render.
+// No other module of the page but dom.js and state.js is imported here, and so none has to be imported in a circle.
+import { readFault } from "../engine/answers.js";
 import { CAUSES } from "../run/faults.js";
 import { LEVELS } from "../run/judged.js";
 import { scheduleOfTrace } from "../run/schedule_text.js";
 import { momentAt } from "../run/sentences.js";
 import { State } from "../run/state.js";
+import { byId } from "./dom.js";
+import { exampleIn, isWhatIf, reduce, stateAtFirst } from "./state.js";
 
 export const NO_ENGINE = "The replayer does not run in this browser: no schedule can be run, no report checked. A file of listset trace can be opened.";
 
-// What the page holds: the engine, the trace that is shown, the state after `count` of its events.
-export const page = {
-  engine: null,
-  trace: null,
-  state: null,
-  count: 0,
-  source: "",
-  text: "", // the schedule that was run last
-  isRun: false, // whether the trace is that of this text
-  faultLine: null, // of that text
-  example: "", // whose text that is
-  name: "", // under which a work is kept
-  begun: "", // the text with which the work began
-  lacks: null, // the name of the broken list on which it is run (run/broken.js), or null
-  verdict: null, // on the run of a broken list
-  exercise: null, // the one of "Judge yourself", while it is open
-  allThreads: false,
-  hides: true, // what is to come
-  view: null, // lecture, list or history, if only that is shown
+/** @type {{ state: import("./state.js").State, engine: any, render: (state: any, moment: any) => void }} */
+export const held = { state: stateAtFirst(), engine: null, render: () => {} };
+
+// The parts of the state, to be read.
+export const now = {
+  get place() {
+    return held.state.place;
+  },
+  get run() {
+    return held.state.run;
+  },
+  get task() {
+    return held.state.task;
+  },
+  get exercise() {
+    return held.state.exercise;
+  },
+  get prefs() {
+    return held.state.prefs;
+  },
 };
 
-// Who is told, in the order in which they asked for it: `shown`, with the moment that is shown; `taken`, with the trace that is going
-// to be; `ran`, that a text was run or refused; `kept`, that the works or the example have changed; `recorded`, with the text of
-// recorded calls that was opened.
-const listeners = { shown: [], taken: [], ran: [], kept: [], recorded: [] };
+// An action, after which nothing is drawn yet.
+export function change(type, given = {}) {
+  held.state = reduce(held.state, { ...given, type });
+}
+
+export const show = () => held.render(held.state, momentAt(now.run.state, now.run.count));
+
+export function dispatch(type, given) {
+  change(type, given);
+  show();
+}
+
+// Who is told: `taken`, with a trace, before it is drawn; `ran`, that a text was run or refused; `kept`, that the works have changed;
+// `recorded` and `course`, with a text of that kind that was opened.
+const listeners = { taken: [], ran: [], kept: [], recorded: [], course: [] };
 export const on = (what, ...deeds) => listeners[what].push(...deeds);
 
 export function announce(what, ...given) {
   for (const deed of listeners[what]) deed(...given);
 }
 
-export const show = () => announce("shown", momentAt(page.state, page.count));
-export const isJudging = () => page.exercise !== null;
-export const hiddenOutcomes = () => (isJudging() ? LEVELS[page.exercise.level].hidden : []);
+export const isJudging = () => now.exercise !== null;
+export const hiddenOutcomes = () => (isJudging() ? LEVELS[now.exercise.level].hidden : []);
+export const exampleShown = () => exampleIn(held.state);
+export const isForked = () => isWhatIf(held.state);
 
 export function goTo(count) {
-  page.count = Math.max(0, Math.min(page.trace.total, count));
   tell("");
-  show();
+  dispatch("count", { count });
 }
 
-// One line about what was just done or not done. The next event that is shown takes it away.
+// One line about what was just done or not done. The next event that is shown takes it away. A line that stands there is not told again.
 export function tell(text) {
+  if (told.text === text && byId("told").innerHTML === told.html) return;
   byId("told").innerHTML = text;
+  Object.assign(told, { text, html: byId("told").innerHTML });
 }
+const told = { text: "", html: "" };
 
 // Shows a trace at an event, or where a function of it says.
 export function takeTrace(trace, at, source) {
   const { refused } = trace;
-  const state = trace.before !== null && trace.before === page.trace ? page.state.goOn(trace) : new State(trace);
+  const state = trace.before !== null && trace.before === now.run.trace ? now.run.state.goOn(trace) : new State(trace);
   trace.before = null; // its text is not kept any longer
-  Object.assign(page, { trace, state, source, lacks: trace.lacks });
-  document.body.classList.toggle("breaking", trace.lacks !== null);
+  change("trace", { trace, state, source, count: typeof at === "function" ? at(trace) : at });
   announce("taken", trace);
-  if (refused === null) tellFault(null, "", "", false);
-  else tellFault(refused.line, refused.cause, `line ${refused.line}: ${refused.cause}`, false);
-  goTo(typeof at === "function" ? at(trace) : at);
+  tellFault(now.run.faultLine, refused?.cause ?? "", refused === null ? "" : `line ${refused.line}: ${refused.cause}`, false);
+  tell("");
+  show();
 }
 
 // The schedule of the trace that is shown, in the box.
 export function takeScheduleOfTrace() {
-  page.text = page.begun = byId("schedule").value = scheduleOfTrace(page.trace);
-  byId("opening").value = page.trace.opening.join(" ");
+  const text = scheduleOfTrace(now.run.trace);
+  change("text", { text });
+  change("begun", { begun: text });
+  byId("schedule").value = text;
+  byId("opening").value = now.run.trace.opening.join(" ");
 }
 
 // What the engine answers at once; a line about the trouble if it stopped.
 export function askNow(name, ...texts) {
-  if (page.engine === null) return { status: 1, text: NO_ENGINE };
+  if (held.engine === null) return { status: 1, text: NO_ENGINE };
   try {
-    return page.engine.ask(name, ...texts);
+    return held.engine.ask(name, ...texts);
   } catch (fault) {
     return { status: 1, text: fault.message };
   }
@@ -86,15 +105,16 @@ export function askNow(name, ...texts) {
 
 // Tells a fault of the text: the program's own line, and the cause in words. The run that is shown may be that of another text.
 export function tellFault(line, cause, said, isOld = true) {
-  page.faultLine = line;
-  page.isRun = !isOld;
+  change("fault", { line, isOld });
   byId("stage").classList.toggle("old", isOld);
   byId("old").hidden = !isOld;
   byId("fault").textContent = cause in CAUSES ? `${said}: ${CAUSES[cause]}` : said;
 }
 
+// A fault that is of no run: that which is shown is as it was.
+export const tellTrouble = (said) => (byId("fault").textContent = said);
+
 export function tellLine(text) {
-  const found = /^listset: line (\d+): (\w+)$/.exec(text);
-  if (found !== null) tellFault(Number(found[1]), found[2], text);
-  else tellFault(null, "", text);
+  const { line, cause } = readFault(text);
+  tellFault(line, cause ?? "", text);
 }

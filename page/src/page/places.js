@@ -1,35 +1,34 @@
-// Where the reader is: one of the six activities, and in it the map of what there is, or the stage. The address names both.
-import { byId } from "./dom.js";
-import { isJudging, page } from "./now.js";
+// Where the reader is: one of the six activities, and in it the map of what there is, or the stage; and what is seen there.
+import { byId, setHidden } from "./dom.js";
+import { change, now, show } from "./now.js";
+import { factsOf, SEEN } from "./seen.js";
 
-export const where = { activity: "watch", screen: "stage" };
-export const isAtMap = () => where.screen === "map";
-export const isAtWork = () => where.activity === "learn" || where.activity === "break"; // there the moves stand below the picture
+export const PHONE = 560; // pixels, as in the style sheets
+export const isAtMap = () => now.place.screen === "map";
+export const isAtWork = () => now.place.activity === "learn" || now.place.activity === "break"; // there the moves stand below the picture
 
 export function goToPlace(activity, screen) {
-  Object.assign(where, { activity, screen });
-  Object.assign(document.body.dataset, { activity, screen });
+  change("place", { activity, screen });
+  show();
+}
+
+// What is seen in a state; and the activity is marked as the one that is open.
+export function showParts(state) {
+  const facts = factsOf(state, { hasEngine: services.hasEngine, isPhone: innerWidth <= PHONE });
+  for (const [id, isSeen] of Object.entries(SEEN)) setHidden(byId(id), !isSeen(facts), byId("skip"));
+  const { activity, screen, view } = state.place;
+  const key = [activity, screen, view, facts.hasEngine].join();
+  if (key === placed.key) return;
+  placed.key = key;
+  for (const part of document.querySelectorAll(".of-engine:not([id])")) part.hidden = !facts.hasEngine;
+  Object.assign(document.body.dataset, { activity, screen, view: view ?? "" });
   for (const link of document.querySelectorAll("nav [data-to]")) {
     if (link.dataset.to === activity) link.setAttribute("aria-current", "page");
     else link.removeAttribute("aria-current");
   }
 }
-
-// Which activity the run that is shown belongs to.
-function activityOfRun() {
-  if (isJudging()) return "judge";
-  if (/^lesson /.test(page.name)) return "learn";
-  return page.lacks === null ? "watch" : "break";
-}
-
-// A run that is opened takes the place of a map.
-export function leaveMap() {
-  if (isAtMap()) goToPlace(activityOfRun(), "stage");
-}
-
-export function showStage() {
-  if (!isAtMap()) goToPlace(activityOfRun(), "stage");
-}
+const placed = { key: "" };
+export const services = { hasEngine: true }; // until it is known that there is none
 
 export function setProgress(id, done, total) {
   byId(id).textContent = `${done}/${total}`;
@@ -44,12 +43,10 @@ export function slideZoom(width, height) {
   return Math.max(0.75, Math.min(3, width / 1280, height / 720));
 }
 
-export const fitSlide = () => document.body.style.setProperty("--slide", slideZoom(innerWidth, innerHeight));
+export const fitSlide = () => document.body.style.setProperty("--slide", String(slideZoom(innerWidth, innerHeight)));
 
 // A view shows one thing alone: for a lecture the list, the sentence and the history, or one of them for a frame.
 export function setView(view) {
-  page.view = view;
+  change("view", { view });
   fitSlide();
-  document.body.classList.remove("view", "lecture", "list", "history");
-  if (view !== null) document.body.classList.add("view", view);
 }

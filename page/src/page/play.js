@@ -1,49 +1,60 @@
 // Play: one event after the other, in three speeds, until the end or a pause. Who asks the system for less motion begins slow.
 import { CLASSICS } from "../../made/classics.js";
 import { byId } from "./dom.js";
-import { goTo, page, tell } from "./now.js";
+import { change, exampleShown, goTo, now, show, tell } from "./now.js";
 
 const SPEEDS = { slow: 1600, medium: 700, fast: 200 }; // milliseconds of one event
-let playing = null;
-let playsTo = Infinity; // the event at which it stops by itself
-let says = { before: "", there: "" }; // and what is said until there, and there
+const NO_STOP = { event: Infinity, before: "", there: "" };
+const play = { timer: null, stop: NO_STOP }; // the event at which it stops by itself, and what is said until there, and there
 
 export const wantsLessMotion = () => matchMedia("(prefers-reduced-motion: reduce)").matches;
 
 function showPlay() {
-  byId("play").textContent = playing === null ? "Play" : "Pause";
-  byId("play").setAttribute("aria-pressed", String(playing !== null));
-  byId("said").setAttribute("aria-live", playing === null ? "polite" : "off");
+  byId("play").textContent = play.timer === null ? "Play" : "Pause";
+  byId("play").setAttribute("aria-pressed", String(play.timer !== null));
+  byId("said").setAttribute("aria-live", play.timer === null ? "polite" : "off");
 }
 
-export function stopPlay() {
-  clearInterval(playing);
-  playing = null;
+function pausePlay() {
+  clearInterval(play.timer);
+  play.timer = null;
   showPlay();
+}
+
+// Ends the play, also that which was paused.
+export function stopPlay() {
+  play.stop = NO_STOP;
+  pausePlay();
 }
 
 // Plays on from here, and from the start where nothing is left.
-export function startPlay(last = Infinity, said = { before: "", there: "" }) {
-  [playsTo, says] = [last, said];
-  if (page.trace.total === 0) return;
-  if (page.count === page.trace.total) goTo(0);
-  playing = setInterval(playOn, SPEEDS[byId("speed").value]);
+export function startPlay(stop = NO_STOP) {
+  const { count, trace } = now.run;
+  if (trace.total === 0) return;
+  play.stop = stop;
+  if (count === trace.total) goTo(0);
+  play.timer = setInterval(playOn, SPEEDS[byId("speed").value]);
   showPlay();
 }
 
+// The sentence is said where the play ends, and not before.
 function playOn() {
-  goTo(page.count + 1);
-  tell(page.count === playsTo ? says.there : says.before);
-  if (page.count === page.trace.total || page.count === playsTo) stopPlay();
+  const { stop } = play;
+  const count = now.run.count + 1;
+  const isThere = count === stop.event || count >= now.run.trace.total;
+  if (isThere) stopPlay();
+  change("count", { count });
+  tell(count === stop.event ? stop.there : stop.before);
+  show();
 }
 
-export const togglePlay = () => (playing === null ? startPlay() : stopPlay());
+export const togglePlay = () => (play.timer === null ? startPlay(play.stop) : pausePlay());
 
-// Another speed holds at once.
+// Another speed holds at once, up to the same stop.
 export function changeSpeed() {
-  if (playing === null) return;
-  stopPlay();
-  startPlay();
+  if (play.timer === null) return;
+  pausePlay();
+  startPlay(play.stop);
 }
 
 // The reader goes to an event: the play ends.
@@ -54,9 +65,9 @@ export function goByHand(count) {
 
 // To the nearest event, on or back, that changes the set, ends a call, or at which the example turns.
 export function goToTurn(step) {
-  const turns = CLASSICS[page.example]?.turns ?? [];
+  const turns = CLASSICS[exampleShown()]?.turns ?? [];
   const changes = (event) => event.put !== undefined || event.took !== undefined || event.answer !== undefined;
-  let count = page.count + step;
-  while (count > 0 && count < page.trace.total && !changes(page.trace.event(count)) && !turns.includes(count)) count += step;
+  let count = now.run.count + step;
+  while (count > 0 && count < now.run.trace.total && !changes(now.run.trace.event(count)) && !turns.includes(count)) count += step;
   goByHand(count);
 }

@@ -19,7 +19,7 @@ function drawnOut(svg) {
 }
 
 // The drawings of the list and of what stands below it, one below the other.
-export function wholePicture() {
+function wholePicture() {
   const places = isJudging() ? ["list", "judge-bars"] : ["list", "calls", "contents"];
   const drawings = places.map((id) => byId(id).querySelector("svg")).filter((svg) => svg !== null && svg.clientWidth > 0);
   const boxes = drawings.map((svg) => ({ svg, width: svg.clientWidth, height: svg.clientHeight }));

@@ -1,16 +1,18 @@
 // Draws what the page shows of a moment: the sentence, the list, the history, the tables and the marks in the text.
 import { LISTS } from "../../made/rows.js";
+import { drawContents, drawOrder } from "../draw/contents.js";
 import { glide } from "../draw/glide.js";
-import { drawCalls, drawContents, drawOrder, heightOfCalls, scaleOf } from "../draw/history.js";
-import { arranged, drawList, shapeFor } from "../draw/list.js";
+import { drawCalls, heightOfCalls, scaleOf } from "../draw/history.js";
+import { drawList } from "../draw/list.js";
 import { drawListing } from "../draw/listing.js";
+import { arranged, shapeFor } from "../draw/places.js";
 import { forgetRoom, keptHeight, roomOf } from "../draw/room.js";
 import { drawTable } from "../draw/table.js";
 import { drawThreads, MOST_ROWS } from "../draw/threads.js";
-import { byId, setAble } from "./dom.js";
-import { hiddenOutcomes, isJudging, page } from "./now.js";
-import { isAtWork, slideZoom } from "./places.js";
 import { momentAt, sentenceOf } from "../run/sentences.js";
+import { byId, keepHeight, setAble, setHtml } from "./dom.js";
+import { hiddenOutcomes, isJudging, now } from "./now.js";
+import { isAtWork, slideZoom } from "./places.js";
 
 const LINE_HEIGHT = 21;
 
@@ -31,7 +33,7 @@ export function showRun(moment) {
 const glided = { trace: null, count: 0, shape: null };
 
 function showList({ state, event }, wide) {
-  const { trace, count } = page;
+  const { trace, count } = now.run;
   if (wide === 0) return; // it is not there: a map is shown, or the history alone
   const shape = shapeFor(wide);
   if (glided.shape !== shape) forgetRoom(); // the page is as narrow as a phone now, or no longer
@@ -42,38 +44,23 @@ function showList({ state, event }, wide) {
   Object.assign(glided, { trace, count, shape });
   const draw = () => (byId("list").innerHTML = drawList(state, event, wide, listHeight(), room));
   glide(byId("list"), draw, isNear);
-  const isKept = isAtWork() && page.view === null;
+  const isKept = isAtWork() && now.place.view === null;
   byId("list").style.minHeight = isKept ? `${keptHeight(Number(byId("list").firstElementChild.getAttribute("height")), wide)}px` : "";
 }
 
-const MOST_MEASURED = 300; // events of a run whose sentences are measured
-const sentences = { trace: null, wide: 0 };
-
-// The sentence has the room of the longest one of its run, so that nothing below it moves.
-function keepRoomForSentences(state, count) {
-  const box = byId("said");
-  const { trace } = page;
-  if (box.clientWidth === 0 || (sentences.trace === trace && sentences.wide === box.clientWidth)) return;
-  Object.assign(sentences, { trace, wide: box.clientWidth });
-  box.style.minHeight = "";
-  if (trace.total > MOST_MEASURED) return;
-  const lengthOf = (sentence) => sentence.replace(/<[^>]*>/g, "").length;
-  const all = Array.from({ length: trace.total + 1 }, (_, number) => sentenceOf(momentAt(state, number)));
-  state.moveTo(count);
-  box.innerHTML = all.reduce((one, other) => (lengthOf(other) > lengthOf(one) ? other : one));
-  box.style.minHeight = `${box.offsetHeight + 1}px`; // (that is rounded)
+// What may grow keeps its height. It is asked for once all is drawn, since each question has the whole page laid out.
+export function keepHeights() {
+  for (const id of ["said", "order"]) keepHeight(byId(id), now.task.work);
 }
 
 // The names, the question, the sentence and the bar above the picture.
 export function showBar(moment) {
-  const { trace, count } = page;
+  const { trace, count } = now.run;
   const { total } = trace;
   const name = `${LISTS[trace.kind].name}${trace.lacks === null ? "" : " without one check"}`;
   byId("title").textContent = `${name}, ${trace.threads} thread${trace.threads > 1 ? "s" : ""}`;
-  document.title = `${page.example === "" ? page.name : page.example}, event ${count}: ${name}`;
-  byId("source").textContent = page.source;
-  keepRoomForSentences(moment.state, count);
-  byId("said").innerHTML = sentenceOf(moment, hiddenOutcomes());
+  byId("source").textContent = now.run.source;
+  setHtml(byId("said"), sentenceOf(moment, hiddenOutcomes()));
   const slider = byId("slider");
   Object.assign(slider, { max: total, value: count });
   slider.setAttribute("aria-valuetext", `event ${count} of ${total}: ${byId("said").textContent}`);
@@ -83,16 +70,17 @@ export function showBar(moment) {
 }
 
 function showThreads(event) {
-  const many = page.trace.threads > MOST_ROWS;
-  byId("threads").innerHTML = drawThreads(page.state, event, page.allThreads, hiddenOutcomes().includes("reply"));
+  if (!byId("threads-box").open) return;
+  const many = now.run.trace.threads > MOST_ROWS;
+  byId("threads").innerHTML = drawThreads(now.run.state, event, now.prefs.allThreads, hiddenOutcomes().includes("reply"));
   byId("all-threads").hidden = !many;
-  byId("all-threads").textContent = page.allThreads ? "show only those with a pending call" : `show all ${page.trace.threads}`;
+  byId("all-threads").textContent = now.prefs.allThreads ? "show only those with a pending call" : `show all ${now.run.trace.threads}`;
 }
 
 // The table of the list's rows, while it is unfolded.
 function showTable(moment) {
-  const which = page.lacks === null ? "" : "the correct ";
-  byId("table-title").textContent = `Step table of ${which}${LISTS[page.trace.kind].name}`;
+  const which = now.run.lacks === null ? "" : "the correct ";
+  byId("table-title").textContent = `Step table of ${which}${LISTS[now.run.trace.kind].name}`;
   if (byId("table-box").open) byId("table").innerHTML = drawTable(moment);
 }
 
@@ -107,38 +95,28 @@ function showListing(moment) {
   if (y < box.scrollTop + 40 || y > box.scrollTop + box.clientHeight - 80) box.scrollTop = y - box.clientHeight / 2;
 }
 
+export const drawnHistory = { scale: null }; // that of the history, for who clicks there
 const ALL_LANES = 400; // pixels: a history that is no higher does not scroll
 
 function showHistory(event, wide) {
-  const { trace, count, hides } = page;
+  const { trace, count } = now.run;
+  const { hides } = now.prefs;
   const scale = scaleOf(trace, count, Math.max(300, wide), hides);
-  byId("calls").innerHTML = drawCalls(trace, scale);
-  byId("contents").innerHTML = drawContents(trace, scale);
-  keepRoomForOrder(trace, wide);
-  byId("order").innerHTML = drawOrder(trace, count, hides);
-  page.scale = scale;
+  setHtml(byId("calls"), drawCalls(trace, scale));
+  setHtml(byId("contents"), drawContents(trace, scale));
+  setHtml(byId("order"), drawOrder(trace, count, hides));
+  drawnHistory.scale = scale;
   const box = byId("calls");
   if (event === null || scale.height <= ALL_LANES || box.scrollHeight <= box.clientHeight) return;
   const y = scale.y(event.thread);
   if (y < box.scrollTop + 20 || y > box.scrollTop + box.clientHeight - 20) box.scrollTop = y - box.clientHeight / 2;
 }
 
-const order = { trace: null, wide: 0 };
-
-// The order of the calls has the room of the whole one, so that nothing below it moves.
-function keepRoomForOrder(trace, wide) {
-  if (order.trace === trace && order.wide === wide) return;
-  Object.assign(order, { trace, wide });
-  byId("order").style.minHeight = "";
-  byId("order").innerHTML = drawOrder(trace, trace.total);
-  byId("order").style.minHeight = `${byId("order").offsetHeight}px`;
-}
-
 // Where the page is as wide as a table, controls, list and history stand on one screen: what is above and below the list leaves so
 // many pixels for it.
 function listHeight() {
-  if (page.view === "list" || page.view === "history" || innerWidth <= 560) return Infinity;
-  if (page.view === "lecture") return slideHeight();
+  if (now.place.view === "list" || now.place.view === "history" || innerWidth <= 560) return Infinity;
+  if (now.place.view === "lecture") return slideHeight();
   const isLow = isJudging() || isAtWork();
   const below = byId("bar").clientHeight + heightBelowBar();
   return Math.max(isLow ? 190 : 260, innerHeight - byId("list").getBoundingClientRect().top - scrollY - below);
@@ -147,11 +125,11 @@ function listHeight() {
 // What is to be seen below the bar: the reader's answer, the moves, or the history.
 function heightBelowBar() {
   if (isJudging()) return byId("judge").offsetHeight + 90;
-  return isAtWork() ? 90 + 42 * Math.min(page.trace.threads, 6) : 142 + callsHeight();
+  return isAtWork() ? 90 + 42 * Math.min(now.run.trace.threads, 6) : 142 + callsHeight();
 }
 
 // The bars of the history, which scroll if they are too many.
-const callsHeight = () => Math.min(ALL_LANES, heightOfCalls(page.trace, Math.max(300, byId("history").clientWidth)));
+const callsHeight = () => Math.min(ALL_LANES, heightOfCalls(now.run.trace, Math.max(300, byId("history").clientWidth)));
 
 // What a slide of a lecture leaves for the list.
 function slideHeight() {
@@ -174,10 +152,11 @@ function scrollToTouched(wide) {
 const editor = { isSeen: false };
 
 export function watchEditor() {
+  /** @param {IntersectionObserverEntry[]} seen */
   const look = ([{ isIntersecting }]) => {
     editor.isSeen = isIntersecting;
-    if (!isIntersecting || page.trace === null) return;
-    scrollToLine(page.count > 0 ? page.trace.event(page.count) : null);
+    if (!isIntersecting || now.run.trace === null) return;
+    scrollToLine(now.run.count > 0 ? now.run.trace.event(now.run.count) : null);
     showMarks();
   };
   new IntersectionObserver(look).observe(byId("editor"));
@@ -185,7 +164,7 @@ export function watchEditor() {
 
 function scrollToLine(event) {
   const box = byId("schedule");
-  if (!editor.isSeen || event === null || document.activeElement === box || box.value !== page.text) return;
+  if (!editor.isSeen || event === null || document.activeElement === box || box.value !== now.run.text) return;
   const y = LINE_HEIGHT * (event.line - 1);
   if (y < box.scrollTop || y > box.scrollTop + box.clientHeight - 2 * LINE_HEIGHT) box.scrollTop = y - box.clientHeight / 2;
 }
@@ -193,13 +172,13 @@ function scrollToLine(event) {
 // Marks the line of the event and the line with a fault, while the box has the text that was run.
 export function showMarks() {
   const box = byId("schedule");
-  const isStale = box.value !== page.text;
+  const isStale = box.value !== now.run.text;
   const top = editor.isSeen ? box.scrollTop : 0;
   const mark = (line, kind) => `<div class="${kind}" style="top:${6 + LINE_HEIGHT * (line - 1) - top}px"></div>`;
-  const event = page.count > 0 ? page.trace.event(page.count) : null;
+  const event = now.run.count > 0 ? now.run.trace.event(now.run.count) : null;
   const lines = [];
-  if (event !== null && page.isRun) lines.push(mark(event.line, "event"));
-  if (page.faultLine !== null) lines.push(mark(page.faultLine, "bad"));
+  if (event !== null && now.run.isRun) lines.push(mark(event.line, "event"));
+  if (now.run.faultLine !== null) lines.push(mark(now.run.faultLine, "bad"));
   byId("marks").innerHTML = isStale ? "" : lines.join("");
   byId("run").classList.toggle("stale", isStale);
   byId("run").textContent = isStale ? "Run the changes" : "Run";

@@ -1,20 +1,17 @@
-// The address bar follows the schedule and the event that are shown, and what is kept in the browser does too.
-import { keepWork } from "./kept.js";
-import { page, tell } from "./now.js";
-import { isAtMap, where } from "./places.js";
-import { addressOf, exampleAddress, warningOf } from "../run/address.js";
+// The address bar follows what is shown, and what is kept in the browser does too.
+import { warningOf } from "../run/address.js";
 import { escaped } from "../run/markup.js";
+import { addressIn } from "./address_of.js";
+import { HERE, keepUnder, keepWork } from "./kept.js";
+import { held, now, tell } from "./now.js";
+import { entryOf } from "./state.js";
 
 const MOMENT = 400; // milliseconds: the bar follows once nothing has moved for so long, since browsers refuse quick changes of it
-// The schedule whose address stands there, whether the page has read what stood there at first, and how the address of a run is
-// named in the place that is shown.
-export const visit = { timer: 0, text: null, isRead: false, naming: (address) => address };
+// The entry of the browser's history that is shown, and whether the page has read what stood there at first; what the address needs that
+// is not in the state: the packed course, and the address of two lists.
+export const visit = { timer: 0, entry: null, isRead: false, course: null, sides: null };
 
-export function ownAddress() {
-  const address = page.example === "" ? addressOf(page.text, page.count, page.lacks) : exampleAddress(page.example, page.count);
-  const placed = visit.naming(address);
-  return placed === null || page.view === null ? placed : `${placed}&view=${page.view}`;
-}
+const addressHere = () => addressIn(held.state, visit);
 
 // The address and what is kept in the browser follow what is shown.
 export function keepSoon() {
@@ -25,36 +22,25 @@ export function keepSoon() {
 export function keepNow() {
   clearTimeout(visit.timer);
   keepWork();
-  if (visit.isRead && page.isRun && page.text !== "" && !isAtMap()) setAddress();
+  if (visit.isRead) setAddress();
 }
 
-// The address has the view from now on, or has it no longer: a page that is loaded again shows what was shown.
-export function keepView() {
-  const parts = location.hash.slice(1).split("&").filter((part) => part !== "" && !part.startsWith("view="));
-  if (page.view !== null) parts.push(`view=${page.view}`);
-  const hash = parts.length === 0 ? "" : `#${parts.join("&")}`;
-  history.replaceState(history.state, "", location.pathname + location.search + hash);
-}
-
-// The address of what an activity shows that is no run, while it is still shown.
-export function keepAddressOf(activity, address) {
-  clearTimeout(visit.timer);
-  const own = page.view === null ? address : `${address}&view=${page.view}`;
-  visit.timer = setTimeout(() => where.activity === activity && history.replaceState(null, "", own), MOMENT);
-}
-
-// A new text is a new place to come back to; another event of it is not. A text without an address is kept with its place.
+// Another task or place is a new entry to come back to; a step is none. A text without an address is kept with its entry.
 function setAddress() {
-  const address = ownAddress();
-  const isNew = visit.text !== null && visit.text !== page.text;
-  visit.text = page.text;
+  const address = addressHere();
+  const entry = entryOf(held.state);
+  const isNew = visit.entry !== null && visit.entry !== entry;
+  visit.entry = entry;
+  keepUnder(HERE, address);
   if (!isNew && location.hash === (address ?? "")) return;
-  const kept = address === null ? { text: page.text, count: page.count, lacks: page.lacks } : null;
+  const { text, count, lacks } = now.run;
+  const kept = address === null ? { text, count, lacks } : null;
+  const how = isNew ? "pushState" : "replaceState";
   const place = address ?? location.pathname + location.search;
   try {
-    history[isNew ? "pushState" : "replaceState"](kept, "", place);
+    history[how](kept, "", place);
   } catch {
-    history[isNew ? "pushState" : "replaceState"](null, "", place); // a state may be too large for a browser
+    history[how](null, "", place); // a state may be too large for a browser
   }
 }
 
@@ -62,7 +48,7 @@ export const linkTo = (address) => location.href.replace(/#.*$/, "") + address;
 
 // A link to what is shown: it is told, and copied if the browser lets a page do that.
 export async function copyLink() {
-  const address = page.isRun ? ownAddress() : null;
+  const address = now.run.isRun ? addressHere() : null;
   if (address === null) return tell("This schedule has no link: it is refused, or too long for an address. Save it as a file.");
   const link = linkTo(address);
   const shown = `<code>${escaped(link)}</code>${warningOf(link)}`;

@@ -27,7 +27,7 @@ const ADDRESS_PARTS = {
   sides: /^(coarse|fine|optimistic|lazy|lock-free)\.(coarse|fine|optimistic|lazy|lock-free)$/,
   calls: /^(\d\d?\.[a-z]+\.\d+(,|$))+$/,
   turns: /^(\d\d?(\.\d\d?)*)?$/,
-  watch: /^$/,
+  watch: /^[a-z-]*$/,
   learn: /^[a-z0-9-]*$/,
   judge: /^$/,
   break: /^\d*$/,
@@ -73,8 +73,6 @@ function isAddressOf(address, text) {
     return false;
   }
 }
-
-export const exampleAddress = (name, event) => `#example=${name}&event=${event}`;
 
 // What an address names: an example, a text, a course or two lists, each null where it names none; the event, the list that lacks a
 // check, and the view.

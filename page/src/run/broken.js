@@ -5,11 +5,12 @@
 // known of all others. That this one order is refused does not say that there is none.
 import { LACKING } from "../../made/classics.js";
 import { LISTS } from "../../made/rows.js";
-import { exerciseOf, nameOfCall, otherOrders } from "./judged.js";
+import { readCheck, readReport, readShow } from "../engine/answers.js";
+import { nameOfCall } from "./judged.js";
 import { escaped } from "./markup.js";
-import { refusalIn } from "./refusal.js";
+import { isFailed, isLock } from "./outcomes.js";
 import { scheduleOfTrace, titleOf } from "./schedule_text.js";
-import { isFailed, isLock, momentAt, sentenceOf } from "./sentences.js";
+import { momentAt, sentenceOf } from "./sentences.js";
 import { State } from "./state.js";
 import { eventsInCommon, isTrace, Trace } from "./trace.js";
 
@@ -51,32 +52,31 @@ export function startOfLacking(name) {
 export function verdictOnLacking(ask, lacks, schedule) {
   const { status, text } = ask("listset_replay_lacking", lacks, schedule);
   if (status !== 0) return { kind: "refused", says: `The schedule is refused: ${text.trim()}`, report: null };
-  const checked = ask("listset_check", text).text.trim();
-  if (checked === "ok") return { kind: "explained", says: EXPLAINED, report: text };
-  if (!checked.startsWith("refused ")) return { kind: "refused", says: `The run is not judged: ${checked}.`, report: null };
-  const { kind, lines } = otherOrders(ask("listset_show", text));
-  if (kind !== "none") return { kind: "points", says: `${BY_POINTS} ${kind === "another" ? OTHER : UNKNOWN}`, report: text };
-  return { kind: "broken", says: `Broken: ${whyNone(text, lines)}. ${UNEXPLAINED}`, report: text };
+  const checked = readCheck(ask("listset_check", text).text);
+  if (checked.kind === "ok") return { kind: "explained", says: EXPLAINED, report: text };
+  if (checked.kind === "trouble") return { kind: "refused", says: `The run is not judged: ${checked.says}.`, report: null };
+  const shown = readShow(ask("listset_show", text));
+  if (shown.kind !== "none") return { kind: "points", says: `${BY_POINTS} ${shown.kind === "another" ? OTHER : UNKNOWN}`, report: text };
+  return { kind: "broken", says: `Broken: ${whyNone(text, shown)}. ${UNEXPLAINED}`, report: text };
 }
 
-// Why no order explains a report, in words, of the lines with which `show` ends: the key, the event after which it is there or is not,
-// and the few calls that have no order from there.
-function whyNone(report, lines) {
-  const refusal = refusalIn(lines);
-  if (refusal === null) return lines[0];
-  const exercise = exerciseOf(report, "claim");
-  const { key, isLeft, since, is, calls } = refusal;
+// Why no order explains a report, in words: the key, the event after which it is there or is not, and the few calls that have no order
+// from there.
+function whyNone(text, { why, says }) {
+  if (why === null) return says;
+  const exercise = readReport(text);
+  const { key, isLeft, since, is, calls } = why;
   if (isLeft && isLost(exercise, key)) return `${key} was added once and never removed, and at the end the set does not have it`;
-  const left = exercise.keyLines.includes(`key ${key}`) ? "has it" : "does not have it";
+  const left = exercise.keys.includes(key) ? "has it" : "does not have it";
   const then = [...calls.map((call) => callInWords(exercise, call)), ...(isLeft ? [`at the end the set ${left}`] : [])].join(", ");
-  if (is === null) return then === "" ? lines[0] : then;
+  if (is === null) return then === "" ? says : then;
   return `${key} is ${is} ${since === null ? "at first" : `after event ${since}`}, and then ${then}`;
 }
 
 // Whether a key was put in once, and neither taken out nor there at first, and is not left.
-function isLost({ calls, head, keyLines }, key) {
+function isLost({ calls, opening, keys }, key) {
   const count = (operation) => calls.filter((call) => call.operation === operation && call.reply === "true" && call.key === key).length;
-  const isThere = head.includes(`opening ${key}`) || keyLines.includes(`key ${key}`);
+  const isThere = opening.includes(key) || keys.includes(key);
   return count("add") === 1 && count("remove") === 0 && !isThere;
 }
 

@@ -15,7 +15,7 @@ export function scheduleOfDraft(ask, text, lacks = null) {
 
 // How many steps of a thread, after the lines of this schedule, end its call or lead to a row; or why none do, as the engine says
 // it of a draft. What such a list does says its trace.
-function stepsOfLacking(ask, lacks, lines, [thread, row]) {
+function stepsOfLacking(ask, lacks, lines, thread, row) {
   const fault = (cause) => ({ count: null, fault: `listset: line ${lines.length + 1}: ${cause}` });
   const { text } = ask("listset_trace_lacking", lacks, `${[...lines, `go ${thread} ${MOST_TRIED}`].join("\n")}\n`);
   if (!isTrace(text)) return { count: null, fault: text.trim() };
@@ -31,7 +31,7 @@ function scheduleOfLackingDraft(ask, lacks, text) {
   const lines = [];
   for (const line of text.split("\n").slice(0, -1)) {
     const asked = /^go (\d+) (?:out|to (\d+))$/.exec(line);
-    const { count, fault } = asked === null ? { count: null, fault: null } : stepsOfLacking(ask, lacks, lines, asked.slice(1));
+    const { count, fault } = asked === null ? { count: null, fault: null } : stepsOfLacking(ask, lacks, lines, asked[1], asked[2]);
     if (fault !== null) return { text: null, fault };
     lines.push(asked === null ? line : `go ${asked[1]} ${count}`);
   }

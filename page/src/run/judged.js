@@ -4,8 +4,8 @@
 // The calls and the keys are those of the run; the order and the replies in it are the reader's. So `check` says ok exactly where
 // the reader's order explains what the run did, and it need not be the order that the replayer gives. No set is computed here: why
 // an order is refused says the line of `show` that begins with `refused`.
+import { readCheck, readReport, readShow } from "../engine/answers.js";
 import { callText, openReply } from "./markup.js";
-import { HEADER_LINES } from "./trace.js";
 
 export const MOST_JUDGED = 60; // events of a run that is judged
 
@@ -24,29 +24,11 @@ export const LEVELS = {
   },
 };
 
-// A report's calls, order, keys and header. The text is the engine's own, of a whole list or of a broken one.
+// An exercise about a report: the text is the engine's own, of a whole list or of a broken one.
 export function exerciseOf(text, level, isWhole = true) {
-  const lines = text.trimEnd().split("\n");
-  const linesOf = (word) => lines.filter((line) => line.startsWith(`${word} `));
-  const calls = linesOf("call").map(callOfLine);
-  return {
-    level,
-    isWhole,
-    calls,
-    places: linesOf("place").map((line) => line.split(" ").slice(1).join("-")),
-    reportText: text,
-    head: [...lines.slice(0, HEADER_LINES), ...linesOf("opening")],
-    callLines: linesOf("call"),
-    keyLines: linesOf("key"),
-    threads: Number(lines[2].split(" ")[1]),
-    last: Math.max(1, ...calls.flatMap((call) => [call.begun, call.ended ?? 0])),
-  };
-}
-
-function callOfLine(line) {
-  const [, id, thread, operation, key, begun, ended, reply = null] = line.split(" ");
-  const end = ended === "open" ? null : Number(ended);
-  return { id: Number(id), thread: Number(thread), operation, key: Number(key), begun: Number(begun), ended: end, reply };
+  const report = readReport(text);
+  const last = Math.max(1, ...report.calls.flatMap((call) => [call.begun, call.ended ?? 0]));
+  return { ...report, level, isWhole, reportText: text, last };
 }
 
 export const nameOfCall = (call) => `${callText(call)} of t${call.thread}`;
@@ -56,8 +38,8 @@ export const lastMoment = (exercise, call) => call.ended ?? exercise.last;
 export function repliesOf(exercise, { operation }) {
   if (operation === "add") return ["true", "false", "full"];
   if (operation !== "ceiling") return ["true", "false"];
-  const named = [...exercise.head, ...exercise.callLines].map((line) => /^(?:opening|call \d+ \d+ add) (\d+)/.exec(line)?.[1]);
-  const keys = [...new Set(named.filter((key) => key !== undefined).map(Number))].sort((one, other) => one - other);
+  const added = exercise.calls.filter((call) => call.operation === "add").map(({ key }) => key);
+  const keys = [...new Set([...exercise.opening, ...added])].sort((one, other) => one - other);
   return ["nothing", ...keys.map((key) => `at-${key}`)];
 }
 
@@ -100,9 +82,11 @@ export class OwnAnswer {
     return placed.map(({ call, at }) => ({ call, at, reply: this.replyOf(call) }));
   }
 
-  // The calls of which something is still to be said.
+  // What is still to be said, in words: of each call its point, its reply, or both.
   unsaid() {
-    return this.exercise.calls.filter((call) => call.ended !== null && (!this.points.has(call.id) || this.replyOf(call) === null));
+    const lackOf = (call) => [this.points.has(call.id) ? "" : "point", this.replyOf(call) === null ? "reply" : ""].filter((it) => it !== "");
+    const lacking = this.exercise.calls.filter((call) => call.ended !== null && lackOf(call).length > 0);
+    return lacking.map((call) => `the ${lackOf(call).join(" and the ")} of ${nameOfCall(call)}`);
   }
 }
 
@@ -118,30 +102,13 @@ export function verdictOn(ask, answer) {
   const unsaid = answer.unsaid();
   if (answer.isNone) return verdictOnClaim(ask, answer.exercise);
   const nothing = { isRight: null, clash: null, report: null };
-  if (unsaid.length > 0) return { ...nothing, says: `Still missing: ${unsaid.map(nameOfCall).join(", ")}.` };
+  if (unsaid.length > 0) return { ...nothing, says: `Still missing: ${unsaid.join(", ")}.` };
   const report = reportOfAnswer(answer);
-  const checked = ask("listset_check", report).text.trim();
-  if (checked === "ok") return { isRight: true, clash: null, report, says: rightInWords(answer) };
-  if (!checked.startsWith("refused ")) return { ...nothing, says: `This order is not judged: ${checked}.` };
-  const told = ask("listset_show", report).text.split("\n").find((line) => line.startsWith("refused ")) ?? checked;
-  const clash = Number(/^refused \w+ (\d+)/.exec(checked)?.[1] ?? -1);
-  return { isRight: false, clash, report, says: faultInWords(answer, told) };
-}
-
-// What is known of the other orders of a report whose own is refused, by the lines with which `show` ends: that there is none, with
-// the lines that say why; another one; or that it is not known. Of a report whose own order explains it, that; of one that `show`
-// does not draw, its line about that.
-const ENDINGS = {
-  "not linearizable": "none",
-  "another order explains this report": "another",
-  "it is not known whether another order explains this report": "unknown",
-};
-
-export function otherOrders({ status, text }) {
-  const lines = text.trimEnd().split("\n");
-  const at = lines.findIndex((line) => Object.hasOwn(ENDINGS, line));
-  if (at !== -1) return { kind: ENDINGS[lines[at]], lines: lines.slice(at + 1) };
-  return status === 0 ? { kind: "own", lines: [] } : { kind: "trouble", lines };
+  const checked = readCheck(ask("listset_check", report).text);
+  if (checked.kind === "ok") return { isRight: true, clash: null, report, says: rightInWords(answer) };
+  if (checked.kind === "trouble") return { ...nothing, says: `This order is not judged: ${checked.says}.` };
+  const { refused } = readShow(ask("listset_show", report));
+  return { isRight: false, clash: checked.call, report, says: refused === null ? checked.says : faultInWords(answer, refused) };
 }
 
 // A claim that there is no order is judged by what is proved, not by a search: each run of the replayer has an order, and of another
@@ -150,8 +117,8 @@ function verdictOnClaim(ask, { isWhole, reportText }) {
   const said = (isRight, says) => ({ isRight, clash: null, report: null, says });
   const there = "There is one: this is a run of a correct list, and each of those has an order (proved). Find it.";
   if (isWhole) return said(false, there);
-  const { kind, lines } = otherOrders(ask("listset_show", reportText));
-  if (kind === "trouble") return said(null, `Whether there is none is not judged: ${lines[0]}.`);
+  const { kind, says } = readShow(ask("listset_show", reportText));
+  if (kind === "trouble") return said(null, `Whether there is none is not judged: ${says}.`);
   if (kind === "none") return said(true, "Right: no order explains this report (proved). It comes from a broken list.");
   if (kind === "unknown") return said(null, "This report comes from a broken list, and whether an order explains it is not known.");
   return said(false, "There is one, although this report comes from a broken list. Find it.");
@@ -160,32 +127,24 @@ function verdictOnClaim(ask, { isWhole, reportText }) {
 function rightInWords(answer) {
   if (!answer.exercise.isWhole) return "check says ok: this order explains the report, so this schedule does not break the list.";
   const own = answer.order().map(({ call, reply }) => `${call.id}-${reply}`);
-  const isSame = own.join() === answer.exercise.places.join();
+  const isSame = own.join() === answer.exercise.places.map(({ call, reply }) => `${call}-${reply}`).join();
   const also = isSame ? "It is also the order of the replayer." : "The replayer has another one: both explain the run.";
   return `check says ok: this order explains the run. ${also}`;
 }
 
-// The line with which `show` tells a fault, in the reader's own terms.
-function faultInWords(answer, line) {
-  const order = answer.order();
+// Why an order is refused, in the reader's own terms.
+function faultInWords(answer, refused) {
+  const { call, place, reply, set, answers, begun, first, ended, keys } = refused;
   const named = (id) => nameOfCall(answer.exercise.calls[Number(id)]);
-  const bySet = /^refused WrongReply (\d+): place (\d+) says (\S+), and .*?the set is (\{.*\}) and answers (\S+)$/.exec(line);
-  if (bySet !== null) {
-    const [, id, place, reply, set, other] = bySet;
-    const before = Number(place) === 1 ? "before your first call" : `after ${named(order[place - 2].call.id)} in your order`;
-    return `${named(id)} cannot answer ${reply} there: ${before} the set is ${set}, and it would answer ${other}.`;
+  if (refused.kind === "reply") {
+    const before = Number(place) === 1 ? "before your first call" : `after ${named(answer.order()[Number(place) - 2].call.id)} in your order`;
+    return `${named(call)} cannot answer ${reply} there: ${before} the set is ${set}, and it would answer ${answers}.`;
   }
-  const byRun = /^refused WrongReply (\d+): place \d+ says (\S+), and the history says/.exec(line);
-  if (byRun !== null) return `${named(byRun[1])} does not answer ${byRun[2]} in this run. Look at what it sees before it answers.`;
-  const early = /^refused TooEarly (\d+): it begins at (\d+) and stands before call (\d+), which ended at (\d+)$/.exec(line);
-  if (early !== null) {
-    const [, late, begun, first, ended] = early;
-    const stands = `in your order it comes before ${named(first)}, which ended at event ${ended}`;
-    return `${named(late)} begins at event ${begun}, and ${stands}.`;
+  if (refused.kind === "run") return `${named(call)} does not answer ${reply} in this run. Look at what it sees before it answers.`;
+  if (refused.kind === "early") {
+    return `${named(call)} begins at event ${begun}, and in your order it comes before ${named(first)}, which ended at event ${ended}.`;
   }
-  const leaves = /^refused WrongSet: the order leaves (\{.*\}), and the keys are (\{.*\})$/.exec(line);
-  if (leaves !== null) return `Your order leaves the set ${leaves[1]}; at the end of this run it is ${leaves[2]}.`;
-  return line;
+  return refused.kind === "keys" ? `Your order leaves the set ${set}; at the end of this run it is ${keys}.` : refused.says;
 }
 
 // The last word of a line that is handed in: the places of the order, or the word none.

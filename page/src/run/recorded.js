@@ -1,7 +1,7 @@
 // Calls that were recorded from a set of the reader's own: what the proved judge says of them, in words, and the calls that are drawn.
+import { callsOfRecording, leavesKey, readJudge } from "../engine/answers.js";
 import { CAUSES_OF_CALLS } from "./faults.js";
 import { nameOfCall } from "./judged.js";
-import { firstCalls, refusalIn } from "./refusal.js";
 
 // Two threads looked for a key, did not find it, and put it in.
 export const RECORDED_EXAMPLE = `listset-calls 1
@@ -26,27 +26,26 @@ export const recordedInWords = (call) =>
 const sentence = (line) => `${line[0].toUpperCase()}${line.slice(1)}.`;
 
 // Which keys were left is not known of a recording that was cut off.
-function okInWords(count, lines) {
+function okInWords({ count, isCutOff }) {
   const calls = count === 1 ? "this one call" : `these ${count.toLocaleString("en")} calls`;
-  const isCutOff = lines.some((line) => line.startsWith("the recording was cut off"));
   const keys = isCutOff ? ", whatever keys it leaves" : " and leaves the keys";
   return `Linearizable: an order explains ${calls}${keys}. It says nothing of other runs.`;
 }
 
-function verdictOfOk(count, lines, text) {
-  const drawn = count > MOST_DRAWN ? [`the first ${MOST_DRAWN} calls are drawn`] : [];
+function verdictOfOk(judged, text) {
+  const drawn = judged.count > MOST_DRAWN ? [`the first ${MOST_DRAWN} calls are drawn`] : [];
   return {
     kind: "ok",
-    says: okInWords(count, lines),
-    reasons: [...lines, ...drawn].map(sentence),
-    calls: firstCalls(text, MOST_DRAWN),
+    says: okInWords(judged),
+    reasons: [...judged.remarks, ...drawn].map(sentence),
+    calls: callsOfRecording(text, MOST_DRAWN),
     from: null,
   };
 }
 
 function verdictOfRefusal({ key, isLeft, since, is, told }, text) {
-  const reasons = told.map(({ line, calls }) => sentence([line, calls.map(recordedInWords).join("; ")].join(" ").trim()));
-  const has = new RegExp(`^key ${key}$`, "m").test(text) ? "has it" : "does not have it";
+  const reasons = told.map(({ says, calls }) => sentence([says, calls.map(recordedInWords).join("; ")].join(" ").trim()));
+  const has = leavesKey(text, key) ? "has it" : "does not have it";
   return {
     kind: "none",
     says: `Not linearizable: no order at all explains these calls${isLeft ? " and leaves the keys" : ""}.`,
@@ -57,18 +56,15 @@ function verdictOfRefusal({ key, isLeft, since, is, told }, text) {
 }
 
 // The program's own line about an error, and in words what it is that the text has wrong.
-function troubleInWords(line) {
-  const cause = /^listset: line \d+: (\w+)$/.exec(line)?.[1];
-  return Object.hasOwn(CAUSES_OF_CALLS, cause) ? `${line}: ${CAUSES_OF_CALLS[cause]}.` : line;
+function troubleInWords({ cause, says }) {
+  return Object.hasOwn(CAUSES_OF_CALLS, cause) ? `${says}: ${CAUSES_OF_CALLS[cause]}.` : says;
 }
 
 // The judge's answer to the text: of which kind it is, a sentence, its reasons, and the calls to draw; those of a refusal with the moment
 // from which they have no order, and what the key is there.
 export function verdictOnCalls(answer, text) {
-  const [first, ...lines] = answer.trimEnd().split("\n");
-  const count = /^ok (\d+) calls$/.exec(first)?.[1];
-  if (count !== undefined) return verdictOfOk(Number(count), lines, text);
-  const refusal = first === "not linearizable" ? refusalIn(lines) : null;
-  if (refusal !== null) return verdictOfRefusal(refusal, text);
-  return { kind: "fault", says: troubleInWords(first), reasons: [], calls: [], from: null };
+  const judged = readJudge(answer);
+  if (judged.kind === "ok") return verdictOfOk(judged, text);
+  if (judged.kind === "none") return verdictOfRefusal(judged.why, text);
+  return { kind: "fault", says: troubleInWords(judged.fault), reasons: [], calls: [], from: null };
 }

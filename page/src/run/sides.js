@@ -30,13 +30,13 @@ export function programText(program) {
   return lines.join("");
 }
 
-// The calls of each thread of a run.
-const programOf = (trace) => trace.callsOf.map((calls) => calls.map(({ operation, key }) => `${operation} ${key}`));
-
 // One of the lists: the lines of its schedule, its run, and how many of its events there were after each turn.
 class Side {
   constructor(ask, kind, { program, quota, opening }) {
-    Object.assign(this, { ask, kind, lines: [], counts: [0] });
+    this.ask = ask;
+    this.kind = kind;
+    this.lines = [];
+    this.counts = [0];
     const set = [titleOf(2), `list ${kind}`, `threads ${program.length}`, `quota ${quota}`];
     this.head = [...set, ...opening.map((key) => `opening ${key}`)];
     this.run();

@@ -127,3 +127,11 @@ export function contentsIn(trace, first, last) {
   }
   return parts;
 }
+
+// The keys that are in the set at the end of a run by the points of its calls, and those of the nodes without a mark in the chain of a state.
+export const promisedKeys = (trace) => contentsIn(trace, trace.total + 1, trace.total + 1)[0].keys;
+
+export function keysInChain(state) {
+  const inside = state.chain().filter((name) => name !== "head" && name !== "tail" && !state.nodes[name].link.endsWith("*"));
+  return inside.map((name) => Number(state.nodes[name].key));
+}

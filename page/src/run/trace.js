@@ -17,7 +17,12 @@ export class Trace {
   constructor(text, version = 1, before = null) {
     const [, kind, lacks = null, threads, quota] =
       /^listset-trace 1\nlist (\S+)\n(?:lacks (\S+)\n)?threads (\d+)\nquota (\d+)\n/.exec(text);
-    Object.assign(this, { text, version, kind, lacks, threads: Number(threads), quota: Number(quota) });
+    this.text = text;
+    this.version = version;
+    this.kind = kind;
+    this.lacks = lacks;
+    this.threads = Number(threads);
+    this.quota = Number(quota);
     this.opening = [];
     this.starts = []; // of each event, where its line begins
     this.calls = [];

@@ -2,7 +2,6 @@ ghost use Rattle.std.specs.Prelude.{◌≡◌, ◌∷◌, []};
 ghost use Rattle.lset_text.specs.Parts.{cut_at};
 ghost use Rattle.lset_text.specs.Kinds.{first_of, line_in};
 ghost use Rattle.lset_report.specs.ReportReading.{
-  causes,
   open_kind,
   ended_kind,
   from_order,
@@ -11,8 +10,7 @@ ghost use Rattle.lset_report.specs.ReportReading.{
   section_after,
 };
 
-use crate::report_fault::ReportCause;
-use lset_text::{Version, cut, is_reply, number, read_call, read_reply};
+use lset_text::{Cause, Version, cut, is_reply, number, read_call, read_reply};
 use lset_words::{CallRecord, Key, Placed};
 
 /// The section of a report that reading has come to.
@@ -61,18 +59,18 @@ struct Begun<'a> {
     begun: &'a [u8],
 }
 
-fn open_call(version: Version, pieces: Begun<'_>, end: &[u8]) -> Result<Line, ReportCause>
-    ensures { result ≡ first_of version causes (open_kind ∷ []) (pieces.entry.word.now ∷ pieces.entry.id.now ∷ pieces.entry.thread.now
+fn open_call(version: Version, pieces: Begun<'_>, end: &[u8]) -> Result<Line, Cause>
+    ensures { result ≡ first_of version Cause.Line (open_kind ∷ []) (pieces.entry.word.now ∷ pieces.entry.id.now ∷ pieces.entry.thread.now
         ∷ pieces.entry.call.now ∷ pieces.entry.key.now ∷ pieces.entry.begun.now ∷ end.now ∷ []) }
 {
     if pieces.word != b"call".as_slice() || end != b"open".as_slice() {
-        return Err(ReportCause::Line);
+        return Err(Cause::Line);
     }
-    let word = read_call(version, pieces.call).ok_or(ReportCause::Line)?;
-    let id = number(pieces.id, 0, u32::MAX).ok_or(ReportCause::Number)?;
-    let thread = number(pieces.thread, 0, u32::MAX).ok_or(ReportCause::Number)?;
-    let key = number(pieces.key, 0, u32::MAX).ok_or(ReportCause::Number)?;
-    let begun = number(pieces.begun, 1, u32::MAX).ok_or(ReportCause::Number)?;
+    let word = read_call(version, pieces.call).ok_or(Cause::Line)?;
+    let id = number(pieces.id, 0, u32::MAX).ok_or(Cause::Number)?;
+    let thread = number(pieces.thread, 0, u32::MAX).ok_or(Cause::Number)?;
+    let key = number(pieces.key, 0, u32::MAX).ok_or(Cause::Number)?;
+    let begun = number(pieces.begun, 1, u32::MAX).ok_or(Cause::Number)?;
     let made = CallRecord {
         thread,
         call: word.with_key(Key(key)),
@@ -82,25 +80,20 @@ fn open_call(version: Version, pieces: Begun<'_>, end: &[u8]) -> Result<Line, Re
     Ok(Line::Call(id, made))
 }
 
-fn ended_call(
-    version: Version,
-    pieces: Begun<'_>,
-    end: &[u8],
-    reply: &[u8],
-) -> Result<Line, ReportCause>
-    ensures { result ≡ first_of version causes (ended_kind ∷ []) (pieces.entry.word.now ∷ pieces.entry.id.now ∷ pieces.entry.thread.now
+fn ended_call(version: Version, pieces: Begun<'_>, end: &[u8], reply: &[u8]) -> Result<Line, Cause>
+    ensures { result ≡ first_of version Cause.Line (ended_kind ∷ []) (pieces.entry.word.now ∷ pieces.entry.id.now ∷ pieces.entry.thread.now
         ∷ pieces.entry.call.now ∷ pieces.entry.key.now ∷ pieces.entry.begun.now ∷ end.now ∷ reply.now ∷ []) }
 {
     if pieces.word != b"call".as_slice() || !is_reply(version, reply) {
-        return Err(ReportCause::Line);
+        return Err(Cause::Line);
     }
-    let word = read_call(version, pieces.call).ok_or(ReportCause::Line)?;
-    let id = number(pieces.id, 0, u32::MAX).ok_or(ReportCause::Number)?;
-    let thread = number(pieces.thread, 0, u32::MAX).ok_or(ReportCause::Number)?;
-    let key = number(pieces.key, 0, u32::MAX).ok_or(ReportCause::Number)?;
-    let begun = number(pieces.begun, 1, u32::MAX).ok_or(ReportCause::Number)?;
-    let end = number(end, 1, u32::MAX).ok_or(ReportCause::Number)?;
-    let reply = read_reply(version, reply).ok_or(ReportCause::Number)?;
+    let word = read_call(version, pieces.call).ok_or(Cause::Line)?;
+    let id = number(pieces.id, 0, u32::MAX).ok_or(Cause::Number)?;
+    let thread = number(pieces.thread, 0, u32::MAX).ok_or(Cause::Number)?;
+    let key = number(pieces.key, 0, u32::MAX).ok_or(Cause::Number)?;
+    let begun = number(pieces.begun, 1, u32::MAX).ok_or(Cause::Number)?;
+    let end = number(end, 1, u32::MAX).ok_or(Cause::Number)?;
+    let reply = read_reply(version, reply).ok_or(Cause::Number)?;
     let made = CallRecord {
         thread,
         call: word.with_key(Key(key)),
@@ -111,24 +104,18 @@ fn ended_call(
 }
 
 /// A call, of its first pieces and of what comes after them.
-fn call(
-    version: Version,
-    word: &[u8],
-    id: &[u8],
-    thread: &[u8],
-    rest: &[u8],
-) -> Result<Line, ReportCause>
-    ensures { result ≡ first_of version causes (open_kind ∷ ended_kind ∷ []) (word.now ∷ id.now ∷ thread.now
+fn call(version: Version, word: &[u8], id: &[u8], thread: &[u8], rest: &[u8]) -> Result<Line, Cause>
+    ensures { result ≡ first_of version Cause.Line (open_kind ∷ ended_kind ∷ []) (word.now ∷ id.now ∷ thread.now
         ∷ cut_at 32 rest.now) }
 {
     let Some((call, rest)) = cut(rest, b' ') else {
-        return Err(ReportCause::Line);
+        return Err(Cause::Line);
     };
     let Some((key, rest)) = cut(rest, b' ') else {
-        return Err(ReportCause::Line);
+        return Err(Cause::Line);
     };
     let Some((begun, rest)) = cut(rest, b' ') else {
-        return Err(ReportCause::Line);
+        return Err(Cause::Line);
     };
     let pieces = Begun {
         word,
@@ -142,76 +129,76 @@ fn call(
         return open_call(version, pieces, rest);
     };
     if let Some((_, _more)) = cut(reply, b' ') {
-        return Err(ReportCause::Line);
+        return Err(Cause::Line);
     }
     ended_call(version, pieces, end, reply)
 }
 
-fn place(version: Version, word: &[u8], id: &[u8], reply: &[u8]) -> Result<Line, ReportCause>
-    ensures { result ≡ first_of version causes from_order (word.now ∷ id.now ∷ reply.now ∷ []) }
+fn place(version: Version, word: &[u8], id: &[u8], reply: &[u8]) -> Result<Line, Cause>
+    ensures { result ≡ first_of version Cause.Line from_order (word.now ∷ id.now ∷ reply.now ∷ []) }
 {
     if word != b"place".as_slice() || !is_reply(version, reply) {
-        return Err(ReportCause::Line);
+        return Err(Cause::Line);
     }
-    let call = number(id, 0, u32::MAX).ok_or(ReportCause::Number)?;
-    let reply = read_reply(version, reply).ok_or(ReportCause::Number)?;
+    let call = number(id, 0, u32::MAX).ok_or(Cause::Number)?;
+    let reply = read_reply(version, reply).ok_or(Cause::Number)?;
     Ok(Line::Place(Placed { call, reply }))
 }
 
-fn key(word: &[u8], key: &[u8]) -> Result<Line, ReportCause>
-    ensures { result ≡ first_of Version.Two causes from_keys (word.now ∷ key.now ∷ []) }
+fn key(word: &[u8], key: &[u8]) -> Result<Line, Cause>
+    ensures { result ≡ first_of Version.Two Cause.Line from_keys (word.now ∷ key.now ∷ []) }
 {
     if word != b"key".as_slice() {
-        return Err(ReportCause::Line);
+        return Err(Cause::Line);
     }
-    let key = number(key, 0, u32::MAX).ok_or(ReportCause::Number)?;
+    let key = number(key, 0, u32::MAX).ok_or(Cause::Number)?;
     Ok(Line::Key(key))
 }
 
-fn opening_or_key(word: &[u8], digits: &[u8]) -> Result<Line, ReportCause>
-    ensures { result ≡ first_of Version.Two causes (kinds Version.Two Section.Opening) (word.now ∷ digits.now ∷ []) }
+fn opening_or_key(word: &[u8], digits: &[u8]) -> Result<Line, Cause>
+    ensures { result ≡ first_of Version.Two Cause.Line (kinds Version.Two Section.Opening) (word.now ∷ digits.now ∷ []) }
 {
     if word != b"opening".as_slice() {
         return key(word, digits);
     }
-    let key = number(digits, 0, u32::MAX).ok_or(ReportCause::Number)?;
+    let key = number(digits, 0, u32::MAX).ok_or(Cause::Number)?;
     Ok(Line::Opening(key))
 }
 
-fn end(word: &[u8]) -> Result<Line, ReportCause>
-    ensures { result ≡ first_of Version.Two causes from_keys (word.now ∷ []) }
+fn end(word: &[u8]) -> Result<Line, Cause>
+    ensures { result ≡ first_of Version.Two Cause.Line from_keys (word.now ∷ []) }
 {
     if word != b"end".as_slice() {
-        return Err(ReportCause::Line);
+        return Err(Cause::Line);
     }
     Ok(Line::End)
 }
 
 /// Reads a line of a report of a version that has come to a section.
-pub fn line_of_report(version: Version, section: Section, line: &[u8]) -> Result<Line, ReportCause>
-    ensures { result ≡ line_in version causes (kinds version section) line.now }
+pub fn line_of_report(version: Version, section: Section, line: &[u8]) -> Result<Line, Cause>
+    ensures { result ≡ line_in version Cause.Line (kinds version section) line.now }
 {
     let Some((word, rest)) = cut(line, b' ') else {
         return match section {
-            Section::Done => Err(ReportCause::Line),
+            Section::Done => Err(Cause::Line),
             _ => end(line),
         };
     };
     let Some((second, rest)) = cut(rest, b' ') else {
         return match (version, section) {
             (Version::Two, Section::Opening) => opening_or_key(word, rest),
-            (_, Section::Done) => Err(ReportCause::Line),
+            (_, Section::Done) => Err(Cause::Line),
             _ => key(word, rest),
         };
     };
     let Some((third, rest)) = cut(rest, b' ') else {
         return match section {
-            Section::Keys | Section::Done => Err(ReportCause::Line),
+            Section::Keys | Section::Done => Err(Cause::Line),
             _ => place(version, word, second, rest),
         };
     };
     match section {
         Section::Opening | Section::Calls => call(version, word, second, third, rest),
-        _ => Err(ReportCause::Line),
+        _ => Err(Cause::Line),
     }
 }

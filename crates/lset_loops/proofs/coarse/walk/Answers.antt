@@ -8,17 +8,12 @@ pub returns-then-word-key : goal.returns-then-word-key
 returns-then-word-key g c = let ge : target g.O.Origin.begun.call ≤ c.load_key-word.result =
     omega (arith, c.args.caller.now.is_key) in (
       _,
-      moved (c.load_key-word.ensures.leads _ c.loop-round.invariant.0.1) (if_not_below c.load_key-word.result (target g.O.Origin.begun.call)
+      moved (c.load_key-word.ensures.leads _ c.loop-round.invariant.1) (if_not_below c.load_key-word.result (target g.O.Origin.begun.call)
           ge _ _),
     )
 
 pub loop-round-preserved : goal.loop-round-preserved
 loop-round-preserved g c = let lt : c.load_key-word.result < target g.O.Origin.begun.call = omega (arith, c.args.caller.now.is_key) in
-    let at = moved (c.load_key-word.ensures.leads _ c.loop-round.invariant.0.1) (if_below c.load_key-word.result (target g.O.Origin.begun.call)
-    lt _ _) in (
-      (_, to_curr c.behind-curr-in-loop-round.ensures (c.load_link-link.ensures.leads _ at)),
-      omega (arith, c.loop-round.invariant.1, c.load_key-word.ensures.grows, c.load_link-link.ensures.grows),
-    )
-
-pub returns : goal.returns
-returns g c = (_, c.loop-round.invariant.0.1, omega (arith, c.loop-round.invariant.1))
+    let at = moved (c.load_key-word.ensures.leads _ c.loop-round.invariant.1) (if_below c.load_key-word.result (target g.O.Origin.begun.call)
+    lt _ _) in
+    (_, to_curr c.behind-curr-in-loop-round.ensures (c.load_link-link.ensures.leads _ at))

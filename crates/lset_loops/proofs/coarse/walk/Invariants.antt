@@ -1,8 +1,6 @@
 use Rattle.std.proofs.Common.{◌≤◌}
 use Rattle.lset_loops.specs.Coarse.{AtKey}
-use Rattle.lset_loops.specs.Calling.{steps_in}
 use Rattle.lset_loops.proofs.coarse.walk.Given as goal
 
 abbrev pub invariant-loop-round : goal.invariant-loop-round
 invariant-loop-round g l = AtKey g.O.Origin.begun l.fn.caller.slots l.pred.number l.curr.number l.place
-    × (l.round ≤ steps_in l.place)

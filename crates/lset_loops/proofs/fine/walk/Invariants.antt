@@ -1,8 +1,6 @@
 use Rattle.std.proofs.Common.{◌≤◌}
 use Rattle.lset_loops.specs.Fine.{AtLock}
-use Rattle.lset_loops.specs.Calling.{steps_in}
 use Rattle.lset_loops.proofs.fine.walk.Given as goal
 
 abbrev pub invariant-loop-round : goal.invariant-loop-round
 invariant-loop-round g l = AtLock g.O.Origin.begun l.fn.caller.slots l.pred.number l.curr.number l.place
-    × (l.round ≤ steps_in l.place)

@@ -10,27 +10,24 @@ use Rattle.lset_loops.proofs.lazy.make.Goals as goal
 
 pub loop-round-init : goal.loop-round-init
 loop-round-init g c = (
-  (
-    no_rest,
-    moved c.begin_at_head-link.ensures
-        (ap (λ pc. (lazy.feed (row c.args.slots g.O.Origin.begun.call pc None 0 0 no_rest) c.begin_at_head-link.result).local)
-        c.requires.walks),
-  ),
-  omega arith,
+  no_rest,
+  moved c.begin_at_head-link.ensures
+      (ap (λ pc. (lazy.feed (row c.args.slots g.O.Origin.begun.call pc None 0 0 no_rest) c.begin_at_head-link.result).local)
+      c.requires.walks),
 )
 
 pub lock-requires-in-loop-round : goal.lock-requires-in-loop-round
 lock-requires-in-loop-round g c =
     record {
       held = _;
-      holds = c.in_ok-lock.ensures.leads _ c.in_ok-found.ensures.0.1;
+      holds = c.in_ok-lock.ensures.leads _ c.in_ok-found.ensures.1;
       acts = refl;
       again = λ n ne. ap continued (if_other n 0 ne _ _);
       goes_on = refl;
     }
 
 pub validate-requires : goal.validate-requires
-validate-requires g c = (c.in_ok-found.ensures.0.0, c.in_ok-lock-2.ensures.leads _ (c.in_ok-lock.ensures.leads _ c.in_ok-found.ensures.0.1))
+validate-requires g c = (c.in_ok-found.ensures.0, c.in_ok-lock-2.ensures.leads _ (c.in_ok-lock.ensures.leads _ c.in_ok-found.ensures.1))
 
 pub unlock_last-requires : goal.unlock_last-requires
 unlock_last-requires g c = record { held = _; holds = c.unlock.ensures.leads _ c.act-answer.ensures.1; acts = refl }
@@ -43,13 +40,13 @@ returns-in-Some g c = (
 )
 
 pub unlock-requires-in-None : goal.unlock-requires-in-None
-unlock-requires-in-None g c = record { held = _; holds = c.in-None.ensures.0.1; acts = refl; goes_on = λ n. refl }
+unlock-requires-in-None g c = record { held = _; holds = c.in-None.ensures.1; acts = refl; goes_on = λ n. refl }
 
 pub unlock-requires-in-None-2 : goal.unlock-requires-in-None-2
 unlock-requires-in-None-2 g c =
     record {
       held = _;
-      holds = c.unlock-in-None.ensures.leads _ c.in-None.ensures.0.1;
+      holds = c.unlock-in-None.ensures.leads _ c.in-None.ensures.1;
       acts = refl;
       goes_on = λ n. refl;
     }
@@ -59,30 +56,14 @@ load_link-link-requires g c =
     record {
       held = _;
       holds = c.unlock-in-None-2.ensures.leads _
-          (c.unlock-in-None.ensures.leads _ c.in-None.ensures.0.1);
+          (c.unlock-in-None.ensures.leads _ c.in-None.ensures.1);
       acts = ap (λ n. Load (link_index n)) c.head.ensures;
       goes_on = λ n. refl;
     }
 
 pub loop-round-preserved : goal.loop-round-preserved
 loop-round-preserved g c = (
-  (
-    _,
-    c.load_link-link.ensures.leads _
-        (c.unlock-in-None-2.ensures.leads _ (c.unlock-in-None.ensures.leads _ c.in-None.ensures.0.1)),
-  ),
-  omega (
-    arith,
-    c.loop-round.invariant.1,
-    c.in_ok-found.ensures.1,
-    c.in_ok-lock.ensures.grows,
-    c.in_ok-lock-2.ensures.grows,
-    c.in-None.ensures.1,
-    c.unlock-in-None.ensures.grows,
-    c.unlock-in-None-2.ensures.grows,
-    c.load_link-link.ensures.grows,
-  ),
+  _,
+  c.load_link-link.ensures.leads _
+      (c.unlock-in-None-2.ensures.leads _ (c.unlock-in-None.ensures.leads _ c.in-None.ensures.1)),
 )
-
-pub returns : goal.returns
-returns g c = (_, c.loop-round.invariant.0.1, omega (arith, c.loop-round.invariant.1))

@@ -8,12 +8,9 @@ use Rattle.lset_loops.proofs.lazy.validate.Goals as goal
 
 pub returns-then-before-found : goal.returns-then-before-found
 returns-then-before-found g c = (
-  (
-    _,
-    moved (c.load_link-before.ensures.leads _ c.requires.1) (if_other c.load_link-before.result (2 * c.args.found.curr.number)
-        c.if-before-found.true _ _),
-  ),
-  omega (arith, c.load_link-before.ensures.grows),
+  _,
+  moved (c.load_link-before.ensures.leads _ c.requires.1) (if_other c.load_link-before.result (2 * c.args.found.curr.number)
+      c.if-before-found.true _ _),
 )
 
 pub load_link-after-requires : goal.load_link-after-requires
@@ -25,21 +22,16 @@ load_link-after-requires g c =
 pub returns-then-after-ne0 : goal.returns-then-after-ne0
 returns-then-after-ne0 g c =
     let at = moved (c.load_link-before.ensures.leads _ c.requires.1) (if_same c.load_link-before.result (2 * c.args.found.curr.number)
-    c.if-before-found.false _ _) in (
-      (_, moved (c.load_link-after.ensures.leads _ at) (if_other (c.load_link-after.result % 2) 0 c.if-after-ne0.true _ _)),
-      omega (arith, c.load_link-before.ensures.grows, c.load_link-after.ensures.grows),
-    )
+    c.if-before-found.false _ _) in
+    (_, moved (c.load_link-after.ensures.leads _ at) (if_other (c.load_link-after.result % 2) 0 c.if-after-ne0.true _ _))
 
 pub returns : goal.returns
 returns g c =
     let at = moved (c.load_link-before.ensures.leads _ c.requires.1) (if_same c.load_link-before.result (2 * c.args.found.curr.number)
     c.if-before-found.false _ _) in
     let at' = moved (c.load_link-after.ensures.leads _ at) (if_same (c.load_link-after.result % 2) 0 c.if-after-ne0.false _ _) in (
-      (
-        c.requires.0,
-        moved at' (ap (λ n. decided_on targets c.args.found.word
-            (row c.args.caller.now.slots g.O.Origin.begun.call 7 None c.args.found.pred.number c.args.found.curr.number
-            (record c.requires.0 { succ = n; ckey = c.args.found.word }))) (sym c.behind.ensures)),
-      ),
-      omega (arith, c.load_link-before.ensures.grows, c.load_link-after.ensures.grows),
+      c.requires.0,
+      moved at' (ap (λ n. decided_on targets c.args.found.word
+          (row c.args.caller.now.slots g.O.Origin.begun.call 7 None c.args.found.pred.number c.args.found.curr.number
+          (record c.requires.0 { succ = n; ckey = c.args.found.word }))) (sym c.behind.ensures)),
     )

@@ -33,17 +33,14 @@ exchange_link-requires g c =
 pub returns-then-not-exchange_link : goal.returns-then-not-exchange_link
 returns-then-not-exchange_link g c =
     let at = c.requires.1 _ (ap decision_of (c.in-PutIn.ensures.deed targets _ c.args.caller.now.is_call.0 refl refl)) in
-    let lost = rw c.if-not-exchange_link.true at c.exchange_link.ensures.told in
+    let lost = rw c.if-not-exchange_link.true at c.exchange_link.ensures in
     let on = lost.2 _ (c.fill_slot-node.ensures.stored.leads _ at) _ (if_other lost.0 (2 * c.args.found.curr.number) lost.1 _ _) in
-    let more = c.exchange_link.ensures.grows _ on in (
-      (_, _, _, on),
-      λ k made. let least = made _ at in omega (arith, least, c.fill_slot-node.ensures.stored.grows, more),
-    )
+    (_, _, _, on)
 
 pub returns-else-not-exchange_link : goal.returns-else-not-exchange_link
 returns-else-not-exchange_link g c =
     let at = c.requires.1 _ (ap decision_of (c.in-PutIn.ensures.deed targets _ c.args.caller.now.is_call.0 refl refl)) in
-    let made = rw c.if-not-exchange_link.false at c.exchange_link.ensures.told in (
+    let made = rw c.if-not-exchange_link.false at c.exchange_link.ensures in (
       _,
       made _ (c.fill_slot-node.ensures.stored.leads _ at) _
           (if_same (2 * c.args.found.curr.number) (2 * c.args.found.curr.number) refl _ _),
@@ -63,18 +60,15 @@ exchange_mark-requires g c =
 pub returns-then-not-exchange_mark : goal.returns-then-not-exchange_mark
 returns-then-not-exchange_mark g c =
     let at = c.requires.1 _ (ap decision_of (c.in-TakeOut.ensures.deed targets _ c.args.caller.now.is_call.0 refl refl)) in
-    let lost = rw c.if-not-exchange_mark.true at c.exchange_mark.ensures.told in
+    let lost = rw c.if-not-exchange_mark.true at c.exchange_mark.ensures in
     let on = lost.2 _ (to_succ c.behind-succ.ensures (c.load_link.ensures.leads _ at)) _
     (if_other lost.0 (2 * c.behind-succ.result.number) lost.1 _ _) in
-    let more = c.exchange_mark.ensures.grows _ on in (
-      (_, _, _, on),
-      λ k made. let least = made _ at in omega (arith, least, c.load_link.ensures.grows, more),
-    )
+    (_, _, _, on)
 
 pub exchange_link_last-requires : goal.exchange_link_last-requires
 exchange_link_last-requires g c =
     let at = c.requires.1 _ (ap decision_of (c.in-TakeOut.ensures.deed targets _ c.args.caller.now.is_call.0 refl refl)) in
-    let made = rw c.if-not-exchange_mark.false at c.exchange_mark.ensures.told in
+    let made = rw c.if-not-exchange_mark.false at c.exchange_mark.ensures in
     record {
       held = _;
       holds = made _ (to_succ c.behind-succ.ensures (c.load_link.ensures.leads _ at)) _
@@ -85,7 +79,7 @@ exchange_link_last-requires g c =
 pub returns-else-not-exchange_mark : goal.returns-else-not-exchange_mark
 returns-else-not-exchange_mark g c =
     let at = c.requires.1 _ (ap decision_of (c.in-TakeOut.ensures.deed targets _ c.args.caller.now.is_call.0 refl refl)) in
-    let made = rw c.if-not-exchange_mark.false at c.exchange_mark.ensures.told in (
+    let made = rw c.if-not-exchange_mark.false at c.exchange_mark.ensures in (
       _,
       c.exchange_link_last.ensures _
           (made _ (to_succ c.behind-succ.ensures (c.load_link.ensures.leads _ at)) _

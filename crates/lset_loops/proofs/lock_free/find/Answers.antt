@@ -4,11 +4,11 @@ use Rattle.lset_words.proofs.Numbers.{if_below, if_not_below, if_same, if_other}
 use Rattle.lset_steps.specs.declared.Action.TheVariants.{Load, Exchange}
 use Rattle.lset_steps.specs.declared.Fed.{Fed}
 use Rattle.lset_lock_free.specs.LockFree.{lock_free}
-use Rattle.lset_loops.proofs.Calling.{moved, one_step_more, to_curr, to_pred}
+use Rattle.lset_loops.proofs.Calling.{moved, to_curr, to_pred}
 use Rattle.lset_loops.proofs.lock_free.find.Goals as goal
 
 pub exchange_link-requires : goal.exchange_link-requires
-exchange_link-requires g c = let at = moved (c.load_link-link.ensures.leads _ c.loop-round.invariant.0.1)
+exchange_link-requires g c = let at = moved (c.load_link-link.ensures.leads _ c.loop-round.invariant.1)
     (ap (λ (f : Fed). f.local) (if_other (c.load_link-link.result % 2) 0 c.if-link-ne0.true _ _)) in
     record {
       held = _;
@@ -17,20 +17,16 @@ exchange_link-requires g c = let at = moved (c.load_link-link.ensures.leads _ c.
     }
 
 pub loop-round-preserved-then-exchange_link : goal.loop-round-preserved-then-exchange_link
-loop-round-preserved-then-exchange_link g c = let at = moved (c.load_link-link.ensures.leads _ c.loop-round.invariant.0.1)
+loop-round-preserved-then-exchange_link g c = let at = moved (c.load_link-link.ensures.leads _ c.loop-round.invariant.1)
     (ap (λ (f : Fed). f.local) (if_other (c.load_link-link.result % 2) 0 c.if-link-ne0.true _ _)) in
-    let made = rw c.if-exchange_link.true at c.exchange_link.ensures.told in
+    let made = rw c.if-exchange_link.true at c.exchange_link.ensures in
     let on = made _ at _ (if_same (2 * c.loop-round.curr.number) (2 * c.loop-round.curr.number) refl _ _) in
-    let more = c.exchange_link.ensures.grows _ on in (
-      (_, to_curr c.behind-succ.ensures on),
-      omega (arith, c.loop-round.invariant.1, c.load_link-link.ensures.grows, more),
-      omega (arith, c.loop-round.invariant.2, c.load_link-link.ensures.grows, more),
-    )
+    (_, to_curr c.behind-succ.ensures on)
 
 pub load_link-requires : goal.load_link-requires
-load_link-requires g c = let at = moved (c.load_link-link.ensures.leads _ c.loop-round.invariant.0.1)
+load_link-requires g c = let at = moved (c.load_link-link.ensures.leads _ c.loop-round.invariant.1)
     (ap (λ (f : Fed). f.local) (if_other (c.load_link-link.result % 2) 0 c.if-link-ne0.true _ _)) in
-    let lost = rw c.if-exchange_link.false at c.exchange_link.ensures.told in
+    let lost = rw c.if-exchange_link.false at c.exchange_link.ensures in
     record {
       held = _;
       holds = lost.2 _ at _ (if_other lost.0 (2 * c.loop-round.curr.number) lost.1 _ _);
@@ -39,43 +35,24 @@ load_link-requires g c = let at = moved (c.load_link-link.ensures.leads _ c.loop
     }
 
 pub loop-round-preserved-then-link-ne0 : goal.loop-round-preserved-then-link-ne0
-loop-round-preserved-then-link-ne0 g c = let at = moved (c.load_link-link.ensures.leads _ c.loop-round.invariant.0.1)
+loop-round-preserved-then-link-ne0 g c = let at = moved (c.load_link-link.ensures.leads _ c.loop-round.invariant.1)
     (ap (λ (f : Fed). f.local) (if_other (c.load_link-link.result % 2) 0 c.if-link-ne0.true _ _)) in
-    let lost = rw c.if-exchange_link.false at c.exchange_link.ensures.told in
+    let lost = rw c.if-exchange_link.false at c.exchange_link.ensures in
     let on = lost.2 _ at _ (if_other lost.0 (2 * c.loop-round.curr.number) lost.1 _ _) in
-    let more = c.exchange_link.ensures.grows _ on in (
-      (
-        _,
-        to_pred c.head-pred-then-link-ne0.ensures (to_curr c.behind-curr.ensures (c.load_link.ensures.leads _ on)),
-      ),
-      omega (arith, c.loop-round.invariant.1, c.load_link-link.ensures.grows, more, c.load_link.ensures.grows),
-      omega (arith, c.loop-round.invariant.2, c.load_link-link.ensures.grows, more, c.load_link.ensures.grows),
-    )
+    (_, to_pred c.head-pred-then-link-ne0.ensures (to_curr c.behind-curr.ensures (c.load_link.ensures.leads _ on)))
 
 pub returns-then-word-key : goal.returns-then-word-key
-returns-then-word-key g c = let at = moved (c.load_link-link.ensures.leads _ c.loop-round.invariant.0.1)
+returns-then-word-key g c = let at = moved (c.load_link-link.ensures.leads _ c.loop-round.invariant.1)
     (ap (λ (f : Fed). f.local) (if_same (c.load_link-link.result % 2) 0 c.if-link-ne0.false _ _)) in
     let ge : target g.O.Origin.begun.call ≤ c.look_at_key-word.result = omega (arith, c.args.caller.now.is_key) in (
-      (
-        record c.loop-round.invariant.0.0 { succ = c.load_link-link.result / 2 },
-        λ fed is. c.look_at_key-word.ensures.told _ at fed
-            (if_not_below c.look_at_key-word.result (target g.O.Origin.begun.call) ge _ _ ∙ is),
-      ),
-      λ l on.
-          let more = one_step_more lock_free g.O.Origin.begun _ l _ _ _ c.look_at_key-word.ensures.goes at on in
-          omega (arith, c.loop-round.invariant.2, c.load_link-link.ensures.grows, more),
+      record c.loop-round.invariant.0 { succ = c.load_link-link.result / 2 },
+      λ fed is. c.look_at_key-word.ensures.told _ at fed
+          (if_not_below c.look_at_key-word.result (target g.O.Origin.begun.call) ge _ _ ∙ is),
     )
 
 pub loop-round-preserved : goal.loop-round-preserved
-loop-round-preserved g c = let at = moved (c.load_link-link.ensures.leads _ c.loop-round.invariant.0.1)
+loop-round-preserved g c = let at = moved (c.load_link-link.ensures.leads _ c.loop-round.invariant.1)
     (ap (λ (f : Fed). f.local) (if_same (c.load_link-link.result % 2) 0 c.if-link-ne0.false _ _)) in
     let lt : c.look_at_key-word.result < target g.O.Origin.begun.call = omega (arith, c.args.caller.now.is_key) in
     let on = c.look_at_key-word.ensures.told _ at _ (if_below c.look_at_key-word.result (target g.O.Origin.begun.call) lt _ _) in
-    let more = one_step_more lock_free g.O.Origin.begun _ _ _ _ _ c.look_at_key-word.ensures.goes at on in (
-      (_, to_curr c.behind-succ.ensures on),
-      omega (arith, c.loop-round.invariant.1, c.load_link-link.ensures.grows, more),
-      omega (arith, c.loop-round.invariant.2, c.load_link-link.ensures.grows, more),
-    )
-
-pub returns : goal.returns
-returns g c = (_, c.loop-round.invariant.0.1, omega (arith, c.loop-round.invariant.1))
+    (_, to_curr c.behind-succ.ensures on)

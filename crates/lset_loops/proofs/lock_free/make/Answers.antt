@@ -8,30 +8,20 @@ use Rattle.lset_loops.proofs.lock_free.make.Goals as goal
 
 pub loop-round-init : goal.loop-round-init
 loop-round-init g c = (
-  (
-    no_rest,
-    moved c.begin_at_head-link.ensures
-        (ap (λ pc. (lock_free.feed (row c.args.slots g.O.Origin.begun.call pc None 0 0 no_rest) c.begin_at_head-link.result).local)
-        c.requires.walks),
-  ),
-  omega arith,
+  no_rest,
+  moved c.begin_at_head-link.ensures
+      (ap (λ pc. (lock_free.feed (row c.args.slots g.O.Origin.begun.call pc None 0 0 no_rest) c.begin_at_head-link.result).local)
+      c.requires.walks),
 )
 
 pub load_link-link-requires : goal.load_link-link-requires
 load_link-link-requires g c =
     record {
       held = _;
-      holds = c.in-None.ensures.0.3;
+      holds = c.in-None.ensures.3;
       acts = ap (λ n. Load (link_index n)) c.head.ensures;
       goes_on = λ n. refl;
     }
 
 pub loop-round-preserved : goal.loop-round-preserved
-loop-round-preserved g c =
-    let later = c.in-None.ensures.1 _ c.in_ok-found.ensures.1 in (
-      (_, c.load_link-link.ensures.leads _ c.in-None.ensures.0.3),
-      omega (arith, c.loop-round.invariant.1, later, c.load_link-link.ensures.grows),
-    )
-
-pub returns : goal.returns
-returns g c = (_, c.loop-round.invariant.0.1, omega (arith, c.loop-round.invariant.1))
+loop-round-preserved g c = (_, c.load_link-link.ensures.leads _ c.in-None.ensures.3)

@@ -7,13 +7,13 @@ use Rattle.lset_loops.proofs.Calling.{no_rest}
 use Rattle.lset_loops.proofs.optimistic.make.Goals as goal
 
 pub loop-round-init : goal.loop-round-init
-loop-round-init g c = ((no_rest, c.begin_at_head-link.ensures), omega arith)
+loop-round-init g c = (no_rest, c.begin_at_head-link.ensures)
 
 pub lock-requires-in-loop-round : goal.lock-requires-in-loop-round
 lock-requires-in-loop-round g c =
     record {
       held = _;
-      holds = c.in_ok-lock.ensures.leads _ c.in_ok-stopped.ensures.0.1;
+      holds = c.in_ok-lock.ensures.leads _ c.in_ok-stopped.ensures.1;
       acts = refl;
       again = λ n ne. ap continued (if_other n 0 ne _ _);
       goes_on = refl;
@@ -21,10 +21,10 @@ lock-requires-in-loop-round g c =
 
 pub validate-requires : goal.validate-requires
 validate-requires g c =
-    (c.in_ok-stopped.ensures.0.0, c.in_ok-lock-2.ensures.leads _ (c.in_ok-lock.ensures.leads _ c.in_ok-stopped.ensures.0.1))
+    (c.in_ok-stopped.ensures.0, c.in_ok-lock-2.ensures.leads _ (c.in_ok-lock.ensures.leads _ c.in_ok-stopped.ensures.1))
 
 pub act-answer-requires : goal.act-answer-requires
-act-answer-requires g c = rw c.if-branch.true at c.in_ok-validate.ensures.0
+act-answer-requires g c = rw c.if-branch.true at c.in_ok-validate.ensures
 
 pub unlock-requires : goal.unlock-requires
 unlock-requires g c = record { held = _; holds = c.act-answer.ensures.1; acts = refl; goes_on = λ n. refl }
@@ -40,15 +40,15 @@ returns-then-branch g c = (
 )
 
 pub unlock-requires-in-loop-round : goal.unlock-requires-in-loop-round
-unlock-requires-in-loop-round g c = let left = rw c.if-branch.false at c.in_ok-validate.ensures.0 in
+unlock-requires-in-loop-round g c = let left = rw c.if-branch.false at c.in_ok-validate.ensures in
     record { held = _; holds = left.1; acts = refl; goes_on = λ n. refl }
 
 pub unlock-requires-in-loop-round-2 : goal.unlock-requires-in-loop-round-2
-unlock-requires-in-loop-round-2 g c = let left = rw c.if-branch.false at c.in_ok-validate.ensures.0 in
+unlock-requires-in-loop-round-2 g c = let left = rw c.if-branch.false at c.in_ok-validate.ensures in
     record { held = _; holds = c.unlock-in-loop-round.ensures.leads _ left.1; acts = refl; goes_on = λ n. refl }
 
 pub load_link-link-requires : goal.load_link-link-requires
-load_link-link-requires g c = let left = rw c.if-branch.false at c.in_ok-validate.ensures.0 in
+load_link-link-requires g c = let left = rw c.if-branch.false at c.in_ok-validate.ensures in
     record {
       held = _;
       holds = c.unlock-in-loop-round-2.ensures.leads _ (c.unlock-in-loop-round.ensures.leads _ left.1);
@@ -57,23 +57,7 @@ load_link-link-requires g c = let left = rw c.if-branch.false at c.in_ok-validat
     }
 
 pub loop-round-preserved : goal.loop-round-preserved
-loop-round-preserved g c = let left = rw c.if-branch.false at c.in_ok-validate.ensures.0 in (
-  (
-    record left.0 { pkey = 0 },
-    c.load_link-link.ensures.leads _ (c.unlock-in-loop-round-2.ensures.leads _ (c.unlock-in-loop-round.ensures.leads _ left.1)),
-  ),
-  omega (
-    arith,
-    c.loop-round.invariant.1,
-    c.in_ok-stopped.ensures.1,
-    c.in_ok-lock.ensures.grows,
-    c.in_ok-lock-2.ensures.grows,
-    c.in_ok-validate.ensures.1,
-    c.unlock-in-loop-round.ensures.grows,
-    c.unlock-in-loop-round-2.ensures.grows,
-    c.load_link-link.ensures.grows,
-  ),
+loop-round-preserved g c = let left = rw c.if-branch.false at c.in_ok-validate.ensures in (
+  record left.0 { pkey = 0 },
+  c.load_link-link.ensures.leads _ (c.unlock-in-loop-round-2.ensures.leads _ (c.unlock-in-loop-round.ensures.leads _ left.1)),
 )
-
-pub returns : goal.returns
-returns g c = (_, c.loop-round.invariant.0.1, omega (arith, c.loop-round.invariant.1))

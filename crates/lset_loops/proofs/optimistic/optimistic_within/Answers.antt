@@ -9,4 +9,4 @@ pub make-requires-clause-call : goal.make-requires-clause-call
 make-requires-clause-call g c = is_call _ c.requires
 
 pub returns : goal.returns
-returns g c = ended optimistic c.args.call _ c.args.place.now c.make.new.place c.make.result c.make.ensures
+returns g c = ended optimistic c.args.call c.args.place.now c.make.new.place c.make.result c.make.ensures

@@ -6,49 +6,36 @@ use Rattle.lset_loops.proofs.optimistic.reaches.Goals as goal
 
 pub returns-then-pred-eq-HEAD : goal.returns-then-pred-eq-HEAD
 returns-then-pred-eq-HEAD g c = (
-  (
-    record c.requires.0 { node = 0; pkey = c.args.stopped.before },
-    moved c.requires.1 (if_same c.args.stopped.found.pred.number 0 c.if-pred-eq-HEAD.true _ _),
-  ),
-  omega arith,
+  record c.requires.0 { node = 0; pkey = c.args.stopped.before },
+  moved c.requires.1 (if_same c.args.stopped.found.pred.number 0 c.if-pred-eq-HEAD.true _ _),
 )
 
 pub returns-then-word-before : goal.returns-then-word-before
-returns-then-word-before g c = let at = c.load_key-word.ensures.leads _ (c.load_link-link.ensures.leads _ c.loop-round.invariant.0.1) in
+returns-then-word-before g c = let at = c.load_key-word.ensures.leads _ (c.load_link-link.ensures.leads _ c.loop-round.invariant.1) in
     let lt : c.args.stopped.before < c.load_key-word.result = omega arith in
-    ((_, moved at (if_below c.args.stopped.before c.load_key-word.result lt _ _)), omega (arith, c.loop-round.invariant.2, c.load_link-link.ensures.grows, c.load_key-word.ensures.grows))
+    (_, moved at (if_below c.args.stopped.before c.load_key-word.result lt _ _))
 
 pub returns-then-node-pred : goal.returns-then-node-pred
 returns-then-node-pred g c =
-    let at = c.load_key-word.ensures.leads _ (c.load_link-link.ensures.leads _ c.loop-round.invariant.0.1) in
+    let at = c.load_key-word.ensures.leads _ (c.load_link-link.ensures.leads _ c.loop-round.invariant.1) in
     let low : c.load_key-word.result ≤ c.args.stopped.before = omega arith in
     let at' = moved at (if_not_below c.args.stopped.before c.load_key-word.result low _ _) in (
-      (
-        record c.loop-round.invariant.0.0 { node = c.load_link-link.result / 2; pkey = c.args.stopped.before },
-        moved at' (if_same (c.load_link-link.result / 2) c.args.stopped.found.pred.number (sym c.behind-node.ensures
-            ∙ c.if-node-pred.true) _ _),
-      ),
-      omega (arith, c.loop-round.invariant.2, c.load_link-link.ensures.grows, c.load_key-word.ensures.grows),
+      record c.loop-round.invariant.0 { node = c.load_link-link.result / 2; pkey = c.args.stopped.before },
+      moved at' (if_same (c.load_link-link.result / 2) c.args.stopped.found.pred.number (sym c.behind-node.ensures
+          ∙ c.if-node-pred.true) _ _),
     )
 
 pub loop-round-preserved : goal.loop-round-preserved
 loop-round-preserved g c =
-    let at = c.load_key-word.ensures.leads _ (c.load_link-link.ensures.leads _ c.loop-round.invariant.0.1) in
+    let at = c.load_key-word.ensures.leads _ (c.load_link-link.ensures.leads _ c.loop-round.invariant.1) in
     let low : c.load_key-word.result ≤ c.args.stopped.before = omega arith in
     let at' = moved at (if_not_below c.args.stopped.before c.load_key-word.result low _ _) in
     let ne : c.load_link-link.result / 2 ≢ c.args.stopped.found.pred.number =
     λ e. c.if-node-pred.false (c.behind-node.ensures ∙ e) in
     let at6 = moved at' (if_other (c.load_link-link.result / 2) c.args.stopped.found.pred.number ne _ _) in (
-      (
-        c.loop-round.invariant.0.0,
-        moved at6 (ap (λ n. row c.args.caller.now.slots g.O.Origin.begun.call 6 None
-            c.args.stopped.found.pred.number c.args.stopped.found.curr.number
-            (record c.loop-round.invariant.0.0 { pkey = c.args.stopped.before; ckey = c.args.stopped.found.word; node = n }))
-            (sym c.behind-node.ensures)),
-      ),
-      omega (arith, c.loop-round.invariant.1, c.load_link-link.ensures.grows, c.load_key-word.ensures.grows),
-      omega (arith, c.loop-round.invariant.2, c.load_link-link.ensures.grows, c.load_key-word.ensures.grows),
+      c.loop-round.invariant.0,
+      moved at6 (ap (λ n. row c.args.caller.now.slots g.O.Origin.begun.call 6 None
+          c.args.stopped.found.pred.number c.args.stopped.found.curr.number
+          (record c.loop-round.invariant.0 { pkey = c.args.stopped.before; ckey = c.args.stopped.found.word; node = n }))
+          (sym c.behind-node.ensures)),
     )
-
-pub returns : goal.returns
-returns g c = (_, c.loop-round.invariant.0.1, omega (arith, c.loop-round.invariant.1))

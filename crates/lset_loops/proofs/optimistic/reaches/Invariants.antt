@@ -1,8 +1,6 @@
 use Rattle.std.proofs.Common.{◌≤◌}
 use Rattle.lset_loops.specs.Optimistic.{AtNode}
-use Rattle.lset_loops.specs.Calling.{steps_in}
 use Rattle.lset_loops.proofs.optimistic.reaches.Given as goal
 
 abbrev pub invariant-loop-round : goal.invariant-loop-round
 invariant-loop-round g l = AtNode g.O.Origin.begun l.fn.caller.slots l.fn.stopped l.node l.place
-    × (l.round ≤ steps_in l.place) × (steps_in l.fn.place ≤ steps_in l.place)

@@ -7,25 +7,15 @@ use Rattle.lset_loops.proofs.optimistic.walk.Goals as goal
 pub returns-then-word-key : goal.returns-then-word-key
 returns-then-word-key g c = let ge : target g.O.Origin.begun.call ≤ c.load_key-word.result =
     omega (arith, c.args.caller.now.is_key) in (
-      (
-        c.loop-round.invariant.0.0,
-        moved (c.load_key-word.ensures.leads _ c.loop-round.invariant.0.1)
-            (if_not_below c.load_key-word.result (target g.O.Origin.begun.call) ge _ _),
-      ),
-      omega (arith, c.loop-round.invariant.2, c.load_key-word.ensures.grows),
+      c.loop-round.invariant.0,
+      moved (c.load_key-word.ensures.leads _ c.loop-round.invariant.1)
+          (if_not_below c.load_key-word.result (target g.O.Origin.begun.call) ge _ _),
     )
 
 pub loop-round-preserved : goal.loop-round-preserved
 loop-round-preserved g c = let lt : c.load_key-word.result < target g.O.Origin.begun.call = omega (arith, c.args.caller.now.is_key) in
-    let at = moved (c.load_key-word.ensures.leads _ c.loop-round.invariant.0.1) (if_below c.load_key-word.result (target g.O.Origin.begun.call)
+    let at = moved (c.load_key-word.ensures.leads _ c.loop-round.invariant.1) (if_below c.load_key-word.result (target g.O.Origin.begun.call)
     lt _ _) in (
-      (
-        record c.loop-round.invariant.0.0 { ckey = c.load_key-word.result },
-        to_curr c.behind-curr.ensures (c.load_link-link.ensures.leads _ at),
-      ),
-      omega (arith, c.loop-round.invariant.1, c.load_key-word.ensures.grows, c.load_link-link.ensures.grows),
-      omega (arith, c.loop-round.invariant.2, c.load_key-word.ensures.grows, c.load_link-link.ensures.grows),
+      record c.loop-round.invariant.0 { ckey = c.load_key-word.result },
+      to_curr c.behind-curr.ensures (c.load_link-link.ensures.leads _ at),
     )
-
-pub returns : goal.returns
-returns g c = (_, c.loop-round.invariant.0.1, omega (arith, c.loop-round.invariant.1))

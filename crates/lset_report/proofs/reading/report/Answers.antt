@@ -1,7 +1,7 @@
 use Rattle.std.proofs.Common.{sym, ap, ◌∙◌, inl, inr, Result, Ok}
 use Rattle.std.proofs.lemmas.Result.{err_from_is_err_and}
 use Rattle.lset_text.specs.Results.{◌>>=◌}
-use Rattle.lset_report.specs.declared.report_fault.ReportFault.{ReportFault}
+use Rattle.lset_text.specs.declared.causes.LineFault.{LineFault}
 use Rattle.lset_report.specs.Report.{ReportValue}
 use Rattle.lset_report.specs.ReportReading.{SoFar}
 use Rattle.lset_report.proofs.ReportLoops.{header_fault, report_is, whole_text, runs_out_after_header, report_told}
@@ -34,5 +34,5 @@ returns c =
     report_is c.args.bytes.now c.version_told-version.result c.version_told-version.ensures c.in_ok-header.rest.now
     c.in_ok-header.header (rw title at c.in_ok-header.ensures.exact) c.in-Ok.reader c.in-Ok.ensures.section
     c.in-Ok.ensures.nothing
-    ∙ ap (λ (r : Result SoFar ReportFault). r >>= report_told) c.in_ok-read_lines.ensures.told
+    ∙ ap (λ (r : Result SoFar LineFault). r >>= report_told) c.in_ok-read_lines.ensures.told
     ∙ ap (λ (r : ReportValue). Ok r) (sym c.into_report.ensures)

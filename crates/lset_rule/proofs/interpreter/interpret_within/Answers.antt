@@ -1,7 +1,7 @@
-use Rattle.std.proofs.Common.{rules, ◌+◌, ◌<◌, arith}
+use Rattle.std.proofs.Common.{rules, ◌<◌}
 use Rattle.lset_words.specs.Words.{target, tail_word}
 use Rattle.lset_rule.proofs.Calls.{first_comes, first_reached}
-use Rattle.lset_rule.proofs.RowSteps.{Reached, may_step, stepped, counted, gives_up, answered}
+use Rattle.lset_rule.proofs.RowSteps.{Reached, may_step, stepped, answered}
 use Rattle.lset_rule.proofs.interpreter.interpret_within.Given.{Over}
 use Rattle.lset_rule.proofs.interpreter.interpret_within.Goals.{After-one_step-second, After-one_step-third, After-one_step-fourth}
 use Rattle.lset_rule.proofs.interpreter.interpret_within.Goals as goal
@@ -13,13 +13,10 @@ next-action-requires g c = let low : target c.args.call < tail_word = search rul
 
 pub loop-round-init : goal.loop-round-init
 loop-round-init g c = (
-  (
-    first_comes g.M.Machine.table g.met.M.Machine.lawful c.args.call c.args.place.now.me.0 c.start_on-seen.result
-        c.start_on-seen.new.place.me.0 c.args.slots c.resting.result c.begin-begun.result c.feed.result
-        c.start_on-seen.ensures.starts c.requires.slots c.resting.ensures c.begin-begun.ensures c.feed.ensures,
-    c.start_on-seen.ensures.place,
-  ),
-  λ none. omega arith,
+  first_comes g.M.Machine.table g.met.M.Machine.lawful c.args.call c.args.place.now.me.0 c.start_on-seen.result
+      c.start_on-seen.new.place.me.0 c.args.slots c.resting.result c.begin-begun.result c.feed.result
+      c.start_on-seen.ensures.starts c.requires.slots c.resting.ensures c.begin-begun.ensures c.feed.ensures,
+  c.start_on-seen.ensures.place,
 )
 
 -- where the call has come to after each step of the round but the last
@@ -27,13 +24,13 @@ second : (g : Over) (c : After-one_step-second g) →
     Reached g.M.Machine.table c.args.call c.args.place.now c.one_step-second.result.fed c.one_step-second.new.place
 second g c =
     stepped g.M.Machine.table c.args.call c.args.place.now c.loop-round.place c.one_step-second.new.place
-    c.loop-round.last.fed c.one_step-second.result.fed c.loop-round.invariant.0 c.in_default.is c.one_step-second.ensures
+    c.loop-round.last.fed c.one_step-second.result.fed c.loop-round.invariant c.in_default.is c.one_step-second.ensures
 
 third : (g : Over) (c : After-one_step-third g) →
     Reached g.M.Machine.table c.args.call c.args.place.now c.one_step-third.result.fed c.one_step-third.new.place
 third g c =
     let second : Reached g.M.Machine.table c.args.call c.args.place.now c.one_step-second.result.fed c.one_step-second.new.place = stepped g.M.Machine.table c.args.call c.args.place.now c.loop-round.place c.one_step-second.new.place
-    c.loop-round.last.fed c.one_step-second.result.fed c.loop-round.invariant.0 c.in_default.is c.one_step-second.ensures in
+    c.loop-round.last.fed c.one_step-second.result.fed c.loop-round.invariant c.in_default.is c.one_step-second.ensures in
     stepped g.M.Machine.table c.args.call c.args.place.now c.one_step-second.new.place c.one_step-third.new.place
     c.one_step-second.result.fed c.one_step-third.result.fed second c.in_default-answer.is c.one_step-third.ensures
 
@@ -41,7 +38,7 @@ fourth : (g : Over) (c : After-one_step-fourth g) →
     Reached g.M.Machine.table c.args.call c.args.place.now c.one_step-fourth.result.fed c.one_step-fourth.new.place
 fourth g c =
     let second : Reached g.M.Machine.table c.args.call c.args.place.now c.one_step-second.result.fed c.one_step-second.new.place = stepped g.M.Machine.table c.args.call c.args.place.now c.loop-round.place c.one_step-second.new.place
-    c.loop-round.last.fed c.one_step-second.result.fed c.loop-round.invariant.0 c.in_default.is c.one_step-second.ensures in
+    c.loop-round.last.fed c.one_step-second.result.fed c.loop-round.invariant c.in_default.is c.one_step-second.ensures in
     let third : Reached g.M.Machine.table c.args.call c.args.place.now c.one_step-third.result.fed c.one_step-third.new.place = stepped g.M.Machine.table c.args.call c.args.place.now c.one_step-second.new.place c.one_step-third.new.place
     c.one_step-second.result.fed c.one_step-third.result.fed second c.in_default-answer.is c.one_step-third.ensures in
     stepped g.M.Machine.table c.args.call c.args.place.now c.one_step-third.new.place c.one_step-fourth.new.place
@@ -50,7 +47,7 @@ fourth g c =
 pub one_step-second-requires : goal.one_step-second-requires
 one_step-second-requires g c = may_step g.M.Machine.table g.met.M.Machine.lawful c.args.call c.args.table.now.table_id
     c.args.table.now.key c.args.slots c.args.place.now c.loop-round.place c.loop-round.last.fed c.requires
-    c.loop-round.invariant.0 (search rules)
+    c.loop-round.invariant (search rules)
 
 pub one_step-third-requires : goal.one_step-third-requires
 one_step-third-requires g c = may_step g.M.Machine.table g.met.M.Machine.lawful c.args.call c.args.table.now.table_id
@@ -83,28 +80,6 @@ returns-in-Some-answer-3 g c = answered g.M.Machine.table c.args.call c.args.pla
     (fourth g (goal.at.returns-in-Some-answer-3 g c).After-one_step-fourth) c.in-Some-answer-3.is c.of-in-Some-answer-3.ensures
 
 pub loop-round-preserved : goal.loop-round-preserved
-loop-round-preserved g c =
-    let T = g.M.Machine.table in
-    let place = c.args.place.now in
-    let second' : Reached T c.args.call place c.one_step-second.result.fed c.one_step-second.new.place =
-    stepped T c.args.call place c.loop-round.place c.one_step-second.new.place c.loop-round.last.fed
-    c.one_step-second.result.fed c.loop-round.invariant.0 c.in_default.is c.one_step-second.ensures in
-    let third' : Reached T c.args.call place c.one_step-third.result.fed c.one_step-third.new.place =
-    stepped T c.args.call place c.one_step-second.new.place c.one_step-third.new.place c.one_step-second.result.fed
-    c.one_step-third.result.fed second' c.in_default-answer.is c.one_step-third.ensures in
-    let fourth' = fourth g (goal.at.loop-round-preserved g c).After-one_step-fourth in (
-      stepped T c.args.call place c.one_step-fourth.new.place c.one_step-last.new.place c.one_step-fourth.result.fed
-          c.one_step-last.result.fed fourth' c.in_default-answer-3.is c.one_step-last.ensures,
-      λ none.
-          let k = c.loop-round.round in
-          let more = counted T c.args.call (k + 1 + 1 + 1) place c.one_step-fourth.new.place c.one_step-last.new.place
-          c.one_step-fourth.result.fed c.one_step-last.result.fed fourth' c.in_default-answer-3.is c.one_step-last.ensures
-          (counted T c.args.call (k + 1 + 1) place c.one_step-third.new.place c.one_step-fourth.new.place
-          c.one_step-third.result.fed c.one_step-fourth.result.fed third' c.in_default-answer-2.is c.one_step-fourth.ensures
-          (counted T c.args.call (k + 1) place c.one_step-second.new.place c.one_step-third.new.place
-          c.one_step-second.result.fed c.one_step-third.result.fed second' c.in_default-answer.is c.one_step-third.ensures
-          (counted T c.args.call k place c.loop-round.place c.one_step-second.new.place
-          c.loop-round.last.fed c.one_step-second.result.fed c.loop-round.invariant.0 c.in_default.is c.one_step-second.ensures
-          c.loop-round.invariant.1))) none in
-          omega (arith, more),
-    )
+loop-round-preserved g c = stepped g.M.Machine.table c.args.call c.args.place.now c.one_step-fourth.new.place
+    c.one_step-last.new.place c.one_step-fourth.result.fed c.one_step-last.result.fed
+    (fourth g (goal.at.loop-round-preserved g c).After-one_step-fourth) c.in_default-answer-3.is c.one_step-last.ensures

@@ -1,8 +1,7 @@
-use Rattle.std.proofs.Common.{refl, sym, ◌∙◌}
+use Rattle.std.proofs.Common.{sym, ◌∙◌}
 use Rattle.std.proofs.lemmas.Bool.{eqb-true, eqb-false}
 use Rattle.lset_text.proofs.LineLaws.{goes_on, not_ended, is_done, refused, ran_out}
 use Rattle.lset_text.specs.Texts.{first_line}
-use Rattle.lset_schedule.specs.declared.fault.Cause.TheVariants.{Memory}
 use Rattle.lset_schedule.specs.ScheduleReading.{grammar, told}
 use Rattle.lset_schedule.proofs.BodyLoops.{never_memory}
 use Rattle.lset_schedule.proofs.body.read_body.Goals as goal
@@ -17,16 +16,16 @@ returns-in_default-clause-exact g c = λ other.
 pub returns-in-Err-clause-exact : goal.returns-in-Err-clause-exact
 returns-in-Err-clause-exact g c =
     rw c.at-in-Err.ensures
-    (refused (grammar g.L.EventLine.lines c.args.version) Memory first_line c.args.text.now _ c.loop-rest.number (told c.loop-rest.body)
+    (refused (grammar g.L.EventLine.lines c.args.version) first_line c.args.text.now _ c.loop-rest.number (told c.loop-rest.body)
     c.loop-rest.rest.now c.in-Some.line.now c.in-Some.after.now c.in-Some.ensures.parts c.loop-rest.invariant.stands c.in-Err.cause
     c.in-Err.ensures.takes)
 
 pub returns-in-Err-clause-memory : goal.returns-in-Err-clause-memory
 returns-in-Err-clause-memory g c =
     rw c.at-in-Err.ensures
-    (ran_out (grammar g.L.EventLine.lines c.args.version) Memory first_line c.args.text.now _ c.loop-rest.number (told c.loop-rest.body)
+    (ran_out (grammar g.L.EventLine.lines c.args.version) first_line c.args.text.now _ c.loop-rest.number (told c.loop-rest.body)
     c.loop-rest.rest.now c.in-Some.line.now c.in-Some.after.now c.in-Some.ensures.parts c.loop-rest.invariant.stands c.in-Err.cause
-    (λ e. e.line) (λ n e. refl) (never_memory g.L.EventLine.lines c.args.version (told c.loop-rest.body) c.in-Some.line.now)
+    (never_memory g.L.EventLine.lines c.args.version (told c.loop-rest.body) c.in-Some.line.now)
     c.in-Err.ensures.takes)
 
 pub loop-rest-preserved : goal.loop-rest-preserved

@@ -1,7 +1,7 @@
 use Rattle.std.proofs.Common.{◌≢◌, None, refl, sym, ap, ◌∙◌}
 use Rattle.std.specs.Prelude.{is_some}
-use Rattle.std.specs.Ordering.{nat_cmp}
-use Rattle.std.specs.BTreeMap.{get}
+use Rattle.std.specs.Bool.{nat_eq}
+use Rattle.std.specs.HashMap.{get}
 use Rattle.std.proofs.lemmas.Bool.{true≢false}
 use Rattle.lset_judge.proofs.Scanned.{has_at, each_more}
 use Rattle.lset_judge.proofs.States.{none_of}
@@ -15,5 +15,5 @@ returns-then-not-contains_key c = (
 
 pub loop-key-preserved : goal.loop-key-preserved
 loop-key-preserved c =
-    each_more (λ k. get nat_cmp c.args.self.now.states k ≢ None) c.args.keys.now c.loop-key.key-index c.loop-key-test.true c.loop-key.invariant
+    each_more (λ k. get nat_eq c.args.self.now.states k ≢ None) c.args.keys.now c.loop-key.key-index c.loop-key-test.true c.loop-key.invariant
     (λ none. true≢false (sym c.if-not-contains_key.false ∙ c.contains_key.ensures ∙ ap is_some none))

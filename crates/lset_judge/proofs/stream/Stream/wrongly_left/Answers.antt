@@ -1,40 +1,73 @@
-use Rattle.std.proofs.Common.{◌≡◌, ℕ, true, sym, ap, ◌∙◌, map, rules, subst, Bor}
-use Rattle.std.specs.Prelude.{All}
-use Rattle.std.specs.Cmp.{nat_cmp_total}
+use Rattle.std.proofs.Common.{◌≡◌, ℕ, List, ◌∷◌, [], ◌++◌, true, false, refl, sym, ap, ◌∙◌, map, rules, subst, inl, inr, Bor}
+use Rattle.std.specs.Prelude.{All, MatchOption, Option, Some, None, IsSome, ◌⊎◌}
+use Rattle.std.specs.Bool.{nat_eq}
+use Rattle.std.specs.Cmp.{nat_eq_equiv}
+use Rattle.std.specs.HashMap.{get}
+use Rattle.std.specs.List.{AllByRecursion}
+use Rattle.std.specs.Map.{lookup}
 use Rattle.std.specs.Map.Iter.{deref_pair}
-use Rattle.std.specs.Ordering.{nat_cmp}
-use Rattle.std.specs.BTreeMap.{get}
-use Rattle.std.proofs.lemmas.Map.Iter.{btree_map_turn, iter_end}
+use Rattle.std.proofs.lemmas.Bool.{cases_Bool}
+use Rattle.std.proofs.lemmas.Map.Iter.{hash_map_turn, iter_end}
 use Rattle.std.proofs.lemmas.List.Elements.{All-push, All-map, recursion_from_All}
 use Rattle.lset_words.specs.SequentialSet.{has_key}
+use Rattle.lset_words.proofs.Numbers.{same_number}
 use Rattle.lset_judge.specs.declared.rule.KeyState.{KeyState}
 use Rattle.lset_judge.specs.Code.{state_of}
 use Rattle.lset_judge.specs.Leaving.{may_be_left}
-use Rattle.lset_judge.proofs.States.{state_found, found_all, some_of}
+use Rattle.lset_judge.specs.Stream.{state_or, state_for}
 use Rattle.lset_judge.proofs.stream.Stream.wrongly_left.Goals as goal
 
-pub returns-then-not-may_be_left : goal.returns-then-not-may_be_left
-returns-then-not-may_be_left c =
-    let keys = c.args.keys.now in let k = c.in-Some.key.now in let s = c.in-Some.state.now in
-    let turn = btree_map_turn deref_pair c.loop-key.yielded c.into_iter-key-iterator.result c.loop-key.key-iterator c.next.new.self c.next.result
-    (c.in-Some.key, c.in-Some.state) c.loop-key.yielded_by c.in-Some.is c.next.ensures.steps nat_cmp_total c.args.self.now.states (search rules) (search rules) in
-    ap (may_be_left (has_key k keys)) (state_found c.args.self.now.states k s turn.1)
-    ∙ sym (c.may_be_left.ensures ∙ ap (λ b. may_be_left b (state_of s)) c.is_among.ensures) ∙ c.if-not-may_be_left.true
+-- one more that is left rightly
+right_more : (keys : List ℕ) (xs : List (Bor ℕ × Bor KeyState)) (x : Bor ℕ × Bor KeyState) (wrong : Option ℕ) (Q : ℕ → Type 0)
+    → MatchOption wrong (All (λ p. may_be_left (has_key p.0.now keys) (state_of p.1.now) ≡ true) xs) Q → may_be_left (has_key x.0.now keys) (state_of x.1.now) ≡ true
+    → MatchOption wrong (All (λ p. may_be_left (has_key p.0.now keys) (state_of p.1.now) ≡ true) (xs ++ x ∷ [])) Q
+right_more keys xs x None Q all here = All-push (λ (p : Bor ℕ × Bor KeyState). may_be_left (has_key p.0.now keys) (state_of p.1.now) ≡ true) xs x all here
+right_more keys xs x (Some k) Q h here = h
+
+-- the lesser of two that are left wrongly
+wrong_more : (P : ℕ → Type 0) (A : Type 0) (wrong : Option ℕ) (key least : ℕ) → (least ≡ key) ⊎ (wrong ≡ Some least) → P key → MatchOption wrong A P → P least
+wrong_more P A wrong key least (inl e) here before = subst P (sym e) here
+wrong_more P A None key least (inr e) here before = absurd (cc)
+wrong_more P A (Some k) key least (inr e) here before = subst P (let s : k ≡ least = cc in s) before
+
+-- if each is left rightly, the one that is found is
+found_right : (keys : List ℕ) (k : ℕ) (es : List (ℕ × KeyState)) → AllByRecursion (λ (e : ℕ × KeyState). may_be_left (has_key e.0 keys) (state_of e.1) ≡ true) es
+    → IsSome (lookup (nat_eq k) es) → may_be_left (has_key k keys) (state_or (lookup (nat_eq k) es)) ≡ true
+found_right keys k [] all there = absurd (cc)
+found_right keys k (x ∷ es) all there = elim (cases_Bool (nat_eq k x.0)) [
+  | inl t ↦ (let is : x.0 ≡ k = sym (same_number k x.0 t) in rw t (subst (λ (j : ℕ). may_be_left (has_key j keys) (state_of x.1) ≡ true) is all.0))
+  | inr f ↦ rw f (found_right keys k es all.1 (rw f at there))
+]
+
+finished : (wrong : Option ℕ) (A B : Type 0) (Q : ℕ → Type 0) → (A → B) → MatchOption wrong A Q → MatchOption wrong B Q
+finished None A B Q f all = f all
+finished (Some k) A B Q f h = h
+
+pub loop-key-preserved-then-not-may_be_left : goal.loop-key-preserved-then-not-may_be_left
+loop-key-preserved-then-not-may_be_left c =
+    let keys = c.args.keys.now in let k = c.in-Some.key.now in let s = c.in-Some.state.now in let m = c.args.self.now.states in
+    let turn = hash_map_turn deref_pair c.loop-key.yielded c.into_iter-key-iterator.result c.loop-key.key-iterator c.next.new.self c.next.result
+    (c.in-Some.key, c.in-Some.state) c.loop-key.yielded_by c.in-Some.is c.next.ensures.steps nat_eq_equiv m (search rules) (search rules) in
+    wrong_more (λ k. may_be_left (has_key k keys) (state_for m k) ≡ false)
+    (All (λ p. may_be_left (has_key p.0.now keys) (state_of p.1.now) ≡ true) c.loop-key.yielded) c.loop-key.wrong k c.least.result c.least.ensures
+    (ap (λ o. may_be_left (has_key k keys) (state_or o)) turn.1
+    ∙ sym (c.may_be_left.ensures ∙ ap (λ b. may_be_left b (state_of s)) c.is_among.ensures) ∙ c.if-not-may_be_left.true)
+    c.loop-key.invariant
 
 pub loop-key-preserved : goal.loop-key-preserved
 loop-key-preserved c =
     let keys = c.args.keys.now in
-    All-push (λ (p : Bor ℕ × Bor KeyState). may_be_left (has_key p.0.now keys) (state_of p.1.now) ≡ true) c.loop-key.yielded (c.in-Some.key, c.in-Some.state)
-    c.loop-key.invariant
+    right_more keys c.loop-key.yielded (c.in-Some.key, c.in-Some.state) c.loop-key.wrong
+    (λ k. may_be_left (has_key k keys) (state_for c.args.self.now.states k) ≡ false) c.loop-key.invariant
     (sym (c.may_be_left.ensures ∙ ap (λ b. may_be_left b (state_of c.in-Some.state.now)) c.is_among.ensures) ∙ c.if-not-may_be_left.false)
 
 pub returns : goal.returns
-returns c = λ k there.
+returns c =
     let keys = c.args.keys.now in let m = c.args.self.now.states in
     let all : map deref_pair c.loop-key.yielded ≡ m.entries = search (rules, iter_end) in
-    let found = some_of (get nat_cmp m k) there in
-    let each = subst (All (λ (e : ℕ × KeyState). may_be_left (has_key e.0 keys) (state_of e.1) ≡ true)) all
-    (All-map (λ (e : ℕ × KeyState). may_be_left (has_key e.0 keys) (state_of e.1) ≡ true) deref_pair c.loop-key.yielded c.loop-key.invariant) in
-    ap (may_be_left (has_key k keys)) (state_found m k found.0 found.1)
-    ∙ found_all k (λ j s. may_be_left (has_key j keys) (state_of s) ≡ true) m.entries
-    (recursion_from_All (λ (e : ℕ × KeyState). may_be_left (has_key e.0 keys) (state_of e.1) ≡ true) m.entries each) found.0 found.1
+    finished c.loop-key.wrong (All (λ p. may_be_left (has_key p.0.now keys) (state_of p.1.now) ≡ true) c.loop-key.yielded)
+    ((k : ℕ) → IsSome (get nat_eq m k) → may_be_left (has_key k keys) (state_for m k) ≡ true) (λ k. may_be_left (has_key k keys) (state_for m k) ≡ false)
+    (λ each k there. found_right keys k m.entries (recursion_from_All (λ (e : ℕ × KeyState). may_be_left (has_key e.0 keys) (state_of e.1) ≡ true) m.entries
+    (subst (All (λ (e : ℕ × KeyState). may_be_left (has_key e.0 keys) (state_of e.1) ≡ true)) all
+    (All-map (λ (e : ℕ × KeyState). may_be_left (has_key e.0 keys) (state_of e.1) ≡ true) deref_pair c.loop-key.yielded each))) there)
+    c.loop-key.invariant

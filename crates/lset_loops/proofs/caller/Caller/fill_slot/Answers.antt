@@ -34,5 +34,4 @@ store_link-requires g c = let h = c.requires in
 pub returns-clause-stored : goal.returns-clause-stored
 returns-clause-stored g c = record {
   leads = λ l h. c.store_link.ensures.leads _ (c.store_key.ensures.leads l h);
-  grows = omega (arith, c.store_key.ensures.grows, c.store_link.ensures.grows);
 }

@@ -24,5 +24,4 @@ returns g c =
     record {
       leads = λ l h. subst (λ n. Holds T g.O.Origin.begun (T.feed (feeds T l filled) (2 * n)).local c.store_link.new.place)
           c.fill_slot-node.ensures.node (c.store_link.ensures.leads _ (c.fill_slot-node.ensures.stored.leads l h));
-      grows = omega (arith, c.fill_slot-node.ensures.stored.grows, c.store_link.ensures.grows);
     }

@@ -1,37 +1,20 @@
 use Rattle.std.proofs.Common.{arith}
-use Rattle.lset_loops.proofs.Calling.{itself, of_table, leads_then, tried, tries_more}
+use Rattle.lset_loops.proofs.Calling.{itself, of_table, leads_then, tried}
 use Rattle.lset_loops.proofs.caller.Caller.wait_for.Goals as goal
 
 pub loop-round-init : goal.loop-round-init
-loop-round-init g c = (
-  itself g.M.Machine.table g.O.Origin.begun c.requires.held c.args.place.now c.requires.holds,
-  omega arith,
-  omega arith,
-)
+loop-round-init g c = itself g.M.Machine.table g.O.Origin.begun c.requires.held c.args.place.now c.requires.holds
 
 pub loop-round-preserved : goal.loop-round-preserved
-loop-round-preserved g c =
-    let T = g.M.Machine.table in
-    let b = g.O.Origin.begun in
-    let thread = c.args.self.now.slots.thread in
-    let more = tries_more T b c.args.word thread c.args.place.now c.loop-round.place c.exchange_on-seen.result
-    c.exchange_on-seen.new.place c.requires c.if-seen-eq0.false c.loop-round.invariant.0 c.exchange_on-seen.ensures.place
-    c.exchange_on-seen.ensures.goes in (
-      tried T b c.args.word thread c.args.place.now c.loop-round.place c.exchange_on-seen.result c.exchange_on-seen.new.place
-          c.requires c.if-seen-eq0.false c.loop-round.invariant.0 c.exchange_on-seen.ensures.place
-          c.exchange_on-seen.ensures.goes,
-      omega (arith, c.loop-round.invariant.1, more),
-      omega (arith, c.loop-round.invariant.2, more),
-    )
+loop-round-preserved g c = tried g.M.Machine.table g.O.Origin.begun c.args.word c.args.self.now.slots.thread
+    c.args.place.now c.loop-round.place c.exchange_on-seen.result c.exchange_on-seen.new.place c.requires c.if-seen-eq0.false
+    c.loop-round.invariant c.exchange_on-seen.ensures.place c.exchange_on-seen.ensures.goes
 
 pub returns-then-seen-eq0 : goal.returns-then-seen-eq0
 returns-then-seen-eq0 g c = leads_then g.M.Machine.table g.O.Origin.begun c.args.word c.args.self.now.slots.thread
     c.args.place.now c.loop-round.place c.exchange_on-seen.result c.exchange_on-seen.new.place c.requires c.if-seen-eq0.true
-    c.loop-round.invariant.0 c.loop-round.invariant.2 c.exchange_on-seen.ensures.place c.exchange_on-seen.ensures.goes
-
-pub returns : goal.returns
-returns g c = (_, c.loop-round.invariant.0, omega (arith, c.loop-round.invariant.1))
+    c.loop-round.invariant c.exchange_on-seen.ensures.place c.exchange_on-seen.ensures.goes
 
 pub exchange_on-seen-requires-clause-place : goal.exchange_on-seen-requires-clause-place
 exchange_on-seen-requires-clause-place g c = of_table g.M.Machine.table g.O.Origin.begun _ _ _ c.args.self.now.is_call _
-    c.loop-round.place c.loop-round.invariant.0
+    c.loop-round.place c.loop-round.invariant

@@ -1,7 +1,6 @@
 use Rattle.std.proofs.Common.{◌≤◌}
-use Rattle.lset_loops.specs.Calling.{Holds, steps_in}
+use Rattle.lset_loops.specs.Calling.{Holds}
 use Rattle.lset_loops.proofs.caller.Caller.wait_for.Given as goal
 
 abbrev pub invariant-loop-round : goal.invariant-loop-round
 invariant-loop-round g l = Holds g.M.Machine.table g.O.Origin.begun l.fn.place.me.0.local l.place
-    × (l.round ≤ steps_in l.place) × (steps_in l.fn.place ≤ steps_in l.place)

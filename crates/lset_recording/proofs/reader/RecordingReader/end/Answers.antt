@@ -1,9 +1,10 @@
 use Rattle.std.proofs.Common.{◌≡◌, ◌<◌, [], length, Err, sym, ap, subst, ◌∙◌, arith}
 use Rattle.std.proofs.lemmas.Bool.{eqb-true, eqb-false}
 use Rattle.std.proofs.lemmas.List.{nil_from_length}
-use Rattle.lset_recording.specs.declared.fault.RecordingFault.{RecordingFault}
-use Rattle.lset_recording.specs.declared.fault.RecordingCause.TheVariants as wrong
-use Rattle.lset_recording.specs.Reading.{Says, fault}
+use Rattle.lset_text.specs.declared.causes.LineFault.{LineFault}
+use Rattle.lset_text.specs.Causes.{fault}
+use Rattle.lset_text.specs.declared.causes.Cause.TheVariants as wrong
+use Rattle.lset_recording.specs.Reading.{Says}
 use Rattle.lset_recording.specs.Kept.{IsHeld}
 use Rattle.lset_recording.proofs.ReadLaws.{stands, at_end, some_left, above_zero, finished, not_finished, line_of_end}
 use Rattle.lset_recording.proofs.reader.RecordingReader.end.Goals as goal
@@ -20,7 +21,7 @@ returns-then-self-clause-refused c = λ other bytes is.
           let not_none = above_zero _ (eqb-false _ _ (sym w.is_empty.ensures ∙ w.if-not-is_empty.true)) in
           omega (arith, long, not_none))
     ] in
-    subst (λ (e : RecordingFault). Says bytes (Err e)) (sym c.fault.ensures)
+    subst (λ (e : LineFault). Says bytes (Err e)) (sym c.fault.ensures)
     (at_end bytes is.held r.judging.number is.told (stands bytes r is) (Err (fault r.judging.number wrong.NotEnded))
     (some_left r.judging.number is.told is.held some))
 
@@ -37,7 +38,7 @@ returns-clause-refused c =
     not_finished c.args.self c.finish.result c.if-self.false none c.finish.ensures.refused
 
 pub returns-then-self-clause-line : goal.returns-then-self-clause-line
-returns-then-self-clause-line c = λ bytes is. ap (λ (e : RecordingFault). e.line) c.fault.ensures ∙ is.counted
+returns-then-self-clause-line c = λ bytes is. ap (λ (e : LineFault). e.line) c.fault.ensures ∙ is.counted
 
 pub returns-clause-line : goal.returns-clause-line
 returns-clause-line c = line_of_end c.args.self c.finish.result c.finish.ensures.line

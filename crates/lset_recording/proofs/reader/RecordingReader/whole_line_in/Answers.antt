@@ -1,6 +1,7 @@
 use Rattle.std.proofs.Common.{◌≡◌, ◌++◌, ◌∷◌, [], Err, sym, ap, subst, ◌∙◌}
-use Rattle.lset_recording.specs.declared.fault.RecordingFault.{RecordingFault}
-use Rattle.lset_recording.specs.Reading.{Says, fault}
+use Rattle.lset_text.specs.declared.causes.LineFault.{LineFault}
+use Rattle.lset_text.specs.Causes.{fault}
+use Rattle.lset_recording.specs.Reading.{Says}
 use Rattle.lset_recording.proofs.ReadLaws.{whole_line, line_read, line_refused}
 use Rattle.lset_recording.proofs.reader.RecordingReader.whole_line_in.Goals as goal
 
@@ -18,10 +19,10 @@ returns-in-Err-clause-refused c = λ bytes is other more.
     let line = c.args.line.now in
     let cause = c.in-Err.cause in
     let named : c.fault.result ≡ fault r.judging.number cause = c.fault.ensures ∙ ap (λ n. fault n cause) c.in-Err.ensures.same in
-    let refused = c.in-Err.ensures.refused (λ memory. other (ap (λ (e : RecordingFault). e.cause) named ∙ memory)) is.told is.judging in
-    subst (λ (e : RecordingFault). Says ((bytes ++ line ++ 10 ∷ []) ++ more) (Err e)) (sym named)
+    let refused = c.in-Err.ensures.refused (λ memory. other (ap (λ (e : LineFault). e.cause) named ∙ memory)) is.told is.judging in
+    subst (λ (e : LineFault). Says ((bytes ++ line ++ 10 ∷ []) ++ more) (Err e)) (sym named)
     (line_refused (bytes ++ line) line r.judging.number is.told
     (whole_line bytes line r is c.requires.lacks c.requires.short c.requires.none) cause refused more)
 
 pub returns-in-Err-clause-line : goal.returns-in-Err-clause-line
-returns-in-Err-clause-line c = ap (λ (e : RecordingFault). e.line) c.fault.ensures ∙ c.in-Err.ensures.same
+returns-in-Err-clause-line c = ap (λ (e : LineFault). e.line) c.fault.ensures ∙ c.in-Err.ensures.same

@@ -1,11 +1,12 @@
 use Rattle.std.proofs.Common.{◌≡◌, Ok, Err, rules, refl, sym, ap, ◌∙◌, inl, arith}
 use Rattle.std.proofs.lemmas.Bool.{eqb-true, eqb-false}
 use Rattle.std.proofs.lemmas.Result.{err_from_is_err_and}
+use Rattle.lset_text.specs.declared.causes.Cause.TheVariants.{NotEnded}
+use Rattle.lset_text.specs.Causes.{fault}
 use Rattle.lset_text.specs.Results.{map_fault}
 use Rattle.lset_text.specs.Texts.{first_line}
 use Rattle.lset_text.proofs.LineLaws.{starts, goes_on, not_ended, is_done}
-use Rattle.lset_report.specs.declared.report_fault.ReportCause.TheVariants.{NotEnded}
-use Rattle.lset_report.specs.ReportReading.{fault, ends, grammar}
+use Rattle.lset_report.specs.ReportReading.{ends, grammar}
 use Rattle.lset_report.specs.ReportReader.{state}
 use Rattle.lset_report.proofs.ReportLoops.{AllOf, stops_at}
 use Rattle.lset_report.proofs.reading.Reader.read_lines.Goals as goal

@@ -1,0 +1,5 @@
+use Rattle.lset_progress.proofs.LazyAlone.{lazy_livelock_free}
+use Rattle.lset_progress.proofs.lazy_list_is_livelock_free.Goals as goal
+
+pub returns : goal.returns
+returns c = lazy_livelock_free

@@ -1,0 +1,35 @@
+//! The first moment at which a reply is correct.
+ghost use Rattle.std.specs.Prelude.{◌≡◌, ◌≢◌, ◌≤◌};
+ghost use Rattle.lset_words.specs.declared.Key.{Key};
+ghost use Rattle.lset_words.specs.declared.Call.TheVariants.{Ceiling};
+ghost use Rattle.lset_history.specs.Changes.{moments_of};
+ghost use Rattle.lset_replay.specs.Trace.{fit};
+
+use crate::places::{OpenCall, found_in, needs_key};
+use lset_history::Changes;
+use lset_words::{Call, Reply};
+
+/// Returns the first moment of a pending call, up to `last`, at which this reply is correct, if the call changes nothing;
+/// `None` if there is none.
+pub fn fit(changes: &Changes, made: OpenCall, reply: Reply, last: u32) -> Option<u32>
+    requires { made.begun ≤ last }
+    ensures { result ≡ fit (moments_of changes.now) made reply last }
+{
+    match made.call {
+        Call::Ceiling(key) => changes.first_ceiling(key.0, found_in(reply), made.begun, last),
+        Call::Add(_) | Call::Remove(_) | Call::Contains(_) => {
+            fit_by_key(changes, made, reply, last)
+        }
+    }
+}
+
+/// The same of a call whose reply speaks of its own key alone.
+fn fit_by_key(changes: &Changes, made: OpenCall, reply: Reply, last: u32) -> Option<u32>
+    requires span { made.begun ≤ last }
+    requires own_key { (k : Key) → made.call ≢ Ceiling k }
+    ensures { result ≡ fit (moments_of changes.now) made reply last }
+{
+    let needed = needs_key(made.call, reply);
+    let (first, _looked) = changes.first(made.call.key().0, needed, made.begun, last);
+    first
+}

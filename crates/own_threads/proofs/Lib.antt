@@ -1,2 +1,0 @@
-mod ClaimLaws
-mod Finding

@@ -1,0 +1,15 @@
+// What the checker of types does not know: newer parts of browsers, and the module of the page that is opened as a file.
+declare const ENGINE: string;
+declare class CompressionStream extends TransformStream {
+  constructor(format: string);
+}
+declare class DecompressionStream extends TransformStream {
+  constructor(format: string);
+}
+interface Array<T> {
+  findLast(isWanted: (item: T) => boolean): T | undefined;
+}
+interface Element extends HTMLOrSVGElement {
+  hidden: boolean;
+  disabled: boolean;
+}

@@ -1,0 +1,180 @@
+"""Scenarios: what a person does in the page, and what is seen then. In each browser that is installed, by keys, clicks and touches.
+
+    pytest page/tests/scenarios [--browser chromium] [--shots FOLDER]"""
+
+import functools
+import http.server
+import json
+import pathlib
+import threading
+import time
+
+import pytest
+import webdriver  # (with build/ in the path, by pytest.ini)
+
+PAGE = pathlib.Path(__file__).resolve().parents[2]
+SECONDS = 20  # in which something has to be seen
+
+
+SLOW = 2  # seconds that the engine takes to come over a slow network
+
+
+class Quiet(http.server.SimpleHTTPRequestHandler):
+    """Gives the files of the page; slow.html is the page over a slow network, cases.json has what the program answers."""
+
+    def __init__(self, *words, cases=None, **how):
+        self.cases = cases
+        super().__init__(*words, directory=str(PAGE), **how)
+
+    def log_message(self, *words):
+        pass
+
+    def end_headers(self):
+        self.send_header("Cache-Control", "no-store")
+        super().end_headers()
+
+    def translate_path(self, path):
+        if path.startswith("/slow.html"):
+            return str(PAGE / "index.html")
+        return str(self.cases) if path == "/cases.json" else super().translate_path(path)
+
+    def do_GET(self):
+        if self.path == "/listset.wasm" and "slow" in self.headers.get("referer", ""):
+            time.sleep(SLOW)
+        super().do_GET()
+
+
+class Visitor(webdriver.Browser):
+    """A person with a browser of their own in front of the page."""
+
+    def __init__(self, name, place):
+        super().__init__(name)
+        self.place = place
+        self.size(1300, 900)
+
+    def open(self, address="", file="index.html"):
+        """Opens an address of the page in a tab, as if it was typed."""
+        self.go("about:blank")
+        self.go(f"{self.place}/{file}{address}")
+        self.wait("return document.body.dataset.ready === 'yes'")
+
+    def inside(self, text, *given):
+        """What some words mean with the names that the page's modules export, which a script from outside does not see."""
+        words = f"JSON.stringify(((...given) => {{ {text} }})(...{json.dumps(given)}) ?? null)"
+        return json.loads(self.script("return (window.wrappedJSObject ?? window).eval(arguments[0])", words))
+
+    def wait(self, text, *given, seconds=SECONDS):
+        """What some words mean in the page once that is no longer nothing or false."""
+        end = time.monotonic() + seconds
+        while not (found := self.script(text, *given)):
+            assert time.monotonic() < end, f"not seen in {seconds} s: {text} {given}"
+            time.sleep(0.05)
+        return found
+
+    def settle(self):
+        """Waits as long as the address and what is kept follow behind."""
+        time.sleep(0.6)
+
+    def text(self, what):
+        return self.script("return document.querySelector(arguments[0])?.innerText ?? ''", what)
+
+    def is_seen(self, what):
+        """Whether a part has room on the page."""
+        return self.script("return [...document.querySelectorAll(arguments[0])].some((it) => it.getClientRects().length > 0)", what)
+
+    def in_window(self, what):
+        """Whether a part is in the window, and nothing lies over it."""
+        return self.script("""const it = document.querySelector(arguments[0]); const box = it.getBoundingClientRect();
+            const over = document.elementFromPoint(box.left + box.width / 2, box.top + box.height / 2);
+            return box.height > 0 && box.top >= 0 && box.bottom <= innerHeight && (it.contains(over) || over.contains(it))""", what)
+
+    def middle(self, what, words=None):
+        return self.wait("""const all = [...document.querySelectorAll(arguments[0])].filter((it) => it.getClientRects().length > 0);
+            const it = all.find((it) => arguments[1] === null || it.innerText.includes(arguments[1]));
+            if (it === undefined) return null;
+            it.scrollIntoView({ block: "center", behavior: "instant" });
+            const box = it.getBoundingClientRect(); return [box.left + box.width / 2, box.top + box.height / 2]""", what, words)
+
+    def unfold(self, what):
+        """Opens what is folded, where it is."""
+        if not self.script("return document.querySelector(arguments[0]).open", what):
+            self.click(f"{what} > summary")
+
+    def click(self, what, words=None):
+        self.point(*self.middle(what, words))
+
+    def touch(self, what, words=None):
+        self.point(*self.middle(what, words), "touch")
+
+    def choose(self, what, value):
+        """Picks an option: the browser's own list is not driven, only what it tells the page."""
+        self.script("""const it = document.querySelector(arguments[0]); it.focus(); it.value = arguments[1];
+            it.dispatchEvent(new Event("change", { bubbles: true }))""", what, value)
+
+    def type(self, what, text):
+        self.script("""const it = document.querySelector(arguments[0]); it.focus(); it.value = arguments[1];
+            it.dispatchEvent(new Event("input", { bubbles: true }))""", what, text)
+
+    def focus(self):
+        """What has the focus: its name and its id or words."""
+        return self.script("const it = document.activeElement; return `${it.tagName} ${it.id || it.innerText.trim()}`")
+
+    def event(self):
+        return int(self.text("#where").split()[1])
+
+    @property
+    def hash(self):
+        return self.script("return location.hash")
+
+    @property
+    def title(self):
+        return self.script("return document.title")
+
+
+def pytest_addoption(parser):
+    parser.addoption("--browser", action="append", help="one of chromium, firefox, webkit; else all that are installed")
+    parser.addoption("--cases", type=pathlib.Path, help="what the program answers (page/test makes it), to compare the engine with")
+    parser.addoption("--shots", type=pathlib.Path, help="a folder for a picture of each scenario's end")
+
+
+def pytest_generate_tests(metafunc):
+    if "browser" in metafunc.fixturenames:
+        metafunc.parametrize("browser", metafunc.config.getoption("browser") or list(webdriver.NEEDS), scope="session")
+
+
+@pytest.fixture(scope="session")
+def place(request):
+    handler = functools.partial(Quiet, cases=request.config.getoption("--cases"))
+    server = http.server.ThreadingHTTPServer(("127.0.0.1", 0), handler)
+    threading.Thread(target=server.serve_forever, daemon=True).start()
+    yield f"http://127.0.0.1:{server.server_port}"
+    server.shutdown()
+
+
+@pytest.fixture(scope="session")
+def profile(browser, place):
+    if webdriver.installed(browser) is None:
+        pytest.skip(f"{browser}: not installed (Debian's package {webdriver.NEEDS[browser][0]})")
+    with Visitor(browser, place) as one:
+        yield one
+
+
+@pytest.fixture
+def visitor(profile, request):
+    """A person who has not been here before."""
+    profile.size(1300, 900)
+    profile.go(f"{profile.place}/tests/nothing.html")
+    profile.script("localStorage.clear(); sessionStorage.clear()")
+    profile.faults()
+    yield profile
+    if (folder := request.config.getoption("shots")) is not None:
+        folder.mkdir(parents=True, exist_ok=True)
+        profile.picture(folder / f"{request.node.name}.png")
+    assert not (faults := profile.faults()), faults
+
+
+@pytest.fixture
+def another(browser, place, profile):
+    """A second person, with a profile of their own."""
+    with Visitor(browser, place) as one:
+        yield one

@@ -1,0 +1,101 @@
+"""Judge, Compare, files, and what is told of wrong ones."""
+
+
+def test_what_is_missing_of_a_call_is_told(visitor):
+    visitor.open("#example=snip&judge")
+    visitor.click("#judge-ask")
+    assert "point" in visitor.text("#judge-verdict") and "reply" in visitor.text("#judge-verdict")
+
+
+def test_points_by_keys_keep_the_focus(visitor):
+    visitor.open("#example=snip&judge")
+    visitor.script("document.querySelector('#judge-bars [data-call]').focus()")
+    visitor.press("Right", "Right")
+    assert visitor.script("return document.activeElement.closest('[data-call]') !== null")
+    assert visitor.is_seen("#judge-order li")
+
+
+def test_recorded_calls_are_judged(visitor):
+    visitor.open("#judge")
+    visitor.click("#recorded-box summary")
+    visitor.click("#recorded-example")
+    visitor.wait("return document.getElementById('recorded-verdict').innerText.startsWith('Not linearizable')")
+    visitor.type("#recorded-text", "listset-calls 1\ncall 0 add 05 1 4 true\nend\n")
+    visitor.click("#recorded-judge")
+    visitor.wait("return document.getElementById('recorded-verdict').innerText.startsWith('listset: line 2')")
+
+
+def opened(visitor, name, text):
+    visitor.script("""const data = new DataTransfer(); data.items.add(new File([arguments[1]], arguments[0]));
+        const box = document.getElementById("file"); box.files = data.files; box.dispatchEvent(new Event("change"))""", name, text)
+    visitor.settle()
+
+
+def test_files(visitor):
+    visitor.open("#example=snip")
+    trace = visitor.inside("return listsets.now.run.trace.text")
+    report = visitor.inside("return listsets.askNow('listset_replay', listsets.now.run.text).text")
+    opened(visitor, "own.trace", trace)
+    assert "gives the same" in visitor.text("#source")
+    opened(visitor, "wrong.trace", trace.replace("event 7 ", "event 07 "))
+    assert "line 11" in visitor.text("#fault")
+    opened(visitor, "good.report", report)
+    visitor.wait("return document.getElementById('checked').innerText === 'ok'")
+    assert visitor.text("#fault") == ""
+
+
+def test_a_course_file_is_opened_as_one(visitor):
+    visitor.open("#example=snip")
+    opened(visitor, "bad.course", "listset-course 1\ncourse Monday\nlesson first\n")
+    assert visitor.is_seen("#lesson-faults") and visitor.text("#lesson-faults").startswith("line ")
+
+
+def test_compare_by_keys_and_back(visitor):
+    visitor.open("#watch")
+    visitor.click("nav a[href='#compare']")
+    visitor.wait("return document.getElementById('sides-where').innerText.startsWith('turn 7')")
+    visitor.press("Left", "Left", "1")
+    assert visitor.text("#sides-where") == "turn 6 of 6"
+    visitor.back()
+    visitor.wait("return location.hash === '#watch'")
+    assert visitor.is_seen("#map-watch")
+
+
+def test_a_wrong_address_is_told(visitor):
+    visitor.open("#example=nothing")
+    assert "nothing" in visitor.text("#told")
+    visitor.open("#list=lazy&threads=2&quota=x")
+    assert "quota" in visitor.text("#told")
+
+
+def test_without_webassembly(visitor):
+    visitor.open("#example=snip", file="tests/less.html")
+    assert "WebAssembly" in visitor.text("#no-engine") and "undefined" not in visitor.text("#no-engine")
+    visitor.press("Right")
+    assert visitor.event() == 1
+
+
+def test_no_dead_link_in_the_documents(visitor):
+    for page in ("how-it-works", "classic", "tables"):
+        visitor.go(f"{visitor.place}/{page}.html")
+        links = visitor.script("return [...document.links].map((it) => it.href)")
+        assert not [it for it in links if "/docs/" in it or it.endswith(".md")], page
+
+
+def test_a_phone_by_touch(visitor):
+    visitor.size(390, 844)
+    visitor.open("#example=snip")
+    visitor.touch("#next")
+    assert visitor.event() == 1
+    visitor.touch("#moves [data-thread='0'] button")
+    assert visitor.is_seen("#what-if")
+    wide = visitor.script("return [document.documentElement.scrollWidth, document.documentElement.clientWidth]")
+    assert wide[0] <= wide[1]
+
+
+def test_a_lecture_is_left_by_escape(visitor):
+    visitor.open("#example=snip&event=5&view=lecture")
+    assert not visitor.is_seen("#top") and visitor.is_seen("#list svg")
+    visitor.press("PageDown", "Escape")
+    visitor.settle()
+    assert visitor.is_seen("#top") and "view=" not in visitor.hash and visitor.event() == 6

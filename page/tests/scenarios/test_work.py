@@ -1,0 +1,162 @@
+"""A student's work: schedules as text, undo, long runs, what is read aloud, and all of the examples."""
+
+import json
+
+HEADER = "listset-schedule 1\nlist {}\nthreads 2\nquota 4\n"
+
+
+def run_text(visitor, text):
+    visitor.type("#schedule", text)
+    visitor.press("Control+Enter")
+
+
+def test_all_examples_go_to_their_end(visitor):
+    visitor.open("#example=snip")
+    names = visitor.inside("return listsets.examples().map(({ name }) => name)")
+    assert len(names) == 18
+    for name in names:
+        visitor.open(f"#example={name}")
+        visitor.press("End")
+        at, total = visitor.text("#where").split()[1::2]
+        assert at == total and visitor.text("#fault") == "", name
+        found = visitor.inside("""const { now, askNow } = listsets;
+            const places = [...askNow("listset_replay", now.run.text).text.matchAll(/^place (\\d+) /gm)].map((it) => it[1]);
+            return [places.join(), now.run.trace.order.map(({ id }) => id).join()]""")
+        assert found[0] == found[1], name
+
+
+def test_texts_that_are_refused_are_told_where_they_stand(visitor):
+    visitor.open("#example=snip")
+    run_text(visitor, HEADER.format("coarse") + "begin 0 add 5\ngo 0 3\ngo 1 1\n")
+    assert "line 7: Idle" in visitor.text("#fault") and visitor.text("#where") == "event 4 of 4"
+    run_text(visitor, HEADER.format("lazy") + "begin 0 add 05\n")
+    assert visitor.text("#fault").startswith("listset: line 5: Number") and visitor.is_seen("#old")
+    run_text(visitor, HEADER.format("skip"))
+    assert visitor.text("#fault").startswith("listset: line 2: Kind")
+    run_text(visitor, HEADER.format("fine") + "begin 0 add 7\ngo 0 9\n")
+    assert visitor.text("#fault") == "" and not visitor.is_seen("#old")
+
+
+def test_undo_redo_and_a_new_schedule(visitor):
+    visitor.open("#example=snip&event=3")
+    visitor.press("0", "0", "0")
+    assert visitor.event() == 6
+    visitor.press("u", "u")
+    assert visitor.event() == 4
+    visitor.press("y")
+    assert visitor.event() == 5
+    visitor.choose("#new-list", "optimistic")
+    visitor.click("#new")
+    assert visitor.text("#where") == "event 0 of 0" and visitor.text("#title").startswith("OptimisticList")
+    visitor.press("u")
+    assert visitor.event() == 5 and visitor.is_seen("#what-if")
+
+
+def test_steps_to_the_end_and_to_a_lock(visitor):
+    visitor.open("#example=snip")
+    run_text(visitor, HEADER.format("fine") + "begin 0 add 5\ngo 0 4\nbegin 1 add 7\n")
+    visitor.script("document.activeElement.blur()")
+    visitor.press("End", "e", "1")
+    assert "waits at row" in visitor.text("#told") and "which t0 holds" in visitor.text("#told")
+    visitor.press("e", "0")
+    assert visitor.text("#told") == "t0 ended add(5)."
+    visitor.press("9")
+    assert visitor.text("#told") == "There is no thread 9."
+
+
+def test_a_million_events_can_be_cancelled(visitor):
+    visitor.open("#example=snip&event=6")
+    run_text(visitor, HEADER.format("coarse") + "begin 0 add 5\ngo 0 4\nbegin 1 add 7\ngo 1 2999988\n")
+    assert visitor.is_seen("#long") and visitor.text("#where").startswith("event 6 of")
+    visitor.click("#long-cancel")
+    assert not visitor.is_seen("#long") and visitor.text("#fault").startswith("The run was cancelled")
+
+
+def test_what_is_to_come_is_hidden_and_can_be_shown(visitor):
+    visitor.open("#example=read-in-anothers-step&event=12")
+    visitor.script("scrollTo(0, 0)")
+    hidden = visitor.script("return document.querySelectorAll('#calls .point').length")
+    visitor.click("#hides")
+    assert visitor.script("return document.querySelectorAll('#calls .point').length") > hidden
+    visitor.reload()
+    visitor.wait("return document.body.dataset.ready === 'yes'")
+    assert not visitor.script("return document.getElementById('hides').checked")
+
+
+def test_controls_have_names_and_ids_stand_once(visitor):
+    for address in ("#example=snip", "#learn=one-lock", "#break=3", "#judge", "#compare", "#example=snip&judge"):
+        visitor.open(address)
+        nameless, twice = visitor.script("""const seen = [...document.querySelectorAll("button, select, input, textarea, a[href]")]
+            .filter((it) => it.getClientRects().length > 0);
+            const nameOf = (it) => it.getAttribute("aria-label") ?? it.title + it.textContent + (it.labels?.[0]?.textContent ?? "");
+            const ids = [...document.querySelectorAll("[id]")].map(({ id }) => id);
+            return [seen.filter((it) => nameOf(it).trim() === "").map((it) => it.id || it.outerHTML.slice(0, 80)),
+              ids.filter((id, at) => ids.indexOf(id) < at)]""")
+        assert nameless == [] and twice == [], address
+
+
+def test_by_keys_alone_from_the_top_to_a_step(visitor):
+    visitor.open("#example=snip")
+    visitor.script("document.activeElement.blur()")
+    visitor.press("Tab")
+    assert visitor.focus() == "BUTTON skip"
+    visitor.press("Enter")
+    assert visitor.focus() == "BUTTON next"
+    visitor.press("Enter")
+    assert visitor.event() == 1 and visitor.focus() == "BUTTON next"
+
+
+def test_a_card_that_is_opened_leads_to_its_run(visitor):
+    visitor.open("#break")
+    visitor.script("document.querySelector('#map-break a').focus()")
+    visitor.press("Enter")
+    visitor.wait("return document.getElementById('break-box').getClientRects().length > 0")
+    assert visitor.focus().startswith("BUTTON")
+
+
+def test_one_is_judged(visitor):
+    visitor.open("#example=read-in-anothers-step&judge")
+    assert not visitor.is_seen("#past") and not visitor.is_seen("#question-box")
+    visitor.script("document.querySelector('#judge-level').focus()")
+    visitor.choose("#judge-level", "points")
+    for call, moment in enumerate((10, 23.5, 23, 36)):
+        visitor.inside("""const { judging } = listsets; judging.place(judging.exercise.calls[given[0]], given[1])""", call, moment)
+    visitor.click("#judge-ask")
+    assert visitor.text("#judge-verdict").startswith("check says ok") or "in your order" in visitor.text("#judge-verdict")
+    visitor.click("#judge-end")
+    assert visitor.is_seen("#past") and visitor.focus() == "BUTTON judge-begin"
+
+
+def test_none_is_right_of_a_broken_list(visitor):
+    visitor.open("#list=coarse&threads=2&quota=2&opening=3.7&s=b0.add.5&lacks=1")
+    assert visitor.is_seen("#break-box") and visitor.text("#break-verdict") != ""
+
+
+def test_a_numbered_run_is_the_same_for_all(visitor, another):
+    visitor.open("#seed=lazy.2.5.2.17")
+    text = visitor.inside("return listsets.now.run.text")
+    another.open("#seed=lazy.2.5.2.17&judge")
+    assert another.inside("return listsets.now.run.text") == text and another.is_seen("#judge-ask")
+
+
+def test_a_slow_network(visitor):
+    """The engine comes late: the example is there from its trace before, and the page says who ran it."""
+    visitor.go(f"{visitor.place}/slow.html#example=snip&event=3")
+    visitor.wait("return document.body.dataset.ready === 'soon'")
+    assert visitor.event() == 3 and "kept beside the page" in visitor.text("#source")
+    visitor.press("Right")
+    assert visitor.event() == 4
+    visitor.wait("return document.body.dataset.ready === 'yes'")
+    assert visitor.event() == 4 and "proved replayer" in visitor.text("#source")
+
+
+def test_the_engine_gives_the_programs_bytes(visitor, request):
+    if request.config.getoption("--cases") is None:
+        return
+    visitor.open("#example=snip")
+    visitor.inside("""const add = (src) => new Promise((done) => document.head.append(Object.assign(document.createElement("script"), { src, onload: done })));
+        Promise.all([add("tests/cases.js"), fetch("cases.json").then((it) => it.json())])
+          .then(([, cases]) => compared(listsets.held.engine, cases)).then((result) => (document.body.dataset.result = JSON.stringify(result)));
+        return 1""")
+    found = json.loads(visitor.wait("return document.body.dataset.result ?? null", seconds=300))
+    assert found["failed"] == [] and found["passed"] > 0
