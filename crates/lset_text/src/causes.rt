@@ -1,4 +1,4 @@
-ghost use Rattle.std.specs.Prelude.{◌≡◌, ◌≤◌, length};
+ghost use Rattle.std.specs.Prelude.{◌≡◌};
 ghost use Rattle.lset_text.specs.Causes.{fault, name_of};
 ghost use Rattle.lset_text.specs.declared.causes.Cause.TheVariants.{Memory};
 
@@ -48,8 +48,7 @@ pub enum Cause {
 impl Cause {
     /// Returns the cause's name, as the line on standard error has it.
     pub fn name(self) -> &'static str
-        ensures name { result.now ≡ name_of self }
-        ensures short { length result.now ≤ 8 }
+        ensures { result.now ≡ name_of self }
     {
         match self {
             Cause::Header => "Header",

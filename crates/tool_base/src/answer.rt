@@ -1,4 +1,5 @@
-ghost use Rattle.std.specs.Prelude.{◌≡◌, ◌+◌, ◌<◌, ◌++◌, codes, length, Result};
+ghost use Rattle.std.specs.Prelude.{◌≡◌, ◌+◌, ◌<◌, ◌≤◌, ◌++◌, codes, length, Result};
+ghost use Rattle.lset_text.specs.Causes.{name_of};
 ghost use Rattle.tool_base.specs.Tools.{Delivers, IsDelivered, view};
 ghost use Rattle.tool_base.specs.Trouble.{trouble_text};
 ghost use Rattle.tool_base.specs.declared.answer.TheConstants.{LONGEST_LINE};
@@ -7,6 +8,7 @@ use crate::input::put;
 use crate::trouble::Trouble;
 use arrayvec::ArrayString;
 use itoa::Buffer;
+use lset_text::Cause;
 use std::io::Write;
 
 /// The most bytes of a line about an error.
@@ -30,6 +32,14 @@ impl Answer {
             Err(Trouble::CannotWrite)
         }
     }
+}
+
+/// The cause's name, which is short.
+fn short_name(cause: Cause) -> &'static str
+    ensures name { result.now ≡ name_of cause }
+    ensures short { length result.now ≤ 8 }
+{
+    cause.name()
 }
 
 /// A line of a few words.
@@ -58,7 +68,12 @@ pub fn line_of(trouble: Trouble) -> ArrayString<LONGEST_LINE>
         Trouble::CannotListen => line_with("listset: cannot listen", "", "", ""),
         Trouble::Memory => line_with("listset: out of memory", "", "", ""),
         Trouble::Line(line, cause) => {
-            line_with("listset: line ", buffer.format(line), ": ", cause.name())
+            line_with(
+                "listset: line ",
+                buffer.format(line),
+                ": ",
+                short_name(cause),
+            )
         }
         Trouble::Bad(name) => line_with("listset: bad ", "", "", name.word()),
         Trouble::Work(cause) => line_with("listset: work: ", "", "", cause.name()),
