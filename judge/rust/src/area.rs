@@ -81,7 +81,8 @@ impl Area {
     fn keys(&self) -> (&[AtomicBool], &[AtomicBool]) {
         let behind = size_of_head() + std::mem::size_of_val(self.slots());
         // SAFETY: they stand behind the slots, and were counted for the size.
-        unsafe { from_raw_parts(self.memory.place().add(behind).cast::<AtomicBool>(), 2 * self.most_keys) }.split_at(self.most_keys)
+        unsafe { from_raw_parts(self.memory.place().add(behind).cast::<AtomicBool>(), 2 * self.most_keys) }
+            .split_at(self.most_keys)
     }
 
     pub fn opening(&self) -> Vec<u32> {
@@ -99,12 +100,20 @@ impl Area {
 
     /// The calls of each thread from one rest to the next, of which the last may be fewer.
     fn rows(&self, of: Shape) -> u32 {
-        if of.sets > 1 { of.sets * of.calls } else { of.calls.min(PART / of.threads) }
+        if of.sets > 1 {
+            of.sets * of.calls
+        } else {
+            of.calls.min(PART / of.threads)
+        }
     }
 
     pub fn parts(&self) -> u32 {
         let of = self.shape();
-        if of.sets > 1 { 1 } else { (of.calls - 1) / self.rows(of) + 1 }
+        if of.sets > 1 {
+            1
+        } else {
+            (of.calls - 1) / self.rows(of) + 1
+        }
     }
 
     /// Has a run of this shape begin: whoever makes it may go on.
@@ -199,7 +208,8 @@ impl Area {
     /// Writes down why it failed; the first stays.
     fn fail(&self, text: &str, panic: Box<dyn std::any::Any + Send>) {
         if !self.head().is_stopping.swap(true, SeqCst) {
-            let words = panic.downcast_ref::<&str>().map(|it| it.to_string()).or_else(|| panic.downcast_ref::<String>().cloned());
+            let words =
+                panic.downcast_ref::<&str>().map(|it| it.to_string()).or_else(|| panic.downcast_ref::<String>().cloned());
             let why = say(text, &[&words.unwrap_or_else(|| "it panicked".to_string())]);
             self.head().why.iter().zip(why.bytes()).for_each(|(to, byte)| to.store(byte, SeqCst));
             self.head().is_failing.store(true, SeqCst);
@@ -216,7 +226,8 @@ impl Area {
                 }
                 Ok(set) => {
                     // (`move`: where it is dropped it may panic too)
-                    let called = catch_unwind(AssertUnwindSafe(move || self.call_from_threads(&set, one, &source.calls, at_rest)));
+                    let called =
+                        catch_unwind(AssertUnwindSafe(move || self.call_from_threads(&set, one, &source.calls, at_rest)));
                     called.unwrap_or_else(|why| self.fail(THREW, why));
                 }
             }
@@ -270,7 +281,11 @@ impl Area {
 
     /// What a set is given for the number of a key.
     fn number<S>(&self, calls_of: &Calls<S>, key: u32) -> u32 {
-        if calls_of.is_own { key } else { key * self.head().shape[4].load(SeqCst) }
+        if calls_of.is_own {
+            key
+        } else {
+            key * self.head().shape[4].load(SeqCst)
+        }
     }
 
     /// The calls of one thread on a set.
@@ -368,7 +383,8 @@ fn most_keys(options: &Options) -> usize {
 }
 
 fn size_of_head() -> usize {
-    (std::mem::size_of::<Head>() + 63) / 64 * 64
+    let size = std::mem::size_of::<Head>();
+    size + 64 - size % 64
 }
 
 fn keys_in(there: &[AtomicBool]) -> Vec<u32> {

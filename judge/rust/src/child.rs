@@ -13,13 +13,22 @@ pub type Read<'a> = &'a mut dyn FnMut(&Area, Option<String>) -> Result<(), Failu
 /// Has a run made in this thread.
 fn run_here<S: Sync>(area: &Area, source: &Source<S>, read: Read) -> Result<(), Failure> {
     let (read, failed) = (RefCell::new(read), RefCell::new(Ok(())));
-    let reads = |trouble| if area.is_not_made() { no_verdict(area.why_it_failed().unwrap_or_default()) } else { (read.borrow_mut())(area, trouble) };
+    let reads = |trouble| {
+        if area.is_not_made() {
+            no_verdict(area.why_it_failed().unwrap_or_default())
+        } else {
+            (read.borrow_mut())(area, trouble)
+        }
+    };
     area.is_asked();
     area.call_all(source, &|| {
         *failed.borrow_mut() = reads(None);
         failed.borrow().is_ok()
     });
-    failed.borrow_mut().as_mut().map_or_else(|why| Err(std::mem::replace(why, Failure::NoVerdict(String::new()))), |_| Ok(()))?;
+    failed
+        .borrow_mut()
+        .as_mut()
+        .map_or_else(|why| Err(std::mem::replace(why, Failure::NoVerdict(String::new()))), |_| Ok(()))?;
     reads(area.why_it_failed())
 }
 
@@ -64,7 +73,11 @@ mod system {
         fn of(file: &File, size: usize) -> Result<Memory, Failure> {
             // SAFETY: a new mapping touches no other memory.
             let place = unsafe { mmap(null_mut(), size, READ_AND_WRITE, SHARED, file.as_raw_fd(), 0) };
-            if place as isize == -1 { no_verdict(NO_MEMORY.to_string()) } else { Ok(Memory { place: place.cast(), size }) }
+            if place as isize == -1 {
+                no_verdict(NO_MEMORY.to_string())
+            } else {
+                Ok(Memory { place: place.cast(), size })
+            }
         }
 
         pub fn place(&self) -> *mut u8 {
@@ -131,7 +144,8 @@ mod system {
             let Some(child) = &self.child else { return run_here(area, source, read) };
             loop {
                 let is_done = || area.is_resting() || area.is_ended() || status_of(child).is_some();
-                let trouble = if waits(area, is_done) { trouble_of(area, child) } else { Some(say(HUNG, &[&area.options.seconds])) };
+                let trouble =
+                    if waits(area, is_done) { trouble_of(area, child) } else { Some(say(HUNG, &[&area.options.seconds])) };
                 let is_last = !area.is_resting() || trouble.is_some();
                 match &trouble {
                     Some(why) if area.is_not_made() => return no_verdict(why.clone()),

@@ -58,7 +58,8 @@ impl Judge {
         if self.command.is_empty() {
             return Ok(Asked::Library(String::new()));
         }
-        Asked::program(&self.command, &["judge", "-"], Stdio::piped()).or_else(|fault| no_verdict(format!("{} cannot be run: {fault}", self.name)))
+        Asked::program(&self.command, &["judge", "-"], Stdio::piped())
+            .or_else(|fault| no_verdict(format!("{} cannot be run: {fault}", self.name)))
     }
 
     pub fn judged(&self, asked: Asked) -> Result<Judged, Failure> {
@@ -132,7 +133,8 @@ mod library {
         loop {
             let mut status = 0;
             // SAFETY: the pointers are those of a text, a room of that size and a status, which nobody else writes.
-            let length = unsafe { listset_judge(recording.as_ptr(), recording.len(), room.as_mut_ptr(), room.len(), &mut status) };
+            let length =
+                unsafe { listset_judge(recording.as_ptr(), recording.len(), room.as_mut_ptr(), room.len(), &mut status) };
             let is_whole = length <= room.len();
             room.resize(length, 0);
             if is_whole {

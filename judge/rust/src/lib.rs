@@ -311,7 +311,11 @@ pub fn judge_keys<S: Sync, K: Eq + Hash + Debug + Sync, A: Reply, R: Reply, C: R
         (1, key) => remove(set, key).known(),
         (_, key) => contains(set, key).known(),
     };
-    judged(&Source { make: &make, calls: Calls { reply: &reply, is_own: true } }, &|number| format!("{:?}", keys[number as usize]), &options)
+    judged(
+        &Source { make: &make, calls: Calls { reply: &reply, is_own: true } },
+        &|number| format!("{:?}", keys[number as usize]),
+        &options,
+    )
 }
 
 fn judged<S: Sync>(source: &Source<S>, shown: &dyn Fn(u32) -> String, options: &Options) -> Result<Verdict, Failure> {

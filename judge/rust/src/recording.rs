@@ -30,7 +30,9 @@ impl<'a> Recording<'a> {
         let is_kept = options.record.is_some();
         let path = folder.join(name_of(seed, is_kept));
         match std::fs::create_dir_all(&folder).and_then(|()| File::create(&path)) {
-            Ok(file) => Ok(Recording { judge, asked: Some(judge.ask()?), shape, seed, path, file, is_kept, parts: 0, trouble: None }),
+            Ok(file) => {
+                Ok(Recording { judge, asked: Some(judge.ask()?), shape, seed, path, file, is_kept, parts: 0, trouble: None })
+            }
             Err(_) => no_verdict(say(NO_FOLDER, &[&folder.display()])),
         }
     }
@@ -39,7 +41,8 @@ impl<'a> Recording<'a> {
     pub fn write(&mut self, area: &Area, trouble: Option<String>) -> Result<(), Failure> {
         self.parts += 1;
         let rows = area.calls();
-        let mut text = if self.parts == 1 { format!("listset-calls 1\n{}", lines_of("opening", area.opening())) } else { String::new() };
+        let mut text =
+            if self.parts == 1 { format!("listset-calls 1\n{}", lines_of("opening", area.opening())) } else { String::new() };
         rows.iter().for_each(|it| text += &it.line());
         if let Some(trouble) = trouble {
             text += "cut\n";
@@ -63,7 +66,13 @@ impl<'a> Recording<'a> {
             Judged::Refused(said) => told::explained(&said, &self.path) + &self.key_line(&said, is_own, shown),
         };
         self.is_kept = true;
-        let failed = |said| Failed { seed: self.seed, name: self.shape.name.into(), said, file: self.path.clone(), judge: self.judge.to_string() };
+        let failed = |said| Failed {
+            seed: self.seed,
+            name: self.shape.name.into(),
+            said,
+            file: self.path.clone(),
+            judge: self.judge.to_string(),
+        };
         Err(match &self.trouble {
             None => Failure::NotLinearizable(failed(said)),
             Some((trouble, under_way)) => Failure::NotEnded(failed(say(UNDER_WAY, &[trouble, under_way, &said]))),
@@ -77,7 +86,11 @@ impl<'a> Recording<'a> {
         let shown = shown(if is_own { key } else { key * self.shape.times });
         let of_set = if self.shape.sets > 1 { say(IN_SET, &[&(number / self.shape.keys + 1)]) } else { String::new() };
         let is_plain = shown == number.to_string() && of_set.is_empty();
-        if is_plain { String::new() } else { format!("\n{}{of_set}", say(KEY_IS, &[&number, &shown])) }
+        if is_plain {
+            String::new()
+        } else {
+            format!("\n{}{of_set}", say(KEY_IS, &[&number, &shown]))
+        }
     }
 }
 

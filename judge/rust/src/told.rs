@@ -38,7 +38,8 @@ pub fn rank(refused: &str) -> usize {
 /// What the judge says, with a picture; or, in place of many calls, what their count shows.
 pub fn explained(refused: &str, file: &Path) -> String {
     if calls_in(refused) > READABLE as usize {
-        if let Some(counted) = key_in(refused).and_then(|key| count_of(&std::fs::read_to_string(file).ok()?, &key.to_string())) {
+        if let Some(counted) = key_in(refused).and_then(|key| count_of(&std::fs::read_to_string(file).ok()?, &key.to_string()))
+        {
             return refused.lines().take(2).chain([&counted[..]]).collect::<Vec<_>>().join("\n");
         }
     }

@@ -58,7 +58,13 @@ fn but<T: Sync>(
     how: Options,
 ) -> Judged {
     let made = || (MySet::new(), make());
-    judge(made, |it, key| add(&it.0, &it.1, key), |it, key| remove(&it.0, &it.1, key), |it, key| contains(&it.0, &it.1, key), how)
+    judge(
+        made,
+        |it, key| add(&it.0, &it.1, key),
+        |it, key| remove(&it.0, &it.1, key),
+        |it, key| contains(&it.0, &it.1, key),
+        how,
+    )
 }
 
 /// Each half is under the lock, and not the two together.
@@ -83,7 +89,13 @@ fn first_use(how: Options) -> Judged {
         })
     };
     let make = || Parts::new(BTreeMap::new());
-    judge(make, |it, key| part(it, key).add(&key), |it, key| part(it, key).remove(&key), |it, key| part(it, key).contains(&key), how)
+    judge(
+        make,
+        |it, key| part(it, key).add(&key),
+        |it, key| part(it, key).remove(&key),
+        |it, key| part(it, key).contains(&key),
+        how,
+    )
 }
 
 /// It takes keys for one that have a place in common.
@@ -96,7 +108,11 @@ fn lossy(is_again: bool, how: Options) -> Judged {
     let called = |calls: &AtomicU32, call: &dyn Fn() -> bool| {
         let reply = call();
         let is_lost = calls.fetch_add(1, SeqCst) % 50 == 49;
-        if is_lost { is_again.then(call) } else { Some(reply) }
+        if is_lost {
+            is_again.then(call)
+        } else {
+            Some(reply)
+        }
     };
     let add = |it: &MySet, calls: &AtomicU32, key| called(calls, &|| it.add(&key));
     but(AtomicU32::default, add, |it, calls, key| called(calls, &|| it.remove(&key)), |it, _, key| it.contains(&key), how)
@@ -125,7 +141,8 @@ fn not_made() -> Plain {
 }
 
 fn judged(set: &str, how: Options) -> Judged {
-    let texts = |key: &dyn Fn(u32) -> String| judge_keys(Right::new, key, Right::add, Right::remove, Right::contains, how.clone());
+    let texts =
+        |key: &dyn Fn(u32) -> String| judge_keys(Right::new, key, Right::add, Right::remove, Right::contains, how.clone());
     match set {
         "right" | "adds only" => judge!(Plain, make: Plain::default, how),
         "opens" => judge!(Plain, make: || Plain(Right(Mutex::new(BTreeSet::from([1, 3])))), how),
@@ -138,7 +155,13 @@ fn judged(set: &str, how: Options) -> Judged {
         "collides" => collides(how),
         "finds all" => finds(0, how),
         "finds all late" => finds(8000, how),
-        "hangs" => stops(30, || loop { sleep(Duration::from_secs(3600)) }, how),
+        "hangs" => stops(
+            30,
+            || loop {
+                sleep(Duration::from_secs(3600))
+            },
+            how,
+        ),
         "crashes" => stops(30, || std::process::abort(), how),
         "crashes late" => stops(10_000, || std::process::abort(), how),
         "exits" => stops(30, || std::process::exit(3), how),
