@@ -68,9 +68,7 @@ def test_reload_shows_the_same_run(visitor):
 def test_another_speed_keeps_the_stop(visitor):
     visitor.open()
     visitor.choose("#speed", "fast")
-    visitor.settle()
-    visitor.settle()
-    visitor.settle()
+    visitor.wait("return document.getElementById('play').textContent === 'Play'")
     assert visitor.event() == 20
 
 
@@ -79,9 +77,7 @@ def test_pause_and_play_keep_the_stop(visitor):
     visitor.click("#play")
     visitor.choose("#speed", "fast")
     visitor.click("#play")
-    visitor.settle()
-    visitor.settle()
-    visitor.settle()
+    visitor.wait("return document.getElementById('play').textContent === 'Play'")
     assert visitor.event() == 20
 
 
