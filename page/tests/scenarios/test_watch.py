@@ -74,6 +74,7 @@ def test_another_speed_keeps_the_stop(visitor):
 
 def test_pause_and_play_keep_the_stop(visitor):
     visitor.open()
+    visitor.choose("#speed", "slow")
     visitor.click("#play")
     visitor.choose("#speed", "fast")
     visitor.click("#play")
