@@ -7,13 +7,6 @@ use Rattle.lset_text.specs.declared.causes.LineFault.{LineFault}
 use Rattle.lset_text.specs.Causes.{name_of}
 use Rattle.lset_replay.specs.declared.fault.ReplayFault.{ReplayFault}
 use Rattle.lset_replay.specs.declared.fault.ReplayFault.TheVariants as replay
-use Rattle.lset_report.specs.declared.report_fault.ReportCause.{ReportCause}
-use Rattle.lset_report.specs.declared.report_fault.ReportCause.TheVariants as report
-use Rattle.lset_report.specs.declared.report_fault.ReportFault.{ReportFault}
-use Rattle.lset_recording.specs.declared.fault.RecordingCause.{RecordingCause}
-use Rattle.lset_recording.specs.declared.fault.RecordingCause.TheVariants as recording
-use Rattle.lset_recording.specs.declared.fault.RecordingFault.{RecordingFault}
-use Rattle.tool_base.specs.declared.trouble.KeyCause.TheVariants as keys
 use Rattle.tool_base.specs.declared.trouble.SystemCause.{SystemCause}
 use Rattle.tool_base.specs.declared.trouble.SystemCause.TheVariants as system
 use Rattle.tool_base.specs.declared.trouble.ValueName.{ValueName}
@@ -22,9 +15,10 @@ use Rattle.tool_base.specs.declared.trouble.Trouble.{Trouble}
 use Rattle.tool_base.specs.declared.trouble.Trouble.TheVariants.{CannotRead, TooLong, CannotWrite, Memory, Line, Bad}
 use Rattle.tool_base.specs.declared.trouble.Trouble.TheVariants.{CannotListen, Work, Serve}
 
-abbrev pub of_schedule_line : ℕ → Cause → Trouble
-of_schedule_line number schedule.Memory = Memory
-of_schedule_line number cause = Line number (line.Schedule cause)
+-- of a line that is refused
+abbrev pub of_line : ℕ → Cause → Trouble
+of_line number cause.Memory = Memory
+of_line number c = Line number c
 
 abbrev pub of_line_fault : LineFault → Trouble
 of_line_fault fault = of_line fault.line fault.cause
