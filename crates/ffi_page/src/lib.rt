@@ -101,7 +101,6 @@ pub extern "C" fn listset_trace(
     ensures { Hands (λ _. Unit {0}) room.old room.new status.new result }
 {
     hand(
-        alloc,
         answer_text(alloc, &Trace { chains: false }, text),
         room,
         status,
@@ -121,7 +120,6 @@ pub extern "C" fn listset_trace_with_chains(
     ensures { Hands (λ _. Unit {0}) room.old room.new status.new result }
 {
     hand(
-        alloc,
         answer_text(alloc, &Trace { chains: true }, text),
         room,
         status,
