@@ -177,15 +177,16 @@ def test_rust(installed):
     well(*cargo, "build", *target, "--manifest-path", manifest, **how)
     installed.first_program(made / "first")
     well(made / "judged")
-    first = ["--test", "sets", "--", "my_set_is_linearizable", "check_then_act_is_refused", "--nocapture"]
+    how["env"] |= {"SET": "right", "HOW": "runs=2"}
+    first = ["--test", "sets", "--", "set", "--exact", "--nocapture"]
     is_judged(well(*cargo, "test", "--locked", *target, "--manifest-path", FORMS / "rust" / "Cargo.toml", *first, **how), installed.proof())
 
 
 @needs("go", "pkg-config", "gcc")
 def test_go(installed):
-    how = {**in_room(installed), "PKG_CONFIG_PATH": str(installed.library / "pkgconfig"), "LD_LIBRARY_PATH": str(installed.library)}
+    how = {**in_room(installed), "PKG_CONFIG_PATH": str(installed.library / "pkgconfig"), "LD_LIBRARY_PATH": str(installed.library), "SET": "right", "HOW": "runs=2"}
     shutil.copytree(FORMS / "go", installed.room / "go")
-    first = go_words("test", "-count=1", "-tags", "listset", "-run", "TestIsLinearizable|TestCheckThenActIsRefused", "-v")
+    first = go_words("test", "-count=1", "-tags", "listset", "-run", "TestSet", "-v")
     is_judged(well(*first, cwd=installed.room / "go", env=how), installed.proof())
 
 
@@ -202,8 +203,7 @@ def is_judged(said, proof):
 def test_python(installed):
     how = {"env": {**in_room(installed), "PYTHONPATH": str(installed.share)}}
     well(sys.executable, "-B", TESTS / "judge.py", EXAMPLES, **how)
-    of_library = ("my_set_is_linearizable", "check_then_act_is_refused")
-    first = [sys.executable, "-B", "-m", "unittest", *(f"test_sets.Sets.test_{it}" for it in of_library)]
-    is_judged(well(*first, cwd=FORMS / "python", **how), installed.proof())
+    how["env"] |= {"SET": "right", "HOW": "runs=2"}
+    is_judged(well(sys.executable, "-B", FORMS / "python" / "tests" / "sets.py", **how), installed.proof())
     well(sys.executable, "-B", TESTS / "sets.py", **how)
     installed.first_program(sys.executable, "-B", installed.page("python", "py"), **how)

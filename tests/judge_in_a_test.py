@@ -1,11 +1,9 @@
-"""The judge in a test of one's own: the forms of examples/in-a-test, by their own tests, in each language that is installed.
+"""The judge in a test of one's own, judge/, in each language that is installed: what it does is asked here, once for all. The program
+of a language, judge/LANGUAGE/tests, judges the set that SET names with the options of HOW, and prints how the verdict came out, and it.
 
-A right set has to be `ok` there, and three wrong ones refused; what hangs or crashes is judged up to there; a long run is one recording,
-which the program judges again. The verdict counts the calls of all runs, and a run that fails is named. If there is no judge, or one that
-answers something else, the first test has to fail with a sentence that says so. The page's engine in node is another judge
-(tests/foreign.py tries the library). Every wait is bounded."""
+A right set has to be `ok`, and wrong ones refused, by the default line; what hangs or crashes is judged up to there; a long run is one
+recording, which the program judges again. A judge made of a script says how a refusal is told. Every wait is bounded."""
 
-import importlib.util
 import os
 import pathlib
 import re
@@ -15,9 +13,8 @@ import sys
 import pytest
 from harness.programs import QUICK_CARGO, TOP, ran, well
 
-FORMS = TOP / "examples" / "in-a-test"
-SECONDS = 300  # for each run of tests
-JUNIT = pathlib.Path("/usr/share/java/junit-platform-console-standalone.jar")
+FORMS = TOP / "judge"
+SECONDS = 120  # for each run of a set's judge
 # What is no judge, and what a form has to say then: `{}` is its path.
 NO_VERDICT = "{} gave no verdict, but said: %s. Take a newer listset"
 NO_JUDGES = {
@@ -36,45 +33,24 @@ JUDGES_NOT_IN_PATH = [
 ]
 
 
-# ---- of each language what builds its tests, once for all, and where a test of this room runs them, by which words
+# ---- of each language what builds its sets, once for all, and the words that judge one of them
 
 
 def built_rust(folder):
     build = ["test", "--no-run", "--offline", "--locked", "--target-dir", folder, "--manifest-path", FORMS / "rust/Cargo.toml"]
     well(*QUICK_CARGO, *build, cwd=folder)
     (tests,) = (it for it in (folder / "debug/deps").glob("sets-*") if not it.suffix)
-    return tests
-
-
-def rust(room, once):
-    return room, [once(built_rust)]
+    return [tests, "set", "--exact", "--nocapture"]
 
 
 def built_cpp(folder):
-    warn = ["-Wall", "-Wextra", "-Wshadow", "-Werror"]
-    well("g++", "-O1", *warn, "-std=c++17", "-pthread", "tests.cpp", "-o", folder / "tests", cwd=FORMS / "cpp")
-    return folder / "tests"
+    warn = ["-Wall", "-Wextra", "-Wshadow", "-Wconversion", "-Werror"]
+    well("g++", "-O0", *warn, "-std=c++17", "-pthread", FORMS / "cpp/tests/sets.cpp", "-o", folder / "sets")
+    return [folder / "sets"]
 
 
-def cpp(room, once):
-    return room, [once(built_cpp)]
-
-
-def built_googletest(folder):
-    well("g++", "-std=c++17", "-pthread", "googletest.cpp", "-lgtest", "-lgtest_main", "-o", folder / "tests", cwd=FORMS / "cpp")
-    return folder / "tests"
-
-
-def googletest(room, once):
-    return room, [once(built_googletest)]
-
-
-def python(_room, _once):
-    return FORMS / "python", [sys.executable, "-B", "-m", "unittest", "test_sets", "test_servers"]
-
-
-def by_pytest(_room, _once):
-    return FORMS / "python", [sys.executable, "-B", "-m", "pytest", "-q", "-c", os.devnull, "-p", "no:cacheprovider", "test_sets.py"]
+def built_python(_folder):
+    return [sys.executable, "-B", FORMS / "python/tests/sets.py"]
 
 
 def in_jvm(*words):
@@ -83,17 +59,8 @@ def in_jvm(*words):
 
 
 def built_java(folder):
-    well(*in_jvm("javac"), "-Xlint:all,-serial", "-Werror", "-d", folder, "Judge.java", "Sets.java", "Tests.java", cwd=FORMS / "java")
-    return folder
-
-
-def java(room, once):
-    return room, [*in_jvm(shutil.which("java")), f"-Djava.io.tmpdir={room}", "-cp", once(built_java), "Tests"]
-
-
-def junit(room, _once):
-    well(*in_jvm("javac"), "-cp", JUNIT, "-d", room, "Judge.java", "Sets.java", "SetsTest.java", cwd=FORMS / "java")
-    return room, [*in_jvm("java"), f"-Djava.io.tmpdir={room}", "-jar", JUNIT, "-cp", room, "--scan-classpath", "--disable-banner"]
+    well(*in_jvm("javac"), "-Xlint:all,-serial", "-Werror", "-d", folder, "Judge.java", "tests/Sets.java", cwd=FORMS / "java")
+    return [*in_jvm(shutil.which("java")), "-cp", folder, "Sets"]
 
 
 def go_words(*words):
@@ -103,21 +70,16 @@ def go_words(*words):
 
 def built_go(folder):
     sources = shutil.copytree(FORMS / "go", folder / "sources")
+    well(*go_words("vet", "."), cwd=sources)
     well(*go_words("test", "-c", "-o", folder / "tests"), cwd=sources)
-    return folder / "tests"
+    return [folder / "tests", "-test.run=^TestSet$"]
 
 
-def go(room, once):
-    return room, [once(built_go)]
-
-
-LANGUAGES = {"Rust": rust, "C++": cpp, "GoogleTest": googletest, "Python": python, "pytest": by_pytest, "Java": java, "JUnit": junit, "Go": go}
-TOOLS = {"Rust": ["cargo"], "C++": ["g++"], "GoogleTest": ["g++"], "Java": ["javac", "java"], "JUnit": ["javac", "java"], "Go": ["go"]}
-TEST_LIBRARIES = {
-    "GoogleTest": ("Debian's package libgtest-dev", pathlib.Path("/usr/include/gtest/gtest.h").exists),
-    "pytest": ("Debian's package python3-pytest", lambda: importlib.util.find_spec("pytest")),
-    "JUnit": ("Debian's package junit5", JUNIT.exists),
-}
+LANGUAGES = {"Rust": built_rust, "C++": built_cpp, "Python": built_python, "Java": built_java, "Go": built_go}
+TOOLS = {"Rust": ["cargo"], "C++": ["g++"], "GoogleTest": ["g++"], "Java": ["javac", "java"], "Go": ["go"]}
+TEST_LIBRARIES = {"GoogleTest": ("Debian's package libgtest-dev", pathlib.Path("/usr/include/gtest/gtest.h").exists)}
+FEW = "threads=4 calls=250 runs=3"
+SLOW = {"Python": "threads=4 calls=250"}  # a default line of 20 runs, in less time
 
 
 def each(languages):
@@ -125,30 +87,11 @@ def each(languages):
     return pytest.mark.parametrize("language", [pytest.param(it, marks=pytest.mark.needs(*TOOLS.get(it, []))) for it in languages])
 
 
-# Of each language how its first test alone is run, which prints its verdict
-FIRST_TESTS = {"Rust": ["my_set_is_linearizable", "--nocapture"], "C++": ["first"], "Java": ["first"]}
-FIRST_TESTS |= {"Python": ["test_sets.Sets.test_my_set_is_linearizable"], "Go": ["-test.run", "TestIsLinearizable", "-test.v"]}
-# What standard error has of the test in which no calls overlap (a Python test asks for its warning itself)
-FEW_OVERLAPS = {"Rust": "ok: 120000 calls, of which 0 ", "C++": "listset: 0 of 120000 calls ", "Java": "\nok: 120000 calls, of which 0 "}
-FEW_OVERLAPS |= {"Go": "ok: 120000 calls, of which 0 "}
-# The program, but for how many calls of a recording overlap
-OVERLAPS_THREE = """#!/bin/sh
-'%s' "$@" | sed 's/^[0-9]* of them /3 of them /'
-"""
-# A judge that no second recording of its folder passes
-REFUSES_THE_SECOND = """#!/bin/sh
-case $1 in judge) ;; *) exit 0 ;; esac
-if mkdir "$0 was asked" 2> /dev/null; then echo ok 9 calls; echo 3 of them overlap; exit 0; fi
-echo not linearizable
-exit 1
-"""
-
-
 class Form:
-    """The tests of a form: where they are run, and by which words."""
+    """The judge of a language: where it is run, and by which words."""
 
-    def __init__(self, language, room, where, words):
-        self.language, self.room, self.where, self.words = language, room, where, words
+    def __init__(self, language, room, words):
+        self.language, self.room, self.words = language, room, words
 
     def script(self, name, text):
         """The path of a script that can be run; if it is empty, of none."""
@@ -158,89 +101,273 @@ class Form:
             path.chmod(0o755)
         return path
 
-    def said(self, judge, words=None, **also):
-        """The status of the tests, with this judge and with these variables also, and what they said."""
+    def told(self, judge, of, how="", **also):
+        """How the verdict on a set came out, and all that was printed."""
         environment = {name: it for name, it in os.environ.items() if name not in ("LISTSET", "RUST_BACKTRACE")}
         environment |= {"LISTSET": str(judge)} if judge else {}
-        done = ran(*words or self.words, cwd=self.where, env=environment | {"TMPDIR": str(self.room)} | also, seconds=SECONDS)
-        return done.returncode, done.stdout + done.stderr
+        environment |= {"TMPDIR": str(self.room), "SET": of, "HOW": how, **also}
+        words = [*self.words[:-1], f"-Djava.io.tmpdir={self.room}", self.words[-1]] if self.language == "Java" else self.words
+        done = ran(*words, cwd=self.room, env=environment, seconds=SECONDS)
+        found = re.search("^verdict: (.*)$", done.stdout, re.M)
+        assert found, done.stdout + done.stderr
+        return found[1], done.stdout[found.start() :] + done.stderr
 
-    def first(self, judge, **also):
-        """The same of the first test alone; of all tests, if no word names it."""
-        own = [it for it in self.words if not str(it).startswith("test_")] + FIRST_TESTS[self.language] if self.language in FIRST_TESTS else None
-        return self.said(judge, own, **also)
+    def recorded(self, said):
+        return pathlib.Path(re.search("^recorded in (.*); judge: ", said, re.M)[1]).read_text()
 
     def left(self):
         return sorted(it.name for it in self.room.glob("listset-*"))
 
 
 @pytest.fixture
-def form(language, room, once, lacking):
-    package, is_there = TEST_LIBRARIES.get(language, ("", lambda: True))
-    if not is_there():
-        lacking(f"{language} is not installed: {package}")
-    return Form(language, room, *LANGUAGES[language](room, once))
+def form(language, room, once):
+    return Form(language, room, once(LANGUAGES[language]))
 
 
 @each(LANGUAGES)
-def test_a_form_judges(form, language, program):
-    status, said = form.said(form.script("judge", f"#!/bin/sh\necho progress >&2\nexec '{program}' \"$@\"\n"))
-    assert status == 0, said
-    assert FEW_OVERLAPS.get(language, "") in said
-    if language in FIRST_TESTS:
-        (recorded,) = (form.room / "recorded").iterdir()
-        assert re.match(r"ok 4[48]000 calls\n", well(program, "judge", recorded))
-        assert [it for it in form.left() if not it.startswith("listset-seed-")] == []
-
-
-@each(FIRST_TESTS)
-def test_the_verdict_names_its_judge_and_counts_the_calls_that_overlap(form, language, program):
-    judge = form.script("judge", OVERLAPS_THREE % program)
-    status, said = form.first(judge)
-    proof = well(program, "--version", "--long").splitlines()[3]
-    assert (status, form.left()) == (0, []), said
-    assert f"; judge: {judge}, {proof}" in said and ", of which 60 overlapped a change of their key" in said
-
-
-@each(FIRST_TESTS)
-def test_a_judge_that_is_not_in_path_is_named(form, language):
-    for judge, due in JUDGES_NOT_IN_PATH:
-        status, said = form.first(judge, PATH=str(form.room / "empty"))
-        assert status != 0 and due in said
+def test_right_sets_are_linearizable(form, program):
+    for of, how in (("right", ""), ("right", "own_process=0"), ("opens", "opens_with_keys=1"), ("texts", "keys=64"), ("not known", ""), ("adds only", "removes=0")):
+        kind, said = form.told(program, of, f"{FEW} {how}")
+        assert kind == "ok" and re.search("^ok: [0-9]+ calls, of which [0-9]+ overlapped a change of their key", said, re.M), said
+    assert form.left() == []
 
 
 @each(LANGUAGES)
-def test_what_is_no_judge_is_named(form, language):
-    for name, (script, due) in [*NO_JUDGES.items()][: 1 if language in TEST_LIBRARIES else None]:
-        judge = form.script(f"judge {name}", script)
-        status, said = form.first(judge)
-        assert status != 0 and due.format(judge) in said
+def test_the_default_line(form, program):
+    kind, said = form.told(program, "right")
+    assert kind == "ok" and int(re.search("^ok: ([0-9]+) calls", said, re.M)[1]) > 20_000, said
+    for of, preset in (("check then act", ""), ("first use", ""), ("again", ""), ("collides", "multiples of 64")):
+        kind, said = form.told(program, of)
+        assert kind == "refused" and re.search(rf"^seed [0-9]+ \({preset}.*\): not linearizable$", said, re.M), said
+        assert "key 0 of the recording is" not in said if of == "check then act" else True
 
 
-@each(FIRST_TESTS)
-def test_the_run_that_fails_is_named(form, language):
-    status, said = form.first(form.script("judge", REFUSES_THE_SECOND))
-    assert status != 0 and "seed 2: not linearizable" in said and "/listset-seed-2-" in said
+@each(LANGUAGES)
+def test_keys_of_any_kind(form, program):
+    assert form.told(program, "collides", f"{FEW} keys=4")[0] == "ok"
+    assert form.told(program, "collides", f"{FEW} keys=128")[0] == "refused"
+    assert "the key function gives " in form.told(program, "twice", f"{FEW} keys=4")[1]
+    kind, said = form.told(program, "texts", f"{FEW} keys=4", LISTSET=str(refusing(form, 2)))
+    assert kind == "refused" and re.search("^key 1 of the recording is .?key 1", said, re.M), said
 
 
-ENGINE = TOP / "page" / "listset.js"
-# The same, but for the second recording, which it refuses: each takes a third of a second
-ENGINE_FOR_ONE = """const fs = require("fs");
-const asked = `${__filename} was asked`;
-if (process.argv[2] === "judge" && fs.existsSync(asked)) {
-    console.log("not linearizable");
-    process.exitCode = 1;
-} else {
-    if (process.argv[2] === "judge") fs.writeFileSync(asked, "");
-    require("%s");
-}
+@each(LANGUAGES)
+def test_a_call_whose_outcome_is_not_known_is_pending(form, program):
+    kind, said = form.told(program, "not known", f"{FEW} runs=1 record={form.room / 'kept'}")
+    (recorded,) = (form.room / "kept").iterdir()
+    calls = [it.split() for it in recorded.read_text().splitlines() if it.startswith("call ")]
+    open_calls = [it for it in calls if it[5] == "-"]
+    assert kind == "ok" and len(calls) == 1000 and open_calls and len({it[1] for it in calls}) == 4 + len(open_calls), said
+
+
+@each(LANGUAGES)
+def test_runs_that_do_not_meet(form, program):
+    kind, said = form.told(program, "right", "threads=1 calls=2000 keys=1 pauses=0 runs=2")
+    assert kind == "ok" and "ok: 12000 calls, of which 0 " in said and "that is few" in said, said  # (each run is made again, twice)
+    kind, said = form.told(program, "right", "threads=1 calls=200 runs=1 at_least=5")
+    assert kind == "too few" and "0 of 600 calls overlapped a change of their key, and at_least asks for 5 of 100" in said
+
+
+STOPS = {
+    "hangs": ("seconds=1", "the set hung: no call began or ended for 1 s"), "exits": ("", "the set ended its process with the status 3"),
+    "crashes": ("", "the set "), "throws": ("", "a call of the set failed: .*no memory"), "crashes late": ("threads=4 calls=15000 pauses=0", "the set "),
+}  # fmt: skip
+
+
+@each(LANGUAGES)
+@pytest.mark.parametrize("of", STOPS)
+def test_what_stops_is_judged_up_to_there(form, program, of):
+    how, due = STOPS[of]
+    kind, said = form.told(program, of, f"threads=4 calls=1000 keys=4 {how}")
+    assert kind == "not ended" and re.search(rf": {due}.*\nunder way:\n(call .* - -\n)*up to there: some order explains the calls\n", said), said
+    recorded, (under_way,) = form.recorded(said), re.findall("under way:\n((?:call .* - -\n)*)", said)
+    assert recorded.endswith("\ncut\n") and recorded.count(" - -\n") == under_way.count("\n")
+    assert recorded.count("\n") > 20_000 or of != "crashes late"
+
+
+@each(LANGUAGES)
+def test_a_long_run_is_one_recording(form, program):
+    kept = form.room / "kept"
+    for own_process, calls in ((0, 4000), (1, 6000)):
+        assert form.told(program, "right", f"threads=8 calls={calls} pauses=0 runs=1 keys=4 own_process={own_process} record={kept}")[0] == "ok"
+    text = (kept / "seed-1.calls").read_text()
+    assert text.startswith("listset-calls 1\ncall ") and text.count("\nend\n") == 1 and text.endswith("\nend\n")
+    begins = [int(it) for it in re.findall("^call [0-9]+ [a-z]+ [0-9]+ ([0-9]+)", text, re.M)]
+    assert len(begins) == 48_000 and begins == sorted(begins)
+    assert well(program, "judge", kept / "seed-1.calls").startswith("ok 48000 calls\n")
+    kind, said = form.told(program, "finds all late", f"threads=8 calls=6000 pauses=0 runs=1 record={kept}")
+    assert kind == "refused" and form.recorded(said).count("\ncall ") > 20_000
+
+
+@each(LANGUAGES)
+def test_a_seed_gives_the_same_calls_again(form, program):
+    def of(seed):
+        form.told(program, "finds all", f"threads=1 calls=50 keys=5 runs=1 seed={seed} record={form.room / 'kept'}")
+        return (form.room / "kept" / f"seed-{seed}.calls").read_text()
+
+    first, other = of(7), of(13)
+    assert of(7) == first != other
+    assert {tuple(it.split()[2:4]) for it in (first + other).splitlines() if it.startswith("call ")} >= {("add", "4"), ("remove", "0"), ("contains", "3")}
+
+
+# ---- how a refusal is told, of a judge that refuses with so many calls
+
+REFUSES = """#!/bin/sh
+case $1 in judge) ;; *) exit 0 ;; esac
+cat > /dev/null
+mkdir "$0 was asked" 2> /dev/null && count=%d || count=%d
+echo not linearizable; echo no order explains the calls of key 1 up to moment 9
+for i in $(seq $count); do echo call $i add 1 $i $((i + 20)) true; done
+exit 1
 """
 
 
+def refusing(form, first, then=None):
+    shutil.rmtree(form.room / "refuses was asked", ignore_errors=True)
+    return form.script("refuses", REFUSES % (first, then or first))
+
+
+@each(LANGUAGES)
+def test_a_picture_shows_two_calls(form):
+    said = form.told(refusing(form, 2), "right", f"{FEW} keys=4")[1]
+    assert re.search(r"^thread 1 +\[add 1-true\]\nthread 2 +\[add 1-true\]$", said, re.M), said
+    assert re.search(r"^thread 2 +", said, re.M)[0].count(" ") == re.search(r"^thread 1 +", said, re.M)[0].count(" ") + 1
+
+
+@each(LANGUAGES)
+def test_a_count_stands_in_place_of_many_calls(form):
+    kind, said = form.told(refusing(form, 12), "right", "threads=1 calls=200 keys=4 runs=1")
+    assert kind == "refused" and said.count("\ncall ") == 12, said  # (the count is right: it proves nothing)
+    said = form.told(refusing(form, 12), "opens", "threads=1 calls=200 keys=4 runs=1")[1]
+    assert re.search("^[0-9]+ adds and [0-9]+ removes of key 1 answered true; it was not there at first, and is ", said, re.M), said
+    assert "\ncall " not in said
+
+
+@each(LANGUAGES)
+def test_the_smallest_refusal_of_further_runs_is_told(form):
+    said = form.told(refusing(form, 1, 2), "right", f"{FEW} keys=4")[1]
+    assert said.count("\ncall ") == 2 and "seed 7 (few keys): not linearizable" in said and len(form.left()) == 1, said
+
+
+# ---- the judge underneath
+
+
+# The program, but for how many calls of a recording overlap
+OVERLAPS_ALL = """#!/bin/sh
+'%s' "$@" | sed 's/^[0-9]* of them /900 of them /'
+"""
+
+
+@each(LANGUAGES)
+def test_the_verdict_names_its_judge_and_counts_the_calls_that_overlap(form, program):
+    judge = form.script("judge", OVERLAPS_ALL % program)
+    kind, said = form.told(judge, "right", FEW)
+    proof = well(program, "--version", "--long").splitlines()[3]
+    assert kind == "ok" and f"; judge: {judge}, {proof}" in said and "ok: 3000 calls, of which 2700 overlapped a change of their key" in said, said
+
+
+@each(LANGUAGES)
+def test_a_judge_that_is_not_in_path_is_named(form):
+    for judge, due in JUDGES_NOT_IN_PATH:
+        kind, said = form.told(judge, "right", FEW, PATH=str(form.room / "empty"))
+        assert kind == "none" and due in said
+
+
+@each(LANGUAGES)
+def test_what_is_no_judge_is_named(form):
+    for name, (script, due) in NO_JUDGES.items():
+        judge = form.script(f"judge {name}", script)
+        kind, said = form.told(judge, "right", FEW)
+        assert kind == "none" and due.format(judge) in said
+
+
+ENGINE = TOP / "page" / "listset.js"
+
+
 @pytest.mark.needs("node")
-@each(FIRST_TESTS)
-def test_the_engine_in_node_judges(form, language):
-    judge = ENGINE if language == "Python" else form.script("judge.js", ENGINE_FOR_ONE % ENGINE)
-    status, said = form.first(judge)
-    assert f"; judge: {judge}, proof unknown" in said
-    assert status == 0 if language == "Python" else "seed 2: not linearizable" in said
+@each(LANGUAGES)
+def test_the_engine_in_node_judges(form):
+    kind, said = form.told(ENGINE, "right", "threads=4 calls=250 runs=1")
+    assert kind == "ok" and f"; judge: {ENGINE}, proof unknown" in said
+
+
+NO_RUNS = {
+    "threads=65": "threads is 65, and has to be 1 to 64", "threads=2 calls=500000001": "threads times calls is 1000000002, and has to be 1 to 1000000000",
+    "keys=1048577": "keys is 1048577, and has to be 1 to 1048576", "pauses=101": "pauses is 101, and has to be 0 to 100",
+    "runs=0": "runs is 0, and has to be 1 to 1000000", "seconds=3601": "seconds is 3601, and has to be 1 to 3600",
+    "at_least=101": "at_least is 101, and has to be 0 to 100", "adds=0 removes=0 finds=0": ", and has to be 1 to 1000",
+    "record=/dev/null/x": "no file can be written in /dev/null/x: name another folder by record",
+}  # fmt: skip
+
+
+@each(LANGUAGES)
+def test_what_gives_no_verdict_is_one_sentence(form, program):
+    for how, due in NO_RUNS.items():
+        kind, said = form.told(program, "right", f"calls=99 runs=1 {how}")
+        assert kind == "none" and due in said, said
+    kind, said = form.told(program, "not made", FEW)
+    assert kind == "none" and re.search("the set could not be made: .*no room", said), said
+
+
+# ---- of one language alone
+
+
+def test_the_words_are_those_of_one_file():
+    well(FORMS / "make_words", "--check")
+
+
+@pytest.mark.needs("cargo")
+def test_a_lock_that_another_test_holds(room, once, program):
+    tests, *_ = once(built_rust)
+    assert "ok: " in well(tests, "another_test_holds_a_lock", "--exact", "--nocapture", env={**os.environ, "LISTSET": program, "TMPDIR": str(room)})
+
+
+@pytest.mark.needs("clang++")
+def test_clang_has_no_warning():
+    well("clang++", "-fsyntax-only", "-Wall", "-Wextra", "-Werror", "-std=c++17", "-pthread", FORMS / "cpp/tests/sets.cpp")
+
+
+TRACED = """import sys, threading
+sys.path[:0] = [{!r}, {!r}]
+import listset_judge, sets
+seen = set()
+def tracer(frame, event, _):
+    seen.add((frame.f_code.co_name, event))
+    return tracer
+threading.settrace(tracer)
+for pauses in (0, 20):
+    seen.clear()
+    listset_judge.judge(sets.Right, threads=2, calls=50, runs=1, pauses=pauses, own_process=False)
+    assert {{("add", "line"), ("remove", "line")}} <= seen, seen
+"""
+
+
+def test_a_tracer_sees_the_set(room, program):
+    text = TRACED.format(str(FORMS / "python"), str(FORMS / "python/tests"))
+    well(sys.executable, "-B", "-c", text, env={**os.environ, "LISTSET": program, "TMPDIR": str(room)})
+
+
+def test_python_that_answers_nothing(room, once, program):
+    form = Form("Python", room, once(built_python))
+    assert "each add answered None, and has to answer True or False" in form.told(program, "answers none", FEW)[1]
+    assert "the set could not be made: 'object' object has no attribute" in form.told(program, "object", FEW)[1]
+
+
+@pytest.mark.needs("java")
+def test_a_jvm_that_cannot_be_given_the_set(room, once, program):
+    assert Form("Java", room, once(built_java)).told(program, "not passed on", FEW)[0] == "ok"
+
+
+def test_servers(room, program):
+    words = [sys.executable, "-B", "-m", "unittest", "discover", "-s", FORMS / "python/tests", "-t", FORMS / "python/tests"]
+    well(*words, cwd=room, env={**os.environ, "LISTSET": program, "TMPDIR": str(room), "PYTHONPATH": str(FORMS / "python")})
+
+
+@pytest.mark.needs("g++")
+def test_sets_of_libcds(room, program, lacking):
+    if not pathlib.Path("/usr/include/cds/init.h").exists():
+        lacking("libcds is not installed: Debian's package libcds-dev")
+    well("g++", "-O1", "-std=c++17", "-pthread", FORMS / "real-sets" / "libcds.cpp", "-lcds", "-o", room / "libcds")
+    said = well(room / "libcds", 1, env={**os.environ, "LISTSET": program, "TMPDIR": str(room)})
+    found = dict(re.findall("^([A-Za-z]+), test 1: (ok|seed)", said, re.M))
+    assert found.pop("SkipListSet") in ("ok", "seed") and set(found.values()) == {"ok"}, said  # (the first is seldom ok)

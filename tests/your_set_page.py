@@ -73,7 +73,7 @@ class MySet:
     def remove(self, key):
         with self.lock: return key in self.keys and not self.keys.remove(key)
 %s
-listset_judge.judge.__kwdefaults__["runs"] = 2  # (twenty take ten seconds: the line above makes them)
+listset_judge.judge.__kwdefaults__["runs"] = 2  # (the line above makes twenty)
 %s
 """
 GO = """package own
@@ -159,7 +159,7 @@ def python(room):
 
 
 def go(room):
-    shutil.copytree(FORMS / "go", room / "judge", ignore=shutil.ignore_patterns("go.mod", "judge_test.go"))
+    shutil.copytree(FORMS / "go", room / "judge", ignore=shutil.ignore_patterns("go.mod", "sets_test.go"))
     (room / "go.mod").write_text("module own\n\ngo 1.18\n")
     (room / "own_test.go").write_text(GO % (line_of("Go")[0], options_of("Go")))
     return go_words("test", "-count=1", "./...")

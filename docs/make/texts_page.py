@@ -4,7 +4,6 @@ import re
 
 import rattle_sources
 
-NO_CAUSES = {"Memory", "Refused", "CutOff"}
 # Limits: the constant, its crate, and what is told past it.
 LIMITS = [
     ("lset_words/src/lib.rt", "MOST_THREADS", "`Threads`; `bad THREADS`, `bad SEATS`"),
@@ -17,7 +16,7 @@ LIMITS = [
     ("lset_report/src/report.rt", "MOST_PLACES", "`TooMany`"),
     ("lset_report/src/report.rt", "MOST_KEYS", "`TooMany`"),
     ("lset_report/src/report.rt", "MOST_KEYS_OPENED", "`TooMany`"),
-    ("tool_base/src/streams.rt", "LONGEST", "`too long`"),
+    ("tool_base/src/input.rt", "LONGEST", "`too long`"),
 ]
 VERSIONS = {"One": 1, "Two": 2}
 
@@ -32,11 +31,6 @@ def first_sentence(said):
     return re.match(r"(?:[^.`]|`[^`]*`|\.(?! |$))*", said)[0]
 
 
-def variants_of(file, name):
-    """The variants of an enum that have a comment, and what that says."""
-    return {variant: in_words(said) for variant, said in rattle_sources.Source(file.read_text()).variants(name).items() if said}
-
-
 def table(head, rows):
     below = "|---" * len(head) + "|"
     first, *others = [f"| {' | '.join(cells)} |" for cells in [head, *rows]]
@@ -49,9 +43,9 @@ def figure_of(text, name):
 
 
 def table_of_orders(top):
-    """Why an order is refused: from the comments of the variants of OrderFault."""
-    found = variants_of(top / "crates/lset_history/src/fault.rt", "OrderFault").items()
-    return table(["Fault", "When"], [[f"`{name}`", first_sentence(said)] for name, said in found if name not in NO_CAUSES])
+    """Why an order is refused: what `listset faults` says of it."""
+    said = (top / "crates/tool_base/src/faults.rt").read_text().split("\nrefused FAULT ID")[1].split("\n\n")[0]
+    return table(["Fault", "When"], [[f"`{name}`", when] for name, when in re.findall(r"^  (\w+) +(.*)\.$", said, re.M)])
 
 
 def table_of_limits(top):

@@ -13,7 +13,9 @@ template <listset::list KIND> struct Shared {
 };
 
 template <listset::list KIND> static bool is_right() {
-  listset::verdict verdict = listset::judge<Shared<KIND>>();
+  listset::options how;
+  how.runs = 6;  // one of each preset
+  listset::verdict verdict = listset::judge<Shared<KIND>>(how);
   std::cout << verdict << "\n";
   std::string version(listset::version()), proof = version.substr(version.find("\nproof ") + 1);
   return verdict && verdict.overlapped > 0 && "liblistset, " + proof.substr(0, proof.find('\n')) == verdict.judge;

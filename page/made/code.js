@@ -10,7 +10,7 @@ fn walk<O: Origin, P: Pause, N: Rounds>(
     place: &mut TableSeat,
 ) -> Option<Found>
     requires { AtHead O.begun caller.now.slots place.old }
-    ensures { MatchOption result (GivesUp coarse O.begun N.MOST place.new) (λ f. StopsAt O.begun caller.now.slots f place.new) }
+    ensures { IfSome result (λ f. StopsAt O.begun caller.now.slots f place.new) }
 {
     let key = caller.key;
     let mut pred = Node::head();
@@ -59,7 +59,7 @@ fn make<O: Origin, P: Pause, N: Rounds>(
 ) -> Option<(OwnSlots, Reply)>
     requires begins { MayBegin coarse O.begun slots place.old }
     requires call { IsCall O.begun call table.now.table_id table.now.key }
-    ensures { MatchOption result (GivesUp coarse O.begun N.MOST place.new) (λ r. HasAnswered coarse O.begun r place.new) }
+    ensures { IfSome result (λ r. HasAnswered coarse O.begun r place.new) }
 {
     let caller = Caller::<'_, CoarseList, O, P> {
         table,
@@ -84,7 +84,7 @@ fn walk<O: Origin, P: Pause, N: Rounds>(
     place: &mut TableSeat,
 ) -> Option<Found>
     requires { AtHead O.begun caller.now.slots place.old }
-    ensures { MatchOption result (GivesUp fine O.begun N.MOST place.new) (λ f. StopsAt O.begun caller.now.slots f place.new) }
+    ensures { IfSome result (λ f. StopsAt O.begun caller.now.slots f place.new) }
 {
     let key = caller.key;
     let mut pred = Node::head();
@@ -135,7 +135,7 @@ fn make<O: Origin, P: Pause, N: Rounds>(
 ) -> Option<(OwnSlots, Reply)>
     requires begins { MayBegin fine O.begun slots place.old }
     requires call { IsCall O.begun call table.now.table_id table.now.key }
-    ensures { MatchOption result (GivesUp fine O.begun N.MOST place.new) (λ r. HasAnswered fine O.begun r place.new) }
+    ensures { IfSome result (λ r. HasAnswered fine O.begun r place.new) }
 {
     let caller = Caller::<'_, FineList, O, P> {
         table,
@@ -154,7 +154,7 @@ fn make<O: Origin, P: Pause, N: Rounds>(
 }` },
   ],
   "crates/lset_loops/src/optimistic.rt": [
-    { name: "walk", first: 23, steps: [{"line": 39, "rows": [2]}, {"line": 44, "rows": [3]}], calls: [], text: `
+    { name: "walk", first: 23, steps: [{"line": 38, "rows": [2]}, {"line": 43, "rows": [3]}], calls: [], text: `
 /// Walks from the head, whose link led to \`first\`, to the first key that is not below that of the call.
 #[inline(always)]
 fn walk<O: Origin, P: Pause, N: Rounds>(
@@ -163,8 +163,7 @@ fn walk<O: Origin, P: Pause, N: Rounds>(
     first: Node,
 ) -> Option<Stopped>
     requires { AtKey O.begun caller.now.slots 0 first.number 0 place.old }
-    ensures { MatchOption result (GivesUp optimistic O.begun N.MOST place.new)
-        (λ f. StopsAt O.begun caller.now.slots f place.new × (steps_in place.old ≤ steps_in place.new)) }
+    ensures { IfSome result (λ f. StopsAt O.begun caller.now.slots f place.new) }
 {
     let key = caller.key;
     let mut pred = Node::head();
@@ -183,7 +182,7 @@ fn walk<O: Origin, P: Pause, N: Rounds>(
     }
     None
 }` },
-    { name: "reaches", first: 52, steps: [{"line": 71, "rows": [6]}, {"line": 73, "rows": [7]}], calls: [], text: `
+    { name: "reaches", first: 51, steps: [{"line": 69, "rows": [6]}, {"line": 71, "rows": [7]}], calls: [], text: `
 /// Walks a second time from the head, as far as \`pred\`. Answers whether it came there: not where it saw a key above that of
 /// \`pred\`.
 #[inline(always)]
@@ -193,8 +192,7 @@ fn reaches<O: Origin, P: Pause, N: Rounds>(
     stopped: Stopped,
 ) -> Option<bool>
     requires { HasLocked O.begun caller.now.slots stopped place.old }
-    ensures { MatchOption result (GivesUp optimistic O.begun N.MOST place.new)
-        (λ r. HasReached O.begun caller.now.slots stopped.found r place.new × (steps_in place.old ≤ steps_in place.new)) }
+    ensures { IfSome result (λ r. HasReached O.begun caller.now.slots stopped.found r place.new) }
 {
     let pred = stopped.found.pred.number;
     let before = stopped.before;
@@ -215,7 +213,7 @@ fn reaches<O: Origin, P: Pause, N: Rounds>(
     }
     None
 }` },
-    { name: "validate", first: 84, steps: [{"line": 98, "rows": [8]}], calls: [[95, "reaches"]], text: `
+    { name: "validate", first: 82, steps: [{"line": 95, "rows": [8]}], calls: [[92, "reaches"]], text: `
 /// Whether \`pred\` is still in the list and leads to \`curr\`, both of which are locked.
 fn validate<O: Origin, P: Pause, N: Rounds>(
     caller: &Caller<OptimisticList, O, P>,
@@ -223,8 +221,7 @@ fn validate<O: Origin, P: Pause, N: Rounds>(
     stopped: Stopped,
 ) -> Option<bool>
     requires { HasLocked O.begun caller.now.slots stopped place.old }
-    ensures { MatchOption result (GivesUp optimistic O.begun N.MOST place.new)
-        (λ r. HasValidated O.begun caller.now.slots stopped.found r place.new × (steps_in place.old ≤ steps_in place.new)) }
+    ensures { IfSome result (λ r. HasValidated O.begun caller.now.slots stopped.found r place.new) }
 {
     let found = stopped.found;
     if !reaches::<O, P, N>(caller, place, stopped)? {
@@ -236,7 +233,7 @@ fn validate<O: Origin, P: Pause, N: Rounds>(
     }
     Some(true)
 }` },
-    { name: "act", first: 105, steps: [{"line": 116, "rows": [9, 10, 11]}, {"line": 120, "rows": [12]}, {"line": 121, "rows": [13]}], calls: [], text: `
+    { name: "act", first: 102, steps: [{"line": 113, "rows": [9, 10, 11]}, {"line": 117, "rows": [12]}, {"line": 118, "rows": [13]}], calls: [], text: `
 /// Does what the call does at the key that was found, between two nodes that it has locked.
 fn act<O: Origin, P: Pause>(
     caller: &Caller<OptimisticList, O, P>,
@@ -259,7 +256,7 @@ fn act<O: Origin, P: Pause>(
         Decision::Answer(reply) => (caller.slots, reply),
     }
 }` },
-    { name: "make", first: 128, steps: [{"line": 147, "rows": [1], "begins": true, "answers": false}, {"line": 151, "rows": [4]}, {"line": 152, "rows": [5]}, {"line": 155, "rows": [14], "begins": false, "answers": true}, {"line": 156, "rows": [15], "begins": false, "answers": true}, {"line": 159, "rows": [14], "begins": false, "answers": false}, {"line": 160, "rows": [15], "begins": false, "answers": false}, {"line": 161, "rows": [1], "begins": false, "answers": false}], calls: [[149, "walk"], [153, "validate"], [154, "act"]], text: `
+    { name: "make", first: 125, steps: [{"line": 144, "rows": [1], "begins": true, "answers": false}, {"line": 148, "rows": [4]}, {"line": 149, "rows": [5]}, {"line": 152, "rows": [14], "begins": false, "answers": true}, {"line": 153, "rows": [15], "begins": false, "answers": true}, {"line": 156, "rows": [14], "begins": false, "answers": false}, {"line": 157, "rows": [15], "begins": false, "answers": false}, {"line": 158, "rows": [1], "begins": false, "answers": false}], calls: [[146, "walk"], [150, "validate"], [151, "act"]], text: `
 fn make<O: Origin, P: Pause, N: Rounds>(
     table: &Words<OptimisticList>,
     place: &mut TableSeat,
@@ -269,7 +266,7 @@ fn make<O: Origin, P: Pause, N: Rounds>(
 ) -> Option<(OwnSlots, Reply)>
     requires begins { MayBegin optimistic O.begun slots place.old }
     requires call { IsCall O.begun call table.now.table_id table.now.key }
-    ensures { MatchOption result (GivesUp optimistic O.begun N.MOST place.new) (λ r. HasAnswered optimistic O.begun r place.new) }
+    ensures { IfSome result (λ r. HasAnswered optimistic O.begun r place.new) }
 {
     let caller = Caller::<'_, OptimisticList, O, P> {
         table,
@@ -299,7 +296,7 @@ fn make<O: Origin, P: Pause, N: Rounds>(
 }` },
   ],
   "crates/lset_loops/src/lazy.rt": [
-    { name: "walk", first: 18, steps: [{"line": 33, "rows": [2]}, {"line": 37, "rows": [3]}], calls: [], text: `
+    { name: "walk", first: 18, steps: [{"line": 32, "rows": [2]}, {"line": 36, "rows": [3]}], calls: [], text: `
 /// Walks from the head, whose link led to \`first\`, to the first key that is not below that of the call.
 #[inline(always)]
 fn walk<O: Origin, P: Pause, N: Rounds>(
@@ -308,8 +305,7 @@ fn walk<O: Origin, P: Pause, N: Rounds>(
     first: Node,
 ) -> Option<Found>
     requires { AtKey O.begun caller.now.slots 0 first.number place.old }
-    ensures { MatchOption result (GivesUp lazy O.begun N.MOST place.new)
-        (λ f. StopsAt O.begun caller.now.slots f place.new × (steps_in place.old ≤ steps_in place.new)) }
+    ensures { IfSome result (λ f. StopsAt O.begun caller.now.slots f place.new) }
 {
     let key = caller.key;
     let mut pred = Node::head();
@@ -325,7 +321,7 @@ fn walk<O: Origin, P: Pause, N: Rounds>(
     }
     None
 }` },
-    { name: "validate", first: 44, steps: [{"line": 53, "rows": [6]}, {"line": 57, "rows": [7]}], calls: [], text: `
+    { name: "validate", first: 43, steps: [{"line": 52, "rows": [6]}, {"line": 56, "rows": [7]}], calls: [], text: `
 /// Whether \`pred\` leads to \`curr\`, and neither has a mark: then the answer is the node behind \`curr\`.
 fn validate<O: Origin, P: Pause>(
     caller: &Caller<LazyList, O, P>,
@@ -333,7 +329,7 @@ fn validate<O: Origin, P: Pause>(
     found: Found,
 ) -> Option<Node>
     requires { HasLocked O.begun caller.now.slots found place.old }
-    ensures { HasValidated O.begun caller.now.slots found result place.new × (steps_in place.old ≤ steps_in place.new) }
+    ensures { HasValidated O.begun caller.now.slots found result place.new }
 {
     let before = caller.load_link(place, found.pred); // row 6
     if before != 2 * found.curr.number {
@@ -345,7 +341,7 @@ fn validate<O: Origin, P: Pause>(
     }
     Some(Node::behind(after))
 }` },
-    { name: "act", first: 64, steps: [{"line": 76, "rows": [8, 9, 10]}, {"line": 80, "rows": [11]}, {"line": 81, "rows": [12]}], calls: [], text: `
+    { name: "act", first: 63, steps: [{"line": 75, "rows": [8, 9, 10]}, {"line": 79, "rows": [11]}, {"line": 80, "rows": [12]}], calls: [], text: `
 /// Does what the call does at the key that was found, between two nodes that it has locked.
 fn act<O: Origin, P: Pause>(
     caller: &Caller<LazyList, O, P>,
@@ -369,7 +365,7 @@ fn act<O: Origin, P: Pause>(
         Decision::Answer(reply) => (caller.slots, reply),
     }
 }` },
-    { name: "make", first: 88, steps: [{"line": 108, "rows": [1], "begins": true, "answers": false}, {"line": 111, "rows": [4]}, {"line": 112, "rows": [5]}, {"line": 116, "rows": [13], "begins": false, "answers": true}, {"line": 117, "rows": [14], "begins": false, "answers": true}, {"line": 121, "rows": [13], "begins": false, "answers": false}, {"line": 122, "rows": [14], "begins": false, "answers": false}, {"line": 123, "rows": [1], "begins": false, "answers": false}], calls: [[110, "walk"], [113, "validate"], [115, "act"]], text: `
+    { name: "make", first: 87, steps: [{"line": 107, "rows": [1], "begins": true, "answers": false}, {"line": 110, "rows": [4]}, {"line": 111, "rows": [5]}, {"line": 115, "rows": [13], "begins": false, "answers": true}, {"line": 116, "rows": [14], "begins": false, "answers": true}, {"line": 120, "rows": [13], "begins": false, "answers": false}, {"line": 121, "rows": [14], "begins": false, "answers": false}, {"line": 122, "rows": [1], "begins": false, "answers": false}], calls: [[109, "walk"], [112, "validate"], [114, "act"]], text: `
 fn make<O: Origin, P: Pause, N: Rounds>(
     table: &Words<LazyList>,
     place: &mut TableSeat,
@@ -380,7 +376,7 @@ fn make<O: Origin, P: Pause, N: Rounds>(
     requires begins { MayBegin lazy O.begun slots place.old }
     requires call { IsCall O.begun call table.now.table_id table.now.key }
     requires walks { first_row O.begun.call ≡ 1 }
-    ensures { MatchOption result (GivesUp lazy O.begun N.MOST place.new) (λ r. HasAnswered lazy O.begun r place.new) }
+    ensures { IfSome result (λ r. HasAnswered lazy O.begun r place.new) }
 {
     let caller = Caller::<'_, LazyList, O, P> {
         table,
@@ -452,7 +448,7 @@ fn make<M: ReadsByRows, O: Origin, P: Pause>(
 }` },
   ],
   "crates/lset_loops/src/lock_free.rt": [
-    { name: "find", first: 17, steps: [{"line": 32, "rows": [2]}, {"line": 35, "rows": [3]}, {"line": 41, "rows": [1], "begins": false, "answers": false}, {"line": 44, "rows": [4]}], calls: [], text: `
+    { name: "find", first: 17, steps: [{"line": 31, "rows": [2]}, {"line": 34, "rows": [3]}, {"line": 40, "rows": [1], "begins": false, "answers": false}, {"line": 43, "rows": [4]}], calls: [], text: `
 /// Walks from the head, whose link led to \`first\`, to the first key that is not below that of the call, and takes marked
 /// nodes out on its way (Herlihy and Shavit's \`find\`).
 fn find<O: Origin, P: Pause, N: Rounds>(
@@ -461,8 +457,7 @@ fn find<O: Origin, P: Pause, N: Rounds>(
     first: Node,
 ) -> Option<Found>
     requires { AtLink O.begun caller.now.slots 0 first.number place.old }
-    ensures { MatchOption result (GivesUp lock_free O.begun N.MOST place.new)
-        (λ f. StopsAt O.begun caller.now.slots f place.new × HasMade O.begun (steps_in place.old) place.new) }
+    ensures { IfSome result (λ f. StopsAt O.begun caller.now.slots f place.new) }
 {
     let key = caller.key;
     let mut pred = Node::head();
@@ -490,7 +485,7 @@ fn find<O: Origin, P: Pause, N: Rounds>(
     }
     None
 }` },
-    { name: "attempt", first: 55, steps: [{"line": 67, "rows": [5, 6]}, {"line": 68, "rows": [7]}, {"line": 75, "rows": [8]}, {"line": 76, "rows": [9]}, {"line": 80, "rows": [10]}], calls: [], text: `
+    { name: "attempt", first: 54, steps: [{"line": 66, "rows": [5, 6]}, {"line": 67, "rows": [7]}, {"line": 74, "rows": [8]}, {"line": 75, "rows": [9]}, {"line": 79, "rows": [10]}], calls: [], text: `
 /// Does what the call does at the key that was found. \`None\` where a link was another by then.
 fn attempt<O: Origin, P: Pause>(
     caller: &Caller<LockFreeList, O, P>,
@@ -498,7 +493,7 @@ fn attempt<O: Origin, P: Pause>(
     found: Found,
 ) -> Option<(OwnSlots, Reply)>
     requires { StopsAt O.begun caller.now.slots found place.old }
-    ensures { HasTried O.begun caller.now.slots result place.old place.new }
+    ensures { HasTried O.begun caller.now.slots result place.new }
 {
     match decide(caller.call, found.word, caller.slots) {
         Decision::PutIn => {
@@ -522,7 +517,7 @@ fn attempt<O: Origin, P: Pause>(
         Decision::Answer(reply) => Some((caller.slots, reply)),
     }
 }` },
-    { name: "make", first: 87, steps: [{"line": 107, "rows": [1], "begins": true, "answers": false}, {"line": 112, "rows": [1], "begins": false, "answers": false}], calls: [[109, "find"], [110, "attempt"]], text: `
+    { name: "make", first: 86, steps: [{"line": 106, "rows": [1], "begins": true, "answers": false}, {"line": 111, "rows": [1], "begins": false, "answers": false}], calls: [[108, "find"], [109, "attempt"]], text: `
 fn make<O: Origin, P: Pause, N: Rounds>(
     table: &Words<LockFreeList>,
     place: &mut TableSeat,
@@ -533,7 +528,7 @@ fn make<O: Origin, P: Pause, N: Rounds>(
     requires begins { MayBegin lock_free O.begun slots place.old }
     requires call { IsCall O.begun call table.now.table_id table.now.key }
     requires walks { first_row O.begun.call ≡ 1 }
-    ensures { MatchOption result (GivesUp lock_free O.begun N.MOST place.new) (λ r. HasAnswered lock_free O.begun r place.new) }
+    ensures { IfSome result (λ r. HasAnswered lock_free O.begun r place.new) }
 {
     let caller = Caller::<'_, LockFreeList, O, P> {
         table,

@@ -11,10 +11,10 @@ const FILE = path.join(__dirname, "drawn.txt");
 const WIDTH = 860;
 const [momentAt, scaleOf, Trace, State] = ["momentAt", "scaleOf", "Trace", "State"].map(inPage);
 const [drawList, drawCalls, drawContents, drawOrder] = ["drawList", "drawCalls", "drawContents", "drawOrder"].map(inPage);
-const [drawCode, drawTable, drawThreads, drawListing] = ["drawCode", "drawTable", "drawThreads", "drawListing"].map(inPage);
+const [drawCode, drawTable, drawThreads] = ["drawCode", "drawTable", "drawThreads"].map(inPage);
 const sentenceOf = inPage("sentenceOf");
 
-// Each drawing of a moment; what is to come is hidden.
+// Each drawing of a moment but the proved code, whose text is that of the crates; what is to come is hidden.
 const DRAWINGS = {
   list: ({ state, event }) => drawList(state, event, WIDTH),
   calls: ({ trace }, count) => drawCalls(trace, scaleOf(trace, count, WIDTH, true)),
@@ -23,7 +23,6 @@ const DRAWINGS = {
   code: (moment) => drawCode(moment),
   table: (moment) => drawTable(moment),
   threads: ({ state, event }) => drawThreads(state, event, false),
-  listing: (moment) => drawListing(moment),
   sentence: (moment) => sentenceOf(moment),
 };
 

@@ -4,12 +4,12 @@ ghost use Rattle.ffi_page.specs.Page.{OfWords};
 
 use crate::words::words_in;
 use std::alloc::Global;
-use tool_base::{Answer, Trouble, generated};
+use tool_base::{Answer, Trouble, generate_for};
 
 /// Returns the text of the schedule that `gen` prints for the arguments in these bytes.
-pub fn generated_by(alloc: Global, bytes: &[u8]) -> Result<Answer, Trouble>
+pub fn generate_by(alloc: Global, bytes: &[u8]) -> Result<Answer, Trouble>
     ensures { OfWords Generates bytes.now (view result) }
 {
     let values = words_in(alloc, bytes)?;
-    generated(alloc, &values)
+    generate_for(alloc, &values)
 }

@@ -12,24 +12,23 @@ mod host;
 mod showing;
 mod words;
 
-ghost use Rattle.tool_base.specs.Replaying.{Replays};
-ghost use Rattle.tool_base.specs.Checking.{Checks};
+ghost use Rattle.tool_base.specs.Replaying.{ReplaysText};
+ghost use Rattle.tool_base.specs.Checking.{ChecksText};
 ghost use Rattle.tool_base.specs.Faults.{TellsFaults};
 ghost use Rattle.tool_base.specs.Generating.{Generates};
+ghost use Rattle.tool_base.specs.Tools.{OnText};
 ghost use Rattle.tool_judge.specs.Judging.{Judges};
 ghost use Rattle.ffi_page.specs.Page.{Hands, OfText, OfWords};
 
-use generating::generated_by;
+use generating::generate_by;
 use handing::hand;
 use host::HostInput;
-use showing::{shown_broken_by, shown_by};
+use showing::{draw_broken, draw_text, example_by, replay_broken, trace_broken};
 use std::alloc::Global;
-use tool_base::{checked, faults_told, replayed};
-use tool_broken::{replayed_broken, traced_broken};
-use tool_draft::drafted;
-use tool_examples::{exampled, exampled_by};
+use tool_base::{Check, Replay, answer_text, list_faults};
+use tool_draft::Expand;
 use tool_judge::{judge_bytes, judge_input};
-use tool_trace::traced;
+use tool_trace::Trace;
 
 /// What `listset replay` prints of a schedule: its report; or the line about the first error of the text, the first event
 /// that is not enabled, or a text of more than 67,108,864 bytes.
@@ -40,9 +39,9 @@ pub extern "C" fn listset_replay(
     room: &mut [u8],
     status: &mut u8,
 ) -> usize
-    ensures { Hands (OfText Replays text.now) room.old room.new status.new result }
+    ensures { Hands (OnText ReplaysText text.now) room.old room.new status.new result }
 {
-    hand(alloc, replayed(alloc, text), room, status)
+    hand(answer_text(alloc, &Replay {}, text), room, status)
 }
 
 /// What `listset judge` prints of a recording: `ok N calls`, and lines about it, if some order explains them; `not linearizable`,
@@ -56,7 +55,7 @@ pub extern "C" fn listset_judge(
 ) -> usize
     ensures { Hands (OfText Judges text.now) room.old room.new status.new result }
 {
-    hand(alloc, judge_bytes(alloc, text), room, status)
+    hand(judge_bytes(alloc, text), room, status)
 }
 
 /// What `listset judge` prints of the recording, of any length, in the file with this number (a file descriptor, which is 0 for the
@@ -73,7 +72,7 @@ pub extern "C" fn listset_judge_from(
     ensures { Hands (λ _. Unit {0}) room.old room.new status.new result }
 {
     let mut input = HostInput { file };
-    hand(alloc, judge_input(alloc, &mut input), room, status)
+    hand(judge_input(alloc, &mut input), room, status)
 }
 
 /// What `listset check` prints of a report: `ok`, or the first fault of its order with status 1; or the line about the first
@@ -85,9 +84,9 @@ pub extern "C" fn listset_check(
     room: &mut [u8],
     status: &mut u8,
 ) -> usize
-    ensures { Hands (OfText Checks text.now) room.old room.new status.new result }
+    ensures { Hands (OnText ChecksText text.now) room.old room.new status.new result }
 {
-    hand(alloc, checked(alloc, text), room, status)
+    hand(answer_text(alloc, &Check {}, text), room, status)
 }
 
 /// What `listset trace` prints of a schedule: its trace, up to the first event that is not enabled, which has status 1; or
@@ -101,7 +100,12 @@ pub extern "C" fn listset_trace(
 ) -> usize
     ensures { Hands (λ _. Unit {0}) room.old room.new status.new result }
 {
-    hand(alloc, traced(alloc, text, false), room, status)
+    hand(
+        alloc,
+        answer_text(alloc, &Trace { chains: false }, text),
+        room,
+        status,
+    )
 }
 
 /// What `listset trace --chain` prints of a schedule: its trace, with the chain after each event that changed it, up to the
@@ -116,7 +120,12 @@ pub extern "C" fn listset_trace_with_chains(
 ) -> usize
     ensures { Hands (λ _. Unit {0}) room.old room.new status.new result }
 {
-    hand(alloc, traced(alloc, text, true), room, status)
+    hand(
+        alloc,
+        answer_text(alloc, &Trace { chains: true }, text),
+        room,
+        status,
+    )
 }
 
 /// What `listset show` prints of a schedule or a report: the picture, with status 1 if it says why the order of a report is
@@ -136,7 +145,7 @@ pub extern "C" fn listset_show(
 ) -> usize
     ensures { Hands (λ _. Unit {0}) room.old room.new status.new result }
 {
-    hand(alloc, shown_by(alloc, text, false, options), room, status)
+    hand(draw_text(alloc, text, false, options), room, status)
 }
 
 /// What `listset show --svg` prints of a schedule or a report: the picture of `listset_show` as an SVG, with its statuses,
@@ -151,7 +160,7 @@ pub extern "C" fn listset_show_svg(
 ) -> usize
     ensures { Hands (λ _. Unit {0}) room.old room.new status.new result }
 {
-    hand(alloc, shown_by(alloc, text, true, options), room, status)
+    hand(draw_text(alloc, text, true, options), room, status)
 }
 
 /// What `listset replay --lacks NAME` prints of a schedule, run on the broken list of this name: the report of its run;
@@ -167,7 +176,7 @@ pub extern "C" fn listset_replay_lacking(
 ) -> usize
     ensures { Hands (λ _. Unit {0}) room.old room.new status.new result }
 {
-    hand(alloc, replayed_broken(alloc, name, text), room, status)
+    hand(replay_broken(alloc, name, text), room, status)
 }
 
 /// What `listset trace --lacks NAME` prints of a schedule, run on the broken list of this name: its trace, up to the event
@@ -182,7 +191,7 @@ pub extern "C" fn listset_trace_lacking(
 ) -> usize
     ensures { Hands (λ _. Unit {0}) room.old room.new status.new result }
 {
-    hand(alloc, traced_broken(alloc, name, text, false), room, status)
+    hand(trace_broken(alloc, name, text, false), room, status)
 }
 
 /// What `listset trace --chain --lacks NAME` prints of a schedule, run on the broken list of this name: its trace, with the
@@ -198,7 +207,7 @@ pub extern "C" fn listset_trace_with_chains_lacking(
 ) -> usize
     ensures { Hands (λ _. Unit {0}) room.old room.new status.new result }
 {
-    hand(alloc, traced_broken(alloc, name, text, true), room, status)
+    hand(trace_broken(alloc, name, text, true), room, status)
 }
 
 /// What `listset show --lacks NAME` prints of a schedule, run on the broken list of this name: the picture of the report of
@@ -215,12 +224,7 @@ pub extern "C" fn listset_show_lacking(
 ) -> usize
     ensures { Hands (λ _. Unit {0}) room.old room.new status.new result }
 {
-    hand(
-        alloc,
-        shown_broken_by(alloc, name, text, false, options),
-        room,
-        status,
-    )
+    hand(draw_broken(alloc, name, text, false, options), room, status)
 }
 
 /// What `listset show --svg --lacks NAME` prints of a schedule, run on the broken list of this name: the picture of
@@ -236,12 +240,7 @@ pub extern "C" fn listset_show_svg_lacking(
 ) -> usize
     ensures { Hands (λ _. Unit {0}) room.old room.new status.new result }
 {
-    hand(
-        alloc,
-        shown_broken_by(alloc, name, text, true, options),
-        room,
-        status,
-    )
+    hand(draw_broken(alloc, name, text, true, options), room, status)
 }
 
 /// What `listset draft` prints of a draft: the schedule; or the line about the first error of the text, the first line that
@@ -255,7 +254,7 @@ pub extern "C" fn listset_draft(
 ) -> usize
     ensures { Hands (λ _. Unit {0}) room.old room.new status.new result }
 {
-    hand(alloc, drafted(alloc, text), room, status)
+    hand(answer_text(alloc, &Expand {}, text), room, status)
 }
 
 /// What `listset gen` prints for its arguments, which come with a zero byte between two: the schedule; or
@@ -269,7 +268,7 @@ pub extern "C" fn listset_gen(
 ) -> usize
     ensures { Hands (OfWords Generates values.now) room.old room.new status.new result }
 {
-    hand(alloc, generated_by(alloc, values), room, status)
+    hand(generate_by(alloc, values), room, status)
 }
 
 /// What `listset faults` prints: each error message, and each cause in a sentence.
@@ -277,7 +276,7 @@ pub extern "C" fn listset_gen(
 pub extern "C" fn listset_faults(alloc: Global, room: &mut [u8], status: &mut u8) -> usize
     ensures { Hands TellsFaults room.old room.new status.new result }
 {
-    hand(alloc, faults_told(alloc), room, status)
+    hand(list_faults(alloc), room, status)
 }
 
 /// What `listset example` prints without a name: the names of the examples, each with its list and the line about it.
@@ -285,7 +284,7 @@ pub extern "C" fn listset_faults(alloc: Global, room: &mut [u8], status: &mut u8
 pub extern "C" fn listset_examples(alloc: Global, room: &mut [u8], status: &mut u8) -> usize
     ensures { Hands (λ _. Unit {0}) room.old room.new status.new result }
 {
-    hand(alloc, exampled(alloc, false, None), room, status)
+    hand(example_by(alloc, None, false), room, status)
 }
 
 /// What `listset example NAME` prints: the schedule of the example with this name, or `listset: bad NAME` with status 2.
@@ -298,7 +297,7 @@ pub extern "C" fn listset_example(
 ) -> usize
     ensures { Hands (λ _. Unit {0}) room.old room.new status.new result }
 {
-    hand(alloc, exampled_by(alloc, false, name), room, status)
+    hand(example_by(alloc, Some(name), false), room, status)
 }
 
 /// What `listset example --broken NAME` prints: the report that a list without the check that the example with this name
@@ -312,5 +311,5 @@ pub extern "C" fn listset_broken_example(
 ) -> usize
     ensures { Hands (λ _. Unit {0}) room.old room.new status.new result }
 {
-    hand(alloc, exampled_by(alloc, true, name), room, status)
+    hand(example_by(alloc, Some(name), true), room, status)
 }

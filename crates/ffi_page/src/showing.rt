@@ -1,38 +1,63 @@
 use crate::words::{option_at, words_in};
+use broken_lists::{BrokenList, named};
 use std::alloc::Global;
-use tool_base::{Answer, Trouble};
-use tool_broken::shown_broken;
-use tool_drawing::Window;
-use tool_show::{Form, read_asked, shown};
+use tool_base::{Answer, Trouble, ValueName, answer_text};
+use tool_broken::{ReplayBroken, ShowBroken, TraceBroken};
+use tool_examples::{print_example, read_example_request};
+use tool_show::{Show, read_show};
 
-/// The form and the window of the options. The errors are `Bad` if an option is wrong, and `Memory`.
-fn asked_by(alloc: Global, svg: bool, options: &[u8]) -> Result<(Form, Window), Trouble> {
+/// What the options ask for. The errors are `Bad` if one is wrong, and `Memory`.
+fn show_by(alloc: Global, svg: bool, options: &[u8]) -> Result<Show, Trouble> {
     let words = words_in(alloc, options)?;
     let from = option_at(&words, 0);
     let to = option_at(&words, 1);
     let width = option_at(&words, 2);
-    match read_asked(svg, from, to, width) {
-        Ok(asked) => Ok(asked),
-        Err(wrong) => Err(Trouble::Bad(wrong)),
-    }
+    Ok(read_show(svg, from, to, width)?)
 }
 
-/// Draws a schedule or a report, given as the bytes of the text, as text or as an SVG (`svg`), in the moments and the width of
-/// the options. The errors are those of `shown`, and `Bad` if an option is wrong.
-pub fn shown_by(alloc: Global, bytes: &[u8], svg: bool, options: &[u8]) -> Result<Answer, Trouble> {
-    let (form, window) = asked_by(alloc, svg, options)?;
-    shown(alloc, bytes, form, window)
+fn broken_of(name: &[u8]) -> Result<BrokenList, Trouble> {
+    named(name).ok_or(Trouble::Bad(ValueName::Lacks))
 }
 
-/// Draws the report of the run of a schedule, given as the bytes of its text, on the broken list of this name. The errors
-/// are those of `shown_broken`, and `Bad` if an option is wrong.
-pub fn shown_broken_by(
+/// Draws a schedule or a report, as text or as an SVG (`svg`), in the moments and the width of the options. The errors are
+/// those of `Show`, and `Bad` if an option is wrong.
+pub fn draw_text(alloc: Global, text: &[u8], svg: bool, options: &[u8]) -> Result<Answer, Trouble> {
+    let show = show_by(alloc, svg, options)?;
+    answer_text(alloc, &show, text)
+}
+
+/// Draws the report of the run of a schedule on the broken list of this name.
+pub fn draw_broken(
     alloc: Global,
     name: &[u8],
-    bytes: &[u8],
+    text: &[u8],
     svg: bool,
     options: &[u8],
 ) -> Result<Answer, Trouble> {
-    let (form, window) = asked_by(alloc, svg, options)?;
-    shown_broken(alloc, name, bytes, form, window)
+    let show = show_by(alloc, svg, options)?;
+    let broken = broken_of(name)?;
+    answer_text(alloc, &ShowBroken { broken, show }, text)
+}
+
+/// Replays a schedule on the broken list of this name.
+pub fn replay_broken(alloc: Global, name: &[u8], text: &[u8]) -> Result<Answer, Trouble> {
+    let broken = broken_of(name)?;
+    answer_text(alloc, &ReplayBroken { broken }, text)
+}
+
+/// Traces a schedule on the broken list of this name.
+pub fn trace_broken(
+    alloc: Global,
+    name: &[u8],
+    text: &[u8],
+    chains: bool,
+) -> Result<Answer, Trouble> {
+    let broken = broken_of(name)?;
+    answer_text(alloc, &TraceBroken { broken, chains }, text)
+}
+
+/// Prints what `example` prints.
+pub fn example_by(alloc: Global, name: Option<&[u8]>, broken: bool) -> Result<Answer, Trouble> {
+    let request = read_example_request(name, broken)?;
+    print_example(alloc, request)
 }

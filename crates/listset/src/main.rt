@@ -28,12 +28,12 @@ fn texts(alloc: Global, given: &[String]) -> Result<Vec<&str>, AllocError> {
 
 /// Ends the program if the system did not give its arguments, for which only a failed allocation is the cause.
 fn end_without_words(rt: &HostRuntime) -> ExitCode {
-    let (output, faults) = (&mut io::writer(rt), &mut rt.stderr());
-    ExitCode::from(deliver(rt.alloc(), Err(Trouble::Memory), output, faults))
+    let (output, stderr) = (&mut io::writer(rt), &mut rt.stderr());
+    ExitCode::from(deliver(Err(Trouble::Memory), output, stderr))
 }
 
 /// Prints what `--version` prints, and below it where the program comes from. Returns the exit status.
-fn tell_origin<W: Write, F: Write>(alloc: Global, output: &mut W, faults: &mut F) -> u8 {
+fn tell_origin<W: Write, E: Write>(output: &mut W, stderr: &mut E) -> u8 {
     let is_whole = put(output, b"listset ")
         && put(output, VERSION.as_bytes())
         && put(output, b"\n")
@@ -41,7 +41,7 @@ fn tell_origin<W: Write, F: Write>(alloc: Global, output: &mut W, faults: &mut F
     if is_whole {
         0
     } else {
-        deliver(alloc, Err(Trouble::CannotWrite), output, faults)
+        deliver(Err(Trouble::CannotWrite), output, stderr)
     }
 }
 
@@ -57,9 +57,9 @@ fn main(rt: HostRuntime) -> ExitCode {
     let Ok(words) = texts(rt.alloc(), &given) else {
         return end_without_words(&rt);
     };
-    let (input, output, faults) = (&mut rt.reader(), &mut io::writer(&rt), &mut rt.stderr());
+    let (input, output, stderr) = (&mut rt.reader(), &mut io::writer(&rt), &mut rt.stderr());
     if asks_for_origin(&words) {
-        return ExitCode::from(tell_origin(rt.alloc(), output, faults));
+        return ExitCode::from(tell_origin(output, stderr));
     }
-    ExitCode::from(run_words(&rt, rt.alloc(), &words, input, output, faults))
+    ExitCode::from(run_words(&rt, rt.alloc(), &words, input, output, stderr))
 }

@@ -1,11 +1,10 @@
 -- The words that the program takes: its commands and their values, as a simple command of clap, whose
 -- definitions say which values the words give.
-use Rattle.std.specs.Prelude.{◌≡◌, Result, IfOk, List, [], map, codes, Bool, true, false, ◌||◌, Option, Some, None, option_map, unwrap_or, slice_get}
+use Rattle.std.specs.Prelude.{◌≡◌, Result, IfOk, List, [], map, codes, Bool, true, false, ◌||◌, Option, Some, None, option_map, unwrap_or}
 use Rattle.std.specs.Prelude.{string_bytes, if◌then◌else◌, option_and_then}
 use Rattle.std.specs.List.{flat_map}
 use Rattle.std.specs.Option.{option_map_or}
 use Rattle.std.specs.Str.{bytes_eq}
-use Rattle.clap.specs.Lexer.{usize_max}
 use Rattle.clap.specs.Words.{App, Row, Rule, Text, all_of, app_of, first_of, new_app, new_rule, rule_of, with_rule, with_subcommand}
 use Rattle.clap.specs.Simple.{on_top}
 use Rattle.clap.specs.declared.builder.action.ArgAction.TheVariants.{SetTrue}
@@ -53,11 +52,7 @@ trace_app = with_rule (with_rule (file_app (codes "trace")) (flag_rule (codes "c
 abbrev pub example_app : App
 example_app = with_rule (with_rule (new_app (codes "example")) (new_rule (codes "NAME"))) (flag_rule (codes "broken"))
 
--- any number of further arguments, past the last that is looked at
-abbrev pub rule_past_the_last : Rule
-rule_past_the_last = record (new_rule (codes "MORE")) { range = Some (record { start_inclusive = 0; end_inclusive = usize_max }) }
-
--- the values that `gen` and `run` share: KIND THREADS QUOTA CALLS KEYS SEED
+-- `gen KIND THREADS QUOTA CALLS KEYS SEED`, and the first values of `run`
 abbrev pub six_values : Text → App
 six_values name =
     with_rule (with_rule (with_rule (with_rule (with_rule (with_rule (new_app name)
@@ -68,25 +63,20 @@ six_values name =
     (new_rule (codes "KEYS")))
     (new_rule (codes "SEED"))
 
--- `gen KIND THREADS QUOTA CALLS KEYS SEED`
-abbrev pub gen_app : App
-gen_app = with_rule (six_values (codes "gen")) rule_past_the_last
-
 -- `run KIND THREADS QUOTA CALLS KEYS SEED [LIVES]`
 abbrev pub run_app : App
-run_app = with_rule (with_rule (six_values (codes "run")) (new_rule (codes "LIVES"))) rule_past_the_last
+run_app = with_rule (six_values (codes "run")) (new_rule (codes "LIVES"))
 
 -- `serve KIND SEATS QUOTA PORT SESSIONS [FILE]`
 abbrev pub serve_app : App
 serve_app =
-    with_rule (with_rule (with_rule (with_rule (with_rule (with_rule (with_rule (new_app (codes "serve"))
+    with_rule (with_rule (with_rule (with_rule (with_rule (with_rule (new_app (codes "serve"))
     (new_rule (codes "KIND")))
     (new_rule (codes "SEATS")))
     (new_rule (codes "QUOTA")))
     (new_rule (codes "PORT")))
     (new_rule (codes "SESSIONS")))
-    (new_rule (codes "FILE")))
-    rule_past_the_last
+    (new_rule (codes "FILE"))
 
 -- the program, which has a version; the words begin after its name
 abbrev pub listset : App
@@ -102,7 +92,7 @@ listset =
     trace_app.top)
     (file_app (codes "draft")).top)
     example_app.top)
-    gen_app.top)
+    (six_values (codes "gen")).top)
     run_app.top)
     serve_app.top)
     (new_app (codes "faults")).top
@@ -150,8 +140,9 @@ values_in rows = flat_map (λ row. values_by row.id rows) rows
 abbrev pub is_on : Text → List Row → Bool
 is_on name rows = option_map_or (λ text. bytes_eq text (codes "true")) (first_of name rows) false
 
--- the flags that are on, and the values of the options, if they are given
+-- the flags that are on, and the values of FILE and of the options, if they are given
 pub record OptionValues : Type 0 where
+  pub file : Option Text
   pub svg : Bool
   pub from : Option Text
   pub to : Option Text
@@ -162,6 +153,7 @@ pub record OptionValues : Type 0 where
 
 abbrev pub options_in : List Row → OptionValues
 options_in rows = record {
+  file = first_of (codes "FILE") rows;
   svg = is_on (codes "svg") rows;
   from = first_of (codes "from") rows;
   to = first_of (codes "to") rows;
@@ -201,6 +193,7 @@ choice_of (Some found) = record { command = command_named found.0; values = valu
 
 abbrev pub options_of : Options → OptionValues
 options_of o = record {
+  file = option_map string_bytes o.file;
   svg = o.svg;
   from = option_map string_bytes o.from;
   to = option_map string_bytes o.to;
@@ -213,24 +206,9 @@ options_of o = record {
 abbrev pub choice_in : Words → Choice
 choice_in w = record { command = w.command; values = map string_bytes w.values.items; options = options_of w.options }
 
-abbrev pub first_value : Choice → Option Text
-first_value choice = slice_get choice.values 0
-
--- the word for what a command reads: its first value, or the sixth of `serve`, if it has one; the other commands read nothing
-abbrev pub file_by : Command → List Text → Option Text
-file_by Example values = None
-file_by Gen values = None
-file_by Run values = None
-file_by Serve values = slice_get values 5
-file_by Faults values = None
-file_by command values = slice_get values 0
-
-abbrev pub file_of : Choice → Option Text
-file_of choice = file_by choice.command choice.values
-
--- the path of the file of such a word; `-` is the word for the standard input, and no path
+-- the path of the file that a word names; `-` is the word for the standard input, and no path
 abbrev pub path_in : Text → Option Text
 path_in word = if bytes_eq word (codes "-") then None else Some word
 
 abbrev pub path_of : Choice → Option Text
-path_of choice = option_and_then path_in (file_of choice)
+path_of choice = option_and_then path_in choice.options.file

@@ -2,9 +2,9 @@ ghost use Rattle.std.specs.Prelude.{◌≡◌, ◌++◌, ◌↔◌, [], IfOk, Is
 ghost use Rattle.clap.specs.Words.{FailsBy, app_of, fault_of, found_of, kind_of, new_app, new_rule, rows_of, rule_of, subcommand_of};
 ghost use Rattle.clap.specs.Walk.{first_of, texts};
 ghost use Rattle.clap.specs.declared.error.kind.ErrorKind.TheVariants.{OutOfMemory};
-ghost use Rattle.lset_command.specs.CommandLine.{choice_in, choice_of, command_named, file_app, file_of, first_value, path_of, six_values, serve_app};
-ghost use Rattle.lset_command.specs.CommandLine.{example_app, flag_rule, gen_app, option_rule, run_app, show_app, trace_app};
-ghost use Rattle.lset_command.specs.CommandLine.{IsApp, Makes, MakesWithArg, MakesWithSubcommand, MakesWithValue, is_on, is_option, listset, replay_app, options_in, options_of, rule_past_the_last, values_by, values_in};
+ghost use Rattle.lset_command.specs.CommandLine.{choice_in, choice_of, command_named, file_app, path_of, six_values, serve_app};
+ghost use Rattle.lset_command.specs.CommandLine.{example_app, flag_rule, option_rule, run_app, show_app, trace_app};
+ghost use Rattle.lset_command.specs.CommandLine.{IsApp, Makes, MakesWithArg, MakesWithSubcommand, MakesWithValue, is_on, is_option, listset, replay_app, options_in, options_of, values_by, values_in};
 
 use clap::error::ErrorKind;
 use clap::{Arg, ArgAction, ArgMatches, Error};
@@ -14,10 +14,51 @@ use std::alloc::{AllocError, Global};
 /// proved with.
 pub const VERSION: &str = "0.1.0\nRattle kit 13, logic dac8208d650f15bf";
 
-const KIND_HELP: &str = "List: coarse, fine, optimistic, lazy or lock-free";
+// Helps on arguments and options.
+const KIND: &str = "List: coarse, fine, optimistic, lazy or lock-free";
 
-// The index of FILE among the arguments of `serve`, from 0.
-const SERVE_FILE: usize = 5;
+const QUOTA_OF_THREAD: &str = "Successful adds allowed per thread: 0 to 16384";
+
+const KEYS: &str = "Number of keys, counted from 0, to draw from: 1 to 4294967295";
+
+const SEED: &str = "Seed of the random draws: 0 to 18446744073709551615";
+
+const SEATS: &str = "Number of clients that are served at once: 1 to 64";
+
+const QUOTA_OF_SEAT: &str = "Successful adds allowed per seat: 0 to 16384";
+
+const PORT: &str = "Port to listen on: 0 to 65535; with 0 the system chooses";
+
+const SESSIONS: &str = "Number of client connections to serve before the end: 0 to 10000";
+
+const KEYS_FILE: &str =
+    "File of the keys with which the set opens, as a server prints them; standard input if -, no keys if missing";
+
+const FROM_OPTION: &str =
+    "First moment to draw: 1 to the last one at which a call begins, takes effect or ends [default: 1]";
+
+const TO_OPTION: &str = "Last moment to draw: the first or a later one [default: 4294967295]";
+
+const WIDTH_OPTION: &str =
+    "Maximum width of the text in characters: 1 to 4294967295 [default: 100]";
+
+const CHAIN_FLAG: &str = "Print the chain after each step that changed it";
+
+const LIVES: &str =
+    "Number of rounds, each on a set that opens with the keys of the round before: 1 to 100 [default: 1]";
+
+const NAME: &str = "Name of the schedule; without it the list of names is printed";
+
+const BROKEN_FLAG: &str = "Print the report that a broken list would give, if the example has one";
+
+/// Helps that are made elsewhere.
+#[derive(Clone, Copy)]
+pub struct Helps<'a> {
+    /// The help on the command `faults`.
+    pub faults: &'a str,
+    /// The help on the option `--lacks`, with the names that it takes.
+    pub lacks: &'a str,
+}
 
 /// A command of the program.
 #[derive(Clone, Copy)]
@@ -50,6 +91,9 @@ pub enum Command {
 /// `None`.
 #[derive(Drop)]
 pub struct Options {
+    /// The argument FILE, which is among the values too. Without it `serve` reads nothing, and the other commands that have
+    /// it read standard input.
+    pub file: Option<String>,
     /// `show` draws an SVG.
     pub svg: bool,
     /// The first moment that `show` draws.
@@ -75,37 +119,12 @@ pub struct Words {
 }
 
 impl Words {
-    /// Returns the first of the arguments, if there is one.
-    pub fn first_value(&self) -> Option<&str>
-        ensures { option_map (λ value. value.now) result ≡ first_value (choice_in self.now) }
-    {
-        Some(self.values.first()?.as_str())
-    }
-
-    /// Returns the argument FILE of the command, if it was given: the first argument of `replay`, `judge`, `check`,
-    /// `show`, `trace` and `draft`, which read standard input without it, and the sixth of `serve`, which reads nothing
-    /// without it. The other commands read nothing, and have none.
-    pub fn file(&self) -> Option<&str>
-        ensures { option_map (λ path. path.now) result ≡ file_of (choice_in self.now) }
-    {
-        match self.command {
-            Command::Replay
-            | Command::Judge
-            | Command::Check
-            | Command::Show
-            | Command::Trace
-            | Command::Draft => self.first_value(),
-            Command::Serve => Some(self.values.get(SERVE_FILE)?.as_str()),
-            Command::Example | Command::Gen | Command::Run | Command::Faults => None,
-        }
-    }
-
     /// Returns the path of the file that the command reads, if it reads one. The argument `-` means standard input; a file
     /// of that name has the path `./-`.
     pub fn path(&self) -> Option<&str>
         ensures { option_map (λ path. path.now) result ≡ path_of (choice_in self.now) }
     {
-        let word = self.file()?;
+        let word = self.options.file.as_ref()?.as_str();
         if word == "-" { None } else { Some(word) }
     }
 }
@@ -140,24 +159,11 @@ fn value_option<'a>(alloc: Global, name: &'a str, value_name: &'a str, help: &'a
 }
 
 // The option that names a broken list.
-fn lacks_option<'a>(alloc: Global) -> Arg<'a>
+fn lacks_option<'a>(alloc: Global, help: &'a str) -> Arg<'a>
     ensures rule { rule_of result ≡ option_rule (codes "lacks") }
     ensures local { result.global ≡ false }
 {
-    value_option(
-        alloc,
-        "lacks",
-        "NAME",
-        "Run a broken list, with one check removed: lock (coarse), second-lock, hand-over-hand (fine), second-walk, same-node (optimistic), marks-in-validation, mark-in-contains, mark-in-ceiling (lazy), mark, mark-in-add, mark-in-remove, mark-at-key, new-slot (lock-free)",
-    )
-}
-
-// Any number of values past the last, of which help says nothing.
-fn values_past_the_last<'a>(alloc: Global) -> Arg<'a>
-    ensures rule { rule_of result ≡ rule_past_the_last }
-    ensures local { result.global ≡ false }
-{
-    Arg::new(alloc, "MORE").num_args(..).hide(true)
+    value_option(alloc, "lacks", "NAME", help)
 }
 
 // The command with one more argument, if it was made. Those who add by this and the next have no `?`, on whose way out
@@ -208,7 +214,7 @@ fn file_command<'a>(
         .arg(value(alloc, "FILE", file_help))
 }
 
-fn show_command<'a>(alloc: Global) -> Result<clap::Command<'a>, AllocError>
+fn show_command<'a>(alloc: Global, lacks_help: &'a str) -> Result<clap::Command<'a>, AllocError>
     ensures { Makes result show_app }
 {
     let command = file_command(
@@ -219,37 +225,13 @@ fn show_command<'a>(alloc: Global) -> Result<clap::Command<'a>, AllocError>
         "If an event of the schedule is not enabled, the picture ends before it, the last line names it, and the exit status is 1. With --lacks only that line is printed.\n\nExample: listset example read-in-anothers-step | listset show --from 9 --to 38",
     );
     let command = and_arg(command, flag(alloc, "svg", "Draw an SVG instead of text"));
-    let command = and_arg(
-        command,
-        value_option(
-            alloc,
-            "from",
-            "M",
-            "First moment to draw: 1 to the last one at which a call begins, takes effect or ends [default: 1]",
-        ),
-    );
-    let command = and_arg(
-        command,
-        value_option(
-            alloc,
-            "to",
-            "M",
-            "Last moment to draw: the first or a later one [default: 4294967295]",
-        ),
-    );
-    let command = and_arg(
-        command,
-        value_option(
-            alloc,
-            "width",
-            "N",
-            "Maximum width of the text in characters: 1 to 4294967295 [default: 100]",
-        ),
-    );
-    and_arg(command, lacks_option(alloc))
+    let command = and_arg(command, value_option(alloc, "from", "M", FROM_OPTION));
+    let command = and_arg(command, value_option(alloc, "to", "M", TO_OPTION));
+    let command = and_arg(command, value_option(alloc, "width", "N", WIDTH_OPTION));
+    and_arg(command, lacks_option(alloc, lacks_help))
 }
 
-fn trace_command<'a>(alloc: Global) -> Result<clap::Command<'a>, AllocError>
+fn trace_command<'a>(alloc: Global, lacks_help: &'a str) -> Result<clap::Command<'a>, AllocError>
     ensures { Makes result trace_app }
 {
     let command = file_command(
@@ -259,15 +241,8 @@ fn trace_command<'a>(alloc: Global) -> Result<clap::Command<'a>, AllocError>
         "Schedule file; standard input if - or missing",
         "Example: listset example two-removers | listset trace --chain",
     );
-    let command = and_arg(
-        command,
-        flag(
-            alloc,
-            "chain",
-            "Print the chain after each step that changed it",
-        ),
-    );
-    and_arg(command, lacks_option(alloc))
+    let command = and_arg(command, flag(alloc, "chain", CHAIN_FLAG));
+    and_arg(command, lacks_option(alloc, lacks_help))
 }
 
 fn draft_command<'a>(alloc: Global) -> Result<clap::Command<'a>, AllocError>
@@ -288,16 +263,8 @@ fn example_command<'a>(alloc: Global) -> Result<clap::Command<'a>, AllocError>
     clap::Command::new(alloc, "example")
         .about("Print a classic schedule, or the list of their names")
         .after_help("Example: listset example snip | listset show")
-        .arg(value(
-            alloc,
-            "NAME",
-            "Name of the schedule; without it the list of names is printed",
-        ))?
-        .arg(flag(
-            alloc,
-            "broken",
-            "Print the report that a broken list would give, if the example has one",
-        ))
+        .arg(value(alloc, "NAME", NAME))?
+        .arg(flag(alloc, "broken", BROKEN_FLAG))
 }
 
 // The usage is written out, since `clap` would set each value in brackets: it lets values be missing, and the
@@ -316,27 +283,12 @@ fn random_command<'a>(
         .about(about)
         .override_usage(usage)
         .after_help(example);
-    let command = and_value(alloc, Ok(command), "KIND", KIND_HELP);
+    let command = and_value(alloc, Ok(command), "KIND", KIND);
     let command = and_value(alloc, command, "THREADS", "Number of threads: 1 to 64");
-    let command = and_value(
-        alloc,
-        command,
-        "QUOTA",
-        "Successful adds allowed per thread: 0 to 16384",
-    );
+    let command = and_value(alloc, command, "QUOTA", QUOTA_OF_THREAD);
     let command = and_value(alloc, command, "CALLS", calls_help);
-    let command = and_value(
-        alloc,
-        command,
-        "KEYS",
-        "Number of keys, counted from 0, to draw from: 1 to 4294967295",
-    );
-    and_value(
-        alloc,
-        command,
-        "SEED",
-        "Seed of the random draws: 0 to 18446744073709551615",
-    )
+    let command = and_value(alloc, command, "KEYS", KEYS);
+    and_value(alloc, command, "SEED", SEED)
 }
 
 fn serve_command<'a>(alloc: Global) -> Result<clap::Command<'a>, AllocError>
@@ -346,42 +298,16 @@ fn serve_command<'a>(alloc: Global) -> Result<clap::Command<'a>, AllocError>
         .about("Serve one set to clients on 127.0.0.1, and print the remaining keys at the end")
         .override_usage("listset serve KIND SEATS QUOTA PORT SESSIONS [FILE]")
         .after_help("Example: listset serve lazy 2 16 4000 1");
-    let command = and_value(alloc, Ok(command), "KIND", KIND_HELP);
-    let command = and_value(
-        alloc,
-        command,
-        "SEATS",
-        "Number of clients that are served at once: 1 to 64",
-    );
-    let command = and_value(
-        alloc,
-        command,
-        "QUOTA",
-        "Successful adds allowed per seat: 0 to 16384",
-    );
-    let command = and_value(
-        alloc,
-        command,
-        "PORT",
-        "Port to listen on: 0 to 65535; with 0 the system chooses",
-    );
-    let command = and_value(
-        alloc,
-        command,
-        "SESSIONS",
-        "Number of client connections to serve before the end: 0 to 10000",
-    );
-    let command = and_value(
-        alloc,
-        command,
-        "FILE",
-        "File of the keys with which the set opens, as a server prints them; standard input if -, no keys if missing",
-    );
-    and_arg(command, values_past_the_last(alloc))
+    let command = and_value(alloc, Ok(command), "KIND", KIND);
+    let command = and_value(alloc, command, "SEATS", SEATS);
+    let command = and_value(alloc, command, "QUOTA", QUOTA_OF_SEAT);
+    let command = and_value(alloc, command, "PORT", PORT);
+    let command = and_value(alloc, command, "SESSIONS", SESSIONS);
+    and_value(alloc, command, "FILE", KEYS_FILE)
 }
 
 fn gen_command<'a>(alloc: Global) -> Result<clap::Command<'a>, AllocError>
-    ensures { Makes result gen_app }
+    ensures { Makes result (six_values (codes "gen")) }
 {
     random_command(
         alloc,
@@ -390,8 +316,7 @@ fn gen_command<'a>(alloc: Global) -> Result<clap::Command<'a>, AllocError>
         "listset gen KIND THREADS QUOTA CALLS KEYS SEED",
         "Example: listset gen optimistic 3 4 9 5 1 | listset replay",
         "Calls in all threads together, if 10000 events suffice: 0 to 10000",
-    )?
-    .arg(values_past_the_last(alloc))
+    )
 }
 
 fn run_command<'a>(alloc: Global) -> Result<clap::Command<'a>, AllocError>
@@ -405,15 +330,10 @@ fn run_command<'a>(alloc: Global) -> Result<clap::Command<'a>, AllocError>
         "Example: listset run lock-free 4 1000 10000 64 1",
         "Calls in each thread: 0 to 10000",
     )?
-    .arg(value(
-        alloc,
-        "LIVES",
-        "Number of rounds, each on a set that opens with the keys of the round before: 1 to 100 [default: 1]",
-    ))?
-    .arg(values_past_the_last(alloc))
+    .arg(value(alloc, "LIVES", LIVES))
 }
 
-fn replay_command<'a>(alloc: Global) -> Result<clap::Command<'a>, AllocError>
+fn replay_command<'a>(alloc: Global, lacks_help: &'a str) -> Result<clap::Command<'a>, AllocError>
     ensures { Makes result replay_app }
 {
     let command = file_command(
@@ -423,7 +343,7 @@ fn replay_command<'a>(alloc: Global) -> Result<clap::Command<'a>, AllocError>
         "Schedule file; standard input if - or missing",
         "Example: listset example full | listset replay",
     );
-    and_arg(command, lacks_option(alloc))
+    and_arg(command, lacks_option(alloc, lacks_help))
 }
 
 fn judge_command<'a>(alloc: Global) -> Result<clap::Command<'a>, AllocError>
@@ -459,25 +379,28 @@ fn faults_command<'a>(alloc: Global, help: &'a str) -> clap::Command<'a>
         .override_help(help)
 }
 
-fn program_command<'a>(alloc: Global, faults_help: &'a str) -> Result<clap::Command<'a>, AllocError>
+fn program_command<'a>(alloc: Global, helps: Helps<'a>) -> Result<clap::Command<'a>, AllocError>
     ensures { IfOk result (λ c. app_of c ≡ listset) }
 {
     let program = clap::Command::new(alloc, "listset")
         .about("Replay, judge, draw, run and serve concurrent list sets")
+        .after_help(
+            "listset --version --long also prints the commit, and whether the program is proved.",
+        )
         .version(VERSION)
         .no_binary_name(true)
         .bin_name("listset");
-    let program = and_subcommand(program, replay_command(alloc));
+    let program = and_subcommand(program, replay_command(alloc, helps.lacks));
     let program = and_subcommand(program, judge_command(alloc));
     let program = and_subcommand(program, check_command(alloc));
-    let program = and_subcommand(program, show_command(alloc));
-    let program = and_subcommand(program, trace_command(alloc));
+    let program = and_subcommand(program, show_command(alloc, helps.lacks));
+    let program = and_subcommand(program, trace_command(alloc, helps.lacks));
     let program = and_subcommand(program, draft_command(alloc));
     let program = and_subcommand(program, example_command(alloc));
     let program = and_subcommand(program, gen_command(alloc));
     let program = and_subcommand(program, run_command(alloc));
     let program = and_subcommand(program, serve_command(alloc));
-    and_subcommand(program, Ok(faults_command(alloc, faults_help)))
+    and_subcommand(program, Ok(faults_command(alloc, helps.faults)))
 }
 
 // Whether the name is that of a flag or of an option.
@@ -553,6 +476,7 @@ fn options_of(alloc: Global, found: &ArgMatches<'_>) -> Result<Options, AllocErr
     ensures { IfOk result (λ o. options_of o ≡ options_in (rows_of (found_of found.now))) }
 {
     Ok(Options {
+        file: option_text(alloc, found, "FILE")?,
         svg: is_on(found, "svg"),
         from: option_text(alloc, found, "from")?,
         to: option_text(alloc, found, "to")?,
@@ -568,6 +492,7 @@ fn no_options() -> Options
     ensures { options_of result ≡ options_in [] }
 {
     Options {
+        file: None,
         svg: false,
         from: None,
         to: None,
@@ -601,8 +526,8 @@ fn command_named(name: &str) -> Command
 /// Reads the command line, without the program's name, by `clap`.
 ///
 /// It takes what the help shows; nothing at all means `replay` without arguments. Arguments and options are returned as they
-/// were given, and are not judged here: some or all may be missing, and `gen`, `run` and `serve` may have more. An argument
-/// that begins with `-` and is longer needs `--` before it. `faults_help` becomes the help on `faults`. Allocates.
+/// were given, and are not judged here: some or all may be missing. An argument that begins with `-` and is longer needs `--`
+/// before it. Allocates.
 ///
 /// # Errors
 ///
@@ -613,13 +538,13 @@ fn command_named(name: &str) -> Command
 pub fn words_given<'a>(
     alloc: Global,
     words: &'a [&'a str],
-    faults_help: &'a str,
+    helps: Helps<'a>,
 ) -> Result<Words, Error>
     ensures taken { IfOk result (λ w. choice_in w ≡ choice_of (subcommand_of listset (texts words.entry.now))) }
     // clap's definition refuses no words that are taken, and has the kind of each error except a failed allocation
     ensures refused { FailsBy (fault_of listset (texts words.entry.now)) result }
 {
-    let matches = program_command(alloc, faults_help)?.try_get_matches_from(words)?;
+    let matches = program_command(alloc, helps)?.try_get_matches_from(words)?;
     let Some((name, found)) = matches.subcommand() else {
         return Ok(Words {
             command: Command::Replay,

@@ -3,4 +3,4 @@
 
 mod command_line;
 
-pub use command_line::{Command, Options, VERSION, Words, is_out_of_memory, words_given};
+pub use command_line::{Command, Helps, Options, VERSION, Words, is_out_of_memory, words_given};

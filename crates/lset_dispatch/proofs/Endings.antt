@@ -1,44 +1,45 @@
--- How the program ends, from how its tool ended.
-use Rattle.std.proofs.Common.{◌≡◌, ℕ, List, Option, Some, None, Err, refl, subst, sym, inl, inr}
+-- What the words ask for, and how the program ends, from how its request ended.
+use Rattle.std.proofs.Common.{◌≡◌, ℕ, List, Option, Some, None, Ok, Err, IfSome, refl, subst, sym, inl, inr}
 use Rattle.std.specs.Prelude.{◌≢◌}
 use Rattle.clap.specs.declared.error.kind.ErrorKind.{ErrorKind}
 use Rattle.clap.specs.declared.error.kind.ErrorKind.TheVariants as kind
 use Rattle.clap.specs.Words.{Text}
 use Rattle.lset_command.specs.CommandLine.{Choice, OptionValues, path_of}
 use Rattle.lset_command.specs.declared.command_line.Command.{Command}
-use Rattle.tool_base.specs.declared.trouble.Trouble.TheVariants.{CannotRead}
-use Rattle.tool_base.specs.Tools.{Ends}
-use Rattle.lset_dispatch.specs.Dispatch.{CommandEnds, EndsBy, EndsOn, EndsOnInput, IsHelp, ReplayEnds}
+use Rattle.lset_dispatch.specs.Asked.{Asked, asked, asked_by}
+use Rattle.lset_dispatch.specs.Dispatch.{EndsAsked, EndsOnInput, IsHelp, RequestEnds}
+use Rattle.lset_dispatch.specs.declared.request.Request.{Request}
 
-module _ (output_old output_new faults_old faults_new : Option (List ℕ)) (status : ℕ) where
-  -- a tool's ending, where the words name the tool's command and have its values
-  pub at_command : (input : Option (List ℕ)) (known command : Command) (given values : List Text) (options : OptionValues)
-      → command ≡ known → given ≡ values
-      → EndsBy known given options input output_old output_new faults_old faults_new status
-      → EndsBy command values options input output_old output_new faults_old faults_new status
-  at_command input known command given values options is same ends =
-      subst (λ v. EndsBy command v options input output_old output_new faults_old faults_new status) same
-      (subst (λ c. EndsBy c given options input output_old output_new faults_old faults_new status) (sym is) ends)
+-- what is asked for by a command that is known
+pub at_command : (command known : Command) (values : List Text) (options : OptionValues) (r : Asked) → command ≡ known
+    → IfSome (asked_by known values options) (λ x. r ≡ x) → IfSome (asked_by command values options) (λ x. r ≡ x)
+at_command command known values options r is said =
+    subst (λ k. IfSome (asked_by k values options) (λ x. r ≡ x)) (sym is) said
 
-  -- `replay`, by what its option names
-  pub lacking : (input : Option (List ℕ)) (given name : Option Text) → given ≡ name
-      → ReplayEnds given input output_old output_new faults_old faults_new status
-      → ReplayEnds name input output_old output_new faults_old faults_new status
-  lacking input given name same ends =
-      subst (λ n. ReplayEnds n input output_old output_new faults_old faults_new status) same ends
+module _ (IsFile : Option (List ℕ) → Type 0) (input output_old output_new stderr_old stderr_new : Option (List ℕ)) (status : ℕ) where
+  told : (said : Option Asked) (r : Asked) (path : Option Text) → IfSome said (λ x. r ≡ x)
+      → EndsAsked (Some r) path IsFile input output_old output_new stderr_old stderr_new status
+      → EndsAsked said path IsFile input output_old output_new stderr_old stderr_new status
+  told None r path is ends = tt
+  told (Some x) r path is ends =
+      subst (λ a. EndsAsked (Some a) path IsFile input output_old output_new stderr_old stderr_new status) is ends
 
-  pub with_choice : (IsFile : Option (List ℕ) → Type 0) (input : Option (List ℕ)) (a b : Choice) → a ≡ b
-      → EndsOnInput a IsFile input output_old output_new faults_old faults_new status
-      → EndsOnInput b IsFile input output_old output_new faults_old faults_new status
-  with_choice IsFile input a b same ends =
-      subst (λ choice. EndsOnInput choice IsFile input output_old output_new faults_old faults_new status) same ends
+  -- what was read of the words of a choice, and the path in it
+  pub ended : (a b : Choice) (r : Asked) (path : Option Text) → a ≡ b → IfSome (asked a) (λ x. r ≡ x) → path ≡ path_of a
+      → EndsAsked (Some r) path IsFile input output_old output_new stderr_old stderr_new status
+      → EndsOnInput b IsFile input output_old output_new stderr_old stderr_new status
+  ended a b r path same is named ends =
+      subst (λ choice. EndsOnInput choice IsFile input output_old output_new stderr_old stderr_new status) same
+      (told (asked a) r (path_of a) is
+      (subst (λ file. EndsAsked (Some r) file IsFile input output_old output_new stderr_old stderr_new status) named ends))
 
-  -- on the input or on a file, as the words name none or one
-  pub named : (IsFile : Option (List ℕ) → Type 0) (input : Option (List ℕ)) (choice : Choice) (path : Option Text) → path ≡ path_of choice
-      → EndsOn path choice IsFile input output_old output_new faults_old faults_new status
-      → EndsOnInput choice IsFile input output_old output_new faults_old faults_new status
-  named IsFile input choice path same ends =
-      subst (λ file. EndsOn file choice IsFile input output_old output_new faults_old faults_new status) same ends
+module _ (input output_old output_new stderr_old stderr_new : Option (List ℕ)) (status : ℕ) where
+  -- how a request ended that is known
+  pub at_request : (request known : Request) → request ≡ known
+      → RequestEnds known input output_old output_new stderr_old stderr_new status
+      → RequestEnds request input output_old output_new stderr_old stderr_new status
+  at_request request known is ends =
+      subst (λ r. RequestEnds r input output_old output_new stderr_old stderr_new status) (sym is) ends
 
 -- what goes to the output asks for help
 pub is_help : (k : ErrorKind) → ¬ ((k ≢ kind.DisplayHelp) × (k ≢ kind.DisplayVersion)) → IsHelp k

@@ -2,12 +2,15 @@ ghost use Rattle.std.specs.Prelude.{◌≡◌, IfOk};
 ghost use Rattle.clap.specs.Words.{FailsBy, fault_of, kind_of, subcommand_of};
 ghost use Rattle.clap.specs.Walk.{texts};
 ghost use Rattle.lset_command.specs.CommandLine.{choice_in, choice_of, listset};
-ghost use Rattle.lset_dispatch.specs.Dispatch.{Declines, EndsOnInput, Runs};
+ghost use Rattle.lset_dispatch.specs.Dispatch.{Declines, Runs};
 
-use crate::command::run_command;
+use crate::request::read_request;
+use crate::running::run_request;
+use broken_lists::ALL;
 use clap::Error;
-use lset_command::{Words, is_out_of_memory, words_given};
-use std::alloc::Global;
+use lset_command::{Helps, Words, is_out_of_memory, words_given};
+use lset_text::kind_word;
+use std::alloc::{AllocError, Global};
 use std::fs::File;
 use std::io::{Read, Write};
 use std::net::{Net, TcpListener, TcpStream};
@@ -18,49 +21,41 @@ use std::time::Clock;
 use tool_base::{Answer, FAULTS, Trouble, deliver, put};
 
 /// Ends a run whose command line `words_given` did not take, and returns the exit status. Writes the help or the version
-/// that was asked for to `output`, status 0, or what is wrong to `faults`, status 2. If an allocation failed, before or now,
-/// it writes the line about that to `faults`, status 3. A help that is not written whole is a write that failed, status 1.
-pub fn decline<W: Write, F: Write>(
+/// that was asked for to `output`, status 0, or what is wrong to `stderr`, status 2. If an allocation failed, before or now,
+/// it writes the line about that to `stderr`, status 3. A help that is not written whole is a write that failed, status 1.
+pub fn decline<W: Write, E: Write>(
     alloc: Global,
     error: &Error,
     output: &mut W,
-    faults: &mut F,
+    stderr: &mut E,
 ) -> u8
     ensures { Declines (kind_of error.now)
-        (W.contents output.old) (W.contents output.new) (F.contents faults.old) (F.contents faults.new) result }
+        (W.contents output.old) (W.contents output.new) (E.contents stderr.old) (E.contents stderr.new) result }
 {
     if is_out_of_memory(error) {
-        return deliver(alloc, Err(Trouble::Memory), output, faults);
+        return deliver(Err(Trouble::Memory), output, stderr);
     }
     let Ok(text) = format!(in alloc; "{error}") else {
-        return deliver(alloc, Err(Trouble::Memory), output, faults);
+        return deliver(Err(Trouble::Memory), output, stderr);
     };
     let text = text.into_bytes();
     if error.use_stderr() {
-        let _whole = put(faults, &text);
+        let _whole = put(stderr, &text);
         2
     } else {
-        deliver(alloc, Ok(Answer { text, status: 0 }), output, faults)
+        deliver(Ok(Answer { text, status: 0 }), output, stderr)
     }
 }
 
-/// Executes the command on the file that the command line names, or on the input if it names none.
-fn run_on_file<
-    H: Files + Net<Listener = TcpListener, Stream = TcpStream> + Threads + Wait + Clock + Sync,
-    R: Read,
-    W: Write,
-    F: Write,
->(rt: &H, alloc: Global, words: &Words, input: &mut R, output: &mut W, faults: &mut F) -> u8
-    ensures { EndsOnInput (choice_in words.now) (λ bytes. (file : H.File) × (bytes ≡ H.File.remaining file)) (R.remaining input.old)
-        (W.contents output.old) (W.contents output.new) (F.contents faults.old) (F.contents faults.new) result }
-{
-    let Some(path) = words.path() else {
-        return run_command(rt, alloc, words, input, output, faults);
-    };
-    match File::open(rt, path) {
-        Ok(mut file) => run_command(rt, alloc, words, &mut file, output, faults),
-        Err(_) => deliver(alloc, Err(Trouble::CannotRead), output, faults),
+/// The help on `--lacks`: the names of the broken lists, each with its list.
+fn lacks_help(alloc: Global) -> Result<String, AllocError> {
+    let mut help = String::from_str(alloc, "Run a broken list, with one check removed")?;
+    for (number, broken) in ALL.iter().enumerate() {
+        let sign = if number == 0 { ':' } else { ',' };
+        let (name, list) = (broken.name(), kind_word(broken.kind()));
+        write!(help, "{sign} {name} ({list})")?;
     }
+    Ok(help)
 }
 
 /// Reads the command line, without the program's name: no word at all means `replay`. The help on `faults` is what the
@@ -74,26 +69,47 @@ pub fn tool_words(alloc: Global, words: &[&str]) -> Result<Words, Error>
     ensures taken { IfOk result (λ w. choice_in w ≡ choice_of (subcommand_of listset (texts words.entry.now))) }
     ensures refused { FailsBy (fault_of listset (texts words.entry.now)) result }
 {
-    words_given(alloc, words, FAULTS)
+    match lacks_help(alloc) {
+        Ok(lacks) => words_given(
+            alloc,
+            words,
+            Helps {
+                faults: FAULTS,
+                lacks: lacks.as_str(),
+            },
+        ),
+        Err(refused) => Err(Error::from(refused)),
+    }
 }
 
 /// Runs the program on its command line, without the program's name, and returns the exit status. Reads the file that is
 /// named among the files of `rt`, or `input` if none or `-` is named; writes the result to `output`, or what is wrong to
-/// `faults`.
+/// `stderr`.
 ///
-/// `serve` opens with the keys of its FILE or, at `-`, of `input`, and reads nothing without one. Allocates. `run` and
-/// `serve` start threads on `rt` and block until they end; `serve` listens on it.
+/// `serve` opens with the keys of its FILE or, at `-`, of `input`, and reads nothing without one. If a word is wrong, no file
+/// is opened. Allocates. `run` and `serve` start threads on `rt` and block until they end; `serve` listens on it.
 pub fn run_words<
     H: Files + Net<Listener = TcpListener, Stream = TcpStream> + Threads + Wait + Clock + Sync,
     R: Read,
     W: Write,
-    F: Write,
->(rt: &H, alloc: Global, words: &[&str], input: &mut R, output: &mut W, faults: &mut F) -> u8
+    E: Write,
+>(rt: &H, alloc: Global, words: &[&str], input: &mut R, output: &mut W, stderr: &mut E) -> u8
     ensures { Runs (texts words.entry.now) (λ bytes. (file : H.File) × (bytes ≡ H.File.remaining file)) (R.remaining input.old)
-        (W.contents output.old) (W.contents output.new) (F.contents faults.old) (F.contents faults.new) result }
+        (W.contents output.old) (W.contents output.new) (E.contents stderr.old) (E.contents stderr.new) result }
 {
-    match tool_words(alloc, words) {
-        Ok(words) => run_on_file(rt, alloc, &words, input, output, faults),
-        Err(error) => decline(alloc, &error, output, faults),
+    let words = match tool_words(alloc, words) {
+        Ok(words) => words,
+        Err(error) => return decline(alloc, &error, output, stderr),
+    };
+    let request = match read_request(&words) {
+        Ok(request) => request,
+        Err(wrong) => return deliver(Err(Trouble::Bad(wrong)), output, stderr),
+    };
+    let Some(path) = words.path() else {
+        return run_request(rt, alloc, request, input, output, stderr);
+    };
+    match File::open(rt, path) {
+        Ok(mut file) => run_request(rt, alloc, request, &mut file, output, stderr),
+        Err(_) => deliver(Err(Trouble::CannotRead), output, stderr),
     }
 }

@@ -1,9 +1,11 @@
-//! What the program does on its command line: which tool runs, on which input, and how the program ends if the command line
-//! is wrong. All of the program is here except the system's arguments and the bytes of its files.
+//! What the program does on its command line: what the words ask for, on which input it is done, and how the program ends if
+//! they are wrong. All of the program is here except the system's arguments and the bytes of its files.
 #![tactic(auto)]
 
-mod command;
 mod dispatching;
+mod request;
+mod running;
 
-pub use command::run_command;
 pub use dispatching::{decline, run_words, tool_words};
+pub use request::{Request, read_request};
+pub use running::run_request;

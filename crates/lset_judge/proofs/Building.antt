@@ -14,7 +14,7 @@ use Rattle.lset_words.specs.SequentialSet.{SetState, has_key, reply_to, after_ca
 use Rattle.lset_words.specs.History.{IsHistory, call_numbered, no_call, answered, Precedes, Linearizes}
 use Rattle.lset_words.proofs.Numbers.{same_number, equal_test, below_or_not, same_or_not}
 use Rattle.lset_history.specs.History.{latest_moment}
-use Rattle.lset_judge.specs.Rule.{Event, begins, ends, looks, leaves, idle, State, same, options, not_before, fits, enters, take_out, turned_by, settled, nearest, turned_if}
+use Rattle.lset_judge.specs.Rule.{Event, begins, ends, looks, leaves, idle, State, same, options, not_before, fits, enters, put_in, take_out, turned_by, settled, nearest, turned_if}
 use Rattle.lset_judge.specs.Rule.{found, entered, ruled, open_changes, opened}
 use Rattle.lset_judge.specs.Events.{Kind, changes, sees, nothing, kind_of, kind_if, event_at, begin_event, end_event, events_on}
 use Rattle.lset_judge.specs.Verdict.{is_plain}
@@ -24,21 +24,18 @@ use Rattle.lset_judge.proofs.Leading.{at, at_once, later}
 use Rattle.lset_judge.proofs.Counts.{nearest_stands}
 use Rattle.lset_judge.proofs.Ruled.{no_state, settled_none, ruled_none, some_or_none}
 use Rattle.lset_judge.proofs.Orders.{does_own, other_stays, untils_differ, begins_told, never_left, is_call}
-use Rattle.lset_judge.proofs.Placing.{becomes, NoTwice, not_both, left_in, others_stay, gone, no_twice_left, has_head, has_tail, has_split, until_of}
+use Rattle.lset_judge.proofs.Placing.{becomes, NoTwice, not_both, left_in, others_stay, gone, no_twice_left, has_head, has_tail, has_split, has_put, no_twice_put, until_of}
 use Rattle.lset_judge.proofs.Placed.{legal_push, left_push, map_push, IsPlaced, placed_or_not, placed_at, placed_still}
 use Rattle.lset_judge.proofs.Placed.{placed_new, placed_split, change_replies, look_replies, open_sees_not, same_flips}
 use Rattle.lset_judge.proofs.Placed.{same_is, kinds_apart, late_ones, begun_when_placed, plain_kind, not_both_or, below_test}
 
-module _ (threads : ℕ) (calls : List CallRecord) (history : IsHistory threads calls) (quota : ℕ) (start : SetState)
+module _ (threads : ℕ) (calls : List CallRecord) (history : IsHistory threads calls) (last : ℕ) (upto : latest_moment calls ≤ last) (quota : ℕ) (start : SetState)
     (plain : (n : ℕ) (e : ℕ × Reply) → n < length calls → (call_numbered calls n).ended ≡ Some e → is_plain (call_numbered calls n).call e.1 ≡ true)
     (room : (order : List Placed) → All (λ (p : Placed). p.call < length calls) order
     → AllPairs (λ (p r : Placed). p.call ≢ r.call) order
     → All (λ (p : Placed). IfSome (call_numbered calls p.call).ended (λ (e : ℕ × Reply). e.1 ≡ p.reply)) order
     → (n : ℕ) → n < length calls → (IsPlaced n order → ⊥) → kind (call_numbered calls n) ≡ changes true
     → count_of (set_left start (map (answered calls) order)) (call_numbered calls n).thread < quota) where
-  abbrev last : ℕ
-  last = latest_moment calls
-
   abbrev x_ : ℕ → CallRecord
   x_ n = get_or calls n no_call
 
@@ -256,7 +253,7 @@ module _ (threads : ℕ) (calls : List CallRecord) (history : IsHistory threads 
         others_stay (until last (x_ i)) u xs
         (λ e. elim (same_or_not i n) [
           | inl q ↦ new (subst (λ z. IsPlaced z (o ++ put n r ∷ [])) (sym q) (placed_new o (put n r)))
-          | inr q ↦ untils_differ threads calls history i n known low q (e ∙ sym at_end)
+          | inr q ↦ untils_differ threads calls history last upto i n known low q (e ∙ sym at_end)
         ])
         (l.all i known own is begun (λ q. new (placed_still i o (put n r) q)));
     once = no_twice_left u xs l.once;
@@ -511,25 +508,25 @@ module _ (threads : ℕ) (calls : List CallRecord) (history : IsHistory threads 
   }
 
   list_begun : (w : Bool) (k m u : ℕ) (xs : List ℕ) (o : List Placed) → ev k (suc m) ≡ begins w u → Built m o
-      → OpenList w k m xs o → OpenList w k (suc m) (u ∷ xs) o
+      → OpenList w k m xs o → OpenList w k (suc m) (put_in u xs) o
   list_begun w k m u xs o e built l = record {
-    open_call = λ y h. elim (has_split y u xs h) [
+    open_call = λ y h. elim (has_split y u xs (sym (has_put y u xs) ∙ h)) [
       | inl q ↦ (b.0.number, b.0.known, b.0.own, b.1, b.2 ∙ q, begun_now, unplaced)
       | inr r ↦ (let c = l.open_call y r in let a = c.5 in (c.0, c.1, c.2, c.3, c.4, omega (arith, a), c.6))
     ];
-    all = λ n low own is begun new. elim (below_or_not (x_ n).begun (suc m)) [
+    all = λ n low own is begun new. has_put (until last (x_ n)) u xs ∙ elim (below_or_not (x_ n).begun (suc m)) [
       | inl early ↦ has_tail (until last (x_ n)) u xs (l.all n low own is (omega (arith, early)) new)
       | inr late ↦ (let here = change_here k (suc m) n w low own is (omega (arith, late, begun)) in
           let same_end : u ≡ until last (x_ n) = ap until_of (sym e ∙ here) in
           rw (equal_test u (until last (x_ n)) same_end) refl)
     ];
-    once = (
+    once = no_twice_put u xs (
       elim (cases_Bool (has_key u xs)) [
         | inr f ↦ f
         | inl h ↦ (let c = l.open_call u h in elim (same_or_not c.0 b.0.number) [
           | inl q ↦ (let low = c.5 in let here = b.0.begun in let also : (x_ c.0).begun ≡ (x_ b.0.number).begun = ap (λ i. (x_ i).begun) q in
               absurd (omega (arith, low, here, also)))
-          | inr q ↦ absurd (untils_differ threads calls history c.0 b.0.number c.1 b.0.known q (c.4 ∙ sym b.2))
+          | inr q ↦ absurd (untils_differ threads calls history last upto c.0 b.0.number c.1 b.0.known q (c.4 ∙ sym b.2))
         ])
       ],
       l.once,
@@ -537,7 +534,7 @@ module _ (threads : ℕ) (calls : List CallRecord) (history : IsHistory threads 
   }
     where
       b : (q : Begins last k (suc m) calls (ev k (suc m))) × (kind (x_ q.number) ≡ changes w) × (until last (x_ q.number) ≡ u)
-      b = begins_told threads calls history k (ev k (suc m)) (suc m) w u e (told last k (suc m) calls)
+      b = begins_told threads calls history last upto k (ev k (suc m)) (suc m) w u e (told last k (suc m) calls)
 
       begun_now : (x_ b.0.number).begun ≤ suc m
       begun_now = let here = b.0.begun in omega (arith, here)
@@ -585,7 +582,7 @@ module _ (threads : ℕ) (calls : List CallRecord) (history : IsHistory threads 
     looks = looks_later k m s o l;
     now = omega (arith, t);
   }
-  link_past k m (leaves w) s o e built l = absurd (never_left threads calls history k (ev k (suc m)) (suc m) w e (told last k (suc m) calls))
+  link_past k m (leaves w) s o e built l = absurd (never_left threads calls history last upto k (ev k (suc m)) (suc m) w e (told last k (suc m) calls))
   link_past k m idle s o e built l = let t = l.now in record {
     there = l.there;
     puts = list_later true k m s.puts o (λ y f. let g : idle ≡ begins true y = sym e ∙ f in cc) l.puts;
@@ -601,7 +598,7 @@ module _ (threads : ℕ) (calls : List CallRecord) (history : IsHistory threads 
   ended_placed k m s o l finds swept n e low own ended at new = by (kind (x_ n)) refl
     where
       begun_before : (x_ n).begun < e.0
-      begun_before = subst (λ q. IfSome q (λ (f : ℕ × Reply). (x_ n).begun < f.0)) ended (is_call threads calls history n low).ends_later
+      begun_before = subst (λ q. IfSome q (λ (f : ℕ × Reply). (x_ n).begun < f.0)) ended (is_call threads calls history last upto n low).ends_later
 
       begun_low : (x_ n).begun ≤ m
       begun_low = let a = begun_before in omega (arith, a, at)
@@ -671,14 +668,14 @@ module _ (threads : ℕ) (calls : List CallRecord) (history : IsHistory threads 
       there = refl;
       puts = none true;
       takes = none false;
-      looks = λ n w low own is begun new. let c = (is_call threads calls history n low).counted in absurd (omega (arith, c, begun));
+      looks = λ n w low own is begun new. let c = (is_call threads calls history last upto n low).counted in absurd (omega (arith, c, begun));
       now = omega arith;
     }
       where
         none : (w : Bool) → OpenList w k 0 [] []
         none w = record {
           open_call = λ u h. absurd (true≢false (sym h));
-          all = λ n low own is begun new. let c = (is_call threads calls history n low).counted in absurd (omega (arith, c, begun));
+          all = λ n low own is begun new. let c = (is_call threads calls history last upto n low).counted in absurd (omega (arith, c, begun));
           once = tt;
         }
 
@@ -691,8 +688,8 @@ module _ (threads : ℕ) (calls : List CallRecord) (history : IsHistory threads 
       begun = λ i d l. absurd (omega (arith, l));
       replies = λ i d l. absurd (omega (arith, l));
       ended = λ n e low s q.
-          let c = (is_call threads calls history n low).counted in
-          let a = subst (λ z. IfSome z (λ (f : ℕ × Reply). (x_ n).begun < f.0)) s (is_call threads calls history n low).ends_later in
+          let c = (is_call threads calls history last upto n low).counted in
+          let a = subst (λ z. IfSome z (λ (f : ℕ × Reply). (x_ n).begun < f.0)) s (is_call threads calls history last upto n low).ends_later in
           absurd (omega (arith, a, q));
     }
 
@@ -715,7 +712,7 @@ module _ (threads : ℕ) (calls : List CallRecord) (history : IsHistory threads 
     once = b.once;
     ended = λ n e r low s. contains_placed n r o
         (λ i d l q. sym (subst (λ z. IfSome z (λ (f : ℕ × Reply). f.1 ≡ (get_or o i d).reply)) (ap (λ j. (x_ j).ended) q ∙ s) (b.replies i d l)))
-        (b.ended n (e, r) low s (end_below calls n no_call (e, r) low s));
+        (b.ended n (e, r) low s (let a = end_below calls n no_call (e, r) low s in omega (arith, a, upto)));
     legal = b.legal;
     in_time = b.in_time;
   }

@@ -122,14 +122,14 @@ module _ (threads : ℕ) (opening : List ℕ) (calls : List CallRecord) (s : Str
   upto = let b = is.moment in omega (arith, b)
 
   module _ (judged : (k : ℕ) → state_after (event_at behind_all k calls) (has_key k opening) s.moment ≡ Some (state_for s.states k)) where
-    pub left_judged : (keys : List ℕ) (k : ℕ) → rule_explains h keys k ≡ may_be_left (has_key k keys) (state_for s.states k)
+    pub left_judged : (keys : List ℕ) (k : ℕ) → rule_explains behind_all h keys k ≡ may_be_left (has_key k keys) (state_for s.states k)
     left_judged keys k =
-        judged_after h is.history behind_all behind k keys s.moment latest upto
+        judged_after h behind_all behind k keys s.moment latest upto
         ∙ ap (λ (o : Option State). is_some (ruled behind_all o (leaves (has_key k keys) ∷ []))) (judged k)
         ∙ leaves_so behind_all (has_key k keys) (state_for s.states k)
 
-    explained_by : (keys : List ℕ) → IsStrictlyIncreasing keys → RulePasses h keys → IsExplained h keys
-    explained_by keys rise passes = explained h keys is.history is.opens (record {
+    explained_by : (keys : List ℕ) → IsStrictlyIncreasing keys → RulePasses behind_all h keys → IsExplained h keys
+    explained_by keys rise passes = explained behind_all h keys behind is.history is.opens (record {
       plain = is.plain;
       room = λ t. count_by-le-length (λ (x : CallRecord). may_add x.call x.ended && x.thread == t) calls;
     }) rise passes
@@ -141,9 +141,9 @@ module _ (threads : ℕ) (opening : List ℕ) (calls : List CallRecord) (s : Str
     stream_left : (keys : List ℕ) (k : ℕ) → may_be_left (has_key k keys) (state_for s.states k) ≡ false
         → ((quota : ℕ) → IsUnexplained (with_quota quota h) keys) × IsRefusedBy h keys k None
     stream_left keys k wrong =
-        let fails : rule_explains h keys k ≡ false = left_judged keys k ∙ wrong in (
-          (λ quota. unexplained (with_quota quota h) keys is.history k fails),
-          refused_left h is.history k (latest_moment calls) keys refl fails,
+        let fails : rule_explains behind_all h keys k ≡ false = left_judged keys k ∙ wrong in (
+          (λ quota. unexplained behind_all (with_quota quota h) keys behind is.history k fails),
+          refused_left behind_all h is.history behind k (latest_moment calls) keys refl fails,
         )
 
     pub stream_closed : (keys : List ℕ) → IsStrictlyIncreasing keys → (found : Option ℕ)
@@ -154,20 +154,20 @@ module _ (threads : ℕ) (opening : List ℕ) (calls : List CallRecord) (s : Str
     stream_closed keys rise (Some k) wrong = stream_left keys k wrong
 
     pub stream_cut_off : (keys : List ℕ) × IsExplained h keys
-    stream_cut_off = (keys_left h, explained_by (keys_left h) (unknown_rise h) (λ k. passes k (cases_Bool (state_for s.states k).there)))
+    stream_cut_off = (keys_left behind_all h, explained_by (keys_left behind_all h) (unknown_rise behind_all h) (λ k. passes k (cases_Bool (state_for s.states k).there)))
       where
-        passes : (k : ℕ) → ((state_for s.states k).there ≡ true) ⊎ ((state_for s.states k).there ≡ false) → rule_explains h (keys_left h) k ≡ true
-        passes k (inl t) = passes_with h (k ∷ []) k (left_judged (k ∷ []) k
-            ∙ ap (λ b. may_be_left b (state_for s.states k)) (has_itself h k ∙ sym t) ∙ as_it_is (state_for s.states k))
-        passes k (inr f) = passes_with h [] k (left_judged [] k
+        passes : (k : ℕ) → ((state_for s.states k).there ≡ true) ⊎ ((state_for s.states k).there ≡ false) → rule_explains behind_all h (keys_left behind_all h) k ≡ true
+        passes k (inl t) = passes_with behind_all h (k ∷ []) k (left_judged (k ∷ []) k
+            ∙ ap (λ b. may_be_left b (state_for s.states k)) (has_itself behind_all h k ∙ sym t) ∙ as_it_is (state_for s.states k))
+        passes k (inr f) = passes_with behind_all h [] k (left_judged [] k
             ∙ ap (λ b. may_be_left b (state_for s.states k)) (sym f) ∙ as_it_is (state_for s.states k))
 
   pub stream_refused : (f : Failed) → state_after (event_at behind_all f.key.0 calls) (has_key f.key.0 opening) f.moment ≡ None
       → (keys : List ℕ) → ((quota : ℕ) → IsUnexplained (with_quota quota h) keys) × IsRefusedBy h keys f.key.0 (Some f.moment)
   stream_refused f none keys =
-      let by : FailsBy h f.key.0 f.moment = failed_by h is.history behind_all behind f.key.0 f.moment none in
-      let fails : rule_explains h keys f.key.0 ≡ false =
-      ap is_some (by (event_at (latest_moment calls) f.key.0 calls) (has_key f.key.0 keys) (λ m low. refl)) in (
-        (λ quota. unexplained (with_quota quota h) keys is.history f.key.0 fails),
-        (λ quota left. refused_by h is.history f.key.0 f.moment by quota left),
+      let by : FailsBy behind_all h f.key.0 f.moment = failed_by h behind_all behind f.key.0 f.moment none in
+      let fails : rule_explains behind_all h keys f.key.0 ≡ false =
+      ap is_some (by (event_at behind_all f.key.0 calls) (has_key f.key.0 keys) (λ m low. refl)) in (
+        (λ quota. unexplained behind_all (with_quota quota h) keys behind is.history f.key.0 fails),
+        (λ quota left. refused_by behind_all h is.history behind f.key.0 f.moment by quota left),
       )

@@ -1,11 +1,11 @@
 -- How many moments of a list are not before one, where one of them is taken out.
-use Rattle.std.proofs.Common.{◌≡◌, ℕ, ◌+◌, ◌<◌, ◌≤◌, List, [], ◌∷◌, true, inl, inr, refl, arith, length}
+use Rattle.std.proofs.Common.{◌≡◌, ℕ, suc, ◌+◌, ◌<◌, ◌≤◌, List, [], ◌∷◌, true, inl, inr, refl, arith, length}
 use Rattle.std.specs.Prelude.{◌==◌, nat_lt, if◌then◌else◌}
 use Rattle.std.proofs.lemmas.Bool.{cases_Bool}
 use Rattle.std.proofs.lemmas.Bool.Decides.{nat_tests}
 use Rattle.lset_words.specs.SequentialSet.{has_key}
 use Rattle.lset_words.proofs.Numbers.{same_number, below_or_not, if_below, if_not_below}
-use Rattle.lset_judge.specs.Rule.{not_before, take_out, nearest}
+use Rattle.lset_judge.specs.Rule.{not_before, put_in, take_out, nearest}
 
 -- one number, counted or not
 abbrev pub counts : ℕ → ℕ → ℕ
@@ -30,6 +30,19 @@ all_from_zero (x ∷ xs) = let e = counts_one 0 x (omega arith) in let rest = al
 pub at_most_all : (d : ℕ) (xs : List ℕ) → not_before d xs ≤ length xs
 at_most_all d [] = omega arith
 at_most_all d (x ∷ xs) = let e = counts_most d x in let rest = at_most_all d xs in omega (arith, e, rest)
+
+-- one more
+pub counted_in : (d e : ℕ) (xs : List ℕ) → not_before d (put_in e xs) ≡ counts d e + not_before d xs
+counted_in d e [] = refl
+counted_in d e (x ∷ xs) = elim (cases_Bool (nat_lt e x)) [
+  | inl t ↦ rw t refl
+  | inr f ↦ (let rest = counted_in d e xs in rw f (omega (arith, rest)))
+]
+
+pub length_in : (e : ℕ) (xs : List ℕ) → length (put_in e xs) ≡ suc (length xs)
+length_in e xs =
+    let a = counted_in 0 e xs in let b = all_from_zero (put_in e xs) in let c = all_from_zero xs in let o = counts_one 0 e (omega arith) in
+    omega (arith, a, b, c, o)
 
 -- one is taken out
 pub taken : (d e : ℕ) (xs : List ℕ) → has_key e xs ≡ true → not_before d xs ≡ not_before d (take_out e xs) + counts d e

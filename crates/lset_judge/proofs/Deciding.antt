@@ -1,6 +1,6 @@
 -- Some order explains a history just where the rule succeeds on each key.
 use Rattle.std.proofs.Common.{◌≡◌, ℕ, List, [], ◌∷◌, true, inl, inr, sym, ◌∙◌, arith, map, subst}
-use Rattle.std.specs.Prelude.{Contains, Some, IfSome, length, ◌<◌, false}
+use Rattle.std.specs.Prelude.{Contains, Some, IfSome, length, ◌<◌, ◌≤◌, false}
 use Rattle.std.specs.List.Sorted.{IsStrictlyIncreasing}
 use Rattle.std.proofs.lemmas.Bool.{cases_Bool, true≢false}
 use Rattle.lset_words.specs.declared.Call.{Call}
@@ -10,7 +10,7 @@ use Rattle.lset_words.specs.declared.Reply.TheVariants.{True, False}
 use Rattle.lset_words.specs.SequentialSet.{SetState, Answered, opening_set, has_key, reply_to, after_call, IsLegal, set_left}
 use Rattle.lset_words.specs.History.{IsHistory, call_numbered, answered, no_call}
 use Rattle.lset_words.proofs.RisingLists.{RisesFrom, same_rising, rises_from_increasing}
-use Rattle.lset_history.specs.History.{HistoryValue}
+use Rattle.lset_history.specs.History.{HistoryValue, latest_moment}
 use Rattle.lset_history.proofs.Keys.{has_true, has_from, has_none, with_rises, without_rises}
 use Rattle.lset_judge.specs.Events.{rule_explains, RulePasses}
 use Rattle.lset_judge.specs.Verdict.{is_plain, IsJudged, IsExplained, IsUnexplained}
@@ -40,15 +40,15 @@ same_keys : (xs ys : List ℕ) → RisesFrom 0 xs → RisesFrom 0 ys → ((k : �
 same_keys xs ys r s h = same_rising 0 0 xs ys r s (within xs ys h) (within ys xs (λ k. sym (h k)))
 
 -- THE JUDGE DECIDES: some order explains the history if the rule fails on no key.
-pub explained : (h : HistoryValue) (keys : List ℕ) → IsHistory h.opening.threads h.calls → IsStrictlyIncreasing h.opening.keys → IsJudged h
-    → IsStrictlyIncreasing keys → RulePasses h keys → IsExplained h keys
-explained h keys history opens judged rising each =
+pub explained : (last : ℕ) (h : HistoryValue) (keys : List ℕ) → latest_moment h.calls ≤ last → IsHistory h.opening.threads h.calls
+    → IsStrictlyIncreasing h.opening.keys → IsJudged h → IsStrictlyIncreasing keys → RulePasses last h keys → IsExplained h keys
+explained last h keys upto history opens judged rising each =
     let threads : ℕ = h.opening.threads in
     let plain : (n : ℕ) (e : ℕ × Reply) → n < length h.calls → (call_numbered h.calls n).ended ≡ Some e → is_plain (call_numbered h.calls n).call e.1 ≡ true =
     λ n e low s. subst (λ o. IfSome o (λ (f : ℕ × Reply). is_plain (call_numbered h.calls n).call f.1 ≡ true)) s (judged.plain n no_call low) in
     let room = has_room h.calls h.opening judged.room (λ n low. (calls_of threads h.calls history n no_call low).of_a_thread) in
-    let found = order_found threads h.calls history h.opening.quota (opening_set h.opening) plain room (λ k. has_key k keys) each in
-    let l = linearizes threads h.calls history h.opening.quota (opening_set h.opening) plain room found.0 found.1 in (
+    let found = order_found threads h.calls history last upto h.opening.quota (opening_set h.opening) plain room (λ k. has_key k keys) each in
+    let l = linearizes threads h.calls history last upto h.opening.quota (opening_set h.opening) plain room found.0 found.1 in (
       found.0,
       record {
         linearizes = l;
@@ -60,6 +60,6 @@ explained h keys history opens judged rising each =
     )
 
 -- NO ORDER EXPLAINS a history of which the rule fails on a key.
-pub unexplained : (h : HistoryValue) (keys : List ℕ) → IsHistory h.opening.threads h.calls → (k : ℕ) → rule_explains h keys k ≡ false
-    → IsUnexplained h keys
-unexplained h keys history k fails order e = true≢false (sym (rule_refutes h keys order history e k) ∙ fails)
+pub unexplained : (last : ℕ) (h : HistoryValue) (keys : List ℕ) → latest_moment h.calls ≤ last → IsHistory h.opening.threads h.calls → (k : ℕ)
+    → rule_explains last h keys k ≡ false → IsUnexplained h keys
+unexplained last h keys upto history k fails order e = true≢false (sym (rule_refutes last h keys order upto history e k) ∙ fails)

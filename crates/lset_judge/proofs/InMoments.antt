@@ -1,7 +1,6 @@
 -- The events of a key among the calls of some keys, and among all calls.
 use Rattle.std.proofs.Common.{◌≡◌, ℕ, ◌+◌, ◌<◌, ◌≤◌, true, false, List, [], ◌∷◌, refl, sym, ap, ◌∙◌, arith, inl, inr}
-use Rattle.std.specs.Prelude.{◌==◌, Option, Some, None, IfSome}
-use Rattle.std.specs.List.{AllByRecursion}
+use Rattle.std.specs.Prelude.{◌==◌, Option, Some, None}
 use Rattle.std.proofs.lemmas.Bool.{cases_Bool}
 use Rattle.lset_words.specs.declared.Reply.{Reply}
 use Rattle.lset_words.specs.declared.history.CallRecord.{CallRecord}
@@ -10,26 +9,10 @@ use Rattle.lset_words.specs.Words.{key_of}
 use Rattle.lset_words.proofs.Numbers.{same_number, equal_test, unequal_test}
 use Rattle.lset_history.specs.History.{latest_moment, moment_of}
 use Rattle.lset_judge.specs.Rule.{idle}
-use Rattle.lset_judge.specs.Events.{Kind, changes, sees, nothing, kind_if, until_if, ends_at, begin_event, end_event, event_at}
+use Rattle.lset_judge.specs.Events.{ends_at, event_at}
 use Rattle.lset_judge.specs.Locality.{calls_in, keys_in}
-use Rattle.lset_judge.proofs.Shifted.{later, later_low, later_high, later_event}
 
 -- ---- moments
-
-abbrev pub InMoments : ℕ → CallRecord → Type 0
-InMoments L x = (0 < x.begun) × (x.begun ≤ L) × IfSome x.ended (λ (e : ℕ × Reply). e.0 ≤ L)
-
-pub in_moments : (L : ℕ) (xs : List CallRecord) → latest_moment xs ≤ L → AllByRecursion (λ (x : CallRecord). 0 < x.begun) xs
-    → AllByRecursion (InMoments L) xs
-in_moments L [] l a = tt
-in_moments L (x ∷ xs) l a = (
-  (a.0, (omega arith), ended x.ended (omega arith)),
-  in_moments L xs (omega arith) a.1,
-)
-  where
-    ended : (o : Option (ℕ × Reply)) → moment_of o ≤ L → IfSome o (λ (e : ℕ × Reply). e.0 ≤ L)
-    ended None l = tt
-    ended (Some e) l = l
 
 pub latest_in : (part : ℕ → ℕ) (i : ℕ) (xs : List CallRecord) → latest_moment (calls_in part i xs) ≤ latest_moment xs
 latest_in part i [] = omega arith
@@ -42,51 +25,17 @@ latest_in part i (x ∷ xs) =
 
 -- ---- events
 
-module _ (L d : ℕ) where
-  later_begin : (kind : Kind) (u : ℕ) → later_event L d (begin_event kind u) ≡ begin_event kind (later L d u)
-  later_begin (changes w) u = refl
-  later_begin (sees w) u = refl
-  later_begin nothing u = refl
-
-  later_end : (kind : Kind) (begun : ℕ) → later_event L d (end_event kind begun) ≡ end_event kind begun
-  later_end (changes w) begun = refl
-  later_end (sees w) begun = refl
-  later_end nothing begun = refl
-
-  later_until : (begun : ℕ) (o : Option (ℕ × Reply)) → 0 < begun → IfSome o (λ (e : ℕ × Reply). e.0 ≤ L)
-      → until_if (L + d) begun o ≡ later L d (until_if L begun o)
-  later_until begun None l h = (let e : (L + d) + begun ≡ (L + begun) + d = omega arith in e) ∙ sym (later_high L d (L + begun) (omega arith))
-  later_until begun (Some e) l h = sym (later_low L d e.0 h)
-
-  pub event_later : (k m : ℕ) (xs : List CallRecord) → AllByRecursion (InMoments L) xs
-      → event_at (L + d) k xs m ≡ later_event L d (event_at L k xs m)
-  event_later k m [] a = refl
-  event_later k m (x ∷ xs) a =
-      let rest : event_at (L + d) k xs m ≡ later_event L d (event_at L k xs m) = event_later k m xs a.1 in
-      elim (cases_Bool ((key_of x.call).0 == k)) [
-        | inr f ↦ rw f rest
-        | inl t ↦ elim (cases_Bool (x.begun == m)) [
-          | inl b ↦ rw (t, b) (ap (begin_event (kind_if x.call x.ended)) (later_until x.begun x.ended a.0.0 a.0.2)
-              ∙ sym (later_begin (kind_if x.call x.ended) (until_if L x.begun x.ended)))
-          | inr b ↦ elim (cases_Bool (ends_at m x.ended)) [
-            | inl e ↦ rw (t, b, e) (sym (later_end (kind_if x.call x.ended) x.begun))
-            | inr e ↦ rw (t, b, e) rest
-          ]
-        ]
-      ]
-
-pub event_idle : (L k m last : ℕ) (xs : List CallRecord) → AllByRecursion (InMoments L) xs → L < m → event_at last k xs m ≡ idle
-event_idle L k m last [] a l = refl
-event_idle L k m last (x ∷ xs) a l =
-    let rest : event_at last k xs m ≡ idle = event_idle L k m last xs a.1 l in
-    let upto : x.begun ≤ L = a.0.1 in
-    let b : (x.begun == m) ≡ false = unequal_test x.begun m (λ e. omega arith) in
-    let e : ends_at m x.ended ≡ false = not_ended x.ended a.0.2 in
+pub event_idle : (k m last : ℕ) (xs : List CallRecord) → latest_moment xs < m → event_at last k xs m ≡ idle
+event_idle k m last [] l = refl
+event_idle k m last (x ∷ xs) l =
+    let rest : event_at last k xs m ≡ idle = event_idle k m last xs (omega (arith, l)) in
+    let b : (x.begun == m) ≡ false = unequal_test x.begun m (λ e. omega (arith, l, e)) in
+    let e : ends_at m x.ended ≡ false = not_ended x.ended (omega (arith, l)) in
     elim (cases_Bool ((key_of x.call).0 == k)) [ inr f ↦ rw f rest | inl t ↦ rw (t, b, e) rest ]
   where
-    not_ended : (o : Option (ℕ × Reply)) → IfSome o (λ (e : ℕ × Reply). e.0 ≤ L) → ends_at m o ≡ false
+    not_ended : (o : Option (ℕ × Reply)) → moment_of o < m → ends_at m o ≡ false
     not_ended None h = refl
-    not_ended (Some e) h = unequal_test e.0 m (λ f. let g : e.0 ≤ L = h in omega arith)
+    not_ended (Some e) h = unequal_test e.0 m (λ f. omega (arith, f, h))
 
 module _ (part : ℕ → ℕ) (i k : ℕ) (of_part : part k ≡ i) where
   goes_there : (j : ℕ) → (j == k) ≡ true → (part j == i) ≡ true

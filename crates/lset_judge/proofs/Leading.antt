@@ -6,9 +6,9 @@ use Rattle.std.proofs.lemmas.Bool.{cases_Bool, true≢false}
 use Rattle.lset_words.specs.SequentialSet.{has_key}
 use Rattle.lset_words.proofs.Numbers.{same_number, other_number, lower_number, not_lower_number}
 use Rattle.lset_judge.specs.Rule.{Event, begins, ends, looks, leaves, idle, State, same, changes_to, options, not_before, fits, enters}
-use Rattle.lset_judge.specs.Rule.{take_out, turned_by, nearest, turned_if, settled, open_changes, entered, ruled, opened, rule_succeeds}
+use Rattle.lset_judge.specs.Rule.{put_in, take_out, turned_by, nearest, turned_if, settled, open_changes, entered, ruled, opened, rule_succeeds}
 use Rattle.lset_judge.proofs.Timelines.{Follows, Item, meets, turns, events_of, IsRight}
-use Rattle.lset_judge.proofs.Counts.{all_from_zero, at_most_all, taken, taken_length, nearest_stands, still_no_fewer}
+use Rattle.lset_judge.proofs.Counts.{counted_in, length_in, all_from_zero, at_most_all, taken, taken_length, nearest_stands, still_no_fewer}
 
 abbrev pub once : Bool → ℕ
 once b = if b then 1 else 0
@@ -210,31 +210,31 @@ leads_later m g s l = let n = l.now in
     record { puts = l.puts; takes = l.takes; balance = l.balance; further = l.further; now = omega (arith, n) }
 
 more : (end : ℕ) (ss gs : List ℕ) → ((d : ℕ) → not_before d ss ≤ not_before d gs) → (d : ℕ)
-    → not_before d (end ∷ ss) ≤ not_before d (end ∷ gs)
-more end ss gs h d = let a = h d in omega (arith, a)
+    → not_before d (put_in end ss) ≤ not_before d (put_in end gs)
+more end ss gs h d = let a = h d in let b = counted_in d end ss in let c = counted_in d end gs in omega (arith, a, b, c)
 
 put_further : (end : ℕ) (b : Bool) (gt : ℕ) (gp gk : List ℕ) (s : State) → IsFurther (at b gt gp gk) s
-    → IsFurther (at b gt (end ∷ gp) gk) (record s { puts = end ∷ s.puts })
+    → IsFurther (at b gt (put_in end gp) gk) (record s { puts = put_in end s.puts })
 put_further end true gt gp gk s f = f
-put_further end false gt gp gk s f = omega (arith, f)
+put_further end false gt gp gk s f = let a = length_in end gp in let b = length_in end s.puts in omega (arith, f, a, b)
 
 take_further : (end : ℕ) (b : Bool) (gt : ℕ) (gp gk : List ℕ) (s : State) → IsFurther (at b gt gp gk) s
-    → IsFurther (at b gt gp (end ∷ gk)) (record s { takes = end ∷ s.takes })
-take_further end true gt gp gk s f = omega (arith, f)
+    → IsFurther (at b gt gp (put_in end gk)) (record s { takes = put_in end s.takes })
+take_further end true gt gp gk s f = let a = length_in end gk in let b = length_in end s.takes in omega (arith, f, a, b)
 take_further end false gt gp gk s f = f
 
 pub leads_past : (m : ℕ) (v : Event) (g s : State) → Leads m g s → Leads (suc m) (enters v g) (enters v s)
 leads_past m (begins true end) g s l = let n = l.now in let y = l.balance in record {
   puts = more end s.puts g.puts l.puts;
   takes = l.takes;
-  balance = omega (arith, y);
+  balance = let a = length_in end s.puts in let b = length_in end g.puts in omega (arith, y, a, b);
   further = λ q. put_further end g.there g.turned g.puts g.takes s (l.further q);
   now = omega (arith, n);
 }
 leads_past m (begins false end) g s l = let n = l.now in let y = l.balance in record {
   puts = l.puts;
   takes = more end s.takes g.takes l.takes;
-  balance = omega (arith, y);
+  balance = let a = length_in end s.takes in let b = length_in end g.takes in omega (arith, y, a, b);
   further = λ q. take_further end g.there g.turned g.puts g.takes s (l.further q);
   now = omega (arith, n);
 }

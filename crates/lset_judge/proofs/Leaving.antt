@@ -1,7 +1,7 @@
 -- The keys that a set may have left, if they are not known: the rule passes with them if it passes with any.
 use Rattle.std.proofs.Common.{◌≡◌, ℕ, ◌⊎◌, List, [], ◌∷◌, ◌++◌, Bool, true, false, inl, inr, refl, sym, ap, ◌∙◌, arith, subst}
 use Rattle.std.proofs.Common.{map}
-use Rattle.std.specs.Prelude.{◌==◌, ◌&&◌, ◌||◌, not, Some, None, is_some}
+use Rattle.std.specs.Prelude.{◌==◌, ◌&&◌, ◌||◌, not, Some, is_some}
 use Rattle.std.specs.List.Sorted.{IsStrictlyIncreasing}
 use Rattle.std.proofs.lemmas.Bool.{cases_Bool, true≢false}
 use Rattle.lset_words.specs.declared.history.CallRecord.{CallRecord}
@@ -9,12 +9,12 @@ use Rattle.lset_words.specs.SequentialSet.{has_key, with_key}
 use Rattle.lset_words.specs.Words.{key_of}
 use Rattle.lset_words.proofs.Numbers.{equal_test}
 use Rattle.lset_words.proofs.RisingLists.{RisesFrom, increasing_from_rises}
-use Rattle.lset_history.specs.History.{HistoryValue, latest_moment}
+use Rattle.lset_history.specs.History.{HistoryValue}
 use Rattle.lset_history.proofs.Keys.{has_true, has_from, has_none, with_keeps, with_from, with_rises}
-use Rattle.lset_judge.specs.Rule.{idle, leaves, opened, same, ruled}
+use Rattle.lset_judge.specs.Rule.{idle, opened, same, ruled}
 use Rattle.lset_judge.specs.Events.{event_at, events_on, rule_explains}
 use Rattle.lset_judge.specs.Leaving.{taken, keys_left}
-use Rattle.lset_judge.proofs.Shifting.{idle_on}
+use Rattle.lset_judge.proofs.After.{idle_key}
 
 -- ---- the keys that a test takes
 
@@ -77,33 +77,23 @@ has_either : (k : ℕ) (xs ys : List ℕ) → has_key k (xs ++ ys) ≡ (has_key 
 has_either k [] ys = refl
 has_either k (x ∷ xs) ys = elim (cases_Bool (x == k)) [ inl t ↦ rw t refl | inr f ↦ rw f (has_either k xs ys) ]
 
-module _ (h : HistoryValue) where
+module _ (last : ℕ) (h : HistoryValue) where
   abbrev called : List ℕ
   called = map (λ (x : CallRecord). (key_of x.call).0) h.calls
 
   abbrev if_left : ℕ → Bool
-  if_left k = rule_explains h (k ∷ []) k
+  if_left k = rule_explains last h (k ∷ []) k
 
-  left_as_was : (was left : Bool) → is_some (ruled 0 (Some (opened was)) (leaves left ∷ [])) ≡ same left was
-  left_as_was true true = refl
-  left_as_was true false = refl
-  left_as_was false true = refl
-  left_as_was false false = refl
-
-  uncalled : (keys : List ℕ) (k : ℕ) → has_key k called ≡ false → rule_explains h keys k ≡ same (has_key k keys) (has_key k h.opening.keys)
-  uncalled keys k none =
-      idle_on (event_at (latest_moment h.calls) k h.calls) (has_key k keys) (latest_moment h.calls) 0 0
-      (opened (has_key k h.opening.keys)) (opened (has_key k h.opening.keys)) (record { there = refl; puts = refl; takes = refl })
-      (λ m low. no_event (latest_moment h.calls) k m h.calls none)
-      ∙ left_as_was (has_key k h.opening.keys) (has_key k keys)
+  uncalled : (keys : List ℕ) (k : ℕ) → has_key k called ≡ false → rule_explains last h keys k ≡ same (has_key k keys) (has_key k h.opening.keys)
+  uncalled keys k none = idle_key (event_at last k h.calls) (has_key k h.opening.keys) (has_key k keys) last (λ m low. no_event last k m h.calls none)
 
   pub has_itself : (k : ℕ) → has_key k (k ∷ []) ≡ true
   has_itself k = rw (equal_test k k refl) refl
 
   -- with the key left as other keys have it, the rule goes as it does with them
-  by_key : (keys others : List ℕ) (k : ℕ) → has_key k keys ≡ has_key k others → rule_explains h keys k ≡ rule_explains h others k
+  by_key : (keys others : List ℕ) (k : ℕ) → has_key k keys ≡ has_key k others → rule_explains last h keys k ≡ rule_explains last h others k
   by_key keys others k e = ap (λ (w : Bool). is_some (ruled 0 (Some (opened (has_key k h.opening.keys)))
-      (events_on (event_at (latest_moment h.calls) k h.calls) w (latest_moment h.calls) 0))) e
+      (events_on (event_at last k h.calls) w last 0))) e
 
   known : (k : ℕ) → if_left k ≡ true → has_key k (h.opening.keys ++ called) ≡ true
   known k e = has_either k h.opening.keys called ∙ elim (cases_Bool (has_key k called)) [
@@ -122,10 +112,10 @@ module _ (h : HistoryValue) where
       was false b l e = absurd (true≢false (sym l))
 
   abbrev unknown : List ℕ
-  unknown = keys_left h
+  unknown = keys_left last h
 
   -- if the rule passes with any keys left, it does with these
-  pub passes_with : (keys : List ℕ) (k : ℕ) → rule_explains h keys k ≡ true → rule_explains h unknown k ≡ true
+  pub passes_with : (keys : List ℕ) (k : ℕ) → rule_explains last h keys k ≡ true → rule_explains last h unknown k ≡ true
   passes_with keys k e = elim (cases_Bool (has_key k unknown)) [
     | inl t ↦ by_key unknown (k ∷ []) k (t ∙ sym (has_itself k)) ∙ takes_right if_left k (h.opening.keys ++ called) t
     | inr f ↦ elim (cases_Bool (has_key k keys)) [

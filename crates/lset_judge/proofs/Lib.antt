@@ -10,13 +10,11 @@ pub mod Placed
 pub mod Building
 pub mod Room
 pub mod Deciding
-pub mod Ends
+pub mod Heaped
 pub mod Found
 pub mod Adding
 pub mod Scanned
 pub mod Leaving
-pub mod Shifted
-pub mod Shifting
 pub mod InMoments
 pub mod KeyParts
 pub mod Refused

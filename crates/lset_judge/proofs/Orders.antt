@@ -20,7 +20,7 @@ use Rattle.lset_history.proofs.Pairs.{pairs_head, pairs_tail}
 use Rattle.lset_history.proofs.Histories.{Follows, IsCall, calls_of, pairs_of}
 use Rattle.lset_judge.specs.Rule.{Event, begins, looks, leaves, idle, opened}
 use Rattle.lset_judge.specs.Events.{Kind, changes, sees, nothing, kind_of, open_kind, kind_if, until_if, begin_event, end_event, event_at}
-use Rattle.lset_judge.specs.Events.{key_events, RulePasses}
+use Rattle.lset_judge.specs.Events.{events_on, RulePasses}
 use Rattle.lset_judge.proofs.EventLemmas.{kind, until, begun_below, end_below, Begins, Ends, Told, of_nothing, of_begin, of_end, told, begins_at, if_some, none_or_some}
 use Rattle.lset_judge.proofs.KeyTests.{has_with, has_with_other, has_without, has_without_other}
 use Rattle.lset_judge.proofs.Placing.{In, AllOf, Pairs, Act, act, suits, becomes, TakeTurns, Apart, IsAct, AreEvents, Lists, Ready, timeline, one_of}
@@ -83,12 +83,9 @@ open_change c r w e = absurd (cc)
 
 -- ---- two calls of a history
 
-module _ (threads : ℕ) (calls : List CallRecord) (history : IsHistory threads calls) where
+module _ (threads : ℕ) (calls : List CallRecord) (history : IsHistory threads calls) (last : ℕ) (upto : latest_moment calls ≤ last) where
   abbrev x_ : ℕ → CallRecord
   x_ n = get_or calls n no_call
-
-  abbrev last : ℕ
-  last = latest_moment calls
 
   follows : (i j : ℕ) → i < j → j < length calls → Follows (x_ i) (x_ j)
   follows i j l h = pairs_of threads calls history i j no_call l h
@@ -133,10 +130,10 @@ module _ (threads : ℕ) (calls : List CallRecord) (history : IsHistory threads 
   until_ended n e s = rw s refl
 
   begun_low : (n : ℕ) → n < length calls → (x_ n).begun ≤ last
-  begun_low n h = begun_below calls n no_call h
+  begun_low n h = let a = begun_below calls n no_call h in omega (arith, a, upto)
 
   end_low : (n : ℕ) (e : ℕ × Reply) → n < length calls → (x_ n).ended ≡ Some e → e.0 ≤ last
-  end_low n e h s = end_below calls n no_call e h s
+  end_low n e h s = let a = end_below calls n no_call e h s in omega (arith, a, upto)
 
   pub untils_differ : (i j : ℕ) → i < length calls → j < length calls → i ≢ j → until last (x_ i) ≢ until last (x_ j)
   untils_differ i j a b n same = elim (none_or_some (x_ i).ended) [
@@ -363,11 +360,11 @@ module _ (threads : ℕ) (calls : List CallRecord) (history : IsHistory threads 
           }
 
 -- THE RULE SUCCEEDS on each key where an order explains the history.
-pub rule_refutes : (h : HistoryValue) (keys : List ℕ) (order : List Placed) → IsHistory h.opening.threads h.calls → Explains h order keys
-    → RulePasses h keys
-rule_refutes h keys order history e k =
+pub rule_refutes : (last : ℕ) (h : HistoryValue) (keys : List ℕ) (order : List Placed) → latest_moment h.calls ≤ last
+    → IsHistory h.opening.threads h.calls → Explains h order keys → RulePasses last h keys
+rule_refutes last h keys order upto history e k =
     let left : has_key k (set_left_by (opening_set h.opening) h.calls order).keys ≡ has_key k keys = ap (has_key k) (sym e.keys_left) in
-    let f = timeline (ev h.opening.threads h.calls history k) (latest_moment h.calls) (has_key k keys)
-    (are_events h.opening.threads h.calls history k) (latest_moment h.calls) 0 (opened (has_key k h.opening.keys)) _ (omega arith)
-    (ready h.opening.threads h.calls history k h.opening.quota (opening_set h.opening) order e.linearizes (has_key k keys) left) in
-    succeeds (has_key k h.opening.keys) (key_events h keys k) f
+    let f = timeline (ev h.opening.threads h.calls history last upto k) last (has_key k keys)
+    (are_events h.opening.threads h.calls history last upto k) last 0 (opened (has_key k h.opening.keys)) _ (omega arith)
+    (ready h.opening.threads h.calls history last upto k h.opening.quota (opening_set h.opening) order e.linearizes (has_key k keys) left) in
+    succeeds (has_key k h.opening.keys) (events_on (event_at last k h.calls) (has_key k keys) last 0) f

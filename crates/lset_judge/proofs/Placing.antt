@@ -7,7 +7,7 @@ use Rattle.std.proofs.lemmas.Bool.Decides.{nat_tests}
 use Rattle.lset_words.specs.SequentialSet.{has_key}
 use Rattle.lset_words.proofs.Numbers.{same_number, equal_test, below_or_not}
 use Rattle.lset_judge.specs.Rule.{Event, begins, ends, looks, leaves, idle, State, same, options, not_before, fits, enters}
-use Rattle.lset_judge.specs.Rule.{take_out, turned_by}
+use Rattle.lset_judge.specs.Rule.{put_in, take_out, turned_by}
 use Rattle.lset_judge.proofs.Timelines.{meets, turns, Follows}
 use Rattle.lset_judge.specs.Events.{Kind, changes, sees, nothing, events_on}
 use Rattle.lset_judge.proofs.Counts.{counts_one}
@@ -47,6 +47,32 @@ has_tail u x xs h = elim (cases_Bool (x == u)) [ inl e ↦ rw e refl | inr e ↦
 
 pub has_split : (u x : ℕ) (xs : List ℕ) → has_key u (x ∷ xs) ≡ true → (x ≡ u) ⊎ (has_key u xs ≡ true)
 has_split u x xs h = elim (cases_Bool (x == u)) [ inl e ↦ inl (same_number x u e) | inr e ↦ inr (rw e at h) ]
+
+-- one more
+pub has_put : (u e : ℕ) (xs : List ℕ) → has_key u (put_in e xs) ≡ has_key u (e ∷ xs)
+has_put u e [] = refl
+has_put u e (x ∷ xs) = elim (cases_Bool (nat_lt e x)) [
+  | inl t ↦ rw t refl
+  | inr f ↦ rw f (ap (λ b. (x == u) || b) (has_put u e xs) ∙ in_turn (x == u) (e == u) (has_key u xs))
+]
+  where
+    in_turn : (a b c : Bool) → (a || (b || c)) ≡ (b || (a || c))
+    in_turn true true c = refl
+    in_turn true false c = refl
+    in_turn false b c = refl
+
+pub no_twice_put : (u : ℕ) (xs : List ℕ) → NoTwice (u ∷ xs) → NoTwice (put_in u xs)
+no_twice_put u [] h = h
+no_twice_put u (x ∷ xs) h = elim (cases_Bool (nat_lt u x)) [
+  | inl t ↦ rw t h
+  | inr f ↦ rw f (elim (cases_Bool (has_key x (put_in u xs))) [
+    | inr n ↦ (n, no_twice_put u xs (elim (cases_Bool (has_key u xs)) [ inl i ↦ absurd (not_both _ (has_tail u x xs i) h.0) | inr n ↦ n ], h.1.1))
+    | inl i ↦ absurd (elim (has_split x u xs (sym (has_put x u xs) ∙ i)) [
+      | inl s ↦ not_both (has_key u (x ∷ xs)) (subst (λ y. has_key u (y ∷ xs) ≡ true) s (has_head u xs)) h.0
+      | inr r ↦ not_both _ r h.1.0
+    ])
+  ])
+]
 
 pub left_in : (u e : ℕ) (xs : List ℕ) → has_key u (take_out e xs) ≡ true → has_key u xs ≡ true
 left_in u e [] h = h
@@ -310,17 +336,17 @@ module _ (ev : ℕ → Event) (last : ℕ) (left : Bool) (are : AreEvents ev) wh
   }
 
   lists_begun : (w : Bool) (m u : ℕ) (xs : List ℕ) (ys : List Act) → ev (suc m) ≡ begins w u
-      → AllOf (IsAct ev last) ys → (u ≤ last → In (act (suc m) u (changes w)) ys) → Lists w m xs ys → Lists w (suc m) (u ∷ xs) ys
+      → AllOf (IsAct ev last) ys → (u ≤ last → In (act (suc m) u (changes w)) ys) → Lists w m xs ys → Lists w (suc m) (put_in u xs) ys
   lists_begun w m u xs ys e acts comes l = record {
-    from_event = λ y h. elim (has_split y u xs h) [
+    from_event = λ y h. elim (has_split y u xs (sym (has_put y u xs) ∙ h)) [
       | inl s ↦ (suc m, omega arith, subst (λ z. ev (suc m) ≡ begins w z) s e)
       | inr h' ↦ (let i = l.from_event y h' in let low = i.1 in (i.0, omega (arith, low), i.2))
     ];
-    needed = λ y h low. elim (has_split y u xs h) [
+    needed = λ y h low. elim (has_split y u xs (sym (has_put y u xs) ∙ h)) [
       | inl s ↦ (suc m, subst (λ z. In (act (suc m) z (changes w)) ys) s (comes (omega (arith, s, low))))
       | inr h' ↦ l.needed y h' low
     ];
-    holds = λ a i d b. elim (below_or_not a.begun (suc m)) [
+    holds = λ a i d b. has_put a.until u xs ∙ elim (below_or_not a.begun (suc m)) [
       | inl low ↦ has_tail a.until u xs (l.holds a i d (omega (arith, low)))
       | inr high ↦ (let same : a.begun ≡ suc m = omega (arith, high, b) in
           let told : ev (suc m) ≡ begins w a.until =
@@ -328,7 +354,7 @@ module _ (ev : ℕ → Event) (last : ℕ) (left : Bool) (are : AreEvents ev) wh
           let is : u ≡ a.until = ap until_of (sym e ∙ told) in
           rw (equal_test u a.until is) refl)
     ];
-    once = (new, l.once);
+    once = no_twice_put u xs (new, l.once);
   }
     where
       new : has_key u xs ≡ false

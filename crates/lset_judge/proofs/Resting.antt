@@ -18,18 +18,17 @@ use Rattle.lset_history.specs.History.{HistoryValue, latest_moment}
 use Rattle.lset_history.proofs.Histories.{Follows, IsCall, calls_of, pairs_of, history_of}
 use Rattle.lset_history.proofs.Pairs.{pairs_head, pairs_tail}
 use Rattle.lset_judge.specs.declared.stream.Stream.{Stream}
-use Rattle.lset_judge.specs.Rule.{State, idle, leaves, same, opened, ruled, state_after}
+use Rattle.lset_judge.specs.Rule.{State, idle, leaves, same, ruled, state_after}
 use Rattle.lset_judge.specs.Events.{Kind, changes, sees, nothing, kind_if, until_if, ends_at, begin_event, event_at, rule_explains, RulePasses}
 use Rattle.lset_judge.specs.Leaving.{may_be_left}
 use Rattle.lset_judge.specs.Rest.{turns, may_turn, has_ended, ended_by, key_if, alone, IsAtRest}
 use Rattle.lset_judge.specs.Stream.{behind_all, state_for, IsStreamOf}
 use Rattle.lset_judge.specs.Verdict.{may_add, is_plain}
-use Rattle.lset_judge.proofs.After.{same_after, judged_after}
+use Rattle.lset_judge.proofs.After.{same_after, judged_after, idle_key}
 use Rattle.lset_judge.proofs.Closed.{leaves_so, latest_upto}
 use Rattle.lset_judge.proofs.Deciding.{explained}
 use Rattle.lset_judge.proofs.EventLemmas.{ends_not, if_some, for_some}
 use Rattle.lset_judge.proofs.Orders.{rule_refutes}
-use Rattle.lset_judge.proofs.Shifting.{idle_on}
 
 second_true : (a b : Bool) → (a && b) ≡ true → b ≡ true
 second_true true b e = e
@@ -199,32 +198,31 @@ module _ (threads : ℕ) (opening : List ℕ) (calls : List CallRecord) (s : Str
       (λ j l. event_kept behind_all k S j calls l (pairs_of threads calls is.history) (recursion_from_All (Over k S) calls over))
       ∙ judged k
 
-  left_as : (quota : ℕ) (keys : List ℕ) → rule_explains (h quota) keys k ≡ same (has_key k keys) state.there
+  left_as : (quota : ℕ) (keys : List ℕ) → rule_explains behind_all (h quota) keys k ≡ same (has_key k keys) state.there
   left_as quota keys =
-      judged_after (h quota) told behind_all behind k keys S latest upto
+      judged_after (h quota) behind_all behind k keys S latest upto
       ∙ ap (λ (o : Option State). is_some (ruled behind_all o (leaves (has_key k keys) ∷ []))) state_is
       ∙ leaves_so behind_all (has_key k keys) state
       ∙ quiet_left (has_key k keys) state puts takes
 
-  passes : (quota : ℕ) → RulePasses (h quota) (key_if state.there k)
+  passes : (quota : ℕ) → RulePasses behind_all (h quota) (key_if state.there k)
   passes quota j = elim (same_or_not j k) [
-    | inl e ↦ subst (λ i. rule_explains (h quota) (key_if state.there k) i ≡ true) (sym e)
+    | inl e ↦ subst (λ i. rule_explains behind_all (h quota) (key_if state.there k) i ≡ true) (sym e)
         (left_as quota (key_if state.there k) ∙ ap (λ b. same b state.there) (opens state.there k) ∙ same_itself state.there)
-    | inr n ↦ uncalled j n
+    | inr n ↦ uncalled behind_all j n
   ]
     where
-      uncalled : (j : ℕ) → j ≢ k → rule_explains (h quota) (key_if state.there k) j ≡ true
-      uncalled j n = rw (other (has_key k opening) k j n, other state.there k j n)
-          (idle_on (event_at (latest_moment own) j own) false (latest_moment own) 0 0 (opened false) (opened false)
-          (record { there = refl; puts = refl; takes = refl }) (λ m l. event_other (latest_moment own) k S j m calls n))
+      uncalled : (last j : ℕ) → j ≢ k → rule_explains last (h quota) (key_if state.there k) j ≡ true
+      uncalled last j n = rw (other (has_key k opening) k j n, other state.there k j n)
+          (idle_key (event_at last j own) false false last (λ m l. event_other last k S j m calls n))
 
   pub at_rest : IsAtRest threads opening calls k S state.there
   at_rest = record {
     ended = over;
-    explained = explained (h (length own)) (key_if state.there k) told (rises (has_key k opening) k) (record {
+    explained = explained behind_all (h (length own)) (key_if state.there k) behind told (rises (has_key k opening) k) (record {
       plain = All-filter (kept k S) (λ (x : CallRecord). IfSome x.ended (λ (e : ℕ × Reply). is_plain x.call e.1 ≡ true)) calls is.plain;
       room = λ t. count_by-le-length (λ (x : CallRecord). may_add x.call x.ended && x.thread == t) own;
     }) (rises state.there k) (passes (length own));
     forced = λ quota order keys e.
-        alike (has_key k keys) state.there (sym (left_as quota keys) ∙ rule_refutes (h quota) keys order told e k);
+        alike (has_key k keys) state.there (sym (left_as quota keys) ∙ rule_refutes behind_all (h quota) keys order behind told e k);
   }

@@ -7,8 +7,8 @@ use Rattle.lset_words.specs.declared.Reply.TheVariants.{True, False, Full, At, N
 use Rattle.lset_words.specs.declared.history.CallRecord.{CallRecord}
 use Rattle.lset_words.specs.SequentialSet.{has_key}
 use Rattle.lset_words.specs.Words.{key_of}
-use Rattle.lset_history.specs.History.{HistoryValue, latest_moment}
-use Rattle.lset_judge.specs.Rule.{Event, begins, ends, looks, leaves, idle, rule_succeeds, ruled, opened, state_after}
+use Rattle.lset_history.specs.History.{HistoryValue}
+use Rattle.lset_judge.specs.Rule.{Event, begins, ends, looks, leaves, idle, rule_succeeds, ruled, opened}
 -- WHAT A CALL DOES to its key: it turns it, to there or not there; it sees it there or not there; or nothing is told
 pub use Rattle.lset_judge.specs.declared.event.Kind.{Kind}
 pub use Rattle.lset_judge.specs.declared.event.Kind.TheVariants.{Changes as changes, Sees as sees, Nothing as nothing}
@@ -80,26 +80,15 @@ abbrev pub events_on : (ℕ → Event) → Bool → ℕ → ℕ → List Event
 events_on ev left zero m = leaves left ∷ []
 events_on ev left (suc n) m = ev (suc m) ∷ events_on ev left n (suc m)
 
-abbrev pub key_events : HistoryValue → List ℕ → ℕ → List Event
-key_events h keys k =
-    events_on (event_at (latest_moment h.calls) k h.calls) (has_key k keys) (latest_moment h.calls) 0
-
--- THE RULE, for a key of a history and of the keys left
-abbrev pub rule_explains : HistoryValue → List ℕ → ℕ → Bool
-rule_explains h keys k = rule_succeeds (has_key k h.opening.keys) (key_events h keys k)
+-- THE RULE, for a key of a history and of the keys left; where the moments end
+abbrev pub rule_explains : ℕ → HistoryValue → List ℕ → ℕ → Bool
+rule_explains last h keys k = rule_succeeds (has_key k h.opening.keys) (events_on (event_at last k h.calls) (has_key k keys) last 0)
 
 -- THE RULE FAILS ON NO KEY
-abbrev pub RulePasses : HistoryValue → List ℕ → Type 0
-RulePasses h keys = (k : ℕ) → rule_explains h keys k ≡ true
+abbrev pub RulePasses : ℕ → HistoryValue → List ℕ → Type 0
+RulePasses last h keys = (k : ℕ) → rule_explains last h keys k ≡ true
 
--- ---- WHERE THE RULE FAILS
-
--- the rule has failed on a key by a moment: the key has no state after it
-abbrev pub HasFailed : HistoryValue → ℕ → ℕ → Type 0
-HasFailed h k moment = state_after (event_at (latest_moment h.calls) k h.calls) (has_key k h.opening.keys) moment ≡ None
-
--- the rule fails on a key by a moment, whatever happens after it
-abbrev pub FailsBy : HistoryValue → ℕ → ℕ → Type 0
-FailsBy h key moment = (other : ℕ → Event) (left : Bool)
-    → ((m : ℕ) → m ≤ moment → other m ≡ event_at (latest_moment h.calls) key h.calls m)
-    → ruled 0 (Some (opened (has_key key h.opening.keys))) (events_on other left (latest_moment h.calls) 0) ≡ None
+-- THE RULE FAILS on a key by a moment, whatever happens after it
+abbrev pub FailsBy : ℕ → HistoryValue → ℕ → ℕ → Type 0
+FailsBy last h key moment = (other : ℕ → Event) (left : Bool) → ((m : ℕ) → m ≤ moment → other m ≡ event_at last key h.calls m)
+    → ruled 0 (Some (opened (has_key key h.opening.keys))) (events_on other left last 0) ≡ None

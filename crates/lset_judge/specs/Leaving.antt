@@ -24,5 +24,5 @@ taken test [] = []
 taken test (k ∷ ks) = if test k && not (has_key k (taken test ks)) then with_key k (taken test ks) else taken test ks
 
 -- keys with which, if they are left, the rule passes, if it passes with any
-abbrev pub keys_left : HistoryValue → List ℕ
-keys_left h = taken (λ (k : ℕ). rule_explains h (k ∷ []) k) (h.opening.keys ++ map (λ (x : CallRecord). (key_of x.call).0) h.calls)
+abbrev pub keys_left : ℕ → HistoryValue → List ℕ
+keys_left last h = taken (λ (k : ℕ). rule_explains last h (k ∷ []) k) (h.opening.keys ++ map (λ (x : CallRecord). (key_of x.call).0) h.calls)

@@ -2,6 +2,7 @@ pub mod Rule
 pub mod Events
 pub mod Verdict
 pub mod Code
+pub mod Heaped
 pub mod Locality
 pub mod Window
 pub mod Leaving

@@ -44,8 +44,13 @@ fits m (looks w since) s = same w s.there || not (nat_lt s.turned since)
 fits m (leaves w) s = same w s.there
 fits m idle s = true
 
+-- one more moment in its place
+abbrev pub put_in : ℕ → List ℕ → List ℕ
+put_in e [] = e ∷ []
+put_in e (x ∷ xs) = if nat_lt e x then e ∷ x ∷ xs else x ∷ put_in e xs
+
 abbrev pub enters : Event → State → State
-enters (begins w end) s = if w then record s { puts = end ∷ s.puts } else record s { takes = end ∷ s.takes }
+enters (begins w end) s = if w then record s { puts = put_in end s.puts } else record s { takes = put_in end s.takes }
 enters (ends w) s = s
 enters (looks w since) s = s
 enters (leaves w) s = s

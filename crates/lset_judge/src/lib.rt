@@ -10,6 +10,7 @@
 ghost use Rattle.lset_judge.specs.Locality.{KeysAreApart, QuotasDoNotMatter};
 
 mod asked;
+mod ends;
 mod event;
 mod history;
 mod judged;

@@ -1,52 +1,27 @@
 //! The rule: which pending change of a key takes effect, and when it has to.
 
-ghost use Rattle.std.specs.Prelude.{◌≡◌, ◌↔◌, [], IsTrue, ℕ, suc, ◌<◌, ◌≤◌, ◌==◌, length, true, false, IfOk, IfSome, OnOk, Option, Bool, Some, None, slice_index};
+ghost use Rattle.std.specs.Prelude.{◌≡◌, suc, true, false, IfOk, IfSome, OnOk, Option, Bool, Some, None};
 ghost use Rattle.std.specs.Prelude.{if◌then◌else◌};
-ghost use Rattle.lset_judge.specs.Rule.{not_before, options, turned_if, fits, found, entered, opened};
+ghost use Rattle.lset_judge.specs.Rule.{options, turned_if, fits, found, entered, opened};
 ghost use Rattle.lset_judge.specs.Leaving.{may_be_left};
 ghost use Rattle.lset_judge.specs.Code.{state_of};
 ghost use Rattle.lset_judge.specs.Log.{log_of, log_opened, pushed, IsQuiet};
 
+use crate::ends::Ends;
 use crate::event::Event;
 use crate::log::Log;
 use crate::stream::StreamCall;
 use std::alloc::{AllocError, Global};
 
-/// The state of a key: whether it is there, and since when; and the pending changes that have not taken effect, by their ends.
+/// The state of a key: whether it is there, and since when; and the ends of the pending
+/// changes that have not taken effect.
 #[derive(Drop)]
 pub(crate) struct KeyState {
     there: bool,
     turned: u64,
-    puts: Vec<u64>,
-    takes: Vec<u64>,
+    puts: Ends,
+    takes: Ends,
     pub(crate) log: Log,
-}
-
-fn none_due(ends: &[u64], before: u64) -> bool
-    ensures { result ≡ (not_before (suc (suc before)) ends.now == length ends.now) }
-{
-    for i in 0..ends.len() {
-        if ends[i].saturating_sub(1) <= before {
-            return false;
-        }
-    }
-    true
-}
-
-/// The first place of the least.
-fn nearest_place(ends: &[u64]) -> usize
-    requires { 0 < length ends.now }
-    ensures inside { result < length ends.now }
-    ensures least { (k : ℕ) → k < length ends.now → slice_index ends.now result ≤ slice_index ends.now k }
-    ensures first { (k : ℕ) → k < result → slice_index ends.now result < slice_index ends.now k }
-{
-    let mut place = 0;
-    for i in 1..ends.len() {
-        if ends[i] < ends[place] {
-            place = i;
-        }
-    }
-    place
 }
 
 impl KeyState {
@@ -58,8 +33,8 @@ impl KeyState {
         KeyState {
             there,
             turned: 0,
-            puts: Vec::new(alloc),
-            takes: Vec::new(alloc),
+            puts: Ends::new(alloc),
+            takes: Ends::new(alloc),
             log: Log::opened(alloc, there),
         }
     }
@@ -95,14 +70,14 @@ impl KeyState {
         ensures turned { turned_if before (state_of self.old) (options (state_of self.old)) ≡ (if result then Some (state_of self.new) else None) }
         ensures log { self.new.log ≡ self.old.log }
     {
-        if self.puts.is_empty() {
-            return false;
+        match self.puts.pop() {
+            Some(_) => {
+                self.there = true;
+                self.turned = before;
+                true
+            }
+            None => false,
         }
-        let place = nearest_place(&self.puts);
-        let _end = self.puts.remove(place);
-        self.there = true;
-        self.turned = before;
-        true
     }
 
     fn take(&mut self, before: u64) -> bool
@@ -110,14 +85,14 @@ impl KeyState {
         ensures turned { turned_if before (state_of self.old) (options (state_of self.old)) ≡ (if result then Some (state_of self.new) else None) }
         ensures log { self.new.log ≡ self.old.log }
     {
-        if self.takes.is_empty() {
-            return false;
+        match self.takes.pop() {
+            Some(_) => {
+                self.there = false;
+                self.turned = before;
+                true
+            }
+            None => false,
         }
-        let place = nearest_place(&self.takes);
-        let _end = self.takes.remove(place);
-        self.there = false;
-        self.turned = before;
-        true
     }
 
     fn flip(&mut self, before: u64) -> bool
@@ -135,8 +110,8 @@ impl KeyState {
         ensures { result ≡ fits (suc before) event (state_of self.now) }
     {
         match event {
-            Event::Ends(true) => none_due(&self.puts, before),
-            Event::Ends(false) => none_due(&self.takes, before),
+            Event::Ends(true) => self.puts.none_due(before),
+            Event::Ends(false) => self.takes.none_due(before),
             Event::Looks(there, since) => self.there == there || self.turned >= since,
             Event::Leaves(there) => self.there == there,
             Event::Begins(_, _) | Event::Idle => true,
@@ -166,8 +141,8 @@ impl KeyState {
             return Ok(false);
         }
         match event {
-            Event::Begins(true, end) => self.puts.insert(0, end)?,
-            Event::Begins(false, end) => self.takes.insert(0, end)?,
+            Event::Begins(true, end) => self.puts.push(end)?,
+            Event::Begins(false, end) => self.takes.push(end)?,
             Event::Ends(_) | Event::Looks(_, _) | Event::Leaves(_) | Event::Idle => {}
         }
         Ok(true)

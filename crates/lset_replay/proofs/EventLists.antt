@@ -34,7 +34,8 @@ pub record IsAhead (es : List LineEvent) (k : ℕ) (rest : List LineEvent) : Typ
   pub rest_is : drop k es ≡ rest
 
 -- the next event
-pub comes_next : (es : List LineEvent) (k : ℕ) (next : LineEvent) (rest : List LineEvent) → drop k es ≡ next ∷ rest → ComesNext es k next
+comes_next : (es : List LineEvent) (k : ℕ) (next : LineEvent) (rest : List LineEvent) → drop k es ≡ next ∷ rest
+    → ComesNext es k next
 comes_next [] zero next rest e = absurd (cc)
 comes_next [] (suc k) next rest e = absurd (cc)
 comes_next (x ∷ es) zero next rest e = record {
@@ -46,7 +47,8 @@ comes_next (x ∷ es) (suc k) next rest e =
     let there : ComesNext es k next = comes_next es k next rest e in
     record { known = (let l : k < length es = there.known in omega arith); event_is = there.event_is; line_is = there.line_is }
 
-drop_more : (es : List LineEvent) (k : ℕ) (next : LineEvent) (rest : List LineEvent) → drop k es ≡ next ∷ rest → drop (suc k) es ≡ rest
+drop_more : (es : List LineEvent) (k : ℕ) (next : LineEvent) (rest : List LineEvent) → drop k es ≡ next ∷ rest
+    → drop (suc k) es ≡ rest
 drop_more [] zero next rest e = absurd (cc)
 drop_more [] (suc k) next rest e = absurd (cc)
 drop_more (x ∷ es) zero next rest e = cc
@@ -62,7 +64,8 @@ rest_of n ls i times next = replicate times next ++ events_from (n + (i + 1)) (d
 
 module _ (n : ℕ) (ls : List Line) (i k times : ℕ) (next : LineEvent) where
   pub next_line : i < length ls → events_of_line (n + i) (get_or ls i no_line) ≡ replicate times next
-      → IsAhead (events_from n ls) k (events_from (n + i) (drop i ls)) → IsAhead (events_from n ls) k (rest_of n ls i (times - 0) next)
+      → IsAhead (events_from n ls) k (events_from (n + i) (drop i ls))
+      → IsAhead (events_from n ls) k (rest_of n ls i (times - 0) next)
   next_line below line ahead = record {
     within = ahead.within;
     rest_is = ahead.rest_is ∙ ap (λ ks. events_from (n + i) ks) (drop-cons ls i no_line below)

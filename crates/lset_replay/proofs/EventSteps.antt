@@ -80,7 +80,8 @@ module _ (T : Table) (op : Opening) (events : List LineEvent) (k : ℕ) (w : Wor
         (subst (λ z. Refused z e cause) h.world refused);
   })
     where
-      by_cause : (cause : StepFault) → IsFirstRefused T op events next.line cause → IsRefusal T op events (fault_at next.line cause)
+      by_cause : (cause : StepFault) → IsFirstRefused T op events next.line cause
+          → IsRefusal T op events (fault_at next.line cause)
       by_cause step.NoThread f = f
       by_cause step.Busy f = f
       by_cause step.Idle f = f

@@ -57,7 +57,8 @@ module _ (T : Table) (accounts : TellsKeys T) (op : Opening) (events : List Line
       (low_then T accounts op events k w r h))
 
 -- and of all events
-pub replay_is : (T : Table) (accounts : TellsKeys T) (p : Plan) (w : WorldState) (r : Recorder) (order : List Placed) (keys : List ℕ)
+pub replay_is : (T : Table) (accounts : TellsKeys T) (p : Plan) (w : WorldState) (r : Recorder) (order : List Placed)
+    (keys : List ℕ)
     → HasFollowed T (opening_in p) (events_of p) (length (events_of p)) w r
     → order ≡ blocks_upto r.places.items (length (events_of p))
     → IsContent (view_of w.sizes w.state) keys

@@ -239,8 +239,8 @@ module _ (op : Opening) (last : ℕ) (log : Log) (contents : Contents) (counts :
       let since : watching.begun ≤ k = open_now.2.since in
       let w = fit_least op.quota contents counts watching.begun (suc k) t kept.changes watching.call a
       (fit kept.changes watching a (suc k)) step_bounded step_keys
-      (first_passing_is (needs_key watching.call a) (shows kept.changes watching.call a) watching.begun (suc k - watching.begun) (suc k)
-      (omega arith))
+      (first_passing_is (needs_key watching.call a) (shows kept.changes watching.call a) watching.begun
+      (suc k - watching.begun) (suc k) (omega arith))
       (steady_next log contents counts k t watching quiet_here open_now.2 still) sometime in (
         w.0,
         w.1,

@@ -22,8 +22,8 @@ use Rattle.lset_replay.specs.declared.recorder.Recorder.{Recorder}
 
 -- ---- an open call
 
--- Whether a reply of a call that changes nothing is correct if the call's key is in the set, or if it is not; of a ceiling, if what it
--- answers is
+-- Whether a reply of a call that changes nothing is correct if the call's key is in the set, or if it is not; of a ceiling, if what
+-- it answers is
 abbrev pub needs_key : Call → Reply → Bool
 needs_key (call.Add k) reply.True = false
 needs_key (call.Add k) reply.False = true

@@ -4,6 +4,30 @@ ghost use Rattle.lset_text.specs.Numbers.{number_in, NumbersReadBack};
 /// Returns the number from `low` to `high` that a field spells: `0`, or digits of which the first is not `0`. `None` for any
 /// other field. It looks no further than the digit that exceeds `high`.
 #[tactic(auto, unfolding(crate::specs::Numbers::number_in))]
+pub fn number(piece: &[u8], low: u32, high: u32) -> Option<u32>
+    ensures { result ≡ number_in low high piece.now }
+{
+    if piece.is_empty() || (piece.len() > 1 && piece[0] == b'0') {
+        return None;
+    }
+    let mut value: u64 = 0;
+    for b in piece {
+        if !b.is_ascii_digit() {
+            return None;
+        }
+        value = value * 10 + u64::from(*b - b'0');
+        if value > u64::from(high) {
+            return None;
+        }
+    }
+    if value < u64::from(low) {
+        return None;
+    }
+    Some(value as u32)
+}
+
+/// Returns what `number` does of a range that may go past 32 bits; it takes a test more for each digit.
+#[tactic(auto, unfolding(crate::specs::Numbers::number_in))]
 pub fn long_number(piece: &[u8], low: u64, high: u64) -> Option<u64>
     requires { high < 2 ^ 63 }
     ensures value { result ≡ number_in low high piece.now }
@@ -31,14 +55,6 @@ pub fn long_number(piece: &[u8], low: u64, high: u64) -> Option<u64>
         return None;
     }
     Some(value)
-}
-
-/// Returns the number from `low` to `high` that a field spells, as `long_number` does.
-pub fn number(piece: &[u8], low: u32, high: u32) -> Option<u32>
-    ensures { result ≡ number_in low high piece.now }
-{
-    let value = long_number(piece, u64::from(low), u64::from(high))?;
-    Some(value as u32)
 }
 
 /// Lemma: the numbers of a range are read from their decimals, and from nothing else.

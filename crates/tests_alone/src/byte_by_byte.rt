@@ -4,7 +4,7 @@ use crate::devices::{Plan, WHOLE, Writer};
 use crate::prelude::*;
 use std::io::{self, Read};
 use tool_base::{Answer, deliver, tool_check};
-use tool_judge::tool_judge;
+use tool_judge::judge_input;
 
 /// So many calls in turn.
 const CALLS: u32 = 4_000;
@@ -45,11 +45,15 @@ fn a_recording_comes_byte_by_byte(rt: HostRuntime) -> Result<(), Fail> {
     let alloc = rt.alloc();
     let text = recording(alloc)?;
     let mut input = Drops { text, next: 0 };
-    let (mut output, mut faults) = (Vec::new(alloc), Vec::new(alloc));
-    let status = tool_judge(alloc, &mut input, &mut output, &mut faults);
-    assert!(rt; status == 0 && faults.is_empty());
-    assert!(rt; output.starts_with(b"ok 4000 calls\n".as_slice()));
-    Ok(())
+    match judge_input(alloc, &mut input) {
+        Ok(answer) => {
+            assert!(rt;
+                answer.status == 0 && answer.text.starts_with(b"ok 4000 calls\n".as_slice())
+            );
+            Ok(())
+        }
+        Err(_) => Err(Fail::new("it is judged")),
+    }
 }
 
 /// A report without its order, so that the first call is missing.
@@ -82,7 +86,7 @@ fn an_answer_is_written_byte_by_byte(rt: HostRuntime) -> Result<(), Fail> {
         text: Vec::from_slice(alloc, &text)?,
         status: 1,
     };
-    assert!(rt; deliver(alloc, Ok(answer), &mut output, &mut faults) == 1);
+    assert!(rt; deliver(Ok(answer), &mut output, &mut faults) == 1);
     assert!(rt; faults.is_empty() && output.calls >= text.len());
     assert!(rt; output.taken.as_slice() == text.as_slice());
     Ok(())

@@ -1,8 +1,9 @@
 //! Inputs that fail, of keys with which a server's set is to open.
-use crate::devices::{CANNOT_READ, Failure, NEVER, Reader, planned};
+use crate::devices::{CANNOT_READ, Failure, Reader, planned};
 use crate::prelude::*;
 use crate::tools::texts_of;
-use tool_serve::tool_serve_with;
+use tool_base::{Trouble, deliver, read_serve_request};
+use tool_serve::serve_set_of;
 
 /// What a server printed that left one key.
 const PRINTED: &str = "listening 127.0.0.1:4711\nsessions 1\ncalls 1\nkey 7\n";
@@ -13,7 +14,7 @@ const LEFT: &str = "\nsessions 0\ncalls 0\nkey 7\n";
 /// More calls than a run makes on its input.
 const MOST_CALLS: usize = 100;
 
-/// What a server of LazyList, with so many seats and no session, did with its input and wrote.
+/// What a server of LazyList, without a session, did with its input and wrote.
 #[derive(Drop)]
 struct Run {
     status: u8,
@@ -25,13 +26,16 @@ struct Run {
 fn ran<R: Host + Net<Listener = TcpListener, Stream = TcpStream>>(
     rt: &R,
     alloc: Global,
-    seats: &str,
     fails_at: usize,
 ) -> Result<Run, AllocError> {
-    let values = texts_of(alloc, &["lazy", seats, "4", "0", "0"])?;
+    let values = texts_of(alloc, &["lazy", "1", "4", "0", "0"])?;
     let mut input = Reader::new(PRINTED, planned((Failure::Interrupted, 7), fails_at));
     let (mut output, mut faults) = (Vec::new(alloc), Vec::new(alloc));
-    let status = tool_serve_with(rt, alloc, &values, &mut input, &mut output, &mut faults);
+    let made = match read_serve_request(&values) {
+        Ok(request) => serve_set_of(rt, alloc, request, &mut input, &mut output),
+        Err(wrong) => Err(Trouble::Bad(wrong)),
+    };
+    let status = deliver(made, &mut output, &mut faults);
     Ok(Run {
         status,
         calls: input.calls,
@@ -44,7 +48,7 @@ fn ran<R: Host + Net<Listener = TcpListener, Stream = TcpStream>>(
 #[test]
 fn each_read_of_the_keys_fails_in_turn(rt: HostRuntime) -> Result<(), Fail> {
     for fails_at in 0..MOST_CALLS {
-        let run = ran(&rt, rt.alloc(), "1", fails_at)?;
+        let run = ran(&rt, rt.alloc(), fails_at)?;
         if run.status == 0 {
             assert!(rt; run.output.ends_with(LEFT.as_bytes()) && run.faults.is_empty());
             assert!(rt; fails_at.saturating_mul(7) > PRINTED.len());
@@ -55,13 +59,4 @@ fn each_read_of_the_keys_fails_in_turn(rt: HostRuntime) -> Result<(), Fail> {
         assert!(rt; run.faults.as_slice() == CANNOT_READ);
     }
     Err(Fail::new("no run ends without a failure"))
-}
-
-#[test]
-fn a_wrong_value_is_named_before_the_keys_are_read(rt: HostRuntime) -> Result<(), Fail> {
-    let run = ran(&rt, rt.alloc(), "0", NEVER)?;
-    assert!(rt; run.status == 2 && run.calls == 0);
-    assert!(rt; run.output.is_empty());
-    assert!(rt; run.faults.as_slice() == b"listset: bad SEATS\n".as_slice());
-    Ok(())
 }

@@ -4,7 +4,8 @@ use crate::prelude::*;
 use crate::tools::texts_of;
 use std::io::{self, Read, Write};
 use std::net::Shutdown;
-use tool_serve::tool_serve;
+use tool_base::{Trouble, deliver, read_serve_request};
+use tool_serve::serve_set;
 
 const LISTENING: &str = "listening 127.0.0.1:";
 
@@ -133,7 +134,11 @@ fn ran<'r, R: Host + Net<Listener = TcpListener, Stream = TcpStream>>(
         is_open: false,
     };
     let mut faults = Writer::new(alloc, faults);
-    let status = tool_serve(rt, alloc, &values, &mut door, &mut faults);
+    let made = match read_serve_request(&values) {
+        Ok(request) => serve_set(rt, alloc, request, &[], &mut door),
+        Err(wrong) => Err(Trouble::Bad(wrong)),
+    };
+    let status = deliver(made, &mut door, &mut faults);
     Ok(Run {
         status,
         door,

@@ -1,21 +1,33 @@
 //! Runs of the tools, on devices that fail as planned. What they print is in `transcripts`.
 use crate::devices::{Plan, Reader, WHOLE, Writer};
 use crate::prelude::*;
-use tool_base::{tool_check, tool_gen, tool_replay};
-use tool_broken::{tool_replay_broken, tool_show_broken, tool_trace_broken};
-use tool_draft::tool_draft;
+use broken_lists::BrokenList;
+use tool_base::{Trouble, deliver, run_tool, tool_check, tool_gen, tool_replay};
+use tool_broken::{ReplayBroken, ShowBroken, TraceBroken};
+use tool_draft::Expand;
 use tool_drawing::Window;
-use tool_examples::tool_example;
-use tool_judge::tool_judge;
+use tool_examples::{print_example, read_example_request};
+use tool_judge::judge_input;
 use tool_run::tool_run;
-use tool_show::{Form, tool_show};
-use tool_trace::tool_trace;
+use tool_show::{Form, Show};
+use tool_trace::{Trace, trace_events};
 
-/// Every moment.
-const ALL: Window = Window {
-    from: 1,
-    to: 4_294_967_295,
+/// All of a picture, as text.
+const SHOW: Show = Show {
+    form: Form::Text(100),
+    window: Window {
+        from: 1,
+        to: 4_294_967_295,
+    },
 };
+
+/// A command with `--lacks`.
+#[derive(Clone, Copy)]
+pub enum Lacking {
+    Replay,
+    Show,
+    Trace,
+}
 
 #[derive(Clone, Copy)]
 pub enum Tool {
@@ -30,16 +42,12 @@ pub enum Tool {
     Trace,
     /// With the chains.
     TraceChains,
-    /// By the list that lacks this check.
-    ReplayLacking(&'static str),
-    TraceLacking(&'static str),
-    ShowLacking(&'static str),
+    /// By a broken list.
+    Broken(Lacking, BrokenList),
     /// With this KIND, of one thread with one call.
     Gen(&'static str),
     /// Of this name.
     Example(&'static str),
-    /// The broken report of this name.
-    Broken(&'static str),
     /// With this KIND, of one thread with two calls.
     Run(&'static str),
 }
@@ -73,14 +81,14 @@ const UNENDED: &str = "listset-calls 1\ncall 0 add 5 1 4 true\nkey 5\n";
 
 const DRAFT: &str = "listset-draft 2\nlist coarse\nthreads 1\nquota 4\nbegin 0 add 5\ngo 0 out\n";
 
-/// What a list lacks whose `contains` looks at no mark, and a schedule of one such call.
-const MARK: &str = "mark-in-contains";
+/// A list whose `contains` looks at no mark, and a schedule of one such call.
+const MARK: BrokenList = BrokenList::MarkInContains;
 
 const LOOK: &str =
     "listset-schedule 2\nlist lazy\nthreads 1\nquota 0\nbegin 0 contains 5\ngo 0 2\n";
 
 /// Those that write on the output, and those that write a line about an error alone.
-pub const ROWS: [Row; 31] = [
+pub const ROWS: [Row; 28] = [
     (Tool::Replay, SCHEDULE),
     (Tool::Check, REPORT),
     (Tool::Check, LEFT_OUT),
@@ -93,12 +101,11 @@ pub const ROWS: [Row; 31] = [
     (Tool::Svg, SCHEDULE),
     (Tool::TraceChains, SCHEDULE),
     (Tool::Trace, IDLE),
-    (Tool::ReplayLacking(MARK), LOOK),
-    (Tool::TraceLacking(MARK), LOOK),
-    (Tool::ShowLacking(MARK), LOOK),
+    (Tool::Broken(Lacking::Replay, MARK), LOOK),
+    (Tool::Broken(Lacking::Trace, MARK), LOOK),
+    (Tool::Broken(Lacking::Show, MARK), LOOK),
     (Tool::Gen("coarse"), ""),
     (Tool::Example("full"), ""),
-    (Tool::Broken("stale-pred"), ""),
     (Tool::Run("coarse"), ""),
     (Tool::Replay, REPORT),
     (Tool::Check, SCHEDULE),
@@ -106,11 +113,9 @@ pub const ROWS: [Row; 31] = [
     (Tool::Draft, REPORT),
     (Tool::Show, BOTH),
     (Tool::Trace, REPORT),
-    (Tool::ReplayLacking(MARK), REPORT),
-    (Tool::ShowLacking("lock"), LOOK),
+    (Tool::Broken(Lacking::Replay, MARK), REPORT),
     (Tool::Gen("skip"), ""),
     (Tool::Example("snap"), ""),
-    (Tool::Broken("full"), ""),
     (Tool::Run("skip"), ""),
 ];
 
@@ -160,19 +165,6 @@ pub fn ran<R: Host>(
     let status = match tool {
         Tool::Replay => tool_replay(alloc, from, to, also),
         Tool::Check => tool_check(alloc, from, to, also),
-        Tool::Judge => tool_judge(alloc, from, to, also),
-        Tool::Draft => tool_draft(alloc, from, to, also),
-        Tool::Show => tool_show(alloc, Form::Text(100), ALL, from, to, also),
-        Tool::Svg => tool_show(alloc, Form::Svg, ALL, from, to, also),
-        Tool::Trace => tool_trace(alloc, false, from, to, also),
-        Tool::TraceChains => tool_trace(alloc, true, from, to, also),
-        Tool::ReplayLacking(name) => tool_replay_broken(alloc, name, from, to, also),
-        Tool::TraceLacking(name) => tool_trace_broken(alloc, name, false, from, to, also),
-        Tool::ShowLacking(name) => {
-            tool_show_broken(alloc, name, Form::Text(100), ALL, from, to, also)
-        }
-        Tool::Example(name) => tool_example(alloc, false, Some(name), to, also),
-        Tool::Broken(name) => tool_example(alloc, true, Some(name), to, also),
         Tool::Gen(kind) => {
             let values = texts_of(alloc, &[kind, "1", "4", "1", "8", "1"])?;
             tool_gen(alloc, &values, to, also)
@@ -180,6 +172,42 @@ pub fn ran<R: Host>(
         Tool::Run(kind) => {
             let values = texts_of(alloc, &[kind, "1", "4", "2", "8", "1"])?;
             tool_run(rt, alloc, &values, to, also)
+        }
+        Tool::Judge => deliver(judge_input(alloc, from), to, also),
+        Tool::Draft => run_tool(alloc, &Expand {}, from, to, also),
+        Tool::Show => run_tool(alloc, &SHOW, from, to, also),
+        Tool::Svg => {
+            let show = Show {
+                form: Form::Svg,
+                window: SHOW.window,
+            };
+            run_tool(alloc, &show, from, to, also)
+        }
+        Tool::Trace => {
+            let made = trace_events(alloc, from, to);
+            deliver(made, to, also)
+        }
+        Tool::TraceChains => run_tool(alloc, &Trace { chains: true }, from, to, also),
+        Tool::Broken(command, broken) => match command {
+            Lacking::Replay => run_tool(alloc, &ReplayBroken { broken }, from, to, also),
+            Lacking::Show => {
+                let tool = ShowBroken { broken, show: SHOW };
+                run_tool(alloc, &tool, from, to, also)
+            }
+            Lacking::Trace => {
+                let tool = TraceBroken {
+                    broken,
+                    chains: false,
+                };
+                run_tool(alloc, &tool, from, to, also)
+            }
+        },
+        Tool::Example(name) => {
+            let made = match read_example_request(Some(name.as_bytes()), false) {
+                Ok(request) => print_example(alloc, request),
+                Err(wrong) => Err(Trouble::Bad(wrong)),
+            };
+            deliver(made, to, also)
         }
     };
     Ok(Run {

@@ -11,7 +11,8 @@ use Rattle.lset_report.specs.Texts.{report_text}
 use Rattle.lset_report.specs.ReportReading.{IsReport, reading}
 use Rattle.tool_base.specs.declared.trouble.Trouble.{Trouble}
 use Rattle.tool_base.specs.Trouble.{of_line_fault}
-use Rattle.tool_base.specs.Tools.{AnswerValue, Made, IsTaken, IsInputTrouble}
+use Rattle.tool_base.specs.declared.trouble.Trouble.TheVariants as trouble
+use Rattle.tool_base.specs.Tools.{AnswerValue, Made, OnInput}
 
 -- The order of a report has this first fault, and so it does not explain the history. A failed allocation is no fault of an order.
 pub record IsRefused (r : ReportValue) (fault : OrderFault) : Type 0 where
@@ -48,8 +49,10 @@ abbrev pub IsFirstFault : Result ReportValue LineFault → Trouble → Type 0
 IsFirstFault (Err fault) t = t ≡ of_line_fault fault
 IsFirstFault (Ok r) t = ⊥
 
--- what is made of the bytes of an input: the answer on the report whose text they are, or a trouble with the input, or its first
--- fault
+-- what is made of the bytes of a text: the answer on the report whose text they are, or its first fault
+abbrev pub ChecksText : List ℕ → Made → Type 0
+ChecksText bytes (Ok answer) = (r : ReportValue) × IsReport r × (bytes ≡ report_text r) × IsAnswerOn r answer
+ChecksText bytes (Err t) = (t ≡ trouble.Memory) ⊎ IsFirstFault (reading bytes) t
+
 abbrev pub Checks : List ℕ → Made → Type 0
-Checks bytes (Ok answer) = IsTaken bytes × (r : ReportValue) × IsReport r × (bytes ≡ report_text r) × IsAnswerOn r answer
-Checks bytes (Err t) = IsInputTrouble bytes t ⊎ (IsTaken bytes × IsFirstFault (reading bytes) t)
+Checks bytes made = OnInput ChecksText bytes made

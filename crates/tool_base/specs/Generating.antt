@@ -17,8 +17,8 @@ use Rattle.tool_base.specs.declared.trouble.Trouble.{Trouble}
 use Rattle.tool_base.specs.declared.trouble.Trouble.TheVariants.{Memory, Bad}
 use Rattle.tool_base.specs.declared.trouble.ValueName.{ValueName}
 use Rattle.tool_base.specs.declared.trouble.ValueName.TheVariants as name
-use Rattle.tool_base.specs.declared.values.RandomRequest.{RandomRequest}
-use Rattle.tool_base.specs.declared.values.TheConstants.{MOST_CALLS_ASKED, MOST_KEYS_ASKED, MOST_SEED}
+use Rattle.tool_base.specs.declared.arguments.RandomRequest.{RandomRequest}
+use Rattle.tool_base.specs.declared.arguments.TheConstants.{MOST_CALLS_ASKED, MOST_KEYS_ASKED, MOST_SEED}
 use Rattle.tool_base.specs.Tools.{Made}
 
 -- ---- what the values ask for

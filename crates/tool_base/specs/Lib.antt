@@ -3,5 +3,4 @@ pub mod Tools
 pub mod Replaying
 pub mod Checking
 pub mod Generating
-pub mod Moments
 pub mod Faults

@@ -11,7 +11,8 @@ use Rattle.lset_replay.specs.Reports.{IsReplay, IsRefusal, IsExplained}
 use Rattle.lset_report.specs.Texts.{report_text}
 use Rattle.tool_base.specs.declared.trouble.Trouble.{Trouble}
 use Rattle.tool_base.specs.Trouble.{of_line_fault, of_replay}
-use Rattle.tool_base.specs.Tools.{Made, IsTaken, IsInputTrouble}
+use Rattle.tool_base.specs.declared.trouble.Trouble.TheVariants.{Memory}
+use Rattle.tool_base.specs.Tools.{Made, OnInput}
 
 -- The bytes are the text of a schedule, and this is the report of just its events, whose order explains its history and leaves
 -- its keys.
@@ -26,8 +27,11 @@ abbrev pub IsFirstFault : Result Plan LineFault → Trouble → Type 0
 IsFirstFault (Err fault) t = t ≡ of_line_fault fault
 IsFirstFault (Ok p) t = (refusal : ReplayFault) × (t ≡ of_replay refusal) × IsRefusal (table_of p.kind) (opening_in p) (events_of p) refusal
 
--- what is made of the bytes of an input: the text of the report, or a trouble with the input, or its first fault
+-- what is made of the bytes of a text: the text of the report, or its first fault
+abbrev pub ReplaysText : List ℕ → Made → Type 0
+ReplaysText bytes (Ok answer) =
+    (p : Plan) × (r : ReportValue) × IsReported bytes p r × (answer ≡ record { text = report_text r; status = 0 })
+ReplaysText bytes (Err t) = (t ≡ Memory) ⊎ IsFirstFault (reading bytes) t
+
 abbrev pub Replays : List ℕ → Made → Type 0
-Replays bytes (Ok answer) =
-    IsTaken bytes × (p : Plan) × (r : ReportValue) × IsReported bytes p r × (answer ≡ record { text = report_text r; status = 0 })
-Replays bytes (Err t) = IsInputTrouble bytes t ⊎ (IsTaken bytes × IsFirstFault (reading bytes) t)
+Replays bytes made = OnInput ReplaysText bytes made

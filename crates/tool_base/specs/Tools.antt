@@ -1,8 +1,8 @@
 -- How a tool ends, whatever it makes of its input.
-use Rattle.std.specs.Prelude.{◌≡◌, ℕ, ◌<◌, ◌≤◌, List, [], ◌++◌, length, Option, Result, Ok, Err}
+use Rattle.std.specs.Prelude.{◌≡◌, ◌⊎◌, ℕ, ◌<◌, ◌≤◌, List, [], ◌++◌, length, Option, Result, Ok, Err}
 use Rattle.std.specs.Io.KnownBytes.{Appends, Keeps}
 use Rattle.tool_base.specs.declared.answer.Answer.{Answer}
-use Rattle.tool_base.specs.declared.streams.TheConstants.{LONGEST}
+use Rattle.tool_base.specs.declared.input.TheConstants.{LONGEST}
 use Rattle.tool_base.specs.declared.trouble.Trouble.{Trouble}
 use Rattle.tool_base.specs.declared.trouble.Trouble.TheVariants.{CannotRead, TooLong, CannotWrite, Memory}
 use Rattle.tool_base.specs.Trouble.{trouble_text}
@@ -63,9 +63,18 @@ Ends IsMade output_old output_new faults_old faults_new status =
 abbrev pub IsTaken : List ℕ → Type 0
 IsTaken bytes = length bytes ≤ LONGEST
 
--- a trouble with an input of these bytes that is no trouble with what they say
-abbrev pub IsInputTrouble : List ℕ → Trouble → Type 0
-IsInputTrouble bytes CannotRead = Unit {0}
-IsInputTrouble bytes TooLong = LONGEST < length bytes
-IsInputTrouble bytes Memory = Unit {0}
-IsInputTrouble bytes t = ⊥
+-- a trouble with an input of these bytes: that there are too many
+abbrev pub IsTooLong : List ℕ → Trouble → Type 0
+IsTooLong bytes t = (t ≡ TooLong) × (LONGEST < length bytes)
+
+-- what is made of a text: such a trouble, or, if it is taken, what is made of its bytes
+abbrev pub OnText : (List ℕ → Made → Type 0) → List ℕ → Made → Type 0
+OnText Makes bytes made = ((t : Trouble) × (made ≡ Err t) × IsTooLong bytes t) ⊎ (IsTaken bytes × Makes bytes made)
+
+-- what is made of an input: a read failed, or memory was refused, or what is made of the text of its bytes
+abbrev pub OnInput : (List ℕ → Made → Type 0) → List ℕ → Made → Type 0
+OnInput Makes bytes made = (made ≡ Err CannotRead) ⊎ ((made ≡ Err Memory) ⊎ OnText Makes bytes made)
+
+-- what was read of an input: all, or too many bytes
+abbrev pub IsReadOf : List ℕ → List ℕ → Type 0
+IsReadOf read all = (read ≡ all) ⊎ ((LONGEST < length read) × (LONGEST < length all))

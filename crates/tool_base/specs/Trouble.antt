@@ -7,24 +7,13 @@ use Rattle.lset_text.specs.declared.causes.LineFault.{LineFault}
 use Rattle.lset_text.specs.Causes.{name_of}
 use Rattle.lset_replay.specs.declared.fault.ReplayFault.{ReplayFault}
 use Rattle.lset_replay.specs.declared.fault.ReplayFault.TheVariants as replay
-use Rattle.tool_base.specs.declared.streams.InputFault.{InputFault}
-use Rattle.tool_base.specs.declared.streams.InputFault.TheVariants as input
-use Rattle.tool_base.specs.declared.trouble.TheConstants.{LACKS}
+use Rattle.tool_base.specs.declared.trouble.SystemCause.{SystemCause}
+use Rattle.tool_base.specs.declared.trouble.SystemCause.TheVariants as system
 use Rattle.tool_base.specs.declared.trouble.ValueName.{ValueName}
 use Rattle.tool_base.specs.declared.trouble.ValueName.TheVariants as value
-use Rattle.tool_base.specs.declared.trouble.WorkName.{WorkName}
-use Rattle.tool_base.specs.declared.trouble.WorkName.TheVariants as work
-use Rattle.tool_base.specs.declared.trouble.ServeName.{ServeName}
-use Rattle.tool_base.specs.declared.trouble.ServeName.TheVariants as serve
 use Rattle.tool_base.specs.declared.trouble.Trouble.{Trouble}
 use Rattle.tool_base.specs.declared.trouble.Trouble.TheVariants.{CannotRead, TooLong, CannotWrite, Memory, Line, Bad}
 use Rattle.tool_base.specs.declared.trouble.Trouble.TheVariants.{CannotListen, Work, Serve}
-
--- of an input that was not read
-abbrev pub of_input : InputFault → Trouble
-of_input input.CannotRead = CannotRead
-of_input input.TooLong = TooLong
-of_input (input.Memory refused) = Memory
 
 -- of a line that is refused
 abbrev pub of_line : ℕ → Cause → Trouble
@@ -58,23 +47,20 @@ value_word value.Seats = codes "SEATS"
 value_word value.Port = codes "PORT"
 value_word value.Sessions = codes "SESSIONS"
 value_word value.Name = codes "NAME"
-value_word value.Lacks = LACKS.now
+value_word value.Lacks = codes "NAME: 'listset help replay' lists the names"
 value_word value.From = codes "FROM"
 value_word value.To = codes "TO"
 value_word value.Width = codes "WIDTH"
 
-abbrev pub work_name : WorkName → List ℕ
-work_name work.Programs = codes "Programs"
-work_name work.Spawn = codes "Spawn"
-work_name work.Gate = codes "Gate"
-work_name work.Opening = codes "Opening"
-
-abbrev pub serve_name : ServeName → List ℕ
-serve_name serve.Seats = codes "Seats"
-serve_name serve.Accept = codes "Accept"
-serve_name serve.Spawn = codes "Spawn"
-serve_name serve.Send = codes "Send"
-serve_name serve.Left = codes "Left"
+abbrev pub system_name : SystemCause → List ℕ
+system_name system.Programs = codes "Programs"
+system_name system.Gate = codes "Gate"
+system_name system.Opening = codes "Opening"
+system_name system.Seats = codes "Seats"
+system_name system.Accept = codes "Accept"
+system_name system.Spawn = codes "Spawn"
+system_name system.Send = codes "Send"
+system_name system.Left = codes "Left"
 
 abbrev pub trouble_text : Trouble → List ℕ
 trouble_text CannotRead = codes "listset: cannot read\n"
@@ -84,5 +70,5 @@ trouble_text Memory = codes "listset: out of memory\n"
 trouble_text (Line number cause) = codes "listset: line " ++ decimal number ++ codes ": " ++ name_of cause ++ codes "\n"
 trouble_text (Bad wrong) = codes "listset: bad " ++ value_word wrong ++ codes "\n"
 trouble_text CannotListen = codes "listset: cannot listen\n"
-trouble_text (Work name) = codes "listset: work: " ++ work_name name ++ codes "\n"
-trouble_text (Serve name) = codes "listset: serve: " ++ serve_name name ++ codes "\n"
+trouble_text (Work name) = codes "listset: work: " ++ system_name name ++ codes "\n"
+trouble_text (Serve name) = codes "listset: serve: " ++ system_name name ++ codes "\n"

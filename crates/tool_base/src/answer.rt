@@ -1,22 +1,18 @@
-ghost use Rattle.std.specs.Prelude.{◌≡◌, IfOk, Result};
-ghost use Rattle.tool_base.specs.Tools.{Delivers, IsDelivered, AppendsFront, view};
+ghost use Rattle.std.specs.Prelude.{◌≡◌, ◌+◌, ◌<◌, ◌≤◌, ◌++◌, codes, length, Result};
+ghost use Rattle.lset_text.specs.Causes.{name_of};
+ghost use Rattle.tool_base.specs.Tools.{Delivers, IsDelivered, view};
 ghost use Rattle.tool_base.specs.Trouble.{trouble_text};
+ghost use Rattle.tool_base.specs.declared.answer.TheConstants.{LONGEST_LINE};
 
-use crate::streams::put;
-use crate::trouble::{ServeName, Trouble, ValueName, WorkName};
+use crate::input::put;
+use crate::trouble::Trouble;
+use arrayvec::ArrayString;
+use itoa::Buffer;
 use lset_text::Cause;
-use std::alloc::{AllocError, Global};
 use std::io::Write;
 
-const CANNOT_READ: &[u8] = b"listset: cannot read\n";
-
-const TOO_LONG: &[u8] = b"listset: too long\n";
-
-const CANNOT_WRITE: &[u8] = b"listset: cannot write\n";
-
-const CANNOT_LISTEN: &[u8] = b"listset: cannot listen\n";
-
-const OUT_OF_MEMORY: &[u8] = b"listset: out of memory\n";
+/// The most bytes of a line about an error.
+pub const LONGEST_LINE: usize = 64;
 
 /// The result of a tool: the text for its output, and the exit status if that is written.
 #[derive(Drop)]
@@ -38,102 +34,65 @@ impl Answer {
     }
 }
 
-/// Returns the line about an error that the program writes to standard error, `listset: ..` with a newline. Allocates;
-/// `AllocError` if that fails.
-pub fn line_of_trouble(alloc: Global, trouble: Trouble) -> Result<Vec<u8>, AllocError>
-    ensures { IfOk result (λ line. line.items ≡ trouble_text trouble) }
+/// The cause's name, which is short.
+fn short_name(cause: Cause) -> &'static str
+    ensures name { result.now ≡ name_of cause }
+    ensures short { length result.now ≤ 8 }
 {
+    cause.name()
+}
+
+/// A line of a few words.
+fn line_with(front: &str, number: &str, sign: &str, name: &str) -> ArrayString<LONGEST_LINE>
+    requires { length front.now + length number.now + length sign.now + length name.now < LONGEST_LINE }
+    ensures { result.bytes ≡ front.now ++ number.now ++ sign.now ++ name.now ++ codes "\n" }
+{
+    let mut line = ArrayString::new();
+    line.push_str(front);
+    line.push_str(number);
+    line.push_str(sign);
+    line.push_str(name);
+    line.push_str("\n");
+    line
+}
+
+/// Returns the line about an error that the program writes to standard error, `listset: ..` with a newline.
+pub fn line_of(trouble: Trouble) -> ArrayString<LONGEST_LINE>
+    ensures { result.bytes ≡ trouble_text trouble }
+{
+    let mut buffer = Buffer::new();
     match trouble {
-        Trouble::CannotRead => Vec::from_slice(alloc, CANNOT_READ),
-        Trouble::TooLong => Vec::from_slice(alloc, TOO_LONG),
-        Trouble::CannotWrite => Vec::from_slice(alloc, CANNOT_WRITE),
-        Trouble::CannotListen => Vec::from_slice(alloc, CANNOT_LISTEN),
-        Trouble::Memory => Vec::from_slice(alloc, OUT_OF_MEMORY),
-        Trouble::Line(line, cause) => line_of_cause(alloc, line, cause),
-        Trouble::Bad(name) => line_of_value(alloc, name),
-        Trouble::Work(name) => line_of_work(alloc, name),
-        Trouble::Serve(name) => line_of_serve(alloc, name),
-    }
-}
-
-fn line_of_cause(alloc: Global, line: u64, cause: Cause) -> Result<Vec<u8>, AllocError>
-    ensures { IfOk result (λ text. text.items ≡ trouble_text (Trouble.Line line cause)) }
-{
-    let name = cause.name();
-    let text = format!(in alloc; "listset: line {line}: {name}\n")?;
-    Ok(text.into_bytes())
-}
-
-fn line_of_value(alloc: Global, name: ValueName) -> Result<Vec<u8>, AllocError>
-    ensures { IfOk result (λ text. text.items ≡ trouble_text (Trouble.Bad name)) }
-{
-    let word = name.word();
-    let text = format!(in alloc; "listset: bad {word}\n")?;
-    Ok(text.into_bytes())
-}
-
-fn line_of_work(alloc: Global, name: WorkName) -> Result<Vec<u8>, AllocError>
-    ensures { IfOk result (λ text. text.items ≡ trouble_text (Trouble.Work name)) }
-{
-    let word = name.name();
-    let text = format!(in alloc; "listset: work: {word}\n")?;
-    Ok(text.into_bytes())
-}
-
-fn line_of_serve(alloc: Global, name: ServeName) -> Result<Vec<u8>, AllocError>
-    ensures { IfOk result (λ text. text.items ≡ trouble_text (Trouble.Serve name)) }
-{
-    let word = name.name();
-    let text = format!(in alloc; "listset: serve: {word}\n")?;
-    Ok(text.into_bytes())
-}
-
-/// Writes a line, as far as the writes succeed.
-fn tell_line<F: Write>(faults: &mut F, line: &[u8])
-    ensures { AppendsFront (F.contents faults.old) (F.contents faults.new) line.now }
-{
-    let _whole = put(faults, line);
-}
-
-/// Writes a line that allocates, as far as the writes succeed, and none if the allocation fails.
-fn tell_made<F: Write>(alloc: Global, faults: &mut F, trouble: Trouble)
-    ensures { AppendsFront (F.contents faults.old) (F.contents faults.new) (trouble_text trouble) }
-{
-    if let Ok(line) = line_of_trouble(alloc, trouble) {
-        tell_line(faults, &line);
-    }
-}
-
-/// Writes the line about an error, as far as the writes succeed. A line that has a number or a name allocates, and is
-/// not written if that fails.
-fn tell<F: Write>(alloc: Global, faults: &mut F, trouble: Trouble)
-    ensures { AppendsFront (F.contents faults.old) (F.contents faults.new) (trouble_text trouble) }
-{
-    match trouble {
-        Trouble::CannotRead => tell_line(faults, CANNOT_READ),
-        Trouble::TooLong => tell_line(faults, TOO_LONG),
-        Trouble::CannotWrite => tell_line(faults, CANNOT_WRITE),
-        Trouble::CannotListen => tell_line(faults, CANNOT_LISTEN),
-        Trouble::Memory => tell_line(faults, OUT_OF_MEMORY),
-        Trouble::Line(_, _) | Trouble::Bad(_) | Trouble::Work(_) | Trouble::Serve(_) => {
-            tell_made(alloc, faults, trouble)
+        Trouble::CannotRead => line_with("listset: cannot read", "", "", ""),
+        Trouble::TooLong => line_with("listset: too long", "", "", ""),
+        Trouble::CannotWrite => line_with("listset: cannot write", "", "", ""),
+        Trouble::CannotListen => line_with("listset: cannot listen", "", "", ""),
+        Trouble::Memory => line_with("listset: out of memory", "", "", ""),
+        Trouble::Line(line, cause) => {
+            line_with(
+                "listset: line ",
+                buffer.format(line),
+                ": ",
+                short_name(cause),
+            )
         }
+        Trouble::Bad(name) => line_with("listset: bad ", "", "", name.word()),
+        Trouble::Work(cause) => line_with("listset: work: ", "", "", cause.name()),
+        Trouble::Serve(cause) => line_with("listset: serve: ", "", "", cause.name()),
     }
 }
 
 /// Ends a tool, and returns the exit status. Writes the text of an answer to `output`, or the one line about an error to
-/// `faults`.
+/// `stderr`.
 ///
-/// A write that fails, or takes no byte, is not repeated. On `output` it is then the error, `CannotWrite`; on `faults` it
-/// leaves the status as it is. A line with a number or a name in it allocates, and is not written if that fails.
-pub fn deliver<W: Write, F: Write>(
-    alloc: Global,
+/// A write that fails, or takes no byte, is not repeated. On `output` it is then the error, `CannotWrite`; on `stderr` it
+/// leaves the status as it is.
+pub fn deliver<W: Write, E: Write>(
     made: Result<Answer, Trouble>,
     output: &mut W,
-    faults: &mut F,
+    stderr: &mut E,
 ) -> u8
     ensures { IsDelivered (view made)
-        (W.contents output.old) (W.contents output.new) (F.contents faults.old) (F.contents faults.new) result }
+        (W.contents output.old) (W.contents output.new) (E.contents stderr.old) (E.contents stderr.new) result }
 {
     let written = match made {
         Ok(answer) => answer.write(output),
@@ -142,7 +101,7 @@ pub fn deliver<W: Write, F: Write>(
     match written {
         Ok(status) => status,
         Err(trouble) => {
-            tell(alloc, faults, trouble);
+            let _whole = put(stderr, line_of(trouble).as_bytes());
             trouble.status()
         }
     }

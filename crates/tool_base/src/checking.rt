@@ -1,13 +1,13 @@
-ghost use Rattle.std.specs.Prelude.{◌≡◌, ◌≢◌, ◌⊎◌, OnOk, IfOk, IfErr, IfSome};
+ghost use Rattle.std.specs.Prelude.{◌≡◌, ◌≢◌, OnOk, IfOk, IfErr, IfSome};
 ghost use Rattle.lset_history.specs.declared.fault.OrderFault.TheVariants as order;
 ghost use Rattle.lset_report.specs.Report as reports;
-ghost use Rattle.lset_report.specs.ReportReading.{reading};
-ghost use Rattle.tool_base.specs.Tools.{Ends, IsTaken, view};
-ghost use Rattle.tool_base.specs.Checking.{refusal_text, IsAnswerOn, IsFirstFault, Checks};
-ghost use Rattle.tool_base.specs.declared.trouble.Trouble.TheVariants.{CannotRead, Memory};
+ghost use Rattle.tool_base.specs.Tools.{Ends, view};
+ghost use Rattle.tool_base.specs.Checking.{refusal_text, IsAnswerOn, Checks, ChecksText};
+ghost use Rattle.tool_base.specs.declared.trouble.Trouble.TheVariants.{Memory};
 
-use crate::answer::{Answer, deliver};
-use crate::streams::{LONGEST, input_of};
+use crate::answer::Answer;
+use crate::input::Input;
+use crate::tool::{Tool, run_tool};
 use crate::trouble::Trouble;
 use lset_history::{OrderFault, check_order};
 use lset_report::{Report, read_report};
@@ -50,49 +50,25 @@ fn answer_on(alloc: Global, report: &Report) -> Result<Answer, Trouble>
     }
 }
 
-/// The answer on the report whose text the bytes are.
-fn answer_of(alloc: Global, bytes: &[u8]) -> Result<Answer, Trouble>
-    requires { IsTaken bytes.now }
-    ensures checks { Checks bytes.now (view result) }
-    ensures trouble { IfErr result (λ t. (t ≡ Memory) ⊎ IsFirstFault (reading bytes.now) t) }
-{
-    let report = read_report(alloc, bytes)?;
-    answer_on(alloc, &report)
-}
+/// The command `check`: the answer on a report is `ok` with status 0, or, with status 1, `refused`, the name of the first
+/// fault of its order and, except for `WrongSet`, the number of the call. The error is `Line` with the first error of a text
+/// that is not a report, or `Memory`.
+#[derive(Clone, Copy)]
+pub struct Check {}
 
-/// Judges the order of a report, given as the bytes of its text. The answer is `ok` with status 0, or `refused`, the name of
-/// the first fault and, except for `WrongSet`, the number of its call, with status 1. Allocates.
-///
-/// # Errors
-///
-/// `TooLong` if there are more than `LONGEST` bytes; `Line` with the first error of a text that is not a report; `Memory` if
-/// an allocation fails.
-pub fn checked(alloc: Global, bytes: &[u8]) -> Result<Answer, Trouble>
-    ensures checks { Checks bytes.now (view result) }
-    ensures read { IfErr result (λ t. t ≢ CannotRead) }
-{
-    if bytes.len() > LONGEST {
-        return Err(Trouble::TooLong);
+impl Tool for Check {
+    ghost answers = { λ tool bytes made. ChecksText bytes made };
+
+    fn answer(&self, alloc: Global, input: Input<'_>) -> Result<Answer, Trouble> {
+        let report = read_report(alloc, input.bytes())?;
+        answer_on(alloc, &report)
     }
-    answer_of(alloc, bytes)
-}
-
-fn checked_input<R: Read>(alloc: Global, input: &mut R) -> Result<Answer, Trouble>
-    ensures { IfSome (R.remaining input.old) (λ bytes. Checks bytes (view result)) }
-{
-    let bytes = input_of(alloc, input)?;
-    checked(alloc, &bytes)
 }
 
 /// Does what `check` does: judges whether the order of the report on `input` linearizes its calls (Herlihy and Wing) and
-/// leaves exactly its keys, and returns the exit status.
-///
-/// Writes `ok` to `output`, or `refused`, the name of the first fault and, except for `WrongSet`, the number of its call. If
-/// the input is not a report, or cannot be read or judged, it writes one line about that to `faults` and nothing to
-/// `output`.
-///
-/// The status is 0 if `ok` was written, 3 if an allocation failed, else 1. A write to `faults` that fails leaves it as it
-/// is. Allocates; blocks as its input and output do.
+/// leaves exactly its keys, writes what it finds to `output`, or one line about an error to `faults` and nothing to
+/// `output`, and returns the exit status: 0 if `ok` was written, 3 if an allocation failed, else 1. Allocates; blocks as its
+/// input and output do.
 pub fn tool_check<R: Read, W: Write, F: Write>(
     alloc: Global,
     input: &mut R,
@@ -102,6 +78,5 @@ pub fn tool_check<R: Read, W: Write, F: Write>(
     ensures { Ends (λ made. IfSome (R.remaining input.old) (λ bytes. Checks bytes made))
         (W.contents output.old) (W.contents output.new) (F.contents faults.old) (F.contents faults.new) result }
 {
-    let made = checked_input(alloc, input);
-    deliver(alloc, made, output, faults)
+    run_tool(alloc, &Check {}, input, output, faults)
 }

@@ -1,10 +1,9 @@
 ghost use Rattle.tool_base.specs.Faults.{TellsFaults};
-ghost use Rattle.tool_base.specs.Tools.{Ends, view};
+ghost use Rattle.tool_base.specs.Tools.{view};
 
-use crate::answer::{Answer, deliver};
+use crate::answer::Answer;
 use crate::trouble::Trouble;
 use std::alloc::Global;
-use std::io::Write;
 
 /// Each error message of the program, and each cause in a sentence.
 pub const FAULTS: &str = "\
@@ -111,26 +110,15 @@ Other messages
   listset: cannot write   A write failed; exit status 1.
   listset: cannot listen  The system refused the port; exit status 1.
   listset: bad NAME       The argument or option NAME is missing or out of range, or FROM is past the last moment; exit status 2.
-  listset: bad NAME: ..   --lacks takes one of the names listed; exit status 2.
+  listset: bad NAME: ..   --lacks takes one of the names that 'listset help replay' lists; exit status 2.
   listset: out of memory  An allocation failed; exit status 3.
 ";
 
 /// Returns the answer of the command `faults`: the text `FAULTS`. Allocates; `Trouble::Memory` if that fails.
 #[tactic(auto, unfolding(crate::specs::Faults::faults_text))]
-pub fn faults_told(alloc: Global) -> Result<Answer, Trouble>
+pub fn list_faults(alloc: Global) -> Result<Answer, Trouble>
     ensures { TellsFaults (view result) }
 {
     let text = Vec::from_slice(alloc, FAULTS.as_bytes())?;
     Ok(Answer { text, status: 0 })
-}
-
-/// Does what `faults` does: writes `FAULTS` to `output`, or one line about an error to `faults`, and returns the exit
-/// status. It is 0 if the text was written, 3 if an allocation failed, else 1. A write to `faults` that fails leaves it as
-/// it is.
-pub fn tool_faults<W: Write, F: Write>(alloc: Global, output: &mut W, faults: &mut F) -> u8
-    ensures { Ends TellsFaults
-        (W.contents output.old) (W.contents output.new) (F.contents faults.old) (F.contents faults.new) result }
-{
-    let told = faults_told(alloc);
-    deliver(alloc, told, output, faults)
 }

@@ -1,16 +1,16 @@
-ghost use Rattle.std.specs.Prelude.{◌≡◌, map, string_bytes, MatchResult};
+ghost use Rattle.std.specs.Prelude.{◌≡◌, map, string_bytes, MatchResult, Ok};
 ghost use Rattle.lset_schedule.specs.Generating.{IsAccepted};
 ghost use Rattle.lset_schedule.specs.Plan.{view};
 ghost use Rattle.lset_lists.specs.Tables.{table_of};
 ghost use Rattle.lset_schedule.specs.declared.fault.GenFault.TheVariants.{Memory};
-ghost use Rattle.tool_base.specs.Generating.{of_generator, Generates, IsRequested};
+ghost use Rattle.tool_base.specs.Generating.{of_generator, Answers, Generates, IsRequested};
 ghost use Rattle.tool_base.specs.Tools.{Ends};
 ghost use Rattle.tool_base.specs.Tools as tools;
 ghost use Rattle.tool_base.specs.declared.trouble.Trouble.TheVariants.{Bad};
 
 use crate::answer::{Answer, deliver};
+use crate::arguments::{RandomRequest, read_random_request};
 use crate::trouble::{Trouble, ValueName};
-use crate::values::{RandomRequest, read_random_request};
 use lset_lists::{List, Task, on_list};
 use lset_schedule::{GenFault, Schedule, generate, write_schedule};
 use std::alloc::Global;
@@ -73,29 +73,30 @@ fn schedule_for(alloc: Global, request: RandomRequest) -> Result<Schedule, GenFa
     on_list(request.kind, Generating { alloc, request })
 }
 
-/// Returns the text of the schedule that `gen` prints for these values, which are those of `tool_gen`, with status 0.
-/// Allocates.
-///
-/// # Errors
-///
-/// `Bad` with the first value that is missing or wrong; `Memory` if an allocation fails.
-pub fn generated(alloc: Global, values: &[String]) -> Result<Answer, Trouble>
-    ensures { Generates (map string_bytes values.now) (tools.view result) }
+/// Returns the text of the schedule that `gen` prints, with status 0. Allocates; `Memory` if that fails.
+pub fn generate_text(alloc: Global, request: RandomRequest) -> Result<Answer, Trouble>
+    requires { IsAccepted request.threads request.quota request.keys }
+    ensures { Answers (Ok request) (tools.view result) }
 {
-    let request = read_random_request(values)?;
     let schedule = schedule_for(alloc, request)?;
     let text = write_schedule(alloc, &schedule)?;
     Ok(Answer { text, status: 0 })
 }
 
+/// Returns the text of the schedule that `gen` prints for these values, which are those of `tool_gen`, with status 0.
+/// Allocates. The error is `Bad` with the first value that is missing or wrong, or `Memory`.
+pub fn generate_for(alloc: Global, values: &[String]) -> Result<Answer, Trouble>
+    ensures { Generates (map string_bytes values.now) (tools.view result) }
+{
+    let request = read_random_request(values)?;
+    generate_text(alloc, request)
+}
+
 /// Does what `gen` does: writes a random schedule, of version 1, to `output`, and returns the exit status.
 ///
-/// `values` are KIND THREADS QUOTA CALLS KEYS SEED in this order; further ones are not looked at. KIND is the name of a
-/// list, the others are decimals without leading zeros: THREADS 1 to 64, QUOTA 0 to 16,384, CALLS 0 to 10,000, KEYS 1 to
-/// 4,294,967,295, SEED 0 to 2^64 - 1. The schedule ends at 10,000 events, so it may begin fewer calls.
-///
-/// The status is 0 if it was written. Else one line on `faults` says why, if it can be written: status 2 for the first value
-/// that is missing or wrong, 3 if an allocation failed, 1 for anything else. Allocates.
+/// `values` are those of `read_random_request`. The schedule ends at 10,000 events, so it may begin fewer calls. The status
+/// is 0 if it was written. Else one line on `faults` says why, if it can be written: status 2 for the first value that is
+/// missing or wrong, 3 if an allocation failed, 1 for anything else. Allocates.
 pub fn tool_gen<W: Write, F: Write>(
     alloc: Global,
     values: &[String],
@@ -105,6 +106,6 @@ pub fn tool_gen<W: Write, F: Write>(
     ensures { Ends (Generates (map string_bytes values.now))
         (W.contents output.old) (W.contents output.new) (F.contents faults.old) (F.contents faults.new) result }
 {
-    let made = generated(alloc, values);
-    deliver(alloc, made, output, faults)
+    let made = generate_for(alloc, values);
+    deliver(made, output, faults)
 }

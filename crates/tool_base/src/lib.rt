@@ -3,26 +3,27 @@
 #![tactic(auto)]
 
 mod answer;
+mod arguments;
 mod checking;
 mod faults;
 mod generating;
-mod moments;
+mod input;
 mod number_lines;
 mod replaying;
-mod streams;
+mod tool;
 mod trouble;
-mod values;
 
-pub use answer::{Answer, deliver, line_of_trouble};
-pub use checking::{checked, tool_check};
-pub use faults::{FAULTS, faults_told, tool_faults};
-pub use generating::{generated, tool_gen};
-pub use moments::{DEFAULT_WIDTH, MOST_MOMENT, MOST_WIDTH, Moments, read_moments, read_width};
-pub use number_lines::{put_keys, put_number};
-pub use replaying::{replayed, tool_replay};
-pub use streams::{InputFault, LONGEST, READ_SIZE, input_of, put};
-pub use trouble::{ServeName, Trouble, ValueName, WorkName};
-pub use values::{
-    MOST_CALLS_ASKED, MOST_KEYS_ASKED, MOST_SEED, RandomRequest, kind_at, number_at,
-    read_random_request,
+pub use answer::{Answer, deliver, line_of};
+pub use arguments::{
+    LivesRequest, MOST_CALLS_ASKED, MOST_KEYS_ASKED, MOST_LIVES, MOST_PORT, MOST_SEED,
+    MOST_SESSIONS_ASKED, RandomRequest, ServeRequest, read_lives_request, read_random_request,
+    read_serve_request,
 };
+pub use checking::{Check, tool_check};
+pub use faults::{FAULTS, list_faults};
+pub use generating::{generate_for, generate_text, tool_gen};
+pub use input::{Input, LONGEST, READ_SIZE, put, read_all};
+pub use number_lines::{put_keys, put_number};
+pub use replaying::{Replay, tool_replay};
+pub use tool::{Tool, answer_text, run_tool};
+pub use trouble::{SystemCause, Trouble, ValueName};

@@ -1,15 +1,10 @@
-ghost use Rattle.std.specs.Prelude.{◌≡◌};
-ghost use Rattle.tool_base.specs.Trouble.{of_input, of_line_fault, of_replay, status_of, serve_name, value_word, work_name};
+ghost use Rattle.std.specs.Prelude.{◌≡◌, ◌≤◌, length};
+ghost use Rattle.tool_base.specs.Trouble.{of_line_fault, of_replay, status_of, system_name, value_word};
 ghost use Rattle.tool_base.specs.declared.trouble.Trouble.TheVariants.{Memory};
 
-use crate::streams::InputFault;
 use lset_replay::ReplayFault;
 use lset_text::{Cause, LineFault};
 use std::alloc::{AllocError, AllocFailed};
-
-/// The word for the name of a broken list, with the names that there are.
-const LACKS: &str =
-    "NAME: it is none of lock, second-lock, hand-over-hand, second-walk, same-node, marks-in-validation, mark-in-contains, mark-in-ceiling, mark, mark-in-add, mark-in-remove, mark-at-key or new-slot";
 
 /// An argument or an option of a command.
 #[derive(Clone, Copy)]
@@ -31,22 +26,15 @@ pub enum ValueName {
     Width,
 }
 
-/// Why the programs of `run` are not executed to their ends. A failed allocation is `Trouble::Memory`.
+/// Why programs or sessions are not run to their ends. A failed allocation is `Trouble::Memory`.
 #[derive(Clone, Copy)]
-pub enum WorkName {
+pub enum SystemCause {
     /// The programs are not as many as the seats, or the seats do not hold all seats of the set.
     Programs,
-    /// A thread was refused.
-    Spawn,
     /// A gate let a call not pass.
     Gate,
     /// The keys that are left are more than a set may open with.
     Opening,
-}
-
-/// Why the sessions of `serve` are not served to their ends. A failed allocation is `Trouble::Memory`.
-#[derive(Clone, Copy)]
-pub enum ServeName {
     /// The seats do not hold all seats of the set.
     Seats,
     /// A connection was not accepted.
@@ -77,9 +65,9 @@ pub enum Trouble {
     /// The system gives no listening socket.
     CannotListen,
     /// Programs were not run to their ends.
-    Work(WorkName),
+    Work(SystemCause),
     /// Sessions were not served to their ends.
-    Serve(ServeName),
+    Serve(SystemCause),
 }
 
 impl Trouble {
@@ -97,18 +85,6 @@ impl Trouble {
             | Trouble::Line(_, _)
             | Trouble::Work(_)
             | Trouble::Serve(_) => 1,
-        }
-    }
-}
-
-impl From<InputFault> for Trouble {
-    ghost from_gives = { λ e t. t ≡ of_input e };
-
-    fn from(fault: InputFault) -> Trouble {
-        match fault {
-            InputFault::CannotRead => Trouble::CannotRead,
-            InputFault::TooLong => Trouble::TooLong,
-            InputFault::Memory(_) => Trouble::Memory,
         }
     }
 }
@@ -156,7 +132,8 @@ impl<T: Drop> From<AllocFailed<T>> for Trouble {
 impl ValueName {
     /// Returns the name of the argument or option, as the help and the line on standard error have it.
     pub fn word(self) -> &'static str
-        ensures { result.now ≡ value_word self }
+        ensures word { result.now ≡ value_word self }
+        ensures short { length result.now ≤ 45 }
     {
         match self {
             ValueName::Kind => "KIND",
@@ -170,7 +147,7 @@ impl ValueName {
             ValueName::Port => "PORT",
             ValueName::Sessions => "SESSIONS",
             ValueName::Name => "NAME",
-            ValueName::Lacks => LACKS,
+            ValueName::Lacks => "NAME: 'listset help replay' lists the names",
             ValueName::From => "FROM",
             ValueName::To => "TO",
             ValueName::Width => "WIDTH",
@@ -178,31 +155,21 @@ impl ValueName {
     }
 }
 
-impl WorkName {
-    /// Returns the cause's name, as the line `listset: work: CAUSE` has it.
+impl SystemCause {
+    /// Returns the cause's name, as the lines `listset: work: CAUSE` and `listset: serve: CAUSE` have it.
     pub fn name(self) -> &'static str
-        ensures { result.now ≡ work_name self }
+        ensures name { result.now ≡ system_name self }
+        ensures short { length result.now ≤ 8 }
     {
         match self {
-            WorkName::Programs => "Programs",
-            WorkName::Spawn => "Spawn",
-            WorkName::Gate => "Gate",
-            WorkName::Opening => "Opening",
-        }
-    }
-}
-
-impl ServeName {
-    /// Returns the cause's name, as the line `listset: serve: CAUSE` has it.
-    pub fn name(self) -> &'static str
-        ensures { result.now ≡ serve_name self }
-    {
-        match self {
-            ServeName::Seats => "Seats",
-            ServeName::Accept => "Accept",
-            ServeName::Spawn => "Spawn",
-            ServeName::Send => "Send",
-            ServeName::Left => "Left",
+            SystemCause::Programs => "Programs",
+            SystemCause::Gate => "Gate",
+            SystemCause::Opening => "Opening",
+            SystemCause::Seats => "Seats",
+            SystemCause::Accept => "Accept",
+            SystemCause::Spawn => "Spawn",
+            SystemCause::Send => "Send",
+            SystemCause::Left => "Left",
         }
     }
 }

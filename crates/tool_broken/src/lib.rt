@@ -6,6 +6,6 @@ mod replaying;
 mod showing;
 mod tracing;
 
-pub use replaying::{replayed_broken, tool_replay_broken};
-pub use showing::{shown_broken, tool_show_broken};
-pub use tracing::{tool_trace_broken, traced_broken};
+pub use replaying::ReplayBroken;
+pub use showing::ShowBroken;
+pub use tracing::TraceBroken;

@@ -11,7 +11,7 @@ mod version;
 
 pub use expanding::schedule_of;
 pub use reading::read_draft;
-pub use tool::{drafted, tool_draft};
+pub use tool::Expand;
 pub use value::{Draft, DraftLine};
 
 const TITLE: &str = "listset-draft 2";

@@ -7,4 +7,4 @@ mod texts;
 mod tool;
 
 pub use example::{ALL, Example, named};
-pub use tool::{exampled, exampled_by, tool_example};
+pub use tool::{ExampleRequest, print_example, read_example_request};

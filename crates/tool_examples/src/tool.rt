@@ -1,8 +1,33 @@
 use crate::example::{ALL, named};
 use lset_text::kind_word;
 use std::alloc::{AllocError, Global};
-use std::io::Write;
-use tool_base::{Answer, Trouble, ValueName, deliver};
+use tool_base::{Answer, Trouble, ValueName};
+
+/// What `example` is to print.
+#[derive(Clone, Copy)]
+pub enum ExampleRequest {
+    /// The names of all examples.
+    Names,
+    /// A schedule, or the report that a broken list would make of it.
+    Text(&'static str),
+}
+
+/// Finds what `example` prints: the names if none is given, else the schedule of the example with this name or, with
+/// `broken`, its broken report. The error is `Name` if no example has that under this name.
+pub fn read_example_request(
+    name: Option<&[u8]>,
+    broken: bool,
+) -> Result<ExampleRequest, ValueName> {
+    let Some(name) = name else {
+        return Ok(ExampleRequest::Names);
+    };
+    let example = named(name).ok_or(ValueName::Name)?;
+    if !broken {
+        return Ok(ExampleRequest::Text(example.schedule));
+    }
+    let report = example.broken_report.ok_or(ValueName::Name)?;
+    Ok(ExampleRequest::Text(report))
+}
 
 /// A line for each example: its name, its list and what happens in it.
 fn write_names(alloc: Global) -> Result<Vec<u8>, AllocError> {
@@ -16,47 +41,11 @@ fn write_names(alloc: Global) -> Result<Vec<u8>, AllocError> {
     Ok(out.into_bytes())
 }
 
-/// What the example with this name has to show.
-fn shown(broken: bool, name: &[u8]) -> Option<&'static str> {
-    let example = named(name)?;
-    if broken {
-        example.broken_report
-    } else {
-        Some(example.schedule)
-    }
-}
-
-/// Returns what `example` prints for a name, given as bytes; the answers and errors are those of `exampled`.
-pub fn exampled_by(alloc: Global, broken: bool, name: &[u8]) -> Result<Answer, Trouble> {
-    let text = shown(broken, name).ok_or(ValueName::Name)?;
-    let text = Vec::from_slice(alloc, text.as_bytes())?;
+/// Returns what `example` prints, with status 0. Allocates; `Memory` if that fails.
+pub fn print_example(alloc: Global, request: ExampleRequest) -> Result<Answer, Trouble> {
+    let text = match request {
+        ExampleRequest::Names => write_names(alloc)?,
+        ExampleRequest::Text(text) => Vec::from_slice(alloc, text.as_bytes())?,
+    };
     Ok(Answer { text, status: 0 })
-}
-
-/// Returns what `example` prints: the list of names if no name is given, else the schedule of the example with this name, or
-/// with `broken` its broken report. Allocates. The error is `Trouble::Bad(ValueName::Name)` if no example has that under
-/// this name, `Trouble::Memory` if an allocation fails.
-pub fn exampled(alloc: Global, broken: bool, name: Option<&str>) -> Result<Answer, Trouble> {
-    match name {
-        Some(name) => exampled_by(alloc, broken, name.as_bytes()),
-        None => {
-            let text = write_names(alloc)?;
-            Ok(Answer { text, status: 0 })
-        }
-    }
-}
-
-/// Does what `example` does: writes the names of all examples to `output` or, if a name is given, the schedule of that
-/// example, or with `broken` the report that a list without the check in question would make of it; or one line about an
-/// error to `faults`. Returns the exit status: 0 if the text was written, 2 if no example has it under this name, 3 if an
-/// allocation failed, else 1. A write to `faults` that fails leaves it as it is. Allocates.
-pub fn tool_example<W: Write, F: Write>(
-    alloc: Global,
-    broken: bool,
-    name: Option<&str>,
-    output: &mut W,
-    faults: &mut F,
-) -> u8 {
-    let made = exampled(alloc, broken, name);
-    deliver(alloc, made, output, faults)
 }

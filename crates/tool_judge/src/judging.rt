@@ -1,6 +1,5 @@
 ghost use Rattle.std.specs.Prelude.{◌≡◌, ◌≢◌, ℕ, List, IfOk, IfErr, IfSome, Ok};
 ghost use Rattle.lset_recording.specs.Kept.{IsRead};
-ghost use Rattle.tool_base.specs.Tools.{Ends};
 ghost use Rattle.tool_base.specs.Tools as tools;
 ghost use Rattle.tool_base.specs.declared.trouble.Trouble.TheVariants.{CannotRead};
 ghost use Rattle.tool_judge.specs.Judging.{IsAnswerTo, Judges};
@@ -10,8 +9,8 @@ use crate::texts::{ok_text, refused_text};
 use lset_judge::Verdict;
 use lset_recording::{RecordingAnswer, RecordingReader};
 use std::alloc::{AllocError, Global};
-use std::io::{Read, Write};
-use tool_base::{Answer, READ_SIZE, Trouble, deliver};
+use std::io::Read;
+use tool_base::{Answer, READ_SIZE, Trouble};
 
 fn answer_to(alloc: Global, said: RecordingAnswer) -> Result<Answer, AllocError>
     ensures { IfOk result (λ a. IsAnswerTo said.verdict said.calls (record { text = a.text.items; status = a.status })) }
@@ -88,24 +87,7 @@ pub fn judge_input<R: Read>(alloc: Global, input: &mut R) -> Result<Answer, Trou
     Err(Trouble::CannotRead)
 }
 
-/// Judges the recording on the input, which is read in pieces, as `judge_bytes` does: writes the answer on `output`, or one line about what
-/// is wrong on `faults`, and returns the exit status. It is 0 if `ok` was written, 3 if an allocation failed, else 1. A read that fails is
-/// not repeated, and is the error; a write on `faults` that fails leaves the status as it is. Allocates; blocks as the input and the
-/// outputs do.
-pub fn tool_judge<R: Read, W: Write, F: Write>(
-    alloc: Global,
-    input: &mut R,
-    output: &mut W,
-    faults: &mut F,
-) -> u8
-    ensures { Ends (λ made. IfSome (R.remaining input.old) (λ bytes. Judges bytes made))
-        (W.contents output.old) (W.contents output.new) (F.contents faults.old) (F.contents faults.new) result }
-{
-    let made = judge_input(alloc, input);
-    deliver(alloc, made, output, faults)
-}
-
-/// What `judge_bytes` and `tool_judge` answer is right: unless memory or a read failed, it is `ok` with status 0 exactly if the bytes are a
+/// What `judge_bytes` and `judge_input` answer is right: unless memory or a read failed, it is `ok` with status 0 exactly if the bytes are a
 /// recording and some order explains its calls and leaves its keys, or some keys if it was cut off; `not linearizable` with status 1 exactly
 /// if they are a recording and none does; and a line and a cause exactly if that line is the first that is wrong, for this cause.
 pub fn answers_are_right()

@@ -5,5 +5,5 @@ mod judging;
 mod texts;
 mod windows;
 
-pub use judging::{answers_are_right, judge_bytes, judge_input, tool_judge};
+pub use judging::{answers_are_right, judge_bytes, judge_input};
 pub use texts::refused_text;

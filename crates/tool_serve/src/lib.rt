@@ -2,10 +2,8 @@
 #![tactic(auto)]
 
 mod keys;
-mod request;
 mod text;
 mod tool;
 
 pub use keys::read_keys;
-pub use request::{MOST_PORT, MOST_SESSIONS_ASKED, ServeRequest, read_serve_request};
-pub use tool::{tool_serve, tool_serve_with};
+pub use tool::{serve_set, serve_set_of};

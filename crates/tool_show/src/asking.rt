@@ -1,5 +1,10 @@
-use tool_base::{ValueName, read_moments, read_width};
+use crate::Show;
+use lset_text::number;
+use tool_base::ValueName;
 use tool_drawing::Window;
+
+/// The width of a picture as text, in characters, if no option names one.
+const DEFAULT_WIDTH: u32 = 100;
 
 /// How a picture is drawn: as text of a width, or as an SVG.
 #[derive(Clone, Copy)]
@@ -10,21 +15,30 @@ pub enum Form {
     Svg,
 }
 
-/// Reads the options of `show`: whether `--svg` is on, and the values of `--from`, `--to` and `--width`, as `read_moments`
-/// and `read_width` read them. An SVG has no width, but a width that is given with it must be right too. The error names the
-/// first option that is wrong.
-pub fn read_asked(
+/// The number from `least` on that the text spells, or `absent` if there is no text.
+fn number_or(text: Option<&str>, least: u32, absent: u32) -> Option<u32> {
+    match text {
+        Some(text) => number(text.as_bytes(), least, u32::MAX),
+        None => Some(absent),
+    }
+}
+
+/// Reads the options of `show`: whether `--svg` is on, and the values of `--from`, `--to` and `--width`, which are decimals
+/// without leading zeros: `from` at least 1, which is meant if it is not given; `to` at least `from`, and any number if it is
+/// not given; a width, in characters, at least 1, and 100 if it is not given. An SVG has no width, but a width that is given
+/// with it must be right too. The error names the first option that is wrong.
+pub fn read_show(
     svg: bool,
     from: Option<&str>,
     to: Option<&str>,
     width: Option<&str>,
-) -> Result<(Form, Window), ValueName> {
-    let moments = read_moments(from, to)?;
-    let width = read_width(width)?;
-    let window = Window {
-        from: moments.from,
-        to: moments.to,
-    };
+) -> Result<Show, ValueName> {
+    let from = number_or(from, 1, 1).ok_or(ValueName::From)?;
+    let to = number_or(to, from, u32::MAX).ok_or(ValueName::To)?;
+    let width = number_or(width, 1, DEFAULT_WIDTH).ok_or(ValueName::Width)?;
     let form = if svg { Form::Svg } else { Form::Text(width) };
-    Ok((form, window))
+    Ok(Show {
+        form,
+        window: Window { from, to },
+    })
 }

@@ -9,7 +9,7 @@ mod reports;
 mod schedules;
 mod tool;
 
-pub use asking::{Form, read_asked};
+pub use asking::{Form, read_show};
 pub use reports::picture_of_report;
 pub use schedules::picture_of_replay;
-pub use tool::{drawn, shown, tool_show};
+pub use tool::{Show, draw};

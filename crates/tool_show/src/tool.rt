@@ -3,8 +3,7 @@ use crate::{Form, picture_of_replay, picture_of_report};
 use lset_report::read_report;
 use lset_schedule::read_schedule;
 use std::alloc::{AllocError, Global};
-use std::io::{Read, Write};
-use tool_base::{Answer, LONGEST, Trouble, ValueName, deliver, input_of};
+use tool_base::{Answer, Input, Tool, Trouble, ValueName};
 use tool_drawing::{Picture, Window, is_past_the_last, write_picture, write_svg};
 
 /// The first line of a report's text of version 1.
@@ -30,19 +29,14 @@ fn picture_of(alloc: Global, bytes: &[u8]) -> Result<Picture, Trouble> {
 }
 
 /// The picture as text, with its last lines, or as an SVG.
-fn text_of(
-    alloc: Global,
-    picture: &Picture,
-    form: Form,
-    window: Window,
-) -> Result<Vec<u8>, AllocError> {
-    match form {
+fn text_of(alloc: Global, picture: &Picture, show: Show) -> Result<Vec<u8>, AllocError> {
+    match show.form {
         Form::Text(width) => {
-            let mut text = write_picture(alloc, picture, window, width)?;
+            let mut text = write_picture(alloc, picture, show.window, width)?;
             text.extend_from_slice(&ending(alloc, picture)?)?;
             Ok(text)
         }
-        Form::Svg => write_svg(alloc, picture, window),
+        Form::Svg => write_svg(alloc, picture, show.window),
     }
 }
 
@@ -55,69 +49,36 @@ fn status_of(picture: &Picture) -> u8 {
     }
 }
 
-/// Draws a picture, of the moments in `window`, as text with its last lines, or as an SVG. The status is 1 if it states a
+/// Draws a picture, of the moments in the window, as text with its last lines, or as an SVG. The status is 1 if it states a
 /// refusal, of an order or of an event, else 0. The error is `Bad(From)` if the window begins past the last moment at which
 /// something happens, `Memory` if an allocation fails.
-pub fn drawn(
-    alloc: Global,
-    picture: &Picture,
-    form: Form,
-    window: Window,
-) -> Result<Answer, Trouble> {
-    if is_past_the_last(picture, window.from) {
+pub fn draw(alloc: Global, picture: &Picture, show: Show) -> Result<Answer, Trouble> {
+    if is_past_the_last(picture, show.window.from) {
         return Err(Trouble::Bad(ValueName::From));
     }
-    let text = text_of(alloc, picture, form, window)?;
+    let text = text_of(alloc, picture, show)?;
     Ok(Answer {
         text,
         status: status_of(picture),
     })
 }
 
-/// Draws a schedule or a report, given as the bytes of the text, in the moments of `window`. Allocates.
+/// The command `show`: the answer on a schedule or a report is its picture, of the moments in the window. The status is 1 if
+/// the order of the report or an event of the schedule is refused, else 0. A schedule with such an event is drawn up to it.
 ///
-/// The status is 1 if the order of the report or an event of the schedule is refused, else 0. A schedule with such an event is
-/// drawn up to it.
-///
-/// # Errors
-///
-/// - `TooLong`: there are more than `LONGEST` bytes.
-/// - `Line`: the first error of `read_report` in a text with the first line of a report, of either version, and of
-///   `read_schedule` in any other.
-/// - `Bad(From)`: all that happens in the picture is before `window.from`.
-/// - `Memory`: an allocation failed.
-pub fn shown(alloc: Global, bytes: &[u8], form: Form, window: Window) -> Result<Answer, Trouble> {
-    if bytes.len() > LONGEST {
-        return Err(Trouble::TooLong);
+/// The error is `Line` with the first error of `read_report` in a text with the first line of a report, of either version,
+/// and of `read_schedule` in any other; `Bad(From)` if all that happens in the picture is before the window; or `Memory`.
+#[derive(Clone, Copy)]
+pub struct Show {
+    /// How it is drawn.
+    pub form: Form,
+    /// What of it.
+    pub window: Window,
+}
+
+impl Tool for Show {
+    fn answer(&self, alloc: Global, input: Input<'_>) -> Result<Answer, Trouble> {
+        let picture = picture_of(alloc, input.bytes())?;
+        draw(alloc, &picture, *self)
     }
-    let picture = picture_of(alloc, bytes)?;
-    drawn(alloc, &picture, form, window)
-}
-
-fn drawn_of<R: Read>(
-    alloc: Global,
-    form: Form,
-    window: Window,
-    input: &mut R,
-) -> Result<Answer, Trouble> {
-    let bytes = input_of(alloc, input)?;
-    shown(alloc, &bytes, form, window)
-}
-
-/// Does what `show` does: draws the schedule or the report on `input`, as its first line says, writes the picture to
-/// `output`, or one line about an error to `faults` and nothing to `output`, and returns the exit status.
-///
-/// The status is 0 if the picture was written, 1 if it was written and says why the order or which event is refused, 2 if
-/// the window begins past the last moment of the picture, 3 if an allocation failed, else 1. A write to `faults` that fails
-/// leaves it as it is. Allocates.
-pub fn tool_show<R: Read, W: Write, F: Write>(
-    alloc: Global,
-    form: Form,
-    window: Window,
-    input: &mut R,
-    output: &mut W,
-    faults: &mut F,
-) -> u8 {
-    let answer = drawn_of(alloc, form, window, input);
-    deliver(alloc, answer, output, faults)
 }

@@ -9,4 +9,4 @@ mod table_words;
 mod tool;
 
 pub use running::trace_of_run;
-pub use tool::{tool_trace, traced};
+pub use tool::{Trace, trace_events};

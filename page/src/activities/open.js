@@ -71,8 +71,10 @@ function openRun(wanted) {
     openSeed(wanted.seed, wanted.event);
   } else if (wanted.example !== null) {
     needExample(wanted.example);
-    const isShown = exampleShown() === wanted.example && now.run.isRun && (held.engine === null || now.task.work !== "");
-    if (isShown) goTo(wanted.event);
+    const isShown = exampleShown() === wanted.example && now.run.isRun;
+    const isBeforehand = isShown && now.task.work === "" && held.engine !== null; // from its trace, and the reader may have gone on
+    if (isBeforehand) pickExample(wanted.example, now.run.count);
+    else if (isShown) goTo(wanted.event);
     else pickExample(wanted.example, wanted.event);
   } else openLink(wanted);
   if (wanted.isJudged) beginJudging();

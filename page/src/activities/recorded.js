@@ -9,7 +9,7 @@ const WIDEST = 900; // pixels of a drawing
 const recorded = { text: "", isOpen: false }; // what stands in the box when another activity is shown
 const recordedPart = (name) => byId(`recorded-${name}`);
 
-const PARTS = `<p class="lead">The forms in <code>examples/in-a-test</code> record the calls of your own set in a test, each with its
+const PARTS = `<p class="lead">The forms in <code>judge</code> record the calls of your own set in a test, each with its
     begin and end, and keep a recording that fails. Paste its text, or open the file: the proved <code>judge</code> says whether any order
     explains the calls.</p>
   <textarea id="recorded-text" rows="7" spellcheck="false" autocapitalize="off" wrap="off" aria-label="recorded calls"

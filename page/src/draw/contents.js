@@ -20,7 +20,7 @@ function drawContent(part, scale) {
     { class: isNow ? "content now" : "content" },
     title(all),
     tag("rect", { x: left, y: 0, width: Math.max(right - left, 1), height: 24 }),
-    label({ x: left + 5, y: 17 }, text),
+    text === "" && isLast ? label({ x: scale.edge, y: 17, "text-anchor": "end", class: "over" }, all) : label({ x: left + 5, y: 17 }, text),
   );
 }
 

@@ -2,6 +2,7 @@
 
     pytest page/tests/scenarios [--browser chromium] [--shots FOLDER]"""
 
+import contextlib
 import functools
 import http.server
 import json
@@ -151,30 +152,35 @@ def place(request):
     server.shutdown()
 
 
-@pytest.fixture(scope="session")
-def profile(browser, place):
+@pytest.fixture(scope="module")
+def shared(browser, place):
+    """A browser for the scenarios of a file; or None of WebKit, whose driver gives up after some dozen pages."""
     if webdriver.installed(browser) is None:
         pytest.skip(f"{browser}: not installed (Debian's package {webdriver.NEEDS[browser][0]})")
+    if browser == "webkit":
+        yield None
+        return
     with Visitor(browser, place) as one:
         yield one
 
 
 @pytest.fixture
-def visitor(profile, request):
+def visitor(browser, place, shared, request):
     """A person who has not been here before."""
-    profile.size(1300, 900)
-    profile.go(f"{profile.place}/tests/nothing.html")
-    profile.script("localStorage.clear(); sessionStorage.clear()")
-    profile.faults()
-    yield profile
-    if (folder := request.config.getoption("shots")) is not None:
-        folder.mkdir(parents=True, exist_ok=True)
-        profile.picture(folder / f"{request.node.name}.png")
-    assert not (faults := profile.faults()), faults
+    with contextlib.nullcontext(shared) if shared is not None else Visitor(browser, place) as one:
+        one.size(1300, 900)
+        one.go(f"{place}/tests/nothing.html")
+        one.script("localStorage.clear(); sessionStorage.clear()")
+        one.faults()
+        yield one
+        if (folder := request.config.getoption("shots")) is not None:
+            folder.mkdir(parents=True, exist_ok=True)
+            one.picture(folder / f"{request.node.name}.png")
+        assert not (faults := one.faults()), faults
 
 
 @pytest.fixture
-def another(browser, place, profile):
+def another(browser, place, shared):
     """A second person, with a profile of their own."""
     with Visitor(browser, place) as one:
         yield one

@@ -68,20 +68,17 @@ def test_reload_shows_the_same_run(visitor):
 def test_another_speed_keeps_the_stop(visitor):
     visitor.open()
     visitor.choose("#speed", "fast")
-    visitor.settle()
-    visitor.settle()
-    visitor.settle()
+    visitor.wait("return document.getElementById('play').textContent === 'Play'")
     assert visitor.event() == 20
 
 
 def test_pause_and_play_keep_the_stop(visitor):
     visitor.open()
+    visitor.choose("#speed", "slow")
     visitor.click("#play")
     visitor.choose("#speed", "fast")
     visitor.click("#play")
-    visitor.settle()
-    visitor.settle()
-    visitor.settle()
+    visitor.wait("return document.getElementById('play').textContent === 'Play'")
     assert visitor.event() == 20
 
 

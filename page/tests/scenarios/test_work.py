@@ -66,7 +66,7 @@ def test_steps_to_the_end_and_to_a_lock(visitor):
 
 def test_a_million_events_can_be_cancelled(visitor):
     visitor.open("#example=snip&event=6")
-    run_text(visitor, HEADER.format("coarse") + "begin 0 add 5\ngo 0 4\nbegin 1 add 7\ngo 1 2999988\n")
+    run_text(visitor, HEADER.format("coarse") + "begin 0 add 5\ngo 0 4\nbegin 1 add 7\n" + "go 1 10000\n" * 99)
     assert visitor.is_seen("#long") and visitor.text("#where").startswith("event 6 of")
     visitor.click("#long-cancel")
     assert not visitor.is_seen("#long") and visitor.text("#fault").startswith("The run was cancelled")

@@ -8,9 +8,9 @@ use Rattle.lset_command.proofs.command_line.program_command.Goals as goal
 
 pub returns : goal.returns
 returns c =
-    let named : IsApp c.about.result (new_app (codes "listset")) = (
-      app_of_fields-same c.about.ensures ∙ c.new.ensures.app,
-      ap (λ f. f.has_globals) c.about.ensures ∙ c.new.ensures.local,
+    let named : IsApp c.after_help.result (new_app (codes "listset")) = (
+      app_of_fields-same c.after_help.ensures ∙ app_of_fields-same c.about.ensures ∙ c.new.ensures.app,
+      ap (λ f. f.has_globals) c.after_help.ensures ∙ ap (λ f. f.has_globals) c.about.ensures ∙ c.new.ensures.local,
     ) in
     let versioned : IsApp c.version.result (on_top (λ s. record s { has_version = true }) (new_app (codes "listset"))) = (
       app_of_fields-same c.version.ensures ∙ ap (on_top (λ s. record s { has_version = true })) named.0,

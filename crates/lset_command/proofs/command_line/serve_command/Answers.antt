@@ -17,5 +17,4 @@ returns c =
     let quota = c.and_value-command-3.ensures _ seats in
     let port = c.and_value-command-4.ensures _ quota in
     let sessions = c.and_value-command-5.ensures _ port in
-    let file = c.and_value-command-6.ensures _ sessions in
-    c.and_arg.ensures _ _ file c.values_past_the_last.ensures.rule c.values_past_the_last.ensures.local
+    c.and_value.ensures _ sessions

@@ -1,6 +1,36 @@
-use Rattle.std.proofs.Common.{inl}
-use Rattle.lset_dispatch.proofs.Endings.{with_choice}
+use Rattle.std.proofs.Common.{Err, None, Ok, Some, refl, inl, inr}
+use Rattle.tool_base.specs.declared.trouble.Trouble.TheVariants.{Bad, CannotRead}
+use Rattle.lset_dispatch.proofs.Endings.{ended}
 use Rattle.lset_dispatch.proofs.dispatching.run_words.Goals as goal
 
-pub returns-in-Ok : goal.returns-in-Ok
-returns-in-Ok g c = inl (c.in-Ok.ensures.refused, with_choice _ _ _ _ _ _ _ _ _ c.in-Ok.ensures.taken c.run_on_file.ensures)
+pub returns-in-Err-read_request : goal.returns-in-Err-read_request
+returns-in-Err-read_request g c =
+    inl (
+      c.in-Ok.ensures.refused,
+      ended _ _ _ _ _ _ _ _ _ (Err c.in-Err-read_request.wrong) _ c.in-Ok.ensures.taken
+          c.in-Err-read_request.ensures.asked refl (Err (Bad c.in-Err-read_request.wrong), refl, c.deliver.ensures),
+    )
+
+pub returns-in_default : goal.returns-in_default
+returns-in_default g c =
+    inl (
+      c.in-Ok.ensures.refused,
+      ended _ _ _ _ _ _ _ _ _ (Ok c.in-Ok-read_request.request) None c.in-Ok.ensures.taken
+          c.in-Ok-read_request.ensures.asked c.in_default.ensures c.run_request.ensures,
+    )
+
+pub returns-in-Ok-open : goal.returns-in-Ok-open
+returns-in-Ok-open g c =
+    inl (
+      c.in-Ok.ensures.refused,
+      ended _ _ _ _ _ _ _ _ _ (Ok c.in-Ok-read_request.request) (Some _) c.in-Ok.ensures.taken
+          c.in-Ok-read_request.ensures.asked c.in-Some.ensures (inr (_, (_, refl), c.run_request-in-Ok-open.ensures)),
+    )
+
+pub returns-in-Err-open : goal.returns-in-Err-open
+returns-in-Err-open g c =
+    inl (
+      c.in-Ok.ensures.refused,
+      ended _ _ _ _ _ _ _ _ _ (Ok c.in-Ok-read_request.request) (Some _) c.in-Ok.ensures.taken
+          c.in-Ok-read_request.ensures.asked c.in-Some.ensures (inl (Err CannotRead, refl, c.deliver-in-Err-open.ensures)),
+    )

@@ -11,7 +11,8 @@ use Rattle.lset_replay.proofs.order.in_order.Goals as goal
 abbrev StandsThere : ℕ → Pointed → Type 0
 StandsThere last x = x.point.moment ≤ last
 
-points_upto : (last number : ℕ) (ps : List (Option Linearized)) → StandUpTo last ps → All (StandsThere last) (pointed_from number ps)
+points_upto : (last number : ℕ) (ps : List (Option Linearized)) → StandUpTo last ps
+    → All (StandsThere last) (pointed_from number ps)
 points_upto last number [] h = All-nil (StandsThere last)
 points_upto last number (None ∷ ps) h = points_upto last (suc number) ps (λ j l. h (suc j) (omega arith))
 points_upto last number (Some p ∷ ps) h = All-cons (StandsThere last)
@@ -20,5 +21,6 @@ points_upto last number (Some p ∷ ps) h = All-cons (StandsThere last)
 
 pub returns : goal.returns
 returns c = λ last h. c.in_ok-order.ensures ∙ ap placed_in (c.deref.ensures.value
-    ∙ (subst (λ (xs : List Pointed). AreByPoints xs c.sort_by_points.new.places.items) c.in_ok-pointed.ensures c.in_ok-sort_by_points.ensures).blocks last
+    ∙ (subst (λ (xs : List Pointed). AreByPoints xs c.sort_by_points.new.places.items) c.in_ok-pointed.ensures
+    c.in_ok-sort_by_points.ensures).blocks last
     (points_upto last 0 c.args.places.now h))

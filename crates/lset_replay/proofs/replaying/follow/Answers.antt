@@ -32,7 +32,8 @@ pub returns-in-Err-clause-refused : goal.returns-in-Err-clause-refused
 returns-in-Err-clause-refused g c =
     let there = next_event c.args.first c.args.lines.now c.loop-index.index c.loop-done.events c.event_of-times.result.1
     c.event_of-times.result.0 c.loop-done._done c.loop-done.invariant.ahead c.loop-done-test.true in
-    rw c.refusal.ensures (stopped g.M.Machine.table _ _ _ _ _ c.loop-done.invariant.followed _ there c.in-Err.cause c.in-Err.ensures.0)
+    rw c.refusal.ensures (stopped g.M.Machine.table _ _ _ _ _ c.loop-done.invariant.followed _ there c.in-Err.cause
+    c.in-Err.ensures.0)
 
 pub loop-index-init : goal.loop-index-init
 loop-index-init g c = record { ahead = none_behind c.args.first c.args.lines.now; followed = c.requires.start }
@@ -66,5 +67,6 @@ loop-index-preserved g c = record {
 pub returns-clause-followed : goal.returns-clause-followed
 returns-clause-followed g c = subst (λ m. HasFollowed g.M.Machine.table c.args.recorder.now.history.opening
     (events_from c.args.first c.args.lines.now) m c.loop-index.world c.loop-index.recorder)
-    (all_behind c.args.first c.args.lines.now c.loop-index.index c.loop-index.events c.loop-index-test.false c.loop-index.invariant.ahead)
+    (all_behind c.args.first c.args.lines.now c.loop-index.index c.loop-index.events c.loop-index-test.false
+    c.loop-index.invariant.ahead)
     c.loop-index.invariant.followed

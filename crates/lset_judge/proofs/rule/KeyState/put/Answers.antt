@@ -1,9 +1,12 @@
-use Rattle.lset_judge.proofs.Ends.{put_turned}
+use Rattle.std.proofs.Common.{false}
+use Rattle.lset_judge.proofs.Heaped.{put_turned, none_turned}
 use Rattle.lset_judge.proofs.rule.KeyState.put.Goals as goal
 
-pub returns-clause-turned : goal.returns-clause-turned
-returns-clause-turned c =
+pub returns-in-Some-clause-turned : goal.returns-in-Some-clause-turned
+returns-in-Some-clause-turned c =
     let s = c.args.self.now in
-    let near = c.nearest_place-place in
-    put_turned c.args.before s.turned near.result s.there s.puts.items s.takes.items c.deref.result.now c.remove-end.new.self.items
-    c.requires c.deref.ensures.value near.ensures.inside near.ensures.least near.ensures.first c.remove-end.ensures.items
+    put_turned c.args.before s.turned _ s.there s.puts s.takes c.pop.new.self c.requires c.in-Some.ensures.0 c.in-Some.ensures.1
+
+pub returns-in-None-clause-turned : goal.returns-in-None-clause-turned
+returns-in-None-clause-turned c =
+    let s = c.args.self.now in none_turned c.args.before s.turned s.there false s.puts s.takes c.requires c.in-None.ensures

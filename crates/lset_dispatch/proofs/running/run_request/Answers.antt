@@ -1,0 +1,18 @@
+use Rattle.std.proofs.Common.{None}
+use Rattle.lset_dispatch.proofs.Endings.{at_request}
+use Rattle.lset_dispatch.proofs.running.run_request.Goals as goal
+
+pub returns-in-Replay-None : goal.returns-in-Replay-None
+returns-in-Replay-None g c = at_request _ _ _ _ _ _ _ _ c.in-Replay-None.is c.tool_replay.ensures
+
+pub returns-in-Judge : goal.returns-in-Judge
+returns-in-Judge g c = at_request _ _ _ _ _ _ _ _ c.in-Judge.is (_, c.judge_input.ensures, c.deliver.ensures)
+
+pub returns-in-Check : goal.returns-in-Check
+returns-in-Check g c = at_request _ _ _ _ _ _ _ _ c.in-Check.is c.tool_check.ensures
+
+pub returns-in-Gen : goal.returns-in-Gen
+returns-in-Gen g c = at_request _ _ _ _ _ _ _ _ c.in-Gen.is (_, c.generate_text.ensures, c.deliver-in-Gen.ensures)
+
+pub returns-in-Faults : goal.returns-in-Faults
+returns-in-Faults g c = at_request _ _ _ _ _ _ _ _ c.in-Faults.is (_, c.list_faults.ensures, c.deliver-in-Faults.ensures)

@@ -1,0 +1,43 @@
+-- What the words of a command line ask for. Of the commands that show something (show, trace, draft, example, run, serve) nothing is
+-- said, nor of lists that lack a check: they are safe, and tested.
+use Rattle.std.specs.Prelude.{List, Option, Some, None, Result, Ok, Err}
+use Rattle.clap.specs.Words.{Text}
+use Rattle.lset_command.specs.CommandLine.{Choice, OptionValues}
+use Rattle.lset_command.specs.declared.command_line.Command.{Command}
+use Rattle.lset_command.specs.declared.command_line.Command.TheVariants as command
+use Rattle.lset_schedule.specs.Generating.{IsAccepted}
+use Rattle.tool_base.specs.declared.arguments.RandomRequest.{RandomRequest}
+use Rattle.tool_base.specs.declared.trouble.ValueName.{ValueName}
+use Rattle.tool_base.specs.Generating.{random_request_of}
+use Rattle.lset_dispatch.specs.declared.request.Request.{Request}
+use Rattle.lset_dispatch.specs.declared.request.Request.TheVariants.{Replay, Judge, Check, Gen, Faults}
+
+-- a request, or the first value or option that is wrong
+abbrev pub Asked : Type 0
+Asked = Result Request ValueName
+
+-- `replay`, by the list that its input names
+abbrev pub asked_replay : Option Text → Option Asked
+asked_replay None = Some (Ok (Replay None))
+asked_replay (Some name) = None
+
+abbrev pub asked_gen : Result RandomRequest ValueName → Asked
+asked_gen (Ok random) = Ok (Gen random)
+asked_gen (Err wrong) = Err wrong
+
+abbrev pub asked_by : Command → List Text → OptionValues → Option Asked
+asked_by command.Replay values options = asked_replay options.lacks
+asked_by command.Judge values options = Some (Ok Judge)
+asked_by command.Check values options = Some (Ok Check)
+asked_by command.Gen values options = Some (asked_gen (random_request_of values))
+asked_by command.Faults values options = Some (Ok Faults)
+asked_by other values options = None
+
+-- what is asked for, if anything is said of the command
+abbrev pub asked : Choice → Option Asked
+asked choice = asked_by choice.command choice.values choice.options
+
+-- a request as words ask for it
+abbrev pub IsKnown : Request → Type 0
+IsKnown (Gen random) = IsAccepted random.threads random.quota random.keys
+IsKnown request = Unit {0}

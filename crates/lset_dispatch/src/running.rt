@@ -1,0 +1,74 @@
+ghost use Rattle.lset_dispatch.specs.Asked.{IsKnown};
+ghost use Rattle.lset_dispatch.specs.Dispatch.{RequestEnds};
+
+use crate::request::Request;
+use std::alloc::Global;
+use std::io::{Read, Write};
+use std::net::{Net, TcpListener, TcpStream};
+use std::sync::Wait;
+use std::thread::Threads;
+use std::time::Clock;
+use tool_base::{deliver, generate_text, list_faults, run_tool, tool_check, tool_replay};
+use tool_broken::{ReplayBroken, ShowBroken, TraceBroken};
+use tool_draft::Expand;
+use tool_examples::print_example;
+use tool_judge::judge_input;
+use tool_run::run_lives;
+use tool_serve::{serve_set, serve_set_of};
+use tool_trace::{Trace, trace_events};
+
+/// Runs a request, and returns the exit status. Writes the result to `output`, or one line about an error to `stderr`.
+/// Whether `input` is read, the request says. Allocates. `run` and `serve` start threads on `rt` and block until they end;
+/// `serve` listens on it.
+pub fn run_request<
+    H: Net<Listener = TcpListener, Stream = TcpStream> + Threads + Wait + Clock + Sync,
+    R: Read,
+    W: Write,
+    E: Write,
+>(rt: &H, alloc: Global, request: Request, input: &mut R, output: &mut W, stderr: &mut E) -> u8
+    requires { IsKnown request }
+    ensures { RequestEnds request (R.remaining input.old)
+        (W.contents output.old) (W.contents output.new) (E.contents stderr.old) (E.contents stderr.new) result }
+{
+    match request {
+        Request::Replay(None) => tool_replay(alloc, input, output, stderr),
+        Request::Replay(Some(broken)) => {
+            run_tool(alloc, &ReplayBroken { broken }, input, output, stderr)
+        }
+        Request::Judge => deliver(judge_input(alloc, input), output, stderr),
+        Request::Check => tool_check(alloc, input, output, stderr),
+        Request::Show(show, None) => run_tool(alloc, &show, input, output, stderr),
+        Request::Show(show, Some(broken)) => {
+            run_tool(alloc, &ShowBroken { broken, show }, input, output, stderr)
+        }
+        Request::Trace(true, None) => {
+            run_tool(alloc, &Trace { chains: true }, input, output, stderr)
+        }
+        Request::Trace(false, None) => {
+            let made = trace_events(alloc, input, output);
+            deliver(made, output, stderr)
+        }
+        Request::Trace(chains, Some(broken)) => {
+            run_tool(
+                alloc,
+                &TraceBroken { broken, chains },
+                input,
+                output,
+                stderr,
+            )
+        }
+        Request::Draft => run_tool(alloc, &Expand {}, input, output, stderr),
+        Request::Example(example) => deliver(print_example(alloc, example), output, stderr),
+        Request::Gen(random) => deliver(generate_text(alloc, random), output, stderr),
+        Request::Run(lives) => deliver(run_lives(rt, alloc, lives), output, stderr),
+        Request::Serve(serve) => {
+            let made = serve_set(rt, alloc, serve, &[], output);
+            deliver(made, output, stderr)
+        }
+        Request::ServeKeys(serve) => {
+            let made = serve_set_of(rt, alloc, serve, input, output);
+            deliver(made, output, stderr)
+        }
+        Request::Faults => deliver(list_faults(alloc), output, stderr),
+    }
+}

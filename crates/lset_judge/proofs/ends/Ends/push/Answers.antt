@@ -1,0 +1,7 @@
+use Rattle.std.proofs.Common.{◌∙◌, ap}
+use Rattle.lset_judge.specs.Rule.{put_in}
+use Rattle.lset_judge.proofs.Heaped.{reordered}
+use Rattle.lset_judge.proofs.ends.Ends.push.Goals as goal
+
+pub returns : goal.returns
+returns c = reordered _ _ c.in_ok-push.ensures.permutation ∙ ap (put_in c.args.end) c.self.view_is

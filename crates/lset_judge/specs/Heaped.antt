@@ -1,0 +1,14 @@
+-- What the ends that a heap holds are seen as: in their order.
+use Rattle.std.specs.Prelude.{ℕ, List, [], ◌∷◌}
+use Rattle.std.specs.Ordering.{nat_cmp}
+use Rattle.std.specs.declared.cmp.Ordering.{Ordering}
+use Rattle.std.specs.declared.cmp.Reverse.{Reverse}
+use Rattle.lset_judge.specs.Rule.{put_in}
+
+abbrev pub rising_of : List (Reverse ℕ) → List ℕ
+rising_of [] = []
+rising_of (x ∷ xs) = put_in x.0 (rising_of xs)
+
+-- the nearest end is the greatest in the heap
+abbrev pub later_first : Reverse ℕ → Reverse ℕ → Ordering
+later_first x y = nat_cmp y.0 x.0

@@ -1,0 +1,168 @@
+ghost use Rattle.std.specs.Prelude.{◌≡◌, ◌≤◌, ◌↔◌, IsTrue, IfOk, IfSome, map, string_bytes};
+ghost use Rattle.lset_text.specs.Numbers.{number_in};
+ghost use Rattle.lset_schedule.specs.Generating.{IsAccepted};
+ghost use Rattle.tool_base.specs.Generating.{IsPlain, kind_at, number_at, random_request_of};
+
+use crate::trouble::ValueName;
+use lset_text::{number, read_kind};
+use lset_words::{Kind, MOST_QUOTA, MOST_THREADS};
+
+/// The maximum number of calls that an argument may ask for.
+pub const MOST_CALLS_ASKED: u32 = 10_000;
+
+/// The maximum number of keys of which calls are drawn: all keys are below it.
+pub const MOST_KEYS_ASKED: u32 = u32::MAX;
+
+/// The largest seed.
+pub const MOST_SEED: u64 = u64::MAX;
+
+/// The maximum number of rounds of `run`.
+pub const MOST_LIVES: u32 = 100;
+
+/// The maximum number of sessions that an argument may ask for.
+pub const MOST_SESSIONS_ASKED: u32 = 10_000;
+
+/// The largest port.
+pub const MOST_PORT: u32 = 65_535;
+
+/// The arguments of `gen`, and the first ones of `run`: a list, the sizes and the calls of a run, and the seed from which
+/// they are drawn.
+#[derive(Clone, Copy)]
+pub struct RandomRequest {
+    /// The list.
+    pub kind: Kind,
+    /// 1 to `MOST_THREADS`.
+    pub threads: u32,
+    /// The slots of each thread, 0 to `MOST_QUOTA`.
+    pub quota: u32,
+    /// How many calls are asked for, 0 to `MOST_CALLS_ASKED`.
+    pub calls: u32,
+    /// Keys are below this number, which is at least 1.
+    pub keys: u32,
+    /// Any number.
+    pub seed: u64,
+}
+
+/// The arguments of `run`: what the first round is, and how many rounds there are.
+#[derive(Clone, Copy)]
+pub struct LivesRequest {
+    /// The first round.
+    pub run: RandomRequest,
+    /// 1 to `MOST_LIVES`.
+    pub lives: u32,
+}
+
+/// The arguments of `serve`: a list, the size of its set, the port, and how many sessions to serve.
+#[derive(Clone, Copy)]
+pub struct ServeRequest {
+    /// The list.
+    pub kind: Kind,
+    /// 1 to `MOST_THREADS`.
+    pub seats: u32,
+    /// The slots of each seat, 0 to `MOST_QUOTA`.
+    pub quota: u32,
+    /// 0 to `MOST_PORT`; 0 lets the system choose.
+    pub port: u16,
+    /// How many connections are served, 0 to `MOST_SESSIONS_ASKED`.
+    pub sessions: u32,
+}
+
+/// The list that the argument with this index, from 0, names; `None` if it is missing or names none.
+fn kind_at(values: &[String], index: usize) -> Option<Kind>
+    ensures { result ≡ kind_at (map string_bytes values.now) index }
+{
+    read_kind(values.get(index)?.as_bytes())
+}
+
+/// The number from `low` to `high` that the argument with this index, from 0, spells as a decimal without leading zeros;
+/// `None` if it is missing or spells no such number.
+fn number_at(values: &[String], index: usize, low: u32, high: u32) -> Option<u32>
+    ensures value { result ≡ number_at (map string_bytes values.now) index low high }
+    ensures range { IfSome result (λ n. (low ≤ n) × (n ≤ high)) }
+{
+    number(values.get(index)?.as_bytes(), low, high)
+}
+
+/// Whether the text begins with no sign and with no zero before another byte.
+fn is_plain(text: &[u8]) -> bool
+    ensures { IsTrue result ↔ IsPlain text.now }
+{
+    !text.is_empty() && text[0] != b'+' && (text.len() == 1 || text[0] != b'0')
+}
+
+/// The number that the text spells: `0`, or digits of which the first is not `0`. `None` for any other text,
+/// and for a number that is no `u64`.
+fn long_number(text: &str) -> Option<u64>
+    ensures { result ≡ number_in 0 MOST_SEED text.now }
+{
+    if !is_plain(text.as_bytes()) {
+        return None;
+    }
+    text.parse().ok()
+}
+
+fn seed_at(values: &[String], index: usize) -> Option<u64>
+    ensures { result ≡ number_at (map string_bytes values.now) index 0 MOST_SEED }
+{
+    long_number(values.get(index)?.as_str())
+}
+
+/// Reads the arguments KIND, THREADS, QUOTA, CALLS, KEYS and SEED, in this order, with the ranges of `RandomRequest`;
+/// numbers are decimals without leading zeros. The error names the first that is missing or wrong. Further arguments are not
+/// looked at.
+#[tactic(auto, unfolding(crate::specs::Generating::random_request_of))]
+pub fn read_random_request(values: &[String]) -> Result<RandomRequest, ValueName>
+    ensures value { result ≡ random_request_of (map string_bytes values.now) }
+    ensures known { IfOk result (λ request. IsAccepted request.threads request.quota request.keys) }
+{
+    let kind = kind_at(values, 0).ok_or(ValueName::Kind)?;
+    let threads = number_at(values, 1, 1, MOST_THREADS).ok_or(ValueName::Threads)?;
+    let quota = number_at(values, 2, 0, MOST_QUOTA).ok_or(ValueName::Quota)?;
+    let calls = number_at(values, 3, 0, MOST_CALLS_ASKED).ok_or(ValueName::Calls)?;
+    let keys = number_at(values, 4, 1, MOST_KEYS_ASKED).ok_or(ValueName::Keys)?;
+    let seed = seed_at(values, 5).ok_or(ValueName::Seed)?;
+    Ok(RandomRequest {
+        kind,
+        threads,
+        quota,
+        calls,
+        keys,
+        seed,
+    })
+}
+
+/// The number of rounds: the seventh argument, 1 to `MOST_LIVES`, and 1 if it is missing.
+fn lives_in(values: &[String]) -> Option<u32> {
+    match values.get(6) {
+        Some(_) => number_at(values, 6, 1, MOST_LIVES),
+        None => Some(1),
+    }
+}
+
+/// Reads the arguments of `run`: those of `read_random_request`, and then LIVES, a decimal without leading zeros, 1 to
+/// `MOST_LIVES`, and 1 if it is missing. The error names the first that is missing, except for LIVES, or wrong. Further
+/// arguments are not looked at.
+pub fn read_lives_request(values: &[String]) -> Result<LivesRequest, ValueName> {
+    let run = read_random_request(values)?;
+    let lives = lives_in(values).ok_or(ValueName::Lives)?;
+    Ok(LivesRequest { run, lives })
+}
+
+/// Reads the arguments KIND, SEATS, QUOTA, PORT and SESSIONS, in this order, with the ranges of `ServeRequest`; numbers are
+/// decimals without leading zeros. The error names the first that is missing or wrong. Further arguments are not looked at.
+pub fn read_serve_request(values: &[String]) -> Result<ServeRequest, ValueName> {
+    let kind = kind_at(values, 0).ok_or(ValueName::Kind)?;
+    let seats = number_at(values, 1, 1, MOST_THREADS).ok_or(ValueName::Seats)?;
+    let quota = number_at(values, 2, 0, MOST_QUOTA).ok_or(ValueName::Quota)?;
+    let port = number_at(values, 3, 0, MOST_PORT)
+        .and_then(|port| u16::try_from(port).ok())
+        .ok_or(ValueName::Port)?;
+    let sessions = number_at(values, 4, 0, MOST_SESSIONS_ASKED).ok_or(ValueName::Sessions)?;
+    Ok(ServeRequest {
+        kind,
+        seats,
+        quota,
+        port,
+        sessions,
+    })
+}

@@ -1,0 +1,84 @@
+ghost use Rattle.std.specs.Prelude.{◌≡◌, ◌⊎◌, ℕ, List, ◌++◌, ◌≤◌, length, IfOk, IfErr, IfSome, IsTrue, MatchResult};
+ghost use Rattle.std.specs.Io.KnownBytes.{Appends};
+ghost use Rattle.tool_base.specs.Tools.{IsReadOf, IsTooLong};
+ghost use Rattle.tool_base.specs.declared.trouble.Trouble.TheVariants.{CannotRead, Memory};
+ghost use Rattle.tool_base.specs.declared.input.TheConstants.{LONGEST};
+
+use crate::trouble::Trouble;
+use std::alloc::Global;
+use std::io::{Read, Write};
+
+/// The maximum number of bytes of an input.
+pub const LONGEST: usize = 67_108_864;
+
+/// The maximum number of bytes that one read takes.
+pub const READ_SIZE: usize = 4096;
+
+/// The bytes of an input that is not too long.
+#[derive(Clone, Copy)]
+pub struct Input<'a> {
+    bytes: &'a [u8],
+    ghost short: { length bytes.now ≤ LONGEST },
+}
+
+impl<'a> Input<'a> {
+    /// Takes the bytes, of which there may be `LONGEST`. The error is `TooLong`.
+    pub fn new(bytes: &'a [u8]) -> Result<Input<'a>, Trouble>
+        ensures { MatchResult result (λ input. input.bytes.now ≡ bytes.entry.now) (IsTooLong bytes.entry.now) }
+    {
+        if bytes.len() > LONGEST {
+            return Err(Trouble::TooLong);
+        }
+        Ok(Input { bytes })
+    }
+
+    /// Returns the bytes.
+    pub fn bytes(self) -> &'a [u8]
+        ensures value { result.now ≡ self.entry.bytes.now }
+        ensures short { length result.now ≤ LONGEST }
+    {
+        self.bytes
+    }
+}
+
+/// Reads all bytes of an input, until a read returns none; of an input that is too long it reads some more than `LONGEST`.
+/// Allocates; blocks as the input does. The error is `CannotRead` if a read fails, which is not repeated, or `Memory`.
+pub fn read_all<R: Read>(alloc: Global, input: &mut R) -> Result<Vec<u8>, Trouble>
+    ensures read { IfOk result (λ v. IfSome (R.remaining input.old) (IsReadOf v.items)) }
+    ensures trouble { IfErr result (λ t. (t ≡ CannotRead) ⊎ (t ≡ Memory)) }
+{
+    let mut bytes = Vec::new(alloc);
+    let mut buffer = [0u8; READ_SIZE];
+    while bytes.len() <= LONGEST {
+        let count = match input.read(&mut buffer) {
+            Ok(count) => count,
+            Err(_) => return Err(Trouble::CannotRead),
+        };
+        if count == 0 {
+            return Ok(bytes);
+        }
+        bytes.extend_from_slice(&buffer[..count])?;
+    }
+    Ok(bytes)
+}
+
+/// Writes a text, and returns whether all of it was written. A write that fails, or takes no byte, is not repeated; a prefix
+/// may have been written then.
+pub fn put<W: Write>(output: &mut W, text: &[u8]) -> bool
+    ensures front { (done rest : List ℕ) × (text.now ≡ done ++ rest)
+        × Appends (W.contents output.old) (W.contents output.new) done }
+    ensures whole { IsTrue result → Appends (W.contents output.old) (W.contents output.new) text.now }
+{
+    let mut rest = text;
+    while !rest.is_empty() {
+        let count = match output.write(rest) {
+            Ok(count) => count,
+            Err(_) => return false,
+        };
+        if count == 0 {
+            return false;
+        }
+        rest = &rest[count..];
+    }
+    true
+}

@@ -1,0 +1,51 @@
+ghost use Rattle.std.specs.Prelude.{ℕ, List, IfSome};
+ghost use Rattle.tool_base.specs.Tools.{Ends, Made, OnInput, OnText, view};
+
+use crate::answer::{Answer, deliver};
+use crate::input::{Input, read_all};
+use crate::trouble::Trouble;
+use std::alloc::Global;
+use std::io::{Read, Write};
+
+/// A command that answers on all bytes of its input.
+pub trait Tool {
+    /// What it may answer on the bytes. Of most commands nothing is said.
+    ghost answers: { Self → List ℕ → Made → Type 0 } = { λ tool bytes made. Unit {0} };
+
+    /// Answers on the input. Allocates.
+    fn answer(&self, alloc: Global, input: Input<'_>) -> Result<Answer, Trouble>
+        ensures { answers self.now input.entry.bytes.now (view result) };
+}
+
+/// Answers on a text, or with `TooLong`. Allocates.
+pub fn answer_text<T: Tool>(alloc: Global, tool: &T, text: &[u8]) -> Result<Answer, Trouble>
+    ensures { OnText (T.answers tool.now) text.now (view result) }
+{
+    let input = Input::new(text)?;
+    tool.answer(alloc, input)
+}
+
+/// Answers on all bytes of an input.
+fn answer_input<T: Tool, R: Read>(alloc: Global, tool: &T, input: &mut R) -> Result<Answer, Trouble>
+    ensures { IfSome (R.remaining input.old) (λ bytes. OnInput (T.answers tool.now) bytes (view result)) }
+{
+    let bytes = read_all(alloc, input)?;
+    answer_text(alloc, tool, &bytes)
+}
+
+/// Runs a command: reads all of `input`, and writes the answer to `output`, or one line about an error to `stderr` and
+/// nothing to `output`. Returns the exit status: that of the answer; 2 if an option is wrong, 3 if an allocation failed,
+/// else 1. A write to `stderr` that fails leaves it as it is. Allocates; blocks as its input and output do.
+pub fn run_tool<T: Tool, R: Read, W: Write, E: Write>(
+    alloc: Global,
+    tool: &T,
+    input: &mut R,
+    output: &mut W,
+    stderr: &mut E,
+) -> u8
+    ensures { Ends (λ made. IfSome (R.remaining input.old) (λ bytes. OnInput (T.answers tool.now) bytes made))
+        (W.contents output.old) (W.contents output.new) (E.contents stderr.old) (E.contents stderr.new) result }
+{
+    let made = answer_input(alloc, tool, input);
+    deliver(made, output, stderr)
+}

@@ -1,6 +1,0 @@
-//go:build !(linux || darwin || freebsd || netbsd || openbsd)
-
-package judge
-
-// inChild makes the runs in this process, since here none of its own can share memory with it.
-func inChild(_ string, it *area, make func() Set) (caller, error) { return &here{it, make}, nil }

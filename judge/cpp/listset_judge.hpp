@@ -1,0 +1,903 @@
+// Whether runs of a concurrent set of your own are linearizable, in one line of a test:
+//
+//     auto verdict = listset::judge<MySet>();
+//     ASSERT_TRUE(verdict) << verdict;             // GoogleTest; any other: if (!verdict) std::cerr << verdict
+//
+// MySet has add, remove and contains; or insert, erase and contains or count. Threads call fresh sets, and the begin and the end of
+// each call are recorded. A judge says whether any order of the calls explains their replies: liblistset, if <listset.h> is included
+// before this file; else the program that the environment variable LISTSET names, or `listset` of PATH. LISTSET may also name the
+// page's listset.js, which node runs. If this process has one thread, each run has a process of its own, so that a set that crashes
+// or hangs is judged up to there. C++17, with -pthread, on a POSIX system.
+#pragma once
+#include <algorithm>
+#include <atomic>
+#include <cerrno>
+#include <chrono>
+#include <csignal>
+#include <cstdint>
+#include <cstdio>
+#include <cstdlib>
+#include <cstring>
+#include <exception>
+#include <filesystem>
+#include <fstream>
+#include <functional>
+#include <map>
+#include <memory>
+#include <new>
+#include <optional>
+#include <ostream>
+#include <random>
+#include <sstream>
+#include <stdexcept>
+#include <string>
+#include <system_error>
+#include <thread>
+#include <typeinfo>
+#include <utility>
+#include <vector>
+#include <cxxabi.h>
+#include <dirent.h>
+#include <fcntl.h>
+#include <spawn.h>
+#include <sys/mman.h>
+#include <sys/wait.h>
+#include <unistd.h>
+#ifdef __linux__
+#include <sys/prctl.h>
+#endif
+
+extern char **environ;
+
+namespace listset {
+#ifdef LISTSET_H  // (two files of one program may differ in this)
+inline namespace judged_by_library {
+#else
+inline namespace judged_by_program {
+#endif
+
+// How the set is called. Each is checked before the first set is made.
+struct options {
+    unsigned threads = 0;  // that call a set at once: 1 to 64. 0, here and in the next two: by the presets of runs, in turn
+    unsigned calls = 0;    // of each thread: 1 or more, and 1,000,000,000 at most of all, which rest after each 20,000 until these are written
+    unsigned keys = 0;     // calls are on the keys of the numbers below this: 1 to 1,048,576; half of them on the first four
+    unsigned pauses = 20;  // before how many of 100 calls a thread pauses, for some microseconds at most: 0 to 100
+    unsigned runs = 20;    // sets that are called, or rows of a hundred sets: 1 to 1,000,000
+    unsigned seed = 1;     // what the calls, keys and pauses of the first run are drawn from; the next run has the next seed
+    unsigned seconds = 10;   // a run in which no call begins or ends for so long is ended: 1 to 3,600
+    unsigned at_least = 0;   // the verdict is not ok if fewer of 100 calls overlap a change of their key
+    unsigned adds = 1, removes = 1, finds = 1;  // the shares of the three operations
+    bool own_process = true;       // false: in this process, which then crashes with the set (for a debugger, or for coverage)
+    bool opens_with_keys = false;  // true: before the first call, `contains` is asked of each key
+    std::function<void()> begins = nullptr, ends = nullptr;  // at the begin and the end of each thread that calls or makes the set
+    std::string record = "";  // a folder that keeps the recording of each run; else that of a run that fails is kept, in TMPDIR or /tmp
+};
+
+// True if some order explains each run, each run came to its end, and as many calls overlapped as `at_least` asks. It prints itself.
+struct verdict {
+    bool ok = true;
+    uint64_t calls = 0, overlapped = 0;  // those of them that overlapped a change of their key, by the judge
+    uint64_t seed = 0;                   // of the run that failed: why, and the file that has its recording
+    std::string said, file;
+    std::string judge;                   // which it was, and whether it says that it is proved
+    std::string text;                    // what it prints
+    explicit operator bool() const { return ok; }
+};
+
+inline std::ostream &operator<<(std::ostream &to, const verdict &it) { return to << it.text; }
+
+// What `judge` throws if nothing is known of the set: an option is out of range, no set could be made, or there is no judge.
+struct no_verdict : std::runtime_error {
+    using std::runtime_error::runtime_error;
+};
+
+namespace judging {
+
+// A run: the threads, the fresh sets one after another, the calls of each thread on each, the keys, and what their numbers are multiples of.
+struct shape {
+    const char *name;
+    unsigned threads, sets, calls, keys, times;
+};
+
+struct range {
+    const char *name;
+    uint64_t least, most;
+};
+
+// made of words.json by judge/make_words: `longest` in looks at the counter, `part` in calls, `patience` in seconds
+constexpr shape PRESETS[] = {{"few keys", 4, 1, 2500, 4, 1}, {"fresh sets", 4, 40, 10, 4, 1}, {"multiples of 64", 4, 1, 2500, 8, 64}, {"one key", 3, 1, 2500, 1, 1}, {"multiples of 1,000", 8, 1, 1250, 8, 1000}, {"many keys", 4, 1, 2500, 1000, 1}};
+constexpr range RANGES[] = {{"threads", 1, 64}, {"threads times calls", 1, 1000000000}, {"keys", 1, 1048576}, {"pauses", 0, 100}, {"runs", 1, 1000000}, {"seconds", 1, 3600}, {"at_least", 0, 100}};
+constexpr unsigned PART = 20000;
+constexpr unsigned LONGEST = 100;
+constexpr unsigned HOT = 4;
+constexpr unsigned ENOUGH = 5;
+constexpr unsigned HARDER = 2;
+constexpr unsigned FURTHER = 20;
+constexpr unsigned PATIENCE = 3;
+constexpr unsigned READABLE = 6;
+constexpr unsigned MEET = 250;
+constexpr unsigned AWAKE = 300000;
+constexpr unsigned SLOW = 5;
+constexpr const char *OK = "ok: %s calls, of which %s overlapped a change of their key";
+constexpr const char *FEW = "that is few: take more threads, fewer keys or a machine that does less";
+constexpr const char *TOO_FEW = "%s of %s calls overlapped a change of their key, and at_least asks for %s of 100: take more threads, fewer keys or a machine that does less";
+constexpr const char *FAILED_RUN = "seed %s (%s): %s\nrecorded in %s; judge: %s";
+constexpr const char *RANGE = "%s is %s, and has to be %s to %s";
+constexpr const char *TWICE = "the key function gives %s for %s and for %s: let it give each number a key of its own";
+constexpr const char *HUNG = "the set hung: no call began or ended for %s s";
+constexpr const char *CRASHED = "the set crashed: %s";
+constexpr const char *ENDED_SO = "the set ended its process with the status %s";
+constexpr const char *THREW = "a call of the set failed: %s";
+constexpr const char *NOT_MADE = "the set could not be made: %s";
+constexpr const char *UNDER_WAY = "%s\nunder way:\n%sup to there: %s";
+constexpr const char *EXPLAINED = "some order explains the calls";
+constexpr const char *COUNTED = "%s adds and %s removes of key %s answered true; it was %s at first, and is %s at the end";
+constexpr const char *THERE = "there";
+constexpr const char *NOT_THERE = "not there";
+constexpr const char *KEY_IS = "key %s of the recording is %s";
+constexpr const char *IN_SET = ", in the fresh set %s of the run";
+constexpr const char *NO_FOLDER = "no file can be written in %s: name another folder by record";
+constexpr const char *NO_MEMORY = "there is no memory for the calls of a run";
+constexpr const char *NO_PROCESS = "no process could be started for a run: %s";
+constexpr const char *NOT_AGAIN = "the test did not come to this judge again in a process of its own: set own_process to false";
+constexpr const char *NO_NODE = "node is not in PATH, which runs the %s that LISTSET names";
+constexpr const char *NO_NAMED = "LISTSET names %s, which cannot be run: build listset, and name it there";
+constexpr const char *NO_JUDGE = "there is no listset in PATH: build it, and put it there or name it by LISTSET";
+constexpr const char *NO_VERDICT = "%s gave no verdict, but said: %s. Take a newer listset";
+// end of what is made
+
+inline std::string text_of(const std::string &it) { return it; }
+template <class N> std::enable_if_t<std::is_arithmetic_v<N>, std::string> text_of(N it) { return std::to_string(it); }
+
+template <class... With> std::string say(const char *text, const With &...with) {
+    std::string said = text;
+    size_t at = 0;
+    auto put = [&](const std::string &it) { said.replace(at = said.find("%s", at), 2, it), at += it.size(); };
+    (put(text_of(with)), ...);
+    return said;
+}
+
+inline void check(const options &it) {
+    const uint64_t all = uint64_t(it.threads ? it.threads : 1) * (it.calls ? it.calls : 1);
+    const uint64_t given[] = {it.threads ? it.threads : 1, all, it.keys ? it.keys : 1, it.pauses, it.runs, it.seconds, it.at_least};
+    const uint64_t *at = given;
+    for (const range &its : RANGES) {
+        if (*at < its.least || *at > its.most) throw no_verdict(say(RANGE, its.name, *at, its.least, its.most));
+        at++;
+    }
+    if (it.adds + it.removes + it.finds == 0) throw no_verdict(say(RANGE, "adds plus removes plus finds", 0, 1, 1000));
+}
+
+// ---- the three calls, by the names that the set has for them
+
+enum class kind { add, remove, contains };
+enum class reply : uint8_t { no, yes, unknown };
+
+inline reply reply_of(bool it) { return it ? reply::yes : reply::no; }
+template <class I> reply reply_of(const std::pair<I, bool> &it) { return reply_of(it.second); }
+inline reply reply_of(const std::optional<bool> &it) { return it ? reply_of(*it) : reply::unknown; }  // (a call that was timed out, say)
+
+#define LISTSET_HAS(name)                                                               \
+    template <class S, class K, class = void> struct has_##name : std::false_type {};   \
+    template <class S, class K> struct has_##name<S, K, std::void_t<decltype(std::declval<S &>().name(std::declval<const K &>()))>> : std::true_type {};
+LISTSET_HAS(add) LISTSET_HAS(insert) LISTSET_HAS(remove) LISTSET_HAS(erase) LISTSET_HAS(contains) LISTSET_HAS(count)
+#undef LISTSET_HAS
+
+template <class S, class K> constexpr bool removes = has_remove<S, K>::value || has_erase<S, K>::value;
+
+template <class S, class K> reply add(S &set, const K &key) {
+    static_assert(has_add<S, K>::value || has_insert<S, K>::value, "the set has neither `add` nor `insert` of such a key");
+    if constexpr (has_add<S, K>::value) return reply_of(set.add(key));
+    else return reply_of(set.insert(key));
+}
+
+template <class S, class K> reply remove([[maybe_unused]] S &set, [[maybe_unused]] const K &key) {
+    if constexpr (has_remove<S, K>::value) return reply_of(set.remove(key));
+    else if constexpr (has_erase<S, K>::value) return reply_of(set.erase(key) ? true : false);
+    else return reply::unknown;
+}
+
+template <class S, class K> reply contains(S &set, const K &key) {
+    static_assert(has_contains<S, K>::value || has_count<S, K>::value, "the set has neither `contains` nor `count` of such a key");
+    if constexpr (has_contains<S, K>::value) return reply_of(set.contains(key));
+    else return reply_of(set.count(key) ? true : false);
+}
+
+// ---- a run, written down as it goes
+
+enum phase { GOING, RESTING, OVER, FAILED, UNMADE };
+
+// A call as its thread writes it: at its begin, and again at its end. A thread goes on under a new number after a reply that is not known.
+struct slot {
+    unsigned thread, key;
+    kind call;
+    reply answer;
+    std::atomic<unsigned> begin, end;  // 0 as long as it has none
+};
+
+// A run in memory that its process shares with this one: the part that goes on.
+struct area {
+    const shape of;
+    const uint64_t seed;
+    const unsigned rows, parts;                   // the calls of each thread in a part, of which the last may have fewer; how many there are
+    slot *slots = nullptr;                        // those of each thread in turn
+    bool *opening = nullptr, *left = nullptr;     // of each key of each set whether it was there, at first and at the end
+    std::atomic<unsigned> tickets{0}, looks{0}, there{0}, done{0};
+    std::atomic<unsigned> begun{0}, before{0};    // the rounds, and the last moment of the parts before this one
+    std::atomic<phase> at{GOING};
+    std::atomic<bool> is_stopping{false};
+    char why[240] = "";
+
+    area(const shape &it, uint64_t of_seed)
+        : of(it), seed(of_seed), rows(it.sets > 1 ? it.sets * it.calls : std::min(it.calls, PART / it.threads)),
+          parts(it.sets > 1 ? 1 : (it.calls - 1) / rows + 1) {}
+
+    static std::shared_ptr<area> made(const shape &it, uint64_t of_seed) {
+        size_t count = size_t(it.threads) * area(it, of_seed).rows, keys = size_t(it.sets) * it.keys;
+        size_t size = sizeof(area) + count * sizeof(slot) + 2 * keys;
+        void *place = mmap(nullptr, size, PROT_READ | PROT_WRITE, MAP_SHARED | MAP_ANONYMOUS, -1, 0);
+        if (place == MAP_FAILED) throw no_verdict(NO_MEMORY);
+        std::shared_ptr<area> found(new (place) area(it, of_seed), [size](area *old) { old->~area(), munmap(old, size); });
+        found->slots = new (found.get() + 1) slot[count]();
+        found->opening = reinterpret_cast<bool *>(found->slots + count);
+        found->left = found->opening + keys;
+        return found;
+    }
+
+    unsigned rounds() const { return std::max(of.sets, parts); }
+
+    // What changes as long as the run goes on.
+    unsigned moved() const { return tickets + looks; }
+
+    // Writes down what was thrown; the first stays.
+    void fail(phase as, const std::string &thrown) {
+        if (is_stopping.exchange(true)) return;
+        snprintf(why, sizeof why, "%s", say(as == FAILED ? THREW : NOT_MADE, thrown).c_str());
+        at = as;
+    }
+
+    // Waits, first awake if each thread may have a processor, so that all go on at once; false if the run stops.
+    template <class Done> bool waits(Done is_done) const {
+        const unsigned awake = of.threads <= std::thread::hardware_concurrency() ? AWAKE : LONGEST;
+        for (unsigned waited = 0; !is_done() && !is_stopping; waited++)
+            if (waited >= awake) std::this_thread::sleep_for(std::chrono::microseconds(20));
+        return !is_stopping;
+    }
+
+    // Waits until all threads are here.
+    void meet() {
+        const unsigned all = there++ / of.threads * of.threads + of.threads;
+        waits([&] { return there >= all; });
+    }
+};
+
+// The type and the text of an exception.
+inline std::string told(const std::exception &it) {
+#ifdef __GXX_RTTI
+    int status;
+    std::unique_ptr<char, void (*)(void *)> name(abi::__cxa_demangle(typeid(it).name(), nullptr, nullptr, &status), free);
+    return std::string(name ? name.get() : typeid(it).name()) + ": " + it.what();
+#else
+    return it.what();
+#endif
+}
+
+template <class F> void tried(area &run, phase as, F call) {
+    try {
+        call();
+    } catch (const std::exception &thrown) {
+        run.fail(as, told(thrown));
+    } catch (...) {
+        run.fail(as, "what is no std::exception");
+    }
+}
+
+// What makes a run.
+template <class Make, class K> struct maker {
+    using pointer = decltype(std::declval<Make &>()());
+    using set_type = typename std::pointer_traits<pointer>::element_type;
+    const options how;
+    const std::vector<K> keys;
+    Make make;
+    std::atomic<set_type *> set{nullptr};
+
+    maker(const options &it, std::vector<K> of, Make by) : how(it), keys(std::move(of)), make(std::move(by)) {}
+
+    kind drawn(std::mt19937 &draw) const {
+        const unsigned removes_too = removes<set_type, K> ? how.removes : 0, at = unsigned(draw()) % (how.adds + removes_too + how.finds);
+        return at < how.adds ? kind::add : at < how.adds + removes_too ? kind::remove : kind::contains;
+    }
+
+    unsigned drawn_key(std::mt19937 &draw) const {
+        const unsigned all = unsigned(keys.size()), below = all > 2 * HOT && draw() % 2 ? HOT : all;
+        return unsigned(draw()) % below;
+    }
+
+    // The calls of a thread in a round.
+    void call_set(area &run, slot *at, unsigned round, unsigned count, unsigned &number, std::mt19937 &draw) {
+        set_type &its = *set;
+        for (unsigned i = 0; i < count; i++, at++) {
+            if (i % MEET == 0) run.meet();
+            const unsigned key = drawn_key(draw);
+            at->thread = number, at->call = drawn(draw), at->key = key + (run.of.sets > 1 ? round * run.of.keys : 0);
+            for (unsigned pause = draw() % 100 < how.pauses ? unsigned(draw()) % LONGEST : 0; pause > 0; pause--) run.tickets.load();
+            at->begin.store(++run.tickets, std::memory_order_release);
+            const reply given = at->call == kind::add ? add(its, keys[key]) : at->call == kind::remove ? remove(its, keys[key]) : contains(its, keys[key]);
+            at->answer = given;
+            at->end.store(++run.tickets, std::memory_order_release);
+            if (given == reply::unknown) number += run.of.threads;
+        }
+    }
+
+    void call_in_rounds(area &run, unsigned thread) {
+        std::mt19937 draw(uint32_t(run.seed * 64 + thread));
+        unsigned number = thread;
+        if (how.begins) how.begins();
+        for (unsigned round = 0; round < run.rounds() && run.waits([&] { return run.begun > round; }); round++) {
+            slot *mine = run.slots + size_t(thread) * run.rows + (run.of.sets > 1 ? round * run.of.calls : 0);
+            const unsigned count = run.of.sets > 1 ? run.of.calls : std::min(run.rows, run.of.calls - round * run.rows);
+            tried(run, FAILED, [&] { call_set(run, mine, round, count, number, draw); });
+            run.done++;
+        }
+        if (how.ends) how.ends();
+    }
+
+    void look_up(area &run, bool *there) {
+        for (const K &key : keys) *there++ = contains(*set, key) == reply::yes, run.looks++;
+    }
+
+    // Makes each set and has the threads call it; rests after each part until somebody has read it.
+    void lead(area &run) {
+        pointer own{};
+        for (unsigned round = 0; round < run.rounds() && !run.is_stopping; round++) {
+            const size_t first = run.of.sets > 1 ? size_t(round) * run.of.keys : 0;
+            if (round == 0 || run.of.sets > 1) {
+                tried(run, UNMADE, [&] { set = nullptr, own = nullptr, own = make(), set = &*own; });
+                if (!run.is_stopping && how.opens_with_keys) look_up(run, run.opening + first);
+            }
+            if (!run.waits([&] { return run.at == GOING; })) return;
+            if (run.of.sets == 1) run.before = run.tickets.load();
+            run.begun = round + 1;
+            if (!run.waits([&] { return run.done == run.of.threads * (round + 1); })) return;
+            if (run.of.sets > 1 || round + 1 == run.rounds()) look_up(run, run.left + first);
+            else run.at = RESTING;
+        }
+    }
+
+    // Calls sets, to the end.
+    void all(area &run) {
+        std::vector<std::thread> threads;
+        for (unsigned i = 0; i < run.of.threads; i++)
+            threads.emplace_back([&run, this, i] { tried(run, FAILED, [&] { call_in_rounds(run, i); }); });
+        if (how.begins) how.begins();
+        tried(run, FAILED, [&] { lead(run); });
+        for (auto &it : threads) it.join();
+        if (how.ends) how.ends();
+        if (!run.is_stopping) run.at = OVER;
+    }
+};
+
+// Waits until `is_done`; false if no call begins or ends for too long before that.
+template <class Done> bool comes_to_end(const area &run, unsigned seconds, Done is_done) {
+    using clock = std::chrono::steady_clock;
+    unsigned seen = run.moved();
+    for (auto since = clock::now(); !is_done(); std::this_thread::sleep_for(std::chrono::microseconds(300))) {
+        if (seen != run.moved()) seen = run.moved(), since = clock::now();
+        if (clock::now() - since > std::chrono::seconds(seconds)) return false;
+    }
+    return true;
+}
+
+// Whether no thread but this is in the process, whose copy another could leave in the middle of anything.
+inline bool is_alone() {
+    unsigned found = 0;
+    DIR *threads = opendir("/proc/self/task");
+    while (threads && readdir(threads)) found++;
+    if (threads) closedir(threads);
+    return found <= 3;  // (two names are of folders)
+}
+
+// Where a run is made, and ended with this: a process of its own, or, which cannot be ended if it hangs, a thread.
+struct caller {
+    virtual bool has_ended() = 0;
+    virtual std::string trouble() = 0;  // once it has ended: how it went wrong, or nothing
+    virtual ~caller() = default;
+};
+
+struct child : caller {
+    const area &run;
+    pid_t process;
+    int status = 0;
+    bool is_over = false;
+
+    template <class Maker> child(Maker &by, area &of) : run(of), process(fork()) {
+        if (process < 0) throw no_verdict(say(NO_PROCESS, std::string(strerror(errno))));
+        if (process > 0) return;
+#ifdef __linux__
+        prctl(PR_SET_PDEATHSIG, SIGKILL);
+#endif
+        by.all(of);
+        _exit(0);
+    }
+    ~child() override {
+        if (!is_over) kill(process, SIGKILL), waitpid(process, nullptr, 0);
+    }
+    bool has_ended() override { return is_over = is_over || waitpid(process, &status, WNOHANG) == process; }
+    std::string trouble() override {
+        if (WIFSIGNALED(status)) return say(CRASHED, std::string(strsignal(WTERMSIG(status))));
+        int ended = WEXITSTATUS(status);  // (not 0 if the set ended its process while it was destroyed, as a sanitizer does)
+        return run.at < OVER || ended != 0 ? say(ENDED_SO, ended) : "";
+    }
+};
+
+struct here : caller {
+    const std::shared_ptr<area> run;
+    const unsigned seconds;
+    const std::shared_ptr<std::atomic<bool>> is_over;
+    std::thread thread;
+
+    template <class Maker> here(std::shared_ptr<Maker> by, std::shared_ptr<area> of)
+        : run(of), seconds(by->how.seconds), is_over(std::make_shared<std::atomic<bool>>(false)),
+          thread([by, of, over = is_over] { by->all(*of), *over = true; }) {}
+    ~here() override {
+        const bool is_hanging = !*is_over && run->at == GOING;
+        run->is_stopping = true;
+        // (a call may also wait for one that threw, and the set may hang while it is destroyed)
+        if (is_hanging || !comes_to_end(*run, seconds, [&] { return is_over->load(); })) thread.detach();
+        else thread.join();
+    }
+    bool has_ended() override { return *is_over; }
+    std::string trouble() override { return ""; }
+};
+
+// Waits until the part is made that goes on; gives how it went wrong, or nothing.
+inline std::string made_part(caller &by, const area &run, unsigned seconds) {
+    bool has_ended = false;
+    if (!comes_to_end(run, seconds, [&] { return run.at == RESTING || (has_ended = by.has_ended()); })) return say(HUNG, seconds);
+    return has_ended ? by.trouble() : "";
+}
+
+// ---- the judge
+
+// Its name, what it says of its proof, and the command to which words are added.
+struct judge_found {
+    std::string name, proof;
+    std::vector<std::string> command;
+    std::vector<std::string> with(std::vector<std::string> words) const { return words.insert(words.begin(), command.begin(), command.end()), words; }
+};
+
+// The line in which a judge says whether it is proved.
+inline std::string proof_in(const std::string &version) {
+    size_t at = ("\n" + version).find("\nproof ");
+    return at == std::string::npos ? "proof unknown" : version.substr(at, version.find('\n', at) - at);
+}
+
+// What a command or the library says.
+struct answer {
+    int status;  // -1: it cannot be run
+    std::string said;
+};
+
+inline std::string stripped(std::string text) {
+    while (!text.empty() && text.back() == '\n') text.pop_back();
+    return text;
+}
+
+#ifdef LISTSET_H
+// The library, which is given a recording at its end.
+struct asked {
+    std::string all;
+    explicit asked(const std::vector<std::string> &) {}
+    void write(const std::string &text) { all += text; }
+    answer end() {
+        uint8_t status;
+        size_t length;
+        std::unique_ptr<char, void (*)(void *)> said(listset_said(listset_judge, all.data(), all.size(), &length, &status), free);
+        if (!said) throw no_verdict("there is no memory for the answer of liblistset");
+        return {status, stripped(std::string(said.get(), length))};
+    }
+};
+
+inline judge_found find_judge() { return {"liblistset", proof_in(listset_version()), {}}; }
+#else
+// A pipe, whose ends are closed with it.
+struct ends {
+    int from = -1, to = -1;
+    ends() {
+        int both[2];
+        if (pipe(both)) throw no_verdict(say(NO_PROCESS, std::string(strerror(errno))));
+        from = both[0], to = both[1];
+        fcntl(from, F_SETFD, FD_CLOEXEC), fcntl(to, F_SETFD, FD_CLOEXEC);
+    }
+    ends(const ends &) = delete;
+    ~ends() { shut(from), shut(to); }
+    static void shut(int &it) {
+        if (it != -1) close(std::exchange(it, -1));
+    }
+    std::string all() {
+        std::string text;
+        char some[4096];
+        for (ssize_t got; (got = read(from, some, sizeof some)) > 0 || (got < 0 && errno == EINTR);) text.append(some, size_t(std::max<ssize_t>(got, 0)));
+        return stripped(text);
+    }
+};
+
+// A command, which is given its input as it grows. (What `--version` says of a judge that it builds is for the user's eyes.)
+struct asked {
+    ends in, out, errors;
+    pid_t process = -1;
+
+    explicit asked(std::vector<std::string> words, bool is_version = false) {
+        posix_spawn_file_actions_t actions;
+        posix_spawn_file_actions_init(&actions);
+        posix_spawn_file_actions_adddup2(&actions, in.from, 0);
+        posix_spawn_file_actions_adddup2(&actions, out.to, 1);
+        if (!is_version) posix_spawn_file_actions_adddup2(&actions, errors.to, 2);
+        std::vector<char *> argv;
+        for (auto &it : words) argv.push_back(it.data());
+        argv.push_back(nullptr);
+        if (posix_spawnp(&process, argv[0], &actions, nullptr, argv.data(), environ)) process = -1;
+        posix_spawn_file_actions_destroy(&actions);
+        ends::shut(in.from), ends::shut(out.to), ends::shut(errors.to);
+    }
+    ~asked() {
+        if (process != -1) kill(process, SIGKILL);
+        end();
+    }
+    void write(const std::string &text) {
+        sigset_t broken, before, pending;
+        sigemptyset(&broken), sigaddset(&broken, SIGPIPE);
+        pthread_sigmask(SIG_BLOCK, &broken, &before);
+        ssize_t count = 1;
+        for (size_t at = 0; at < text.size() && (count > 0 || errno == EINTR); at += size_t(std::max<ssize_t>(count, 0)))
+            count = ::write(in.to, text.data() + at, text.size() - at);
+        int number;  // (one that has ended reads no further)
+        if (count < 0 && !sigpending(&pending) && sigismember(&pending, SIGPIPE)) sigwait(&broken, &number);
+        pthread_sigmask(SIG_SETMASK, &before, nullptr);
+    }
+    answer end() {
+        int status;
+        ends::shut(in.to);
+        if (process == -1) return {-1, ""};
+        std::string said = out.all(), troubles = errors.all();
+        if (waitpid(std::exchange(process, -1), &status, 0) < 0) return {-1, ""};
+        return {WIFEXITED(status) ? WEXITSTATUS(status) : 128, said.empty() ? troubles : said};
+    }
+};
+
+inline judge_found find_judge() {
+    const char *named = std::getenv("LISTSET");
+    const std::string name = named ? named : "listset";
+    bool is_script = name.size() > 3 && name.substr(name.size() - 3) == ".js";
+    judge_found found{name, "", is_script ? std::vector<std::string>{"node", name} : std::vector<std::string>{name}};
+    answer version = asked(found.with({"--version", "--long"}), true).end();
+    if (version.status == -1 || version.status == 127)
+        throw no_verdict(is_script ? say(NO_NODE, name) : named ? say(NO_NAMED, name) : NO_JUDGE);
+    found.proof = proof_in(version.said);
+    return found;
+}
+#endif
+
+// What a judge says of a recording that no order explains, or nothing; and how many calls overlapped a change of their key.
+struct judgement {
+    std::string refused;
+    uint64_t overlapped;
+};
+
+inline judgement judged(const judge_found &by, const answer &given) {
+    auto &[status, said] = given;
+    std::string first = said.substr(0, said.find('\n'));
+    unsigned long long overlapped;
+    if (status == 1 && first == "not linearizable") return {said, 0};
+    if (status == 0 && sscanf(said.c_str(), "ok %*u calls\n%llu of them", &overlapped) == 1) return {"", overlapped};
+    throw no_verdict(say(NO_VERDICT, by.name, first.empty() ? "nothing" : first));
+}
+
+// ---- a run, as it is judged
+
+// The text of a run: as it grows it is written into a file, and given to the judge.
+struct recording {
+    const std::string path;
+    bool is_kept;
+    std::ofstream file;
+    asked judge;
+
+    recording(const options &how, uint64_t seed, const judge_found &by)
+        : path(path_of(how.record, seed)), is_kept(!how.record.empty()), judge(by.with({"judge", "-"})) {
+        std::error_code fault;
+        if (is_kept) std::filesystem::create_directories(how.record, fault);
+        file.open(path);
+        check();
+    }
+    recording(const recording &) = delete;
+    ~recording() {
+        if (!is_kept) std::remove(path.c_str());
+    }
+    static std::string path_of(const std::string &folder, uint64_t seed) {
+        static std::atomic<unsigned> files{0};
+        std::string name = "seed-" + std::to_string(seed);
+        if (!folder.empty()) return folder + "/" + name + ".calls";
+        const char *temporary = std::getenv("TMPDIR");
+        return (temporary ? temporary : "/tmp") + ("/listset-" + name) + "-" + std::to_string(getpid()) + "-" + std::to_string(++files) + ".calls";
+    }
+    void check() const {
+        if (!file) throw no_verdict(say(NO_FOLDER, path.substr(0, path.rfind('/'))));
+    }
+    void write(const std::string &text) { file << text, judge.write(text); }
+    answer end() { return file.close(), check(), judge.end(); }
+};
+
+inline std::string line_of(const slot &it, unsigned end) {
+    static const char *const words[] = {" add ", " remove ", " contains "};
+    std::string text = "call " + std::to_string(it.thread) + words[int(it.call)] + std::to_string(it.key) + " " + std::to_string(it.begin) + " ";
+    const bool is_open = end == 0 || it.answer == reply::unknown;
+    return text + (is_open ? "- -\n" : std::to_string(end) + (it.answer == reply::yes ? " true\n" : " false\n"));
+}
+
+// The lines of the calls of a part by their begins, and those of the calls under way.
+inline std::pair<std::string, std::string> lines_of(const area &from) {
+    std::map<unsigned, std::pair<const slot *, unsigned>> found;
+    for (size_t i = 0; i < size_t(from.of.threads) * from.rows; i++) {
+        const slot &it = from.slots[i];
+        const unsigned end = it.end, begin = it.begin;  // (the end may be that of a part before)
+        if (begin > from.before) found[begin] = {&it, end > begin ? end : 0};
+    }
+    std::string lines, under_way;
+    for (auto &[begin, it] : found) lines += line_of(*it.first, it.second), under_way += it.second == 0 ? line_of(*it.first, 0) : "";
+    return {lines, under_way};
+}
+
+inline std::string lines_of_keys(const std::string &word, const bool *there, size_t keys) {
+    std::string text;
+    for (size_t key = 0; key < keys; key++)
+        if (there[key]) text += word + " " + std::to_string(key) + "\n";
+    return text;
+}
+
+// How a run came to no end, and the calls under way.
+struct trouble {
+    std::string how, under_way;
+};
+
+// Records a run as it is made.
+inline trouble record(caller &by, area &run, recording &to, unsigned seconds) {
+    trouble found;
+    const size_t keys = size_t(run.of.sets) * run.of.keys;
+    for (unsigned part = 1; part <= run.parts && found.how.empty(); part++) {
+        if (part > 1) run.at = GOING;
+        found.how = made_part(by, run, seconds);
+        if (run.at == UNMADE) throw no_verdict(run.why);
+        if (run.at == FAILED) found.how = run.why;
+        if (!found.how.empty() && run.tickets == 0) throw no_verdict(say(NOT_MADE, found.how));
+        auto [lines, under_way] = lines_of(run);
+        to.write((part > 1 ? "" : "listset-calls 1\n" + lines_of_keys("opening", run.opening, keys)) + lines);
+        found.under_way = under_way;
+    }
+    to.write(found.how.empty() ? lines_of_keys("key", run.left, keys) + "end\n" : "cut\n");
+    return found;
+}
+
+// ---- a refusal, as it is told
+
+// A call, as a line of a recording or of the judge has it; the end is 0 if it has none.
+struct call_line {
+    std::string thread, word, key, answer;
+    uint64_t begin = 0, end = 0;
+};
+
+inline std::optional<call_line> call_in(const std::string &line) {
+    call_line it;
+    std::string call, end;
+    std::istringstream words(line);
+    if (!(words >> call >> it.thread >> it.word >> it.key >> it.begin >> end >> it.answer) || call != "call") return {};
+    if (end != "-") it.end = std::stoull(end);
+    return it;
+}
+
+// The calls as bars, one below another, from their begins to their ends.
+inline std::string picture_of(const std::vector<call_line> &calls) {
+    std::map<uint64_t, std::pair<size_t, size_t>> moments;  // at each moment its column, and the least distance from the begin of its call
+    uint64_t last = 0;
+    for (auto &it : calls) last = std::max({last, it.begin + 1, it.end + 1});
+    auto head = [](const call_line &it) { return "[" + it.word + " " + it.key; };
+    auto end_of = [&](const call_line &it) { return it.end ? it.end : last; };
+    for (auto &it : calls) moments[it.begin], moments[end_of(it)];
+    size_t column = 0;
+    for (auto &[moment, place] : moments) {
+        place.first = column;
+        for (auto &it : calls)
+            if (end_of(it) == moment) place.first = std::max(place.first, moments[it.begin].first + head(it).size() + it.answer.size() + 1);
+        column = place.first + 1;
+    }
+    std::string text;
+    for (auto &it : calls) {
+        const size_t from = moments[it.begin].first, to = moments[end_of(it)].first, used = head(it).size() + it.answer.size();
+        text += "\nthread " + it.thread + std::string(it.thread.size() < 2 ? 2 : 1, ' ') + std::string(from, ' ') + head(it);
+        text += std::string(to - from - used, '-') + (it.end ? it.answer + "]" : "-..");
+    }
+    return text;
+}
+
+// Whether the calls of a key that answered true do not fit to how it was; then in words.
+inline std::string count_of(const std::string &file, const std::string &key) {
+    std::ifstream recorded(file);
+    uint64_t adds = 0, removes = 0;
+    bool was = false, is = false, is_cut = false;
+    for (std::string line; std::getline(recorded, line);) {
+        auto call = call_in(line);
+        if (call && call->key == key && !call->end) return "";
+        if (call && call->key == key && call->answer == "true") adds += call->word == "add", removes += call->word == "remove";
+        was |= line == "opening " + key, is |= line == "key " + key, is_cut |= line == "cut";
+    }
+    auto word = [](bool it) { return std::string(it ? THERE : NOT_THERE); };
+    return is_cut || was + adds == is + removes ? "" : say(COUNTED, adds, removes, key, word(was), word(is));
+}
+
+// The key of which the judge's second line speaks.
+inline std::string key_in(const std::string &refused) {
+    const size_t at = refused.find("of key ");
+    return at == std::string::npos ? "" : refused.substr(at + 7, refused.find_first_not_of("0123456789", at + 7) - at - 7);
+}
+
+inline size_t calls_in(const std::string &refused) {
+    size_t count = refused.find(" belong to these") != std::string::npos ? 1000 : 0;
+    for (size_t at = 0; (at = refused.find("\ncall ", at)) != std::string::npos; at++) count++;
+    return count;
+}
+
+// What the judge says, with a picture; or, in place of many calls, what their count shows.
+inline std::string explained(const std::string &refused, const std::string &file) {
+    std::vector<call_line> calls;
+    std::istringstream lines(refused);
+    for (std::string line; std::getline(lines, line);)
+        if (auto it = call_in(line)) calls.push_back(*it);
+    const std::string counted = calls_in(refused) > READABLE ? count_of(file, key_in(refused)) : "";
+    if (counted.empty()) return refused + (calls.size() > 1 ? picture_of(calls) : "");
+    return refused.substr(0, refused.find('\n', refused.find('\n') + 1)) + "\n" + counted;
+}
+
+// ---- runs, one after another
+
+struct outcome {
+    uint64_t seed = 0, calls = 0, overlapped = 0;
+    std::string name, refused, said, file;
+    bool is_few() const { return overlapped * 100 < calls * ENOUGH; }
+};
+
+struct number {
+    unsigned operator()(unsigned it) const { return it; }
+};
+
+template <class S> struct made {
+    std::unique_ptr<S> operator()() const { return std::make_unique<S>(); }
+};
+
+template <class K, class = void> struct can_be_shown : std::false_type {};
+template <class K> struct can_be_shown<K, std::void_t<decltype(std::declval<std::ostream &>() << std::declval<const K &>())>> : std::true_type {};
+
+template <class K> std::string shown(const K &key) {
+    std::ostringstream to;
+    if constexpr (can_be_shown<K>::value) to << key;
+    return to.str();
+}
+
+template <class Make, class Key> struct tester {
+    using K = std::decay_t<decltype(std::declval<Key &>()(0u))>;
+    const options &how;
+    const judge_found by;
+    const Make &make;
+    const Key &key;
+
+    // The preset of a seed, with what the options say.
+    shape shape_of(uint64_t seed) const {
+        shape it = PRESETS[(seed + std::size(PRESETS) - 1) % std::size(PRESETS)];
+        if (how.threads) it.threads = how.threads;
+        if (how.keys || !std::is_same_v<Key, number>) it.times = 1;
+        if (how.keys) it.keys = how.keys;
+        if (how.calls) it.calls = how.calls, it.sets = 1;
+        return fitted(it);
+    }
+
+    static shape fitted(shape it) {
+        if (it.sets > 1) it.sets = std::max(1u, std::min(it.sets, PART / (it.threads * it.calls)));
+        return it;
+    }
+
+    // With more threads and fewer keys, where the options leave them open.
+    shape harder(shape it) const {
+        if (!how.threads) it.threads = std::min(2 * it.threads, 8u);
+        if (!how.keys) it.keys = std::max(it.keys / 2, 1u);
+        return fitted(it);
+    }
+
+    std::vector<K> keys_of(const shape &it) const {
+        std::vector<K> keys;
+        for (unsigned i = 0; i < it.keys; i++) keys.push_back(key(i * it.times));
+        if constexpr (!std::is_same_v<Key, number>) {
+            std::map<K, unsigned> found;
+            for (unsigned i = 0; i < it.keys; i++)
+                if (auto [old, is_new] = found.emplace(keys[i], i); !is_new) throw no_verdict(say(TWICE, shown(keys[i]), old->second, i));
+        }
+        return keys;
+    }
+
+    std::string key_line(const std::string &refused, const shape &it, const std::vector<K> &keys) const {
+        const std::string number = key_in(refused);
+        if (number.empty()) return "";
+        const unsigned long at = std::stoul(number);
+        const std::string name = shown(keys[at % it.keys]), set = it.sets > 1 ? say(IN_SET, at / it.keys + 1) : "";
+        return name == number && set.empty() ? "" : "\n" + say(KEY_IS, number, name) + set;
+    }
+
+    outcome judged_run(uint64_t seed, const shape &it) const {
+        auto run = area::made(it, seed);
+        auto by_maker = std::make_shared<maker<Make, K>>(how, keys_of(it), make);
+        recording text(how, seed, by);
+        std::unique_ptr<caller> start;
+        if (how.own_process && is_alone()) start = std::make_unique<child>(*by_maker, *run);
+        else start = std::make_unique<here>(by_maker, run);
+        auto [trouble, under_way] = record(*start, *run, text, how.seconds);
+        start.reset();  // (a process that hangs would keep the judge's input open)
+        auto [refused, overlapped] = judged(by, text.end());
+        outcome found{seed, uint64_t(it.threads) * it.sets * it.calls, overlapped, it.name, refused, "", text.path};
+        if (!refused.empty()) found.said = explained(refused, text.path) + key_line(refused, it, by_maker->keys);
+        if (!trouble.empty()) found.said = say(UNDER_WAY, trouble, under_way, refused.empty() ? EXPLAINED : found.said), found.refused = "";
+        text.is_kept |= !found.said.empty();
+        return found;
+    }
+
+    // Of the refusal and of further runs, the one that has the fewest calls, and two at least.
+    outcome smallest(outcome found) const {
+        auto rank = [](const outcome &it) { return calls_in(it.refused) < 2 ? 999 : calls_in(it.refused); };
+        const auto since = std::chrono::steady_clock::now();
+        const uint64_t first = found.seed;
+        for (unsigned i = 1; i <= FURTHER && rank(found) > READABLE / 2; i++) {
+            if (std::chrono::steady_clock::now() - since > std::chrono::seconds(PATIENCE)) break;
+            const uint64_t seed = first + i * std::size(PRESETS);
+            outcome other = judged_run(seed, shape_of(seed));
+            if (!other.refused.empty() && rank(other) < rank(found)) std::swap(found, other);
+            if (how.record.empty() && !other.said.empty()) std::remove(other.file.c_str());
+        }
+        return found;
+    }
+
+    verdict all() const {
+        verdict all;
+        all.judge = by.name + ", " + by.proof;
+        const auto until = std::chrono::steady_clock::now() + std::chrono::seconds(PATIENCE);
+        outcome found;
+        for (uint64_t seed = how.seed; found.said.empty() && seed < uint64_t(how.seed) + how.runs; seed++) {
+            shape it = shape_of(seed);
+            for (unsigned tries = 0; tries <= HARDER && found.said.empty(); tries++, it = harder(it)) {
+                found = judged_run(seed, it);
+                all.calls += found.calls, all.overlapped += found.overlapped;
+                if (!found.is_few() || std::chrono::steady_clock::now() > until) break;
+            }
+        }
+        if (!found.refused.empty()) found = smallest(found);
+        all.ok = found.said.empty();
+        if (!all.ok) all.seed = found.seed, all.said = found.said, all.file = found.file;
+        all.text = all.ok ? passed(all) : say(FAILED_RUN, found.seed, found.name, found.said, found.file, all.judge);
+        return all;
+    }
+
+    // What is said of runs that are right; they may have met too little.
+    std::string passed(verdict &all) const {
+        const bool is_few = all.overlapped * 100 < all.calls * ENOUGH;
+        std::string text = say(OK, all.calls, all.overlapped) + (is_few ? std::string("; ") + FEW : "") + "; judge: " + all.judge;
+        if (is_few) fprintf(stderr, "listset: %s\n", text.c_str());  // (a test that passes may show no verdict)
+        all.ok = all.overlapped * 100 >= all.calls * how.at_least;
+        return all.ok ? text : all.said = say(TOO_FEW, all.overlapped, all.calls, how.at_least);
+    }
+};
+
+}  // namespace judging
+
+// Judges the sets that `make` makes: it gives a pointer that owns one. `key` gives the key of a number, each another one.
+template <class S, class Make = judging::made<S>, class Key = judging::number> verdict judge(const options &how = {}, Make make = {}, Key key = {}) {
+    judging::check(how);
+    return judging::tester<Make, Key>{how, judging::find_judge(), make, key}.all();
+}
+
+}  // inline namespace
+}  // namespace listset

@@ -1,0 +1,146 @@
+//go:build linux || darwin || freebsd || netbsd || openbsd
+
+package judge
+
+import (
+	"bytes"
+	"errors"
+	"fmt"
+	"io"
+	"os"
+	"os/exec"
+	"regexp"
+	"strings"
+	"sync/atomic"
+	"syscall"
+	"time"
+)
+
+// fileName is the variable that tells a process of its own the file with the memory of a run.
+const fileName = "LISTSET_AREA"
+
+// child is a process that runs a test again, up to its Check, and makes runs there.
+type child struct {
+	*run
+	process *exec.Cmd
+	errors  bytes.Buffer
+	over    chan bool
+}
+
+// inChild gives the caller of the Check of this name; in the process of its own it makes the runs, and does not come back.
+func inChild(name string, r *run) (caller, error) {
+	if os.Getenv(checkName) == name {
+		r.serve()
+	}
+	file, err := os.CreateTemp("", "listset-")
+	if err == nil {
+		defer os.Remove(file.Name())
+		defer file.Close()
+		err = file.Truncate(int64(r.size()))
+	}
+	if err == nil {
+		err = r.share(file)
+	}
+	if err != nil {
+		return nil, fmt.Errorf(sayNoMemory+": %v", err)
+	}
+	made := &child{run: r, over: make(chan bool)}
+	return made, made.start(name, file.Name())
+}
+
+// share has the run written down in a file that processes share.
+func (r *run) share(file *os.File) error {
+	memory, err := syscall.Mmap(int(file.Fd()), 0, r.size(), syscall.PROT_READ|syscall.PROT_WRITE, syscall.MAP_SHARED)
+	if err == nil {
+		r.lay(memory)
+	}
+	return err
+}
+
+// start starts the process, and waits until it has come to the Check.
+func (c *child) start(name, file string) error {
+	test := name[:strings.LastIndex(name, "#")]
+	pieces := strings.Split(test, "/")
+	for i, piece := range pieces {
+		pieces[i] = "^" + regexp.QuoteMeta(piece) + "$"
+	}
+	c.process = exec.Command(os.Args[0], "-test.run="+strings.Join(pieces, "/"))
+	c.process.Env = append(os.Environ(), checkName+"="+name, fileName+"="+file)
+	c.process.Stderr = io.MultiWriter(&c.errors, os.Stderr) // (which has the stacks)
+	_, err := c.process.StdinPipe()                         // (this process holds its other end, and so ends that one)
+	if err == nil {
+		err = c.process.Start()
+	}
+	if err != nil {
+		return fmt.Errorf(sayNoProcess, err)
+	}
+	go func() {
+		c.process.Wait()
+		close(c.over)
+	}()
+	for atomic.LoadUint32(&c.isHere) == 0 {
+		if c.isOver() {
+			return errors.New(sayNotAgain)
+		}
+		time.Sleep(300 * time.Microsecond)
+	}
+	return nil
+}
+
+func (c *child) begin() {}
+
+func (c *child) isOver() bool {
+	select {
+	case <-c.over:
+		return true
+	default:
+		return false
+	}
+}
+
+func (c *child) hasEnded() bool { return atomic.LoadUint32(&c.at) == ended || c.isOver() }
+
+// trouble is how the process ended, if it was too soon.
+func (c *child) trouble() string {
+	if atomic.LoadUint32(&c.at) == ended {
+		return ""
+	}
+	for _, line := range strings.Split(c.errors.String(), "\n") {
+		if strings.HasPrefix(line, "fatal error: ") || strings.HasPrefix(line, "panic: ") {
+			return fmt.Sprintf(sayCrashed, line)
+		}
+	}
+	if status := c.process.ProcessState; status.Exited() {
+		return fmt.Sprintf(sayEndedSo, status.ExitCode())
+	}
+	return fmt.Sprintf(sayCrashed, c.process.ProcessState)
+}
+
+func (c *child) stop() {
+	c.process.Process.Kill()
+	<-c.over
+	syscall.Munmap(c.memory)
+}
+
+// serve makes the runs that another process asks for, as long as it is there.
+func (r *run) serve() {
+	file, err := os.OpenFile(os.Getenv(fileName), os.O_RDWR, 0)
+	if err == nil {
+		err = r.share(file)
+	}
+	if err != nil {
+		os.Exit(1)
+	}
+	go func() {
+		io.Copy(io.Discard, os.Stdin)
+		os.Exit(1)
+	}()
+	atomic.StoreUint32(&r.isHere, 1)
+	for {
+		for atomic.LoadUint32(&r.at) != going {
+			time.Sleep(100 * time.Microsecond)
+		}
+		r.takeShape()
+		r.callAll()
+	}
+}

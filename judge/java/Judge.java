@@ -1,0 +1,981 @@
+import java.io.ByteArrayOutputStream;
+import java.io.File;
+import java.io.IOException;
+import java.io.ObjectInputStream;
+import java.io.ObjectOutputStream;
+import java.io.Serializable;
+import java.io.Writer;
+import java.lang.invoke.MethodHandles;
+import java.lang.invoke.VarHandle;
+import java.net.URISyntaxException;
+import java.nio.ByteBuffer;
+import java.nio.ByteOrder;
+import java.nio.channels.FileChannel;
+import java.nio.charset.StandardCharsets;
+import java.nio.file.Files;
+import java.nio.file.Path;
+import java.nio.file.StandardOpenOption;
+import java.util.ArrayList;
+import java.util.Comparator;
+import java.util.HashMap;
+import java.util.List;
+import java.util.Map;
+import java.util.Set;
+import java.util.SplittableRandom;
+import java.util.TreeMap;
+import java.util.concurrent.locks.LockSupport;
+import java.util.function.BiPredicate;
+import java.util.function.BooleanSupplier;
+import java.util.function.Consumer;
+import java.util.function.IntFunction;
+import java.util.function.Supplier;
+import java.util.regex.MatchResult;
+import java.util.regex.Matcher;
+import java.util.regex.Pattern;
+import java.util.stream.LongStream;
+
+/**
+ * Whether runs of a concurrent set of your own are linearizable, in one line of a test (Java 16):
+ *
+ * <pre>{@code @Test void isLinearizable() { System.out.println(Judge.judge(MySet::new)); }}</pre>
+ *
+ * MySet is a {@code Set<Integer>}; any other set is called by three method references. Threads call fresh sets, and the begin and the
+ * end of each call are recorded. {@code listset judge FILE} says whether any order of the calls explains their replies: the environment
+ * variable LISTSET names this program, else it is {@code listset} of PATH. LISTSET may also name the page's listset.js, which node
+ * runs. The sets have a JVM of their own, if the method references can be passed on to one and a set be made there: so a set that ends
+ * its JVM is judged up to there, as one that hangs.
+ */
+public final class Judge {
+    private static final String[] WORDS = {"add", "remove", "contains"};
+
+    /** A run: the threads, the fresh sets one after another, the calls of each thread on each, the keys, what their numbers are multiples of. */
+    private record Shape(String name, int threads, int sets, int calls, int keys, int times) {
+        Shape fitted() {
+            int most = sets > 1 ? Math.max(PART / (threads * calls), 1) : 1;
+            return new Shape(name, threads, Math.min(sets, most), calls, keys, times);
+        }
+
+        long allCalls() { return (long) threads * sets * calls; }
+
+        /** The calls of each thread from one rest to the next, of which the last may be fewer. */
+        int rows() { return sets > 1 ? sets * calls : Math.min(calls, PART / threads); }
+
+        int parts() { return sets > 1 ? 1 : (calls - 1) / rows() + 1; }
+
+        int rounds() { return Math.max(sets, parts()); }
+    }
+
+    private record Limits(String name, long least, long most) { }
+
+    // made of words.json by judge/make_words: PART and MEET in calls, PATIENCE in seconds
+    private static final Shape[] PRESETS = {new Shape("few keys", 4, 1, 2500, 4, 1), new Shape("fresh sets", 4, 40, 10, 4, 1), new Shape("multiples of 64", 4, 1, 2500, 8, 64), new Shape("one key", 3, 1, 2500, 1, 1), new Shape("multiples of 1,000", 8, 1, 1250, 8, 1000), new Shape("many keys", 4, 1, 2500, 1000, 1)};
+    private static final Limits[] RANGES = {new Limits("threads", 1, 64), new Limits("threads times calls", 1, 1000000000), new Limits("keys", 1, 1048576), new Limits("pauses", 0, 100), new Limits("runs", 1, 1000000), new Limits("seconds", 1, 3600), new Limits("at_least", 0, 100)};
+    private static final int PART = 20000;
+    private static final int LONGEST = 100;
+    private static final int HOT = 4;
+    private static final int ENOUGH = 5;
+    private static final int HARDER = 2;
+    private static final int FURTHER = 20;
+    private static final int PATIENCE = 3;
+    private static final int READABLE = 6;
+    private static final int MEET = 250;
+    private static final int AWAKE = 300000;
+    private static final int SLOW = 5;
+    private static final String OK = "ok: %s calls, of which %s overlapped a change of their key";
+    private static final String FEW = "that is few: take more threads, fewer keys or a machine that does less";
+    private static final String TOO_FEW = "%s of %s calls overlapped a change of their key, and at_least asks for %s of 100: take more threads, fewer keys or a machine that does less";
+    private static final String FAILED_RUN = "seed %s (%s): %s\nrecorded in %s; judge: %s";
+    private static final String RANGE = "%s is %s, and has to be %s to %s";
+    private static final String TWICE = "the key function gives %s for %s and for %s: let it give each number a key of its own";
+    private static final String HUNG = "the set hung: no call began or ended for %s s";
+    private static final String CRASHED = "the set crashed: %s";
+    private static final String ENDED_SO = "the set ended its process with the status %s";
+    private static final String THREW = "a call of the set failed: %s";
+    private static final String NOT_MADE = "the set could not be made: %s";
+    private static final String UNDER_WAY = "%s\nunder way:\n%sup to there: %s";
+    private static final String EXPLAINED = "some order explains the calls";
+    private static final String COUNTED = "%s adds and %s removes of key %s answered true; it was %s at first, and is %s at the end";
+    private static final String THERE = "there";
+    private static final String NOT_THERE = "not there";
+    private static final String KEY_IS = "key %s of the recording is %s";
+    private static final String IN_SET = ", in the fresh set %s of the run";
+    private static final String NO_FOLDER = "no file can be written in %s: name another folder by record";
+    private static final String NO_MEMORY = "there is no memory for the calls of a run";
+    private static final String NO_PROCESS = "no process could be started for a run: %s";
+    private static final String NOT_AGAIN = "the test did not come to this judge again in a process of its own: set own_process to false";
+    private static final String NO_NODE = "node is not in PATH, which runs the %s that LISTSET names";
+    private static final String NO_NAMED = "LISTSET names %s, which cannot be run: build listset, and name it there";
+    private static final String NO_JUDGE = "there is no listset in PATH: build it, and put it there or name it by LISTSET";
+    private static final String NO_VERDICT = "%s gave no verdict, but said: %s. Take a newer listset";
+    // end of what is made
+
+    private Judge() { }
+
+    /** How a set is called. A change makes other options. They are checked before the first set is made. */
+    public static final class Options implements Serializable, Cloneable {
+        private static final long serialVersionUID = 1;
+        private int threads, calls, keys, pauses = 20, runs = 20, seconds = 10, atLeast, adds = 1, removes = 1, finds = 1;
+        private long seed = 1;
+        private boolean ownProcess = true, opensWithKeys;
+        private String record;
+
+        /** Threads that call a set at once: 1 to 64; 0, here and in the next two: by the presets of runs, in turn. */
+        public Options withThreads(int it) { return with(made -> made.threads = it); }
+
+        /** Calls of each thread: 1 or more, and 1,000,000,000 at most of all, which rest after each 20,000 until these are written. */
+        public Options withCalls(int it) { return with(made -> made.calls = it); }
+
+        /** Calls are on the keys of the numbers below this: 1 to 1,048,576; half of them on the first four. */
+        public Options withKeys(int it) { return with(made -> made.keys = it); }
+
+        /** Before how many of 100 calls a thread pauses, for some microseconds at most: 0 to 100. */
+        public Options withPauses(int it) { return with(made -> made.pauses = it); }
+
+        /** Sets that are called, or rows of fresh sets: 1 to 1,000,000. */
+        public Options withRuns(int it) { return with(made -> made.runs = it); }
+
+        /** What the calls, keys and pauses of the first run are drawn from; the next run has the next seed. */
+        public Options withSeed(long it) { return with(made -> made.seed = it); }
+
+        /** A run in which no call begins or ends for so long is ended: 1 to 3,600. */
+        public Options withSeconds(int it) { return with(made -> made.seconds = it); }
+
+        /** The test fails if fewer of 100 calls overlap a change of their key. */
+        public Options withAtLeast(int it) { return with(made -> made.atLeast = it); }
+
+        /** The shares of the three operations. */
+        public Options withShares(int add, int remove, int contains) {
+            return with(made -> { made.adds = add; made.removes = remove; made.finds = contains; });
+        }
+
+        /** If false, the set is called in this JVM, which then ends with it (for a debugger, or for coverage). */
+        public Options withOwnProcess(boolean it) { return with(made -> made.ownProcess = it); }
+
+        /** If true, contains is asked of each key before the first call. */
+        public Options withOpeningKeys(boolean it) { return with(made -> made.opensWithKeys = it); }
+
+        /** A folder that keeps the recording of each run; else, or if it is null, that of a run that fails is kept in java.io.tmpdir. */
+        public Options withRecord(String it) { return with(made -> made.record = it); }
+
+        private Options with(Consumer<Options> change) {
+            try {
+                Options made = (Options) clone();
+                change.accept(made);
+                return made;
+            } catch (CloneNotSupportedException never) {
+                throw new AssertionError(never);
+            }
+        }
+
+        private void check() {
+            long t = Math.max(threads, 1), c = Math.max(calls, 1);
+            long[] given = {threads == 0 ? 1 : threads, calls < 0 ? calls : t * c, keys == 0 ? 1 : keys, pauses, runs, seconds, atLeast};
+            for (int i = 0; i < RANGES.length; i++) {
+                Limits its = RANGES[i];
+                if (given[i] < its.least || given[i] > its.most) throw new NoVerdict(RANGE.formatted(its.name, given[i], its.least, its.most));
+            }
+            boolean isMix = adds >= 0 && removes >= 0 && finds >= 0 && adds + removes + finds > 0;
+            if (!isMix) throw new NoVerdict(RANGE.formatted("the sum of shares", adds + removes + finds, 1, 1000));
+        }
+
+        /** The preset of a seed, with what these options say. */
+        private Shape shapeOf(long seed) {
+            Shape it = PRESETS[(int) Math.floorMod(seed - 1, (long) PRESETS.length)];
+            boolean isKeys = keys > 0, isCalls = calls > 0;
+            return new Shape(it.name, threads > 0 ? threads : it.threads, isCalls ? 1 : it.sets, isCalls ? calls : it.calls,
+                isKeys ? keys : it.keys, isKeys ? 1 : it.times).fitted();
+        }
+
+        /** With more threads and fewer keys, where these options leave them open. */
+        private Shape harder(Shape it) {
+            int more = threads > 0 ? it.threads : Math.min(2 * it.threads, 8), fewer = keys > 0 ? it.keys : Math.max(it.keys / 2, 1);
+            return new Shape(it.name, more, it.sets, it.calls, fewer, it.times).fitted();
+        }
+
+        /** The most keys of a run, and of all its sets. */
+        private int mostKeys(boolean ofAllSets) {
+            return LongStream.rangeClosed(1, PRESETS.length).mapToObj(this::shapeOf).mapToInt(it -> it.keys * (ofAllSets ? it.sets : 1)).max().getAsInt();
+        }
+    }
+
+    /**
+     * What is known if some order explains each run: the calls, those that overlapped a change of their key, by the judge, and which judge
+     * it was, with whether it says that it is proved. It prints itself.
+     */
+    public record Verdict(long calls, long overlapped, String judge) {
+        @Override public String toString() {
+            return OK.formatted(calls, overlapped) + (isFew(overlapped, calls) ? "; " + FEW : "") + "; judge: " + judge;
+        }
+    }
+
+    /** Whether so few calls met that {@code ok} says little. */
+    private static boolean isFew(long overlapped, long calls) { return overlapped * 100 < calls * ENOUGH; }
+
+    /** What the judge said of the run of this seed, and the file that has its recording. */
+    public static class Failed extends AssertionError {
+        private static final long serialVersionUID = 1;
+        public final long seed;
+        public final String said, file;
+
+        Failed(long seed, String name, String said, Path file, Program judge) {
+            super(FAILED_RUN.formatted(seed, name, said, file, judge));
+            this.seed = seed;
+            this.said = said;
+            this.file = file.toString();
+        }
+    }
+
+    /** No order explains the run. */
+    public static final class NotLinearizable extends Failed {
+        private static final long serialVersionUID = 1;
+        private final String refused;
+
+        NotLinearizable(long seed, String name, String said, String refused, Path file, Program judge) {
+            super(seed, name, said, file, judge);
+            this.refused = refused;
+        }
+    }
+
+    /** The set ended its JVM, hung or threw in the run, which was judged up to there. */
+    public static final class NotEnded extends Failed {
+        private static final long serialVersionUID = 1;
+
+        NotEnded(long seed, String name, String said, Path file, Program judge) { super(seed, name, said, file, judge); }
+    }
+
+    /** Fewer calls overlapped a change of their key than asked for. */
+    public static final class TooFew extends AssertionError {
+        private static final long serialVersionUID = 1;
+
+        TooFew(String why) { super(why); }
+    }
+
+    /** Nothing is known of the set: an option is out of range, no set could be made, or there is no judge. */
+    public static final class NoVerdict extends RuntimeException {
+        private static final long serialVersionUID = 1;
+
+        NoVerdict(String why) { super(why); }
+
+        NoVerdict(String why, Throwable cause) { super(why + cause, cause); }
+    }
+
+    /** What a call throws if its outcome is not known, as after a time-out. */
+    public static final class NotKnown extends RuntimeException {
+        private static final long serialVersionUID = 1;
+    }
+
+    /** What makes a set. A method reference or a lambda is one, which is passed on to another JVM unless it refers to what cannot be. */
+    public interface Make<S> extends Supplier<S>, Serializable { }
+
+    /** What gives the key of a number, each another one. */
+    public interface Keys<K> extends IntFunction<K>, Serializable { }
+
+    /** What makes a call of a set. */
+    public interface Call<S, K> extends BiPredicate<S, K>, Serializable { }
+
+    public static Verdict judge(Make<? extends Set<Integer>> make) { return judge(make, new Options()); }
+
+    public static Verdict judge(Make<? extends Set<Integer>> make, Options how) {
+        return judge(make, Set::add, Set::remove, Set::contains, how);
+    }
+
+    public static <S> Verdict judge(Make<? extends S> make, Call<S, Integer> add, Call<S, Integer> remove, Call<S, Integer> contains) {
+        return judge(make, add, remove, contains, new Options());
+    }
+
+    /** Judges any set, by its three calls; throws of a run that no order explains, or in which the set hangs, throws or ends its JVM. */
+    public static <S> Verdict judge(Make<? extends S> make, Call<S, Integer> add, Call<S, Integer> remove, Call<S, Integer> contains, Options how) {
+        return new Judge.Tester<>(how, new Calls<>(make, null, add, remove, contains)).all();
+    }
+
+    /** The same for a set of other keys. */
+    public static <S, K> Verdict judge(Make<? extends S> make, Keys<K> keys, Call<S, K> add, Call<S, K> remove, Call<S, K> contains, Options how) {
+        return new Judge.Tester<>(how, new Calls<>(make, keys, add, remove, contains)).all();
+    }
+
+    /** Judges one run after another. */
+    private static final class Tester<S, K> {
+        private final Options how;
+        private final Calls<S, K> calls;
+        private final Program program;
+        private Caller caller;
+
+        Tester(Options how, Calls<S, K> calls) {
+            how.check();
+            this.how = how;
+            this.calls = calls;
+            calls.check(how.mostKeys(false));
+            program = Program.found();
+        }
+
+        Verdict all() {
+            long count = 0, overlapped = 0, until = System.nanoTime() + PATIENCE * 1_000_000_000L;
+            Caller child = how.ownProcess ? Child.of(calls, how) : null;
+            try (Caller own = child == null ? new Here<>(calls, new Area(how)) : child) {
+                caller = own;
+                for (int one = 0; one < how.runs; one++) {
+                    Shape shape = how.shapeOf(how.seed + one);
+                    for (int tries = 0; tries <= HARDER; tries++, shape = how.harder(shape)) {
+                        long met = judgedOrSmallest(how.seed + one, shape);
+                        overlapped += met;
+                        count += shape.allCalls();
+                        if (!isFew(met, shape.allCalls()) || System.nanoTime() > until) break;
+                    }
+                }
+            }
+            Verdict verdict = new Verdict(count, overlapped, program.toString());
+            if (isFew(overlapped, count)) System.err.println(verdict); // (a test that passes may show no verdict)
+            if (overlapped * 100 < count * how.atLeast) throw new TooFew(TOO_FEW.formatted(overlapped, count, how.atLeast));
+            return verdict;
+        }
+
+        private long judgedOrSmallest(long seed, Shape shape) {
+            try {
+                return judged(seed, shape);
+            } catch (NotLinearizable refused) {
+                throw smallest(refused);
+            }
+        }
+
+        /** Of a refusal and of further runs, the one that has the fewest calls, and two at least. */
+        private NotLinearizable smallest(NotLinearizable found) {
+            long since = System.nanoTime(), seed = found.seed;
+            for (int i = 0; i < FURTHER && Told.rank(found.refused) > READABLE / 2 && System.nanoTime() - since < PATIENCE * 1_000_000_000L; i++) {
+                seed += PRESETS.length;
+                try {
+                    judged(seed, how.shapeOf(seed));
+                } catch (NotLinearizable other) {
+                    boolean isSmaller = Told.rank(other.refused) < Told.rank(found.refused);
+                    drop(isSmaller ? found : other);
+                    if (isSmaller) found = other;
+                } catch (NotEnded ended) {
+                    drop(ended);
+                    break; // (a JVM of its own that has ended makes no further run)
+                }
+            }
+            return found;
+        }
+
+        private void drop(Failed failed) {
+            if (how.record == null) new File(failed.file).delete();
+        }
+
+        /** How many calls of a run overlapped a change of their key; throws if it failed. */
+        private long judged(long seed, Shape shape) {
+            Area area = caller.area();
+            try (Recording recording = new Recording(seed, shape, how.record, program)) {
+                area.begin(seed, shape, caller);
+                String trouble = null;
+                for (int part = 1; part <= shape.parts() && trouble == null; part++) {
+                    if (part > 1) area.goOn();
+                    Part made = area.madePart(caller, part);
+                    recording.write(made.text);
+                    trouble = made.trouble == null ? null : UNDER_WAY.formatted(made.trouble, made.underWay, "%s");
+                }
+                return recording.judged(trouble, calls);
+            }
+        }
+    }
+
+    // ---- a run, written down as it goes
+
+    private record Calls<S, K>(Make<? extends S> make, Keys<K> keys, Call<S, K> add, Call<S, K> remove, Call<S, K> contains) implements Serializable {
+        private static final int NO = 0, YES = 1, UNKNOWN = 2;
+
+        /** The key of a number, each time made anew; if no function is given, a multiple of the number. */
+        @SuppressWarnings("unchecked")
+        K key(int number, int times) { return keys == null ? (K) Integer.valueOf(number * times) : keys.apply(number); }
+
+        void check(int count) {
+            Map<K, Integer> seen = new HashMap<>();
+            for (int i = 0; i < count; i++) {
+                Integer old = seen.put(key(i, 1), i);
+                if (old != null) throw new NoVerdict(TWICE.formatted(key(i, 1), old, i));
+            }
+        }
+
+        int reply(S set, int call, K key) {
+            try {
+                return (call == 0 ? add : call == 1 ? remove : contains).test(set, key) ? YES : NO;
+            } catch (NotKnown unknown) {
+                return UNKNOWN;
+            }
+        }
+    }
+
+    /** A run in memory that another JVM may share: the part that goes on. */
+    private static final class Area {
+        private static final VarHandle INT = MethodHandles.byteBufferViewVarHandle(int[].class, ByteOrder.nativeOrder());
+        // Where numbers are: the last moment of the parts before is BEFORE, IS_HERE that another JVM has come, SHAPE five of them.
+        private static final int TICKETS = 0, LOOKS = 4, THERE = 8, DONE = 12, BEGUN = 16, BEFORE = 20, AT = 24, STOPPING = 28, FAILED = 32,
+            LENGTH = 36, IS_HERE = 40, UNMADE = 44, SEED = 48, SHAPE = 56, WHY = 76, MOST_WHY = 240, SLOTS = WHY + MOST_WHY;
+        private static final int BEGIN = 0, END = 4, CALL = 8, KEY = 12, REPLY = 16, THREAD = 20, SLOT = 24; // of a call, those of each thread in turn
+        private static final int GOING = 1, RESTING = 2, ENDED = 3; // AT
+
+        private final Options how;
+        private final int opening, left; // where of each key of each set it is written whether it was there, at first and at the end
+        private final ByteBuffer memory;
+
+        Area(Options how) { this(how, ByteBuffer.allocateDirect(sizeOf(how))); }
+
+        Area(Options how, ByteBuffer memory) {
+            this.how = how;
+            this.memory = memory.order(ByteOrder.nativeOrder());
+            opening = SLOTS + PART * SLOT;
+            left = opening + how.mostKeys(true);
+        }
+
+        static int sizeOf(Options how) { return SLOTS + PART * SLOT + 2 * how.mostKeys(true); }
+
+        int get(int at) { return (int) INT.getVolatile(memory, at); }
+
+        void set(int at, int number) { INT.setVolatile(memory, at, number); }
+
+        int next(int at) { return (int) INT.getAndAdd(memory, at, 1) + 1; }
+
+        void goOn() { set(AT, GOING); }
+
+        Shape shape() {
+            return new Shape("", get(SHAPE), get(SHAPE + 4), get(SHAPE + 8), get(SHAPE + 12), get(SHAPE + 16));
+        }
+
+        /** Has the run of a seed begin. */
+        void begin(long seed, Shape of, Caller caller) {
+            for (int at = 0; at < memory.capacity(); at++) if (at < IS_HERE || at >= UNMADE) memory.put(at, (byte) 0);
+            memory.putLong(SEED, seed);
+            memory.putInt(SHAPE, of.threads).putInt(SHAPE + 4, of.sets).putInt(SHAPE + 8, of.calls).putInt(SHAPE + 12, of.keys).putInt(SHAPE + 16, of.times);
+            goOn();
+            caller.begin();
+        }
+
+        /** Waits until the part is made that goes on, or no call begins or ends for too long. */
+        Part madePart(Caller caller, int number) {
+            String trouble = null;
+            int seen = -1;
+            for (long since = System.nanoTime(); trouble == null && get(AT) != RESTING; LockSupport.parkNanos(300_000)) {
+                if (caller.hasEnded()) {
+                    trouble = caller.trouble();
+                    break;
+                }
+                int now = get(TICKETS) + get(LOOKS);
+                if (now != seen) since = System.nanoTime();
+                seen = now;
+                if (System.nanoTime() - since > how.seconds * 1_000_000_000L) trouble = HUNG.formatted(how.seconds);
+            }
+            if (get(FAILED) == 1) trouble = textOf(WHY, get(LENGTH));
+            if (get(UNMADE) == 1) throw new NoVerdict(trouble);
+            if (trouble != null && get(TICKETS) == 0) throw new NoVerdict(NOT_MADE.formatted(trouble));
+            return part(number, trouble);
+        }
+
+        private String textOf(int at, int length) {
+            byte[] bytes = new byte[length];
+            memory.get(at, bytes);
+            return new String(bytes, StandardCharsets.UTF_8);
+        }
+
+        private Part part(int number, String trouble) {
+            Shape of = shape();
+            StringBuilder text = new StringBuilder(number > 1 ? "" : "listset-calls 1\n" + linesOfKeys("opening ", opening)), underWay = new StringBuilder();
+            for (Row it : rows(of)) {
+                text.append(it.line());
+                if (it.end == 0 && it.reply != Calls.UNKNOWN) underWay.append(it.line());
+            }
+            if (trouble != null) text.append("cut\n");
+            else if (number == of.parts()) text.append(linesOfKeys("key ", left)).append("end\n");
+            return new Part(text.toString(), trouble, underWay.toString());
+        }
+
+        /** The calls of the part by their begins. */
+        private List<Row> rows(Shape of) {
+            List<Row> found = new ArrayList<>();
+            for (int at = SLOTS; at < SLOTS + of.threads * of.rows() * SLOT; at += SLOT) {
+                int end = get(at + END), begin = get(at + BEGIN); // (the end may be that of a part before)
+                boolean isOver = end > begin;
+                int reply = isOver ? get(at + REPLY) : Calls.NO;
+                if (begin > get(BEFORE)) found.add(new Row(get(at + THREAD), get(at + CALL), get(at + KEY), begin, isOver ? end : 0, reply));
+            }
+            found.sort(Comparator.comparingInt(Row::begin));
+            return found;
+        }
+
+        private String linesOfKeys(String word, int at) {
+            StringBuilder lines = new StringBuilder();
+            for (int key = 0; key < left - opening; key++) if (memory.get(at + key) == 1) lines.append(word).append(key).append('\n');
+            return lines.toString();
+        }
+
+        /** Makes sets and calls them, to the end. */
+        <S, K> void callAll(Calls<S, K> calls) {
+            new Play<>(this, calls, shape()).all();
+            set(AT, ENDED);
+        }
+
+        /** Does this; what it throws is written down, the first alone. */
+        private void tried(String words, Runnable does) {
+            try {
+                does.run();
+            } catch (Throwable why) {
+                if (next(STOPPING) > 1) return;
+                byte[] text = words.formatted(why).getBytes(StandardCharsets.UTF_8);
+                int length = Math.min(text.length, MOST_WHY);
+                memory.put(WHY, text, 0, length);
+                set(LENGTH, length);
+                if (words.equals(NOT_MADE)) set(UNMADE, 1);
+                set(FAILED, 1);
+                why.printStackTrace();
+            }
+        }
+
+        /** Waits, first awake if each thread may have a processor, so that all go on at once; false if the run stops. */
+        private boolean waits(int threads, BooleanSupplier isDone) {
+            int awake = threads <= Runtime.getRuntime().availableProcessors() ? AWAKE : LONGEST;
+            for (int looks = 0; !isDone.getAsBoolean() && get(STOPPING) == 0; looks++) {
+                if (looks >= awake) LockSupport.parkNanos(20_000);
+            }
+            return get(STOPPING) == 0;
+        }
+    }
+
+    /** Who makes a run: the threads, and where they find the set. */
+    private static final class Play<S, K> {
+        private final Area area;
+        private final Calls<S, K> calls;
+        private final Shape of;
+        private volatile S set;
+
+        Play(Area area, Calls<S, K> calls, Shape of) {
+            this.area = area;
+            this.calls = calls;
+            this.of = of;
+        }
+
+        void all() {
+            List<Thread> threads = new ArrayList<>();
+            for (int i = 0; i < of.threads; i++) {
+                int thread = i;
+                threads.add(started(() -> area.tried(THREW, () -> callInRounds(thread))));
+            }
+            area.tried(THREW, this::lead);
+            for (Thread it : threads) join(it);
+        }
+
+        private boolean waits(BooleanSupplier isDone) { return area.waits(of.threads, isDone); }
+
+        /** Waits until all threads are here. */
+        private boolean meets() {
+            int all = (area.next(Area.THERE) - 1) / of.threads * of.threads + of.threads;
+            return waits(() -> area.get(Area.THERE) >= all);
+        }
+
+        /** Makes each set and has the threads call it; rests after each part until somebody has read it. */
+        private void lead() {
+            for (int i = 0; i < of.rounds(); i++) {
+                int round = i;
+                if (round == 0 || of.sets > 1) {
+                    area.tried(NOT_MADE, () -> set = calls.make.get());
+                    if (area.get(Area.STOPPING) > 0) return;
+                    if (area.how.opensWithKeys) lookUp(area.opening + round * of.keys);
+                } else {
+                    area.set(Area.AT, Area.RESTING);
+                    if (!waits(() -> area.get(Area.AT) == Area.GOING)) return;
+                    area.set(Area.BEFORE, area.get(Area.TICKETS));
+                }
+                area.set(Area.BEGUN, round + 1);
+                if (!waits(() -> area.get(Area.DONE) == (round + 1) * of.threads)) return;
+                if (of.sets > 1 || round + 1 == of.rounds()) lookUp(area.left + (of.sets > 1 ? round * of.keys : 0));
+            }
+        }
+
+        private void lookUp(int at) {
+            for (int key = 0; key < of.keys; key++, area.next(Area.LOOKS)) {
+                area.memory.put(at + key, (byte) (calls.reply(set, 2, calls.key(key, of.times)) == Calls.YES ? 1 : 0));
+            }
+        }
+
+        /** The calls of one thread. */
+        private void callInRounds(int thread) {
+            SplittableRandom draw = new SplittableRandom(area.memory.getLong(Area.SEED) * 64 + thread);
+            int number = thread;
+            for (int i = 0; i < of.rounds(); i++) {
+                int round = i, first = Area.SLOTS + (thread * of.rows() + (of.sets > 1 ? round * of.calls : 0)) * Area.SLOT;
+                if (!waits(() -> area.get(Area.BEGUN) > round)) return;
+                S its = set;
+                int count = of.sets > 1 ? of.calls : Math.min(of.rows(), of.calls - round * of.rows());
+                for (int done = 0; done < count; done++) {
+                    if (done % MEET == 0 && !meets()) return;
+                    if (call(its, first + done * Area.SLOT, of.sets > 1 ? round * of.keys : 0, number, draw) == Calls.UNKNOWN) number += of.threads;
+                }
+                area.next(Area.DONE);
+            }
+        }
+
+        private int call(S its, int at, int ofSet, int number, SplittableRandom draw) {
+            Options how = area.how;
+            int drawn = draw.nextInt(how.adds + how.removes + how.finds), call = drawn < how.adds ? 0 : drawn < how.adds + how.removes ? 1 : 2;
+            int key = draw.nextInt(of.keys > 2 * HOT && draw.nextBoolean() ? HOT : of.keys);
+            area.memory.putInt(at + Area.THREAD, number).putInt(at + Area.CALL, call).putInt(at + Area.KEY, ofSet + key);
+            for (int pause = draw.nextInt(100) < how.pauses ? draw.nextInt(LONGEST) : 0; pause > 0; pause--) area.get(Area.TICKETS);
+            K given = calls.key(key, of.times);
+            Area.INT.setRelease(area.memory, at + Area.BEGIN, area.next(Area.TICKETS));
+            int reply = calls.reply(its, call, given);
+            area.memory.putInt(at + Area.REPLY, reply);
+            Area.INT.setRelease(area.memory, at + Area.END, area.next(Area.TICKETS));
+            return reply;
+        }
+    }
+
+    /** What has the runs of an area made. */
+    private interface Caller extends AutoCloseable {
+        Area area();
+
+        void begin();
+
+        /** Whether nothing more comes of the run; then how it went wrong, or null. */
+        boolean hasEnded();
+
+        String trouble();
+
+        @Override void close();
+    }
+
+    /** Threads of this JVM. Those that hang stay. */
+    private record Here<S, K>(Calls<S, K> calls, Area area) implements Caller {
+        @Override public void begin() { Judge.started(() -> area.callAll(calls)); }
+
+        @Override public boolean hasEnded() { return area.get(Area.AT) == Area.ENDED; }
+
+        @Override public String trouble() { return null; }
+
+        @Override public void close() { area.next(Area.STOPPING); }
+    }
+
+    /** A JVM that is given the calls. It ends if its input does, and so with this one. */
+    private record Child(Area area, Process process) implements Caller {
+        private static final long STARTING = 60_000_000_000L; // the most nanoseconds until it has come
+
+        /** None if the calls cannot be passed on, or no set be made there. */
+        static Child of(Calls<?, ?> calls, Options how) {
+            try {
+                ByteArrayOutputStream bytes = new ByteArrayOutputStream();
+                try (ObjectOutputStream out = new ObjectOutputStream(bytes)) {
+                    out.writeObject(how);
+                    out.writeObject(calls);
+                }
+                return started(calls, how, bytes);
+            } catch (IOException | URISyntaxException | SecurityException cannot) {
+                return null;
+            }
+        }
+
+        private static Child started(Calls<?, ?> calls, Options how, ByteArrayOutputStream given) throws IOException, URISyntaxException {
+            Path file = Files.createTempFile("listset-", ".area");
+            try {
+                Area area = shared(how, file);
+                ProcessBuilder words = new ProcessBuilder(Path.of(System.getProperty("java.home"), "bin", "java").toString(),
+                    Judge.class.desiredAssertionStatus() ? "-ea" : "-da", "-cp", path(calls), Child.class.getName(), file.toString());
+                Child made = new Child(area, words.redirectOutput(ProcessBuilder.Redirect.DISCARD).redirectError(ProcessBuilder.Redirect.INHERIT).start());
+                given.writeTo(made.process.getOutputStream());
+                made.process.getOutputStream().flush();
+                long since = System.nanoTime();
+                while (area.get(Area.IS_HERE) == 0 && made.process.isAlive() && System.nanoTime() - since < STARTING) LockSupport.parkNanos(1_000_000);
+                if (area.get(Area.IS_HERE) == 1) return made;
+                made.close();
+                return null;
+            } finally {
+                file.toFile().delete();
+            }
+        }
+
+        private static Area shared(Options how, Path file) throws IOException {
+            try (FileChannel channel = FileChannel.open(file, StandardOpenOption.READ, StandardOpenOption.WRITE)) {
+                return new Area(how, channel.map(FileChannel.MapMode.READ_WRITE, 0, Area.sizeOf(how)));
+            }
+        }
+
+        /** Where the classes are that a JVM of its own needs. */
+        private static String path(Calls<?, ?> calls) throws URISyntaxException {
+            StringBuilder path = new StringBuilder(System.getProperty("java.class.path"));
+            for (Class<?> it : List.of(Judge.class, calls.make.getClass(), calls.add.getClass())) {
+                path.append(File.pathSeparator).append(Path.of(it.getProtectionDomain().getCodeSource().getLocation().toURI()));
+            }
+            return path.toString();
+        }
+
+        public static void main(String[] words) {
+            try {
+                ObjectInputStream in = new ObjectInputStream(System.in);
+                Options how = (Options) in.readObject();
+                Calls<?, ?> calls = (Calls<?, ?>) in.readObject();
+                calls.make.get();
+                Judge.started(Child::endWithInput);
+                serve(shared(how, Path.of(words[0])), calls);
+            } catch (Exception | LinkageError cannot) {
+                System.exit(1); // (what cannot be made here is made in the other JVM)
+            }
+        }
+
+        private static void endWithInput() {
+            try {
+                while (System.in.read() >= 0) continue;
+            } catch (IOException closed) {
+                // (as at its end)
+            }
+            Runtime.getRuntime().halt(1);
+        }
+
+        private static void serve(Area area, Calls<?, ?> calls) {
+            for (area.set(Area.IS_HERE, 1);; LockSupport.parkNanos(100_000)) {
+                if (area.get(Area.AT) == Area.GOING) area.callAll(calls);
+            }
+        }
+
+        @Override public void begin() { }
+
+        @Override public boolean hasEnded() { return area.get(Area.AT) == Area.ENDED || !process.isAlive(); }
+
+        @Override public String trouble() {
+            return area.get(Area.AT) == Area.ENDED ? null : ENDED_SO.formatted(process.exitValue());
+        }
+
+        @Override public void close() { process.destroyForcibly(); }
+    }
+
+    private static Thread started(Runnable does) {
+        Thread made = new Thread(does);
+        made.setDaemon(true);
+        made.start();
+        return made;
+    }
+
+    private static void join(Thread thread) {
+        try {
+            thread.join();
+        } catch (InterruptedException why) {
+            throw new NoVerdict("the test was interrupted: ", why);
+        }
+    }
+
+    // ---- a run, as it is judged
+
+    private record Row(int thread, int call, int key, int begin, int end, int reply) {
+        String line() {
+            String ended = end > 0 && reply != Calls.UNKNOWN ? end + " " + (reply == Calls.YES) : "- -";
+            return "call " + thread + " " + WORDS[call] + " " + key + " " + begin + " " + ended + "\n";
+        }
+    }
+
+    /** What a recording has of a part of a run; how this came to no end, or null; and the calls under way. */
+    private record Part(String text, String trouble, String underWay) { }
+
+    /** The text of a run: as it grows it is written into a file, and given to the judge. */
+    private static final class Recording implements AutoCloseable {
+        private final long seed;
+        private final Shape shape;
+        private final Program program;
+        private final Path folder, file;
+        private final Writer to;
+        private final Asked asked;
+        private boolean isKept;
+
+        Recording(long seed, Shape shape, String record, Program program) {
+            this.seed = seed;
+            this.shape = shape;
+            this.program = program;
+            isKept = record != null;
+            folder = Path.of(isKept ? record : System.getProperty("java.io.tmpdir"));
+            try {
+                if (isKept) Files.createDirectories(folder);
+                file = isKept ? folder.resolve("seed-" + seed + ".calls") : Files.createTempFile(folder, "listset-seed-" + seed + "-", ".calls");
+                to = Files.newBufferedWriter(file);
+            } catch (IOException none) {
+                throw unwritten();
+            }
+            asked = program.asked("judge", "-");
+        }
+
+        private NoVerdict unwritten() { return new NoVerdict(NO_FOLDER.formatted(folder)); }
+
+        void write(String text) {
+            try {
+                to.write(text);
+            } catch (IOException full) {
+                throw unwritten();
+            }
+            asked.write(text);
+        }
+
+        /** How many calls overlapped a change of their key; throws if no order explains them, or the run came to no end. */
+        long judged(String trouble, Calls<?, ?> calls) {
+            Judgement judged = program.judged(asked.answer());
+            if (trouble == null && judged.refused == null) return judged.overlapped;
+            isKept = true;
+            String said = judged.refused == null ? EXPLAINED : Told.explained(judged.refused, written()) + keyLine(judged.refused, calls);
+            if (trouble != null) throw new NotEnded(seed, shape.name, trouble.formatted(said), file, program);
+            throw new NotLinearizable(seed, shape.name, said, judged.refused, file, program);
+        }
+
+        private String written() {
+            try {
+                to.flush();
+                return Files.readString(file);
+            } catch (IOException full) {
+                throw unwritten();
+            }
+        }
+
+        /** Which key of which set it is that the judge names, if its number does not say so. */
+        private String keyLine(String refused, Calls<?, ?> calls) {
+            int number = Told.keyIn(refused);
+            if (number < 0) return "";
+            String key = String.valueOf(calls.key(number % shape.keys, shape.times));
+            String ofSet = shape.sets > 1 ? IN_SET.formatted(number / shape.keys + 1) : "";
+            return key.equals("" + number) && ofSet.isEmpty() ? "" : "\n" + KEY_IS.formatted(number, key) + ofSet;
+        }
+
+        @Override public void close() {
+            asked.process.destroy();
+            try {
+                to.close();
+            } catch (IOException full) {
+                throw unwritten();
+            } finally {
+                if (!isKept) file.toFile().delete();
+            }
+        }
+    }
+
+    // ---- a refusal, as it is told
+
+    private static final class Told {
+        private static final Pattern CALL = Pattern.compile("^call ([0-9]+) (\\w+) ([0-9]+) ([0-9]+) ([0-9]+|-) (\\w+|-)$", Pattern.MULTILINE);
+        private static final Pattern OF_KEY = Pattern.compile("of key ([0-9]+) ");
+
+        /** The number of the key of which the judge speaks, or -1. */
+        static int keyIn(String refused) {
+            Matcher found = OF_KEY.matcher(refused);
+            return found.find() ? Integer.parseInt(found.group(1)) : -1;
+        }
+
+        private static long callsIn(String refused) { return CALL.matcher(refused).results().count() + (refused.contains(" belong to these") ? 1000 : 0); }
+
+        /** The number of its calls; a refusal of one call alone comes last. */
+        static long rank(String refused) { return callsIn(refused) > 1 ? callsIn(refused) : 999; }
+
+        /** What the judge says, with a picture; or, in place of many calls, what their count shows. */
+        static String explained(String refused, String recorded) {
+            String counted = callsIn(refused) > READABLE ? countOf(recorded, "" + keyIn(refused)) : "";
+            if (!counted.isEmpty()) return String.join("\n", refused.lines().limit(2).toList()) + "\n" + counted;
+            return refused + pictureOf(CALL.matcher(refused).results().toList());
+        }
+
+        /** That the calls of a key that answered true do not fit to how it was; else nothing. */
+        private static String countOf(String recorded, String key) {
+            List<MatchResult> calls = CALL.matcher(recorded).results().filter(it -> it.group(3).equals(key)).toList();
+            long adds = calls.stream().filter(it -> it.group(2).equals("add") && it.group(6).equals("true")).count();
+            long removes = calls.stream().filter(it -> it.group(2).equals("remove") && it.group(6).equals("true")).count();
+            boolean was = recorded.contains("\nopening " + key + "\n"), left = recorded.contains("\nkey " + key + "\n");
+            boolean isKnown = !recorded.endsWith("cut\n") && calls.stream().noneMatch(it -> it.group(5).equals("-"));
+            if (!isKnown || adds + (was ? 1 : 0) == removes + (left ? 1 : 0)) return "";
+            return COUNTED.formatted(adds, removes, key, was ? THERE : NOT_THERE, left ? THERE : NOT_THERE);
+        }
+
+        private record Bar(String thread, String head, String tail, long begin, long end) {
+            Bar(MatchResult of) {
+                this("thread " + of.group(1), "[" + of.group(2) + " " + of.group(3), of.group(5).equals("-") ? ".." : of.group(6) + "]",
+                    Long.parseLong(of.group(4)), of.group(5).equals("-") ? Long.MAX_VALUE : Long.parseLong(of.group(5)));
+            }
+
+            int width() { return head.length() + tail.length(); }
+        }
+
+        /** The calls as bars, one below another, from their begins to their ends. */
+        private static String pictureOf(List<MatchResult> calls) {
+            List<Bar> bars = calls.size() < 2 ? List.of() : calls.stream().map(Bar::new).toList();
+            TreeMap<Long, Integer> places = new TreeMap<>();
+            for (Bar it : bars) {
+                places.put(it.begin, 0);
+                places.put(it.end, 0);
+            }
+            int place = 0;
+            for (Map.Entry<Long, Integer> moment : places.entrySet()) {
+                for (Bar it : bars) if (it.end == moment.getKey()) place = Math.max(place, places.get(it.begin) + it.width());
+                moment.setValue(place++);
+            }
+            StringBuilder text = new StringBuilder();
+            for (Bar it : bars) {
+                int from = places.get(it.begin), to = places.get(it.end);
+                text.append("\n%-10s ".formatted(it.thread)).append(" ".repeat(from)).append(it.head).append("-".repeat(to + 1 - from - it.width())).append(it.tail);
+            }
+            return text.toString();
+        }
+    }
+
+    // ---- the judge
+
+    /** What the judge says of a recording that no order explains, or null; and how many calls overlapped a change of their key. */
+    private record Judgement(String refused, long overlapped) {
+        private static final Pattern OK = Pattern.compile("ok [0-9]+ calls\n([0-9]+) of them.*", Pattern.DOTALL);
+    }
+
+    /** The status of a command, and what it said. */
+    private record Answer(int status, String said) { }
+
+    /** A command, which is given its input as it grows. */
+    private record Asked(Process process) {
+        void write(String text) {
+            try {
+                process.getOutputStream().write(text.getBytes(StandardCharsets.US_ASCII));
+            } catch (IOException ended) {
+                // (one that has ended reads no further)
+            }
+        }
+
+        Answer answer() {
+            try {
+                try {
+                    process.getOutputStream().close();
+                } catch (IOException ended) {
+                    // (the same)
+                }
+                String said = new String(process.getInputStream().readAllBytes()).strip(), errors = new String(process.getErrorStream().readAllBytes()).strip();
+                return new Answer(process.waitFor(), said.isEmpty() ? errors : said);
+            } catch (IOException | InterruptedException why) {
+                throw new NoVerdict("the judge could not be asked: ", why);
+            }
+        }
+    }
+
+    /** The program that judges: its name, the command to which words are added, and what it says of its proof. It prints itself. */
+    private record Program(String name, List<String> command, String proof) {
+        @Override public String toString() { return name + ", " + proof; }
+
+        static Program found() {
+            String named = System.getenv("LISTSET"), name = named == null ? "listset" : named;
+            boolean isScript = name.endsWith(".js");
+            Program asked = new Program(name, isScript ? List.of("node", name) : List.of(name), "");
+            String proof = asked.asked("--version", "--long").answer().said.lines().filter(it -> it.startsWith("proof ")).findFirst().orElse("proof unknown");
+            return new Program(name, asked.command, proof);
+        }
+
+        Asked asked(String... words) {
+            List<String> all = new ArrayList<>(command);
+            all.addAll(List.of(words));
+            try {
+                ProcessBuilder made = new ProcessBuilder(all);
+                boolean isVersion = all.contains("--version"); // (what it says of a judge that it builds is for the user's eyes)
+                return new Asked((isVersion ? made.redirectError(ProcessBuilder.Redirect.INHERIT) : made).start());
+            } catch (IOException none) {
+                throw new NoVerdict(command.size() > 1 ? NO_NODE.formatted(name) : System.getenv("LISTSET") != null ? NO_NAMED.formatted(name) : NO_JUDGE);
+            }
+        }
+
+        Judgement judged(Answer answer) {
+            Matcher ok = Judgement.OK.matcher(answer.said);
+            if (answer.status == 0 && ok.matches()) return new Judgement(null, Long.parseLong(ok.group(1)));
+            if (answer.status == 1 && answer.said.startsWith("not linearizable")) return new Judgement(answer.said, 0);
+            String first = answer.said.isEmpty() ? "nothing" : answer.said.lines().findFirst().get();
+            throw new NoVerdict(NO_VERDICT.formatted(name, first));
+        }
+    }
+}

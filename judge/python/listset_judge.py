@@ -1,0 +1,720 @@
+"""Whether runs of a concurrent set of your own are linearizable, in one line of a test:
+
+    def test_is_linearizable():
+        print(listset_judge.judge(MySet))
+
+MySet() has `add` and `remove`, which answer True or False, and `contains` or `in`. Threads call fresh sets, and the begin and the end
+of each call are recorded. A judge says whether any order of the calls explains their replies: the module `listset`, if it can be
+imported; else the program that the environment variable LISTSET names, or `listset` of PATH. LISTSET may also name the page's
+listset.js, which node runs. If this process has one thread and can be forked, each run has a process of its own, so that a set that
+crashes or hangs is judged up to there.
+"""
+
+from __future__ import annotations
+
+import collections
+import contextlib
+import ctypes
+import dataclasses
+import functools
+import itertools
+import mmap
+import os
+import pathlib
+import random
+import re
+import signal
+import struct
+import subprocess
+import sys
+import tempfile
+import threading
+import time
+import warnings
+from typing import Any, Callable
+
+__all__ = ["Failed", "NoVerdict", "NotEnded", "NotLinearizable", "TooFew", "Verdict", "judge"]
+
+GOING, RESTING, STOPPING, ENDED = range(4)
+WORDS = ADD, REMOVE, CONTAINS = "add", "remove", "contains"
+NO, YES, UNKNOWN = range(3)
+OVERLAPPED = re.compile("ok [0-9]+ calls\n([0-9]+) of them")
+OF_KEY = re.compile("of key ([0-9]+) ")
+CALL = re.compile("call ([0-9]+) ([a-z]+) ([0-9]+) ([0-9]+) ([0-9]+|-) ([a-z]+|-)", re.M)
+Call = collections.namedtuple("Call", "begin end thread call key reply")
+# A run: the threads, the fresh sets one after another, the calls of each thread on each, the keys, what their numbers are multiples of
+Shape = collections.namedtuple("Shape", "name threads sets calls keys times")
+
+# made of words.json by judge/make_words: PART and MEET in calls, PATIENCE in seconds
+PRESETS = (
+    Shape("few keys", 4, 1, 2500, 4, 1),
+    Shape("fresh sets", 4, 40, 10, 4, 1),
+    Shape("multiples of 64", 4, 1, 2500, 8, 64),
+    Shape("one key", 3, 1, 2500, 1, 1),
+    Shape("multiples of 1,000", 8, 1, 1250, 8, 1000),
+    Shape("many keys", 4, 1, 2500, 1000, 1),
+)
+RANGES = (
+    ("threads", 1, 64),
+    ("threads times calls", 1, 1000000000),
+    ("keys", 1, 1048576),
+    ("pauses", 0, 100),
+    ("runs", 1, 1000000),
+    ("seconds", 1, 3600),
+    ("at_least", 0, 100),
+)
+PART = 20000
+LONGEST = 100
+HOT = 4
+ENOUGH = 5
+HARDER = 2
+FURTHER = 20
+PATIENCE = 3
+READABLE = 6
+MEET = 250
+AWAKE = 300000
+SLOW = 5
+OK = "ok: %s calls, of which %s overlapped a change of their key"
+FEW = "that is few: take more threads, fewer keys or a machine that does less"
+TOO_FEW = "%s of %s calls overlapped a change of their key, and at_least asks for %s of 100: take more threads, fewer keys or a machine that does less"
+FAILED_RUN = "seed %s (%s): %s\nrecorded in %s; judge: %s"
+RANGE = "%s is %s, and has to be %s to %s"
+TWICE = "the key function gives %s for %s and for %s: let it give each number a key of its own"
+HUNG = "the set hung: no call began or ended for %s s"
+CRASHED = "the set crashed: %s"
+ENDED_SO = "the set ended its process with the status %s"
+THREW = "a call of the set failed: %s"
+NOT_MADE = "the set could not be made: %s"
+UNDER_WAY = "%s\nunder way:\n%sup to there: %s"
+EXPLAINED = "some order explains the calls"
+COUNTED = "%s adds and %s removes of key %s answered true; it was %s at first, and is %s at the end"
+THERE = "there"
+NOT_THERE = "not there"
+KEY_IS = "key %s of the recording is %s"
+IN_SET = ", in the fresh set %s of the run"
+NO_FOLDER = "no file can be written in %s: name another folder by record"
+NO_MEMORY = "there is no memory for the calls of a run"
+NO_PROCESS = "no process could be started for a run: %s"
+NOT_AGAIN = "the test did not come to this judge again in a process of its own: set own_process to false"
+NO_NODE = "node is not in PATH, which runs the %s that LISTSET names"
+NO_NAMED = "LISTSET names %s, which cannot be run: build listset, and name it there"
+NO_JUDGE = "there is no listset in PATH: build it, and put it there or name it by LISTSET"
+NO_VERDICT = "%s gave no verdict, but said: %s. Take a newer listset"
+# end of what is made
+
+
+@dataclasses.dataclass(frozen=True)
+class Verdict:
+    """What is known if some order explains each run: the calls, those that overlapped a change of their key, by the judge, and which
+    judge it was, with whether it says that it is proved. It prints itself."""
+
+    calls: int
+    overlapped: int
+    judge: str
+
+    @property
+    def is_few(self) -> bool:
+        """Whether so few calls met that `ok` says little."""
+        return self.overlapped * 100 < self.calls * ENOUGH
+
+    def __str__(self) -> str:
+        return f"{OK % (self.calls, self.overlapped)}{f'; {FEW}' * self.is_few}; judge: {self.judge}"
+
+
+class Failed(AssertionError):
+    """What the judge said of the run of the seed `seed`, `said`; the file that has its recording, `file`."""
+
+    def __init__(self, seed: int, name: str, said: str, file: pathlib.Path, judge: Judge):
+        self.seed, self.said, self.file = seed, said, file
+        super().__init__(FAILED_RUN % (seed, name, said, file, judge))
+
+
+class NotLinearizable(Failed):
+    """No order explains the run."""
+
+
+class NotEnded(Failed):
+    """The set crashed, hung or raised in the run, which was judged up to there."""
+
+
+class TooFew(AssertionError):
+    """Fewer calls overlapped a change of their key than `at_least` asks for."""
+
+
+class NoVerdict(Exception):
+    """Nothing is known of the set: an option is out of range, no set could be made, it has not the three calls, or there is no judge."""
+
+
+@dataclasses.dataclass(frozen=True)
+class Options:
+    threads: int | None
+    calls: int | None
+    keys: int | None
+    key: Callable[[int], Any] | None
+    pauses: int
+    runs: int
+    seed: int
+    seconds: int
+    at_least: int
+    shares: tuple[int, int, int]
+    own_process: bool
+    opens_with_keys: bool
+    record: str | os.PathLike | None
+
+    def check(self) -> None:
+        first = [1 if it is None else it for it in (self.threads, self.calls, self.keys)]
+        all_calls = first[0] * first[1] if all(isinstance(it, int) for it in first) else 1
+        given = (first[0], all_calls, first[2], self.pauses, self.runs, self.seconds, self.at_least)
+        for (name, least, most), it in zip(RANGES, given):
+            if not (isinstance(it, int) and least <= it <= most):
+                raise NoVerdict(RANGE % (name, it, least, most))
+        if min(self.shares) < 0 or not sum(self.shares):
+            raise NoVerdict(RANGE % ("adds plus removes plus finds", sum(self.shares), 1, 1000))
+
+    def shape_of(self, seed: int) -> Shape:
+        """The preset of a seed, with what these options say."""
+        it = PRESETS[(seed - 1) % len(PRESETS)]
+        it = it._replace(calls=it.calls if it.sets > 1 else it.calls // SLOW, threads=self.threads or it.threads)
+        if self.keys or self.key:
+            it = it._replace(keys=self.keys or it.keys, times=1)
+        return fitted(it._replace(calls=self.calls, sets=1) if self.calls else it)
+
+    def harder(self, it: Shape) -> Shape:
+        """With more threads and fewer keys, where these options leave them open."""
+        return fitted(it._replace(threads=self.threads or min(2 * it.threads, 8), keys=self.keys or max(it.keys // 2, 1)))
+
+    def check_keys(self, it: Shape) -> None:
+        seen = {}
+        for number in range(it.keys):
+            key = self.key_of(number, it)
+            if seen.setdefault(key, number) != number:
+                raise NoVerdict(TWICE % (repr(key), seen[key], number))
+
+    def key_of(self, number: int, it: Shape) -> Any:
+        """The key of a number, each time made anew."""
+        return (self.key or int)(number * it.times)
+
+
+def fitted(it: Shape) -> Shape:
+    return it._replace(sets=max(1, min(it.sets, PART // (it.threads * it.calls)))) if it.sets > 1 else it
+
+
+def judge(make: Callable[[], Any], *, threads: int | None = None, calls: int | None = None, keys: int | None = None,
+          key: Callable[[int], Any] | None = None, pauses: int = 20, runs: int = 20, seed: int = 1, seconds: int = 10, at_least: int = 0,
+          adds: int = 1, removes: int = 1, finds: int = 1, own_process: bool = True, opens_with_keys: bool = False,
+          record: str | os.PathLike | None = None) -> Verdict:
+    """The Verdict of so many sets that `make` makes; raises NotLinearizable of a run that no order explains, and NotEnded of one that
+    crashes or hangs.
+
+    threads -- that call a set at once: 1 to 64; by the presets of runs, in turn, where it is left out, as the next two
+    calls -- of each thread: 1 or more, and 1,000,000,000 at most of all threads, which rest after each 20,000 until these are written
+    keys -- calls are on the keys of the numbers below this: 1 to 1,048,576; half of them on the first four
+    key -- gives the key of a number, each another one
+    pauses -- before how many of 100 lines of the set a thread lets others go on: 0 to 100
+    runs -- sets that are called, or rows of fresh sets: 1 to 1,000,000
+    seed -- what calls, keys and pauses of the first run are drawn from; the next run has the next seed
+    seconds -- a run in which no call begins or ends for so long is ended: 1 to 3,600
+    at_least -- TooFew is raised if fewer of 100 calls overlap a change of their key
+    adds, removes, finds -- the shares of the three operations
+    own_process -- False: in this process, which then crashes with the set (for a debugger, or for coverage)
+    opens_with_keys -- True: before the first call, `contains` is asked of each key
+    record -- a folder that keeps the recording of each run; else that of a run that fails is kept, in the folder for temporary files
+
+    A call that answers None has an outcome that is not known, as after a time-out.
+    """
+    __tracebackhide__ = True  # (pytest shows the line of the test alone)
+    how = Options(threads, calls, keys, key, pauses, runs, seed, seconds, at_least, (adds, removes, finds), own_process, opens_with_keys, record)
+    how.check()
+    tester, count, overlapped, until = Tester(make, how), 0, 0, time.monotonic() + PATIENCE
+    for one in range(seed, seed + runs):
+        shape = how.shape_of(one)
+        for tries in range(HARDER + 1):
+            found = tester.judged_run(one, shape)
+            count, overlapped = count + found.calls, overlapped + found.overlapped
+            if found.refused:
+                found = tester.smallest(found)
+            if found.failed:
+                raise found.failed
+            if found.overlapped * 100 >= found.calls * ENOUGH or time.monotonic() > until:
+                break
+            shape = how.harder(shape)
+    verdict = Verdict(count, overlapped, str(tester.by))
+    if overlapped * 100 < count * at_least:
+        raise TooFew(TOO_FEW % (overlapped, count, at_least))
+    if verdict.is_few:
+        warnings.warn(str(verdict), RuntimeWarning, stacklevel=2)  # (a test that passes may show no verdict)
+    return verdict
+
+
+Outcome = collections.namedtuple("Outcome", "seed calls overlapped refused failed")
+
+
+class Tester:
+    """Judges one run after another of the sets that `make` makes."""
+
+    def __init__(self, make, how):
+        self.make, self.how, self.by = make, how, Judge()
+
+    def judged_run(self, seed: int, shape: Shape) -> Outcome:
+        run = Run(self.make, self.how, shape, seed)
+        is_own = self.how.own_process and hasattr(os, "fork") and threading.active_count() == 1
+        with Recording(seed, self.by, self.how.record) as recording:
+            with contextlib.closing(run.in_child() if is_own else run.in_this()) as parts:
+                for trouble in parts:
+                    run.read(trouble)
+                    recording.write(run.text())
+                    if run.trouble:
+                        break
+            overlapped, refused = recording.judged()
+            recording.is_kept |= bool(run.trouble or refused)
+        said = explained(refused, recording.file) + run.key_line(refused) if refused else ""
+        failed = NotLinearizable(seed, shape.name, said, recording.file, self.by) if refused else None
+        if run.trouble:
+            under_way = "".join(f"{line_of(it)}\n" for it in run.rows if not it.end and it.reply != UNKNOWN)
+            said = UNDER_WAY % (run.trouble, under_way, said or EXPLAINED)
+            refused, failed = "", NotEnded(seed, shape.name, said, recording.file, self.by)
+        return Outcome(seed, shape.threads * shape.sets * shape.calls, overlapped, refused, failed)
+
+    def smallest(self, found: Outcome) -> Outcome:
+        """Of the refusal and of further runs, the one that has the fewest calls, and two at least."""
+        since = time.monotonic()
+        for seed in range(found.seed + len(PRESETS), found.seed + (FURTHER + 1) * len(PRESETS), len(PRESETS)):
+            if rank(found) <= READABLE // 2 or time.monotonic() - since > PATIENCE:
+                break
+            other = self.judged_run(seed, self.how.shape_of(seed))
+            if other.refused and rank(other) < rank(found):
+                found, other = other, found
+            if other.failed and not self.how.record:
+                other.failed.file.unlink()
+        return found
+
+
+def calls_in(refused: str) -> int:
+    return len(CALL.findall(refused)) + 1000 * (" belong to these" in refused)
+
+
+def rank(found: Outcome) -> int:
+    return calls_in(found.refused) if calls_in(found.refused) > 1 else 999
+
+
+def explained(refused: str, file: pathlib.Path) -> str:
+    """What the judge says, with a picture; or, in place of many calls, what their count shows."""
+    counted = count_of(file, OF_KEY.search(refused)) if calls_in(refused) > READABLE else ""
+    if counted:
+        return "\n".join([*refused.split("\n")[:2], counted])
+    calls = CALL.findall(refused)
+    return "\n".join([refused, *picture_of(calls)]) if len(calls) > 1 else refused
+
+
+def count_of(file: pathlib.Path, key: re.Match | None) -> str:
+    """In words, that the calls of a key that answered true do not fit to how it was; else nothing."""
+    lines = file.read_text().split("\n")
+    calls = [it for it in CALL.findall("\n".join(lines)) if key and it[2] == key[1]]
+    if not calls or lines[-2] == "cut" or any(it[4] == "-" for it in calls):
+        return ""
+    adds, removes = (sum(it[1] == word and it[5] == "true" for it in calls) for word in (ADD, REMOVE))
+    was, left = (f"{word} {key[1]}" in lines for word in ("opening", "key"))
+    words = (adds, removes, key[1], THERE if was else NOT_THERE, THERE if left else NOT_THERE)
+    return "" if was + adds == left + removes else COUNTED % words
+
+
+def picture_of(calls: list) -> list[str]:
+    """The calls as bars, one below another, from their begins to their ends."""
+    last = 1 + max(int(it) for call in calls for it in call[3:5] if it != "-")
+    bars = [(int(begin), last if end == "-" else int(end), f"[{word} {key}", "" if end == "-" else f"{reply}]", f"thread {thread}")
+            for thread, word, key, begin, end, reply in calls]
+    places, place = {}, 0
+    for moment in sorted({it for bar in bars for it in bar[:2]}):
+        for begin, end, head, tail, _ in bars:
+            if end == moment:
+                place = max(place, places[begin] + len(head) + len(tail))
+        places[moment] = place
+        place += 1
+    wide = max(len(it[4]) for it in bars) + 2
+    return [f"{who:{wide}}{' ' * places[begin]}{head}{'-' * (places[end] - places[begin] - len(head) - len(tail) + 1)}{tail or '..'}"
+            for begin, end, head, tail, who in bars]
+
+
+class Recording:
+    """The text of a run: as it grows it is written into a file, and given to the judge."""
+
+    def __init__(self, seed, by, record):
+        self.is_kept, folder = record is not None, pathlib.Path(record or tempfile.gettempdir())
+        try:
+            folder.mkdir(parents=True, exist_ok=True)
+            if self.is_kept:
+                self.to = open(folder / f"seed-{seed}.calls", "w")
+            else:
+                self.to = tempfile.NamedTemporaryFile("w", prefix=f"listset-seed-{seed}-", suffix=".calls", dir=folder, delete=False)
+        except OSError:
+            raise NoVerdict(NO_FOLDER % folder) from None
+        self.file, self.by, self.asked = pathlib.Path(self.to.name), by, by.ask()
+
+    def __enter__(self):
+        return self
+
+    def write(self, text):
+        self.to.write(text)
+        self.asked.write(text)
+
+    def judged(self):
+        self.to.close()
+        return self.by.judged(*self.asked.answer())
+
+    def __exit__(self, *_):
+        self.to.close()
+        self.asked.end()
+        if not self.is_kept:
+            self.file.unlink()
+
+
+# ---- a run, recorded
+
+
+class Run:
+    """The calls of sets in parts, of which `rows` has the last by their begins. They are written down as the run goes, in memory that
+    a process of its own shares with this one."""
+
+    SLOT, COUNT = struct.Struct("=IIIIBB"), struct.Struct("=I")  # of a call: begin, end or 0, thread, key, word, reply; how far a thread is
+    WHY = 240  # the bytes of what was raised
+
+    def __init__(self, make, how, shape, seed):
+        self.make, self.how, self.shape, self.seed = make, how, shape, seed
+        how.check_keys(shape)
+        self.tickets, self.there = itertools.count(1), threading.Barrier(shape.threads + 1)
+        # of each thread the most calls of a part, and of a round; the parts; how many were read
+        self.most = shape.sets * shape.calls if shape.sets > 1 else min(shape.calls, PART // shape.threads)
+        self.per_round = shape.calls if shape.sets > 1 else self.most
+        self.parts, self.part = 1 if shape.sets > 1 else -(-shape.calls // self.most), 0
+        # what was raised; whether it goes on; how far each thread is, the looks, and the last moment of the parts before; of each key of
+        # each set whether it was there at first, and at the end; the calls
+        self.at_keys = self.WHY + 1 + (shape.threads + 2) * self.COUNT.size
+        self.at_slots = self.at_keys + 2 * shape.keys * shape.sets
+        self.slots = mmap.mmap(-1, self.at_slots + shape.threads * self.most * self.SLOT.size)
+
+    def count(self, at, number):
+        self.COUNT.pack_into(self.slots, self.WHY + 1 + at * self.COUNT.size, number)
+
+    def before(self):
+        return self.COUNT.unpack_from(self.slots, self.at_keys - self.COUNT.size)[0]
+
+    def fail(self, said):
+        """Writes down what was raised; the first stays."""
+        if not self.slots[0]:
+            said = said.encode()[: self.WHY]
+            self.slots[: len(said)] = said
+
+    @property
+    def at(self):
+        return self.slots[self.WHY]
+
+    @at.setter
+    def at(self, it):
+        self.slots[self.WHY] = it
+
+    def made_and_called(self):
+        """Makes sets and calls them, to the end."""
+        before = sys.getswitchinterval()
+        started = [threading.Thread(target=self.call_in_rounds, args=(i,), daemon=True) for i in range(self.shape.threads)]
+        try:
+            sys.setswitchinterval(1e-6)
+            for it in started:
+                it.start()
+            self.lead()
+            for it in started:
+                it.join()
+        except Exception as why:
+            self.fail(f"{type(why).__qualname__}: {why}")
+        finally:
+            sys.setswitchinterval(before)
+        self.set = self.replies_of = None  # (it may go wrong at its end)
+        self.at = ENDED
+
+    def in_child(self):
+        """Has the run made in a process of its own; gives, of each part in turn, how it came to no end, if it did not."""
+        child, status = os.fork(), []
+        if child == 0:
+            try:
+                end_with_parent()
+                self.made_and_called()
+            finally:
+                os._exit(0)
+
+        def has_ended():
+            pid, found = os.waitpid(child, os.WNOHANG)
+            return status.append(found) or True if pid else False
+
+        try:
+            for trouble in self.made(has_ended):
+                yield trouble or self.crash(status)
+        finally:
+            if not status:
+                os.kill(child, signal.SIGKILL)
+                os.waitpid(child, 0)
+
+    def in_this(self):
+        """The same in this process, where threads that hang stay."""
+        caller = threading.Thread(target=self.made_and_called, daemon=True)
+        caller.start()
+        try:
+            yield from self.made(lambda: not caller.is_alive())
+        finally:
+            self.at = STOPPING
+
+    def made(self, has_ended):
+        """Lets the parts be made; gives, of each in turn, whether it hung."""
+        for part in range(self.parts):
+            if part:
+                self.at = GOING
+            yield "" if self.comes_to_end(lambda: self.at == RESTING or has_ended()) else HUNG % self.how.seconds
+
+    def crash(self, status):
+        """How the process of the run ended, if it was too soon or went wrong."""
+        if not status:
+            return ""
+        if os.WIFSIGNALED(status[0]):
+            return CRASHED % signal.Signals(os.WTERMSIG(status[0])).name
+        ended = os.WEXITSTATUS(status[0])  # (not 0 if the set ended its process while it was deleted)
+        return ENDED_SO % ended if ended or self.at != ENDED else ""
+
+    def comes_to_end(self, is_done):
+        """Waits until it is done; False if no call begins or ends for too long before that."""
+        seen, since, wait = self.moved(), time.monotonic(), 0.0005
+        while not is_done():
+            time.sleep(wait)
+            wait = min(2 * wait, 0.02)
+            if (now := self.moved()) != seen:
+                seen, since = now, time.monotonic()
+            if time.monotonic() - since > self.how.seconds:
+                return False
+        return True
+
+    def moved(self):
+        """What changes as long as the run goes on."""
+        return self.slots[self.WHY : self.at_keys]
+
+    def lead(self):
+        """Makes each set and has the threads call it; rests after each part until it has been read."""
+        sets, parts, keys = self.shape.sets, self.parts, self.shape.keys
+        try:
+            for one in range(max(sets, parts)):
+                if one == 0 or sets > 1:
+                    self.make_set()
+                    if self.how.opens_with_keys:
+                        self.look_up(self.at_keys + one * keys)
+                elif not self.goes_on():
+                    return
+                self.there.wait()  # none begins before all are there
+                self.there.wait()
+                if sets > 1 or one == parts - 1:
+                    self.look_up(self.at_keys + (sets + one * (sets > 1)) * keys)
+        except threading.BrokenBarrierError:
+            pass
+        finally:
+            self.there.abort()
+
+    def make_set(self):
+        self.set = self.replies_of = None
+        try:
+            made = self.set = self.make()
+            self.replies_of = made.add, made.remove, made.contains if hasattr(made, CONTAINS) else made.__contains__
+        except Exception as why:
+            self.fail(NOT_MADE % why)
+            raise
+
+    def goes_on(self):
+        self.at = RESTING
+        while self.at == RESTING:
+            time.sleep(0.0005)
+        self.count(self.shape.threads + 1, next(self.tickets))
+        return self.at == GOING
+
+    def look_up(self, to):
+        for number in range(self.shape.keys):
+            self.slots[to + number] = bool(self.replies_of[2](self.how.key_of(number, self.shape)))
+            self.count(self.shape.threads, to + number)
+
+    def call_in_rounds(self, thread):
+        """The calls of one thread."""
+        draw, number = random.Random(self.seed * 64 + thread), thread
+        try:
+            for one, done in enumerate(range(0, max(self.shape.calls, self.shape.sets * self.per_round), self.per_round)):
+                self.there.wait()
+                first = thread * self.most + (done if self.shape.sets > 1 else 0)
+                count = self.per_round if self.shape.sets > 1 else min(self.most, self.shape.calls - done)
+                number = self.call(range(first, first + count), one * self.shape.keys * (self.shape.sets > 1), thread, number, draw)
+                self.there.wait()
+        except threading.BrokenBarrierError:
+            pass
+        except Exception as why:
+            self.fail(THREW % f"{type(why).__qualname__}: {why}")
+            self.there.abort()
+
+    def call(self, places, of_set, thread, number, draw):
+        """Makes calls; gives the number of the thread, which is another one after a reply that is not known."""
+        before, keys, few = sys.gettrace(), self.shape.keys, min(HOT, self.shape.keys)
+        drawn = [word for word, share in enumerate(self.how.shares) for _ in range(share)]
+        if self.how.pauses:
+            sys.settrace(pausing(self.how.pauses, random.Random(draw.random()), before))
+        try:
+            for at in places:
+                word, number_of_key = draw.choice(drawn), draw.randrange(few if keys > 2 * HOT and draw.random() < 0.5 else keys)
+                key, at_slot, written = self.how.key_of(number_of_key, self.shape), self.at_slots + at * self.SLOT.size, of_set + number_of_key
+                self.count(thread, at)
+                begin = next(self.tickets)  # (one step of the interpreter)
+                self.SLOT.pack_into(self.slots, at_slot, begin, 0, number, written, word, NO)
+                reply = self.replies_of[word](key)
+                reply = UNKNOWN if reply is None else YES if reply else NO
+                self.SLOT.pack_into(self.slots, at_slot, begin, next(self.tickets), number, written, word, reply)
+                number += self.shape.threads * (reply == UNKNOWN)
+        finally:
+            if self.how.pauses:
+                sys.settrace(before)
+        return number
+
+    def read(self, trouble):
+        """Takes in what was written down."""
+        why = self.slots[: self.WHY].rstrip(b"\0").decode(errors="replace")
+        self.trouble, self.rows, self.part = why or trouble, [], self.part + 1
+        if self.trouble and not why.startswith(THREW % "") and not self.slots[self.at_slots]:
+            raise NoVerdict(why if why.startswith(NOT_MADE % "") else NOT_MADE % self.trouble)
+        before = self.before()  # (calls that began by then are of parts before)
+        for at in range(self.shape.threads * self.most):
+            begin, end, thread, key, word, reply = self.SLOT.unpack_from(self.slots, self.at_slots + at * self.SLOT.size)
+            if begin > before:
+                self.rows.append(Call(begin, 0 if reply == UNKNOWN else end, thread, WORDS[word], key, reply))
+        self.rows.sort()
+        for word in (ADD, REMOVE):
+            replies = {it.reply for it in self.rows if it.call == word and (it.end or it.reply == UNKNOWN)}
+            if replies == {UNKNOWN}:
+                raise NoVerdict(f"each {word} answered None, and has to answer True or False")
+
+    def text(self):
+        """What the recording has of this part."""
+        first, last = self.part == 1, self.trouble or self.part == self.parts
+        lines = ["listset-calls 1", *self.lines_of_keys("opening", 0)] if first else []
+        lines += map(line_of, self.rows)
+        if last:
+            lines += ["cut"] if self.trouble else [*self.lines_of_keys("key", 1), "end"]
+        return "".join(f"{it}\n" for it in lines)
+
+    def lines_of_keys(self, word, is_left):
+        keys = self.shape.keys * self.shape.sets
+        return (f"{word} {key}" for key in range(keys) if self.slots[self.at_keys + is_left * keys + key])
+
+    def key_line(self, refused):
+        """Which key of which set it is that the judge names, if its number does not say so."""
+        number = OF_KEY.search(refused)
+        one, at = divmod(int(number[1]) if number else 0, self.shape.keys)
+        if not number or one == 0 and self.shape.sets == 1 and repr(self.how.key_of(at, self.shape)) == number[1]:
+            return ""
+        return "\n" + KEY_IS % (number[1], repr(self.how.key_of(at, self.shape))) + (IN_SET % (one + 1) if self.shape.sets > 1 else "")
+
+
+def end_with_parent():
+    if sys.platform == "linux":
+        ctypes.CDLL(None).prctl(1, signal.SIGKILL)
+
+
+def line_of(it):
+    return f"call {it.thread} {it.call} {it.key} {it.begin} {f'{it.end} {str(it.reply == YES).lower()}' if it.end else '- -'}"
+
+
+def pausing(pauses, draw, before):
+    """A trace function that lets other threads go on, before so many of 100 lines of all code but this file's; the one before goes on."""
+
+    def of_frame(inner):
+        def at_line(frame, event, arg):
+            nonlocal inner
+            inner = inner and inner(frame, event, arg)
+            if event == "line" and draw.random() * 100 < pauses:
+                time.sleep(0)
+            return at_line
+
+        return at_line
+
+    def at_call(frame, event, arg):
+        inner = before and before(frame, event, arg)
+        return inner if frame.f_code.co_filename == __file__ else of_frame(inner)
+
+    return at_call
+
+
+# ---- the judge
+
+
+class Judge:
+    """The judge underneath. It prints its name, and what it says of its proof."""
+
+    def __init__(self):
+        try:
+            import listset
+
+            self.name, self.ask, version = "liblistset", functools.partial(Library, listset.said), listset.version()
+        except (ImportError, AttributeError):
+            self.name, self.ask, version = program()
+        self.proof = next((it for it in version.splitlines() if it.startswith("proof ")), "proof unknown")
+
+    def __str__(self):
+        return f"{self.name}, {self.proof}"
+
+    def judged(self, status, said):
+        """How many calls of a recording overlapped a change of their key, and nothing; or 0, and what the judge says if no order explains
+        it."""
+        met = OVERLAPPED.match(said)
+        if status == 0 and met:
+            return int(met[1]), ""
+        if status == 1 and said.startswith("not linearizable"):
+            return 0, said
+        raise NoVerdict(NO_VERDICT % (self.name, said.partition("\n")[0] or "nothing"))
+
+
+class Library:
+    """The library, which is given a recording at its end."""
+
+    def __init__(self, said):
+        self.said, self.text = said, []
+
+    def write(self, text):
+        self.text.append(text)
+
+    def answer(self):
+        answer, status = self.said("judge", "".join(self.text).encode())
+        return status, answer.decode(errors="replace").strip()
+
+    def end(self):
+        pass
+
+
+class Program:
+    """A program, which reads a recording as it grows. (What `--version` says of a judge that it builds is for the user's eyes.)"""
+
+    def __init__(self, words):
+        errors = None if "--version" in words else subprocess.PIPE
+        self.process = subprocess.Popen(words, stdin=subprocess.PIPE, stdout=subprocess.PIPE, stderr=errors, text=True)
+
+    def write(self, text):
+        with contextlib.suppress(BrokenPipeError):  # (one that has ended reads no further)
+            self.process.stdin.write(text)
+
+    def answer(self):
+        said, errors = self.process.communicate()
+        return self.process.returncode, (said or errors or "").strip()
+
+    def end(self):
+        self.process.kill()
+        self.process.communicate()
+
+
+def program():
+    """The name of the program, how it is asked, and what it says of its version."""
+    named = os.environ.get("LISTSET")
+    name = named or "listset"
+    words = ["node", name] if name.endswith(".js") else [name]
+    try:
+        status, version = Program([*words, "--version", "--long"]).answer()
+    except OSError:
+        status = 127
+    if status != 127:
+        return name, functools.partial(Program, [*words, "judge", "-"]), version
+    raise NoVerdict(NO_NODE % name if len(words) > 1 else NO_NAMED % named if named else NO_JUDGE)
