@@ -1,6 +1,6 @@
 -- A contains that has answered has made no more steps than its bound.
 use Rattle.std.proofs.Common.{◌≡◌, ◌≢◌, ℕ, suc, ◌+◌, ◌<◌, ◌≤◌, cond, List, [], ◌∷◌, ◌++◌, length, inl}
-use Rattle.std.proofs.Common.{Option, Some, None, refl, sym, ap, ◌∙◌, subst, arith, append_assoc, length-append}
+use Rattle.std.proofs.Common.{Option, Some, None, refl, sym, ap, ◌∙◌, subst, arith, length-append}
 use Rattle.std.proofs.lemmas.List.{same_from_push}
 use Rattle.lset_words.proofs.Numbers.{equal_test, if_same}
 use Rattle.lset_words.specs.declared.Key.{Key}
@@ -57,8 +57,7 @@ module _ (T : Table) (law : Lawful T) (reads : BoundedReads T) (key : Key) (v : 
   made = record { call = Contains key; reply = r; begun = length m.log + 1; ended = length w.seen }
 
   seen_is : w.seen ≡ before ++ Go w.thread ∷ []
-  seen_is = m.seen ∙ sym (append_assoc (m.log ++ Begin v.thread (Contains key) ∷ []) m.between (Go v.thread ∷ []))
-      ∙ ap (λ u. before ++ Go u ∷ []) (sym m.same.2)
+  seen_is = m.seen ∙ ap (λ u. before ++ Go u ∷ []) (sym m.same.2)
 
   long : length w.seen ≡ suc (length before)
   long = ap (λ l. length l) seen_is ∙ (let e = length-append before (Go w.thread ∷ []) in omega arith)
