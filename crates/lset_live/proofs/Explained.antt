@@ -168,7 +168,7 @@ module _ (T : Table) (law : Lawful T) (c : Call) (v : View) (r : Reply) (w : Vie
   }
 
 -- THE CONTRACT OF A CALL, from what the call did to the view of its seat
-abbrev seat_at : TableSeat → SeatValue
+abbrev pub seat_at : TableSeat → SeatValue
 seat_at s = record {
   set = record { table = s.table_id; shape = s.me.0.shape };
   past = record_of s.me.0.past;

@@ -5,6 +5,7 @@ mod Histories
 mod PastCalls
 mod Orders
 mod Explained
+mod FewSteps
 mod Closing
 pub mod Receipts
 mod TypedReplies

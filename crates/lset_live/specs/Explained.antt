@@ -1,5 +1,5 @@
 -- What is said of a call of a running set, and of sets that were closed.
-use Rattle.std.specs.Prelude.{◌≡◌, ℕ, ◌+◌, ◌<◌, ◌⊎◌, List, [], ◌∷◌, ◌++◌, All, Some, length, map}
+use Rattle.std.specs.Prelude.{◌≡◌, ℕ, ◌+◌, ◌<◌, ◌≤◌, ◌⊎◌, List, [], ◌∷◌, ◌++◌, All, Some, length, map}
 use mathlib.Core.Option.{some}
 use lib.ListN.{get_elem?}
 use Rattle.lset_words.specs.declared.Call.{Call}
@@ -9,7 +9,8 @@ use Rattle.lset_words.specs.History.{Linearizes, answered}
 use Rattle.lset_words.specs.SequentialSet.{Answered, IsLegal, opening_set, set_left}
 use Rattle.lset_steps.specs.declared.Event.{Event}
 use Rattle.lset_steps.specs.declared.Event.TheVariants.{Begin, Go}
-use Rattle.lset_steps.specs.Steps.{Table}
+use Rattle.lset_steps.specs.Steps.{Table, event_at}
+use Rattle.lset_steps.specs.BoundedReads.{steps_since}
 use Rattle.lset_rule.specs.Runs.{StartsWith, IsRunOf, history_of}
 use Rattle.lset_words.specs.Records.{Record, Names, Keeps, called, calls_by, thread_of}
 use Rattle.lset_live.specs.Seats.{SeatValue, SetValue}
@@ -46,6 +47,10 @@ pub record HasAnswered (T : Table) (set : SetValue) (old : SeatValue) (c : Call)
   pub past : new.past ≡ called old.past (record { call = c; reply = r })
   pub answered : IsAnswered T set.shape (thread_of old.past) c r old.events new.events
   pub explained : SeenIsLinearizable T set.shape new.events new.past
+
+-- [Steps of the last call]: among these events, thread t has made at most so many steps since it began its last call.
+abbrev pub HasMadeAtMost : ℕ → ℕ → List Event → Type 0
+HasMadeAtMost most t events = steps_since (event_at events) t (length events) ≤ most
 
 -- some record of the list names the thread
 abbrev pub NamedIn : ℕ → List Record → Type 0

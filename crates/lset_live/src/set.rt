@@ -6,11 +6,12 @@ ghost use Rattle.lset_words.specs.declared.TheConstants.{MOST_QUOTA, MOST_THREAD
 ghost use Rattle.lset_rule.specs.declared.view.Past.{Fresh};
 ghost use Rattle.lset_rule.specs.Views.{IsIdle};
 ghost use Rattle.lset_rule.specs.Seats.{IsOf};
+ghost use Rattle.lset_steps.specs.BoundedReads.{most_reads};
 ghost use Rattle.lset_rule.specs.Runs.{StartsWith};
 ghost use Rattle.lset_rule.specs.Rule.{left_view, right_view};
 ghost use Rattle.lset_live.specs.Closes.{HasKeys, most_keys};
-ghost use Rattle.lset_live.specs.Explained.{IsOneLegalOrder, IsOneOrderInTime, HasAnswered};
-ghost use Rattle.lset_words.specs.Records.{gathered};
+ghost use Rattle.lset_live.specs.Explained.{HasMadeAtMost, IsOneLegalOrder, IsOneOrderInTime, HasAnswered};
+ghost use Rattle.lset_words.specs.Records.{gathered, thread_of};
 ghost use Rattle.lset_live.specs.Seats.{is_true, reply_of};
 
 use crate::bounded::Bounded;
@@ -301,11 +302,12 @@ impl<M: Machine> LiveSet<M> {
 }
 
 impl<M: RunningReads> LiveSet<M> {
-    /// Returns whether the key is in the set, without blocking or allocating. It makes at most `bound` steps, each a
-    /// load (`lset_steps::OpenReads`). The result stands for the reply `True` or `False`.
+    /// Returns whether the key is in the set, without blocking or allocating. It is wait-free: whatever the other threads do, it
+    /// makes at most `bound` steps, each a load (`lset_steps::OpenReads`). The result stands for the reply `True` or `False`.
     pub fn contains_now(&self, seat: &mut Seat<M>, key: Key) -> bool
         requires { seat.old.set ≡ self.now }
-        ensures { HasAnswered M.table self.now seat.old (Contains key) (reply_of result) seat.new }
+        ensures answered { HasAnswered M.table self.now seat.old (Contains key) (reply_of result) seat.new }
+        ensures within { HasMadeAtMost (most_reads (sizes self.now.shape)) (thread_of seat.old.past) seat.new.events }
     {
         runs_are_linearizable::<M>();
         let (slots, reply) = M::contains_now_on(
