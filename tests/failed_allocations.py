@@ -71,7 +71,7 @@ ASKED = """
 2 replay --lacks lock ENDED
 3 show --lacks lock ENDED
 1 trace --chain TRIES
-4 trace --chain CHAIN
+5 trace --chain CHAIN
 1 draft ../../tests/transcripts/data/drafts/ceiling-meets-mark.draft
 1 draft one-add.schedule
 1 example
