@@ -14,3 +14,6 @@ returns-in_err-feed-clause-judges c =
     subst (λ r. Judges bytes (view r)) (sym p.1)
     (of_fault bytes e p.0 p.2 (λ other.
     subst (λ t. Says t (Err e)) (append-nil bytes) (c.in_err-feed.ensures.refused [] c.new-reader.ensures other [])))
+
+pub returns-clause-judges : goal.returns-clause-judges
+returns-clause-judges c = c.answer_of.ensures.judges c.args.bytes.now (c.in_ok-feed.ensures.taken [] c.new-reader.ensures)
