@@ -21,4 +21,4 @@ returns-in-Ok c =
 pub returns-in-Err : goal.returns-in-Err
 returns-in-Err c =
     rw c.in-Err.is (handed_as (Err c.in-Err.trouble) _ _ _ _ _
-    (c.as_bytes.ensures.value ∙ c.line_of.ensures) c.put-in-Err.ensures.handed c.status.ensures c.put-in-Err.ensures.count)
+    (c.as_bytes.ensures.value ∙ c.deref-in-Err.ensures.0 ∙ c.line_of.ensures) c.put-in-Err.ensures.handed c.status.ensures c.put-in-Err.ensures.count)
