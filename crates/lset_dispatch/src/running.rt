@@ -2,6 +2,7 @@ ghost use Rattle.lset_dispatch.specs.Asked.{IsKnown};
 ghost use Rattle.lset_dispatch.specs.Dispatch.{RequestEnds};
 
 use crate::request::Request;
+use broken_lists::BrokenList;
 use std::alloc::Global;
 use std::io::{Read, Write};
 use std::net::{Net, TcpListener, TcpStream};
@@ -17,6 +18,23 @@ use tool_run::run_lives;
 use tool_serve::{serve_set, serve_set_of};
 use tool_trace::{Trace, trace_events};
 
+/// Replays the input, by a broken list if one is given.
+fn replay<R: Read, W: Write, E: Write>(
+    alloc: Global,
+    broken: Option<BrokenList>,
+    input: &mut R,
+    output: &mut W,
+    stderr: &mut E,
+) -> u8
+    ensures { RequestEnds (Request.Replay broken) (R.remaining input.old)
+        (W.contents output.old) (W.contents output.new) (E.contents stderr.old) (E.contents stderr.new) result }
+{
+    match broken {
+        None => tool_replay(alloc, input, output, stderr),
+        Some(broken) => run_tool(alloc, &ReplayBroken { broken }, input, output, stderr),
+    }
+}
+
 /// Runs a request, and returns the exit status. Writes the result to `output`, or one line about an error to `stderr`.
 /// Whether `input` is read, the request says. Allocates. `run` and `serve` start threads on `rt` and block until they end;
 /// `serve` listens on it.
@@ -31,10 +49,7 @@ pub fn run_request<
         (W.contents output.old) (W.contents output.new) (E.contents stderr.old) (E.contents stderr.new) result }
 {
     match request {
-        Request::Replay(None) => tool_replay(alloc, input, output, stderr),
-        Request::Replay(Some(broken)) => {
-            run_tool(alloc, &ReplayBroken { broken }, input, output, stderr)
-        }
+        Request::Replay(broken) => replay(alloc, broken, input, output, stderr),
         Request::Judge => deliver(judge_input(alloc, input), output, stderr),
         Request::Check => tool_check(alloc, input, output, stderr),
         Request::Show(show, None) => run_tool(alloc, &show, input, output, stderr),

@@ -27,8 +27,8 @@ returns-in-Ok-open g c =
           c.in-Ok-read_request.ensures.asked c.in-Some.ensures (inr (_, (_, refl), c.run_request-in-Ok-open.ensures)),
     )
 
-pub returns-in-Err-open : goal.returns-in-Err-open
-returns-in-Err-open g c =
+pub returns : goal.returns
+returns g c =
     inl (
       c.in-Ok.ensures.refused,
       ended _ _ _ _ _ _ _ _ _ (Ok c.in-Ok-read_request.request) (Some _) c.in-Ok.ensures.taken

@@ -1,9 +1,8 @@
-use Rattle.std.proofs.Common.{None}
 use Rattle.lset_dispatch.proofs.Endings.{at_request}
 use Rattle.lset_dispatch.proofs.running.run_request.Goals as goal
 
-pub returns-in-Replay-None : goal.returns-in-Replay-None
-returns-in-Replay-None g c = at_request _ _ _ _ _ _ _ _ c.in-Replay-None.is c.tool_replay.ensures
+pub returns-in-Replay : goal.returns-in-Replay
+returns-in-Replay g c = at_request _ _ _ _ _ _ _ _ c.in-Replay.is c.replay.ensures
 
 pub returns-in-Judge : goal.returns-in-Judge
 returns-in-Judge g c = at_request _ _ _ _ _ _ _ _ c.in-Judge.is (_, c.judge_input.ensures, c.deliver.ensures)
