@@ -61,5 +61,6 @@ def test_headings_and_legend(program):
 def test_names_of_the_broken_lists(program):
     names = [name for name, _, _ in LACKING.findall(BROKEN)]
     said, = lines_of(program, "replay", "--lacks", "none", status=2)
-    assert names == re.split(", | or ", said.partition(" none of ")[2])
+    told, = (line for line in lines_of(program, *re.search("'listset (.*)'", said)[1].split()) if "--lacks" in line)
+    assert {*names} == {*re.findall(r"([a-z-]+) \(", told)}
     assert {*names} == {file.stem for file in LACKS.iterdir()} == {*re.findall(r"\(`([a-z-]+)`\)", "".join(SECTIONS))}

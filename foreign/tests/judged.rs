@@ -10,7 +10,7 @@ fn main() {
             |set, key| set.add(key) == Added::True,
             |set, key| set.remove(key),
             |set, key| set.contains(key),
-            Options { runs: 6, ..Options::default() }, // one of each preset
+            Options { runs: 6, own_process: false, ..Options::default() }, // one of each preset
         );
         let verdict = verdict.unwrap();
         println!("{verdict}");
