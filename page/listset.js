@@ -37,7 +37,7 @@ const COMMANDS = {
   trace: { flag: "--chain", options: ["--lacks"], functions: ["listset_trace", "listset_trace_with_chains"], isOfFile: true },
   draft: { functions: ["listset_draft"], isOfFile: true },
   example: { flag: "--broken", functions: ["listset_example", "listset_broken_example"] },
-  gen: { functions: ["listset_gen"], most: Infinity },
+  gen: { functions: ["listset_gen"], most: 6 },
   faults: { functions: ["listset_faults"], most: 0 },
 };
 
@@ -115,17 +115,16 @@ function readForEngine(input, piece) {
   }
 }
 
-// What the engine answers to the words. Options are looked at once the file is opened, and before it is read.
+// What the engine answers to the words. Options are looked at before the file is opened.
 function answerTo(engine, { name, functions, isJudge, isOn, texts: { lacks, ...texts }, isOfFile, values }) {
   if (isJudge) return engine.judgeFrom(opened(values[0]));
   const wanted = `${functions[Number(isOn)]}${lacks === undefined ? "" : "_lacking"}`;
   if (name === "example") return values.length > 0 ? engine.ask(wanted, values[0]) : engine.ask("listset_examples");
   if (!isOfFile) return engine.ask(wanted, inPage("wordsOf")(values));
-  const input = opened(values[0]);
   const options = Buffer.from(inPage("optionWords")(texts));
   const named = lacks === undefined ? [] : [Buffer.from(lacks)];
   const tried = engine.askBytes(wanted, ...named, Buffer.alloc(0), options);
-  return tried.status === WRONG ? tried : engine.askBytes(wanted, ...named, bytesOf(input), options);
+  return tried.status === WRONG ? tried : engine.askBytes(wanted, ...named, bytesOf(opened(values[0])), options);
 }
 
 function answerOrTrouble(engine, words) {

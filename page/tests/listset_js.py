@@ -26,6 +26,7 @@ WRONG = """
     show a b | show --chain | show --svg --svg | show --svg a b | show --svg=yes | show --from | show --from -5 | show --from --
     show --from --to 9 | show --to 1 --to 2 | show --to=1 --to 2 | show --from=1 a b | show --width
     draft a b | draft --svg | draft --from 1 | gen -1 | gen lazy -2 | gen --chain | gen --from 1
+    gen coarse 2 4 9 8 1 more | gen -- coarse 2 4 9 8 1 more - --
     report | judge a b | judge --keys | judge --svg | judge --lacks lock | faults a | faults - | faults --svg | faults -- a | check --lacks lock | example --lacks lock
     replay --lacks | trace --lacks | show --lacks --svg | replay --lacks lock --lacks lock | replay --lacks lock a b"""
 # (the words after -- are values, so those of one value are not wrong)
@@ -40,7 +41,7 @@ TAKEN = """
     show --from 4294967295 | show --from==3 | draft | draft no-such-file | draft . | draft -- - | faults | faults --
     judge | judge no-such-file | judge . | judge -- - | replay --lacks luck | trace --lacks= --chain | replay --lacks lock
     show --lacks Lock | show --lacks luck --from x | show --from x --lacks lock no-such-file | replay --lacks lock no-such-file
-    gen | gen lazy | gen lazy 2 4 | gen lazy 2 4 9 8 1 | gen -- fine -1 | gen coarse 2 4 9 8 1 more - -- | gen skip 2 4 9 8 1
+    gen | gen lazy | gen lazy 2 4 | gen lazy 2 4 9 8 1 | gen -- fine -1 | gen skip 2 4 9 8 1
     gen lazy 2 4 9 8 18446744073709551616 | gen lazy 65 4 9 8 1 | gen - 2"""
 
 

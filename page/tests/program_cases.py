@@ -158,7 +158,7 @@ def cases_of_values(program):
     """Values of gen: right ones, and of these each one that is missing or wrong."""
     right = ["lazy", "3", "8", "20", "12", "18446744073709551615"]
     wrong = [[*right[:at], word, *right[at + 1:]] for at in range(6) for word in ("", "x", "00", "-1", "18446744073709551616")]
-    for values in [*(right[:count] for count in range(7)), *wrong, [*right, "more", ""], *([kind, *right[1:]] for kind in LISTS)]:
+    for values in [*(right[:count] for count in range(7)), *wrong, *([kind, *right[1:]] for kind in LISTS)]:
         yield program.case("listset_gen", "\0".join(values).encode(), ["gen", "--", *values], is_read=False)
 
 
