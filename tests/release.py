@@ -223,7 +223,7 @@ def test_the_wheel_is_installed(release, program, room):
     how = {"env": {**WITHOUT_RATTLE, "PYTHONPATH": str(top)}}
     assert well(sys.executable, "-B", "-c", PROGRAM_WITH_WHEEL, SCHEDULES / "snip.broken.report", **how) == told_of_broken(program)
     said, proved = well(sys.executable, "-B", "-c", TEST_WITH_WHEEL, **how), version_stamp.told(proof_of(program)).splitlines()[3]
-    assert (said[:14], said.rpartition("; ")[2]) == ("ok: 200 calls,", f"judge: liblistset, {proved}\n")
+    assert said.startswith("ok: ") and said.endswith(f"; judge: liblistset, {proved}\n")
 
 
 @needs("cargo")

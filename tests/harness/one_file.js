@@ -9,7 +9,7 @@ const WANTED = ["const ENGINE =", "class Engine {"];
 
 async function main([page]) {
   const text = fs.readFileSync(page, "utf8");
-  if (/<(script|link|img)\b[^>]*\b(src|href)=/.test(text)) throw new Error("the page asks for other files");
+  if (/<(script|link|img)\b[^>]*\b(src|href)="(?!data:)/.test(text)) throw new Error("the page asks for other files");
   const scripts = [...text.matchAll(/<script>\n([^]*?)<\/script>/g)].map(([, words]) => words);
   for (const part of WANTED) vm.runInThisContext(scripts.find((words) => words.includes(`\n${part}`)));
   const engine = await vm.runInThisContext("listsets.Engine").start();
