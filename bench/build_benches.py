@@ -51,8 +51,7 @@ def is_old(name):
 
 
 def program_of(name):
-    """The built program of a bench. Where it is old, all that are old are proved and built first, by `rt ci`, which takes what it
-    has kept of the libraries: after a gate on this machine only the benches are proved."""
+    """The built program of a bench. Where it is old, all that are old are proved and built first, by `rt ci`."""
     old = [it for it in NAMES if is_old(it)]
     if name in old:
         print(f"bench: proving and building {', '.join(old)}, once", file=sys.stderr)

@@ -1,5 +1,4 @@
-"""What the parts of bench/run share: programs that are built; the processor seconds and the peak memory of runs; rows of tables with the ratio
-of the time to that of the size before."""
+"""What the parts of bench/run share: programs that are built; the processor seconds and the peak memory of runs; rows of tables."""
 
 import os
 import re
@@ -54,21 +53,6 @@ def memory_of(words, given):
         quiet = {"stdout": subprocess.DEVNULL, "stderr": subprocess.DEVNULL}
         subprocess.run([TIME, "-q", "-f", "%M", "-o", told.name, *words], stdin=source, **quiet)
         return int(told.read())
-
-
-def measured(words, given=os.devnull, written=os.devnull, wanted=0):
-    """The least seconds of some runs, and the memory of another."""
-    return min(seconds_of(words, given, written, wanted) for _ in range(RUNS)), memory_of(words, given)
-
-
-def table(what, unit, rows):
-    """Prints the rows of one program: size, seconds, kilobytes."""
-    before = None
-    for size, (seconds, memory) in rows:
-        ratio = f"x{seconds / before:5.1f}" if before else " " * 6
-        peak = f"{memory:>10,} KB" if memory else "   (install `time` for memory)"
-        print(f"{what:<30}{size:>9,} {unit:<7}{1000 * seconds:9.1f} ms  {ratio}{peak}")
-        before = seconds
 
 
 def kinds(tool):

@@ -1,7 +1,6 @@
 //! What running sets are measured against: the lists of `lists.rs`, and std's tree under one lock.
 //!   rustc -O peer.rs
-//!   peer run KIND THREADS QUOTA CALLS KEYS SEED      runs what `listset run` runs, and prints what that prints
-//!   peer each KIND ..                                times each call, as `bench_calls KIND loops ..` does
+//!   peer each KIND THREADS QUOTA CALLS KEYS SEED     times each call, as `bench_calls KIND each ..` does
 //!   peer whole KIND ..                               times rounds of all calls, as `bench_calls KIND whole ..` does; KIND may be
 //!                                                    `mutex-tree` or `rwlock-tree` here, which have no quota
 //! The times stand on standard error: of `each`, for each kind of call, nanoseconds over all threads, and how many calls are left out of
@@ -10,7 +9,7 @@
 
 mod lists;
 
-use lists::{Call, Kind, Op, Reply, Seat, Set};
+use lists::{Call, Kind, Op, Seat, Set};
 use std::collections::BTreeSet;
 use std::sync::atomic::{AtomicUsize, Ordering::SeqCst};
 use std::sync::{Mutex, RwLock};
@@ -108,20 +107,6 @@ fn together<T: Send>(programs: &[Vec<Call>], run: impl Fn(u64, &[Call]) -> T + S
         meet(&there, programs.len());
         run(thread, calls)
     })
-}
-
-fn run(kind: Kind, wanted: &Wanted) {
-    let set = Set::new(kind, wanted.threads, wanted.quota);
-    let replies = at_once(&wanted.programs(), |thread, calls| {
-        let mut seat = Seat { thread, used: 0 };
-        calls.iter().map(|call| set.call(&mut seat, *call)).collect::<Vec<_>>()
-    });
-    let count = |wanted| replies.iter().flatten().filter(|it| **it == wanted).count();
-    let keys = set.keys();
-    println!("calls {}", replies.iter().map(Vec::len).sum::<usize>());
-    println!("true {}\nfalse {}\nfull {}", count(Reply::True), count(Reply::False), count(Reply::Full));
-    println!("keys {}", keys.len());
-    keys.iter().for_each(|key| println!("key {key}"));
 }
 
 #[derive(Clone, Copy, Default)]
@@ -233,7 +218,6 @@ fn main() {
     let words: Vec<String> = std::env::args().skip(1).collect();
     let wanted = Wanted::read(&words[2..]);
     match (words[0].as_str(), words[1].as_str()) {
-        ("run", kind) => run(Kind::named(kind), &wanted),
         ("each", kind) => each(Kind::named(kind), &wanted),
         ("whole", "mutex-tree") => whole_of_mutex_tree(&wanted),
         ("whole", "rwlock-tree") => whole_of_rwlock_tree(&wanted),

@@ -1,7 +1,5 @@
-"""What running threads cost, beside lists by hand: whole programs, calls by kind, rounds of calls under contention and how their ratio
-changes on the way, and at several sizes of the set."""
+"""What running threads cost, beside lists by hand: calls by kind, and rounds of calls at several sizes of the set."""
 
-import os
 import shutil
 import statistics
 import subprocess
@@ -9,7 +7,7 @@ import sys
 import tempfile
 
 from build_benches import by_rustc
-from measuring import BENCH, CALLS, RUNS, SEED, built, heading, kinds, row, seconds_of
+from measuring import BENCH, CALLS, RUNS, SEED, built, heading, kinds, row
 
 THREADS = (1, 4)
 QUOTA, KEYS = "5000", "1000"
@@ -18,61 +16,21 @@ MANY_CALLS, MOST_QUOTA = "60000", "16384"
 MANY_RUNS = 25
 
 
-def threads():
-    """Whole programs, from opening to the keys, by the processor: milliseconds beside the list by hand, the median of some runs in
-    turn."""
-    tool = built("listset")
-    heading("List", *(cell for many in THREADS for cell in (named(many), "by hand", "ratio")))
-    with tempfile.TemporaryDirectory() as room:
-        peer = by_rustc("peer.rs", room)
-        for kind in kinds(tool):
-            cells = []
-            for many in THREADS:
-                values = ["run", kind, str(many), QUOTA, CALLS, KEYS, SEED]
-                programs = [tool, *values], [peer, *values]
-                if many == 1 and len(set(map(printed, programs))) > 1:
-                    sys.exit(f"bench: {' '.join(values)}: the programs print different counts")
-                ours, hand = medians([seconds_of(it, os.devnull, os.devnull, 0) for it in programs] for _ in range(MANY_RUNS))
-                cells += f"{1000 * ours:.1f}", f"{1000 * hand:.1f}", f"{ours / hand:.2f}"
-            row(kind, *cells)
-
-
 def calls():
-    """Calls by kind: their time beside that of the list by hand, by the loops, and by the interpreter; the median of some runs in turn."""
+    """Calls by kind: their time beside that of the list by hand, the median of some runs in turn."""
     timer, tool, kind_names = built("bench_calls"), built("listset"), ("add", "remove", "contains")
     heads = (f"`{call}`" + f", {named(many)}" * (call == "add") for many in THREADS for call in kind_names)
-    heading("List", *heads, "interpreter, 1 thread")
+    heading("List", *heads)
     with tempfile.TemporaryDirectory() as room:
         peer = by_rustc("peer.rs", room)
         for kind in kinds(tool):
             ratios = []
             for many in THREADS:
                 values = [str(many), QUOTA, CALLS, KEYS, SEED]
-                programs = [timer, kind, "loops", *values], [peer, "each", kind, *values]
+                programs = [timer, kind, "each", *values], [peer, "each", kind, *values]
                 loop, hand = zip(*([nanoseconds(it) for it in programs] for _ in range(MANY_RUNS)))
                 ratios += (median_of(loop, call) / median_of(hand, call) for call in kind_names)
-            values = ["1", QUOTA, CALLS, KEYS, SEED]
-            programs = [timer, kind, "steps", *values], [peer, "each", kind, *values]
-            steps, hand = medians([nanoseconds(it)["all"] for it in programs] for _ in range(RUNS))
-            row(kind, *(f"{it:.2f}" for it in [*ratios, steps / hand]))
-
-
-def contention():
-    """Calls a second in four threads beside those of the list by hand, at several sizes: the median of some runs in turn, and half the
-    way from the first quarter of the ratios to the last."""
-    tool, many = built("listset"), THREADS[-1]
-    heading("List", *(f"{size:,}" + " keys" * (size == SIZES[0]) for size in SIZES))
-    with tempfile.TemporaryDirectory() as room:
-        sets = programs_of(room)
-        for kind in kinds(tool):
-            ours, by_hand = sets[kind], sets[f"{kind}, by hand"]
-            cells = []
-            for size in SIZES:
-                runs = [[rate(it, many, size) for it in (ours, by_hand)] for _ in range(MANY_RUNS)]
-                ratio = statistics.median(it[0] for it in runs) / statistics.median(it[1] for it in runs)
-                low, _, high = statistics.quantiles([it[0] / it[1] for it in runs])
-                cells.append(f"{ratio:.2f}±{(high - low) / 2:.2f}")
-            row(kind, *cells)
+            row(kind, *(f"{it:.2f}" for it in ratios))
 
 
 def sizes():
@@ -80,7 +38,7 @@ def sizes():
     in turn."""
     heading("Set", *(f"{size:,}" + f" keys, {named(many)}" * (size == SIZES[0]) for many in THREADS for size in SIZES))
     with tempfile.TemporaryDirectory() as room:
-        sets = {name: words for name, words in programs_of(room).items() if "by hand" not in name}
+        sets = programs_of(room)
         found = {name: [] for name in sets}
         for many in THREADS:
             for size in SIZES:
@@ -94,9 +52,7 @@ def sizes():
 def programs_of(room):
     """Of each set the words of the program that times rounds of its calls, but for their numbers."""
     timer, tool, peer = built("bench_calls"), built("listset"), by_rustc("peer.rs", room)
-    sets = {}
-    for kind in kinds(tool):
-        sets |= {kind: [timer, kind, "whole"], f"{kind}, by hand": [peer, "whole", kind]}
+    sets = {kind: [timer, kind, "whole"] for kind in kinds(tool)}
     sets |= {"`Mutex<BTreeSet>`": [peer, "whole", "mutex-tree"], "`RwLock<BTreeSet>`": [peer, "whole", "rwlock-tree"]}
     if shutil.which("javac"):
         subprocess.run(["javac", "-d", room, f"{BENCH}/SkipList.java"], check=True)
@@ -108,11 +64,6 @@ def programs_of(room):
 
 def named(many):
     return f"{many} thread{'s'[:many > 1]}"
-
-
-def printed(words):
-    """What a program prints."""
-    return subprocess.run(words, stdin=subprocess.DEVNULL, capture_output=True, text=True, check=True).stdout
 
 
 def medians(rows):

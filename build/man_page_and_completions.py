@@ -3,9 +3,11 @@
 import re
 import subprocess
 
+import lists
+
 COMMAND = re.compile(r"^  (\w+) +(.+)$", re.M)
 OPTION = re.compile(r"^ +(?:-\w, )?--([\w-]+)(?: <(\w+)>)? +(.*)$", re.M)
-LISTS = "coarse fine optimistic lazy lock-free"
+LISTS = " ".join(it.word for it in lists.lists())
 OF_A_LIST = ["gen", "run", "serve"]  # their first value is a list
 HELP = "help"
 

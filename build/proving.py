@@ -1,5 +1,4 @@
-"""Proves crates by `rt ci`, in a copy of the repository, and brings the proved programs here. rt ci takes what an earlier run on this
-machine proved of the same files."""
+"""Proves crates by `rt ci`, in a copy of the repository, and brings the proved programs here."""
 
 import os
 import re
@@ -7,6 +6,7 @@ import shutil
 import subprocess
 
 import crates_txt
+import lists
 import processes
 import toolchain
 import version_stamp
@@ -16,13 +16,15 @@ IS_DONE = re.compile(r"rt: (\w+) (?:proved|is kept: .*)")
 IS_ERROR = re.compile(r"(^|: )error[:[]|it is not proved that|^rt: \w+ NOT PROVED|^rt: .*FAILED")
 
 
-def prove(room, names, tell, is_whole=False, is_anew=False):
+def prove(room, names, tell, is_whole=False):
     """Proves these crates in the folder `room`, and gives the status of rt ci. `tell` gets each of its lines as it comes, with this repository
-    in place of the copy. The libraries stay there."""
+    in place of the copy. The libraries stay there. The whole repository has the lists of examples/lists, too."""
     toolchain.folder()
     crates_txt.lay_out(room, names, is_whole)
+    if is_whole:
+        lists.add_exercises(room)
     how = {"stdin": subprocess.DEVNULL, "stdout": subprocess.PIPE, "stderr": subprocess.STDOUT, "text": True, "errors": "replace"}
-    with subprocess.Popen([*processes.guarded(), "rt", "ci", *["--anew"] * is_anew], cwd=room, **how) as running:
+    with subprocess.Popen([*processes.guarded(), "rt", "ci"], cwd=room, **how) as running:
         for line in running.stdout:
             tell(line.rstrip("\n").replace(str(room), str(crates_txt.TOP)))
     return running.returncode
@@ -38,7 +40,7 @@ def prove_below(room, names, tell):
             done.append(found[1])
             tell(f"{found[1]} {'proved earlier' if 'is kept' in line else 'proved'}, {len(done)} of {len(names)}")
 
-    tell(f"proving {len(names)} crates by rt ci, which takes what it proved earlier on this machine")
+    tell(f"proving {len(names)} crates by rt ci")
     if prove(room, names, tell_done):
         errors = [it for it in lines if IS_ERROR.search(it)] or lines
         raise toolchain.NotBuilt("\n".join(errors[-20:]))

@@ -22,6 +22,12 @@ def version():
     return version_and_kit()[0]
 
 
+def number():
+    """As C has it: 10203 is the version 1.2.3."""
+    first, second, third = map(int, version().split("."))
+    return first * 10_000 + second * 100 + third
+
+
 def built(proof):
     """The last two lines, of what is built here now."""
     return PLACE.format(gate_verdict.clean_commit() or NO_COMMIT, proof)

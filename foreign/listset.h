@@ -8,7 +8,7 @@
        uint8_t status;
        char *said = listset_said(listset_check, report, strlen(report), &length, &status);
 
-   Of these functions it is proved what they print (docs/FOREIGN.md). The caller's part, which nothing checks:
+   docs/FOREIGN.md says of which of these functions it is proved what they print. The caller's part, which nothing checks:
    - no pointer is null, also where the length beside it is 0;
    - the room overlaps no text, and no other thread writes a text, or touches the room or the status, meanwhile;
    - malloc, realloc and free are of one allocator, and align a block to each power of two up to 16 that divides its size;
@@ -21,9 +21,12 @@
 
        uint32_t none;
        listset_seat seat = LISTSET_NONE;
-       uint8_t fault = listset_open(LISTSET_LAZY, 4, 1000, 1, &none, 0, &seat);
+       listset_fault fault = listset_open(LISTSET_LAZY, 4, 1000, 1, &none, 0, &seat);
+       if (fault != LISTSET_OK) puts(listset_fault_text(fault));
        if (listset_add(&seat, 7) == LISTSET_TRUE) ..
 
+   Compare a reply with LISTSET_TRUE: LISTSET_FULL and LISTSET_NO_SEAT are not 0 either. gcc and clang warn (-Wextra) if a reply is taken
+   for a fault, or is not looked at.
    What is refused, with LISTSET_NO_SEAT or a fault, changes nothing: an empty seat where a full one is wanted, a full one where an
    empty one is, a gather of two lists or two numbers, a close while seats are out, sizes and keys outside their limits, and want of
    memory.
@@ -39,14 +42,19 @@
 #include <stdbool.h>
 #include <stddef.h>
 #include <stdint.h>
+#include <stdio.h>
 #include <stdlib.h>
+
+#define LISTSET_VERSION_NUMBER 100 /* of this header: 10203 is the version 1.2.3 */
+#define LISTSET_USED __attribute__((warn_unused_result))
+#define LISTSET_BYTE __attribute__((packed)) /* an enum of one byte, as the functions have it */
 
 #ifdef __cplusplus
 extern "C" {
 #endif
 
+/* a status; LISTSET_OK, 0, is none of them */
 enum {
-  LISTSET_OK = 0,
   LISTSET_WRONG_TEXT = 1,  /* a fault of the text, an order that is refused, an event that is not enabled */
   LISTSET_WRONG_VALUE = 2, /* a value, an option or a name that is none */
   LISTSET_NO_MEMORY = 3    /* malloc or realloc refused */
@@ -55,6 +63,9 @@ enum {
 /* What this library is, in four lines: `listset` and the version; the kit and the logic; `commit` and that of the sources, or 40
    zeros where they were no commit; `proof checked` where the library is proved, else `proof missing`. The text is constant. */
 const char *listset_version(void);
+
+/* Its version as a number, as LISTSET_VERSION_NUMBER is that of this header. */
+uint32_t listset_version_number(void);
 
 /* The report of a schedule. */
 size_t listset_replay(const char *schedule, size_t length, char *room, size_t size, uint8_t *status);
@@ -77,15 +88,25 @@ size_t listset_trace_with_chains(const char *schedule, size_t length, char *room
 /* The schedule of a draft. */
 size_t listset_draft(const char *draft, size_t length, char *room, size_t size, uint8_t *status);
 
-/* The picture of a schedule or a report, as text and as an SVG. The options are the words for --from, --to and
-   --width, in this order, with a zero byte between two: `=` and a number, or nothing, as "=2\0\0=60" with the length 7. Words may be
-   missing at the end. */
+/* What is drawn of a run: from one moment to another, in so many columns. 0 is none that is given: all of it, at its own width. */
+typedef struct {
+  uint32_t from, to, width;
+} listset_window;
+
+/* What a schedule is generated of; `kind` is "coarse", "fine", "optimistic", "lazy" or "lock-free". */
+typedef struct {
+  const char *kind;
+  uint32_t threads, quota, calls, keys;
+  uint64_t seed;
+} listset_plan;
+
+/* `listset_draw` and `listset_draw_svg`, below, give the picture of a schedule or a report, as text and as an SVG; `listset_generate` gives
+   a schedule. What they ask takes options as the program does: the words for --from, --to and --width, each nothing or `=` and a number;
+   and the values KIND THREADS QUOTA CALLS KEYS SEED; with a zero byte between two. */
 size_t listset_show(const char *text, size_t length, const char *options, size_t options_length, char *room, size_t size,
                     uint8_t *status);
 size_t listset_show_svg(const char *text, size_t length, const char *options, size_t options_length, char *room, size_t size,
                         uint8_t *status);
-
-/* The schedule that is generated of the values KIND THREADS QUOTA CALLS KEYS SEED, with a zero byte between two. */
 size_t listset_gen(const char *values, size_t length, char *room, size_t size, uint8_t *status);
 
 /* The names of the examples; the schedule of one; the report of a list without the check that it shows. */
@@ -106,20 +127,21 @@ typedef struct {
 #define LISTSET_NONE {false, NULL}
 
 /* the lists */
-enum { LISTSET_COARSE, LISTSET_FINE, LISTSET_OPTIMISTIC, LISTSET_LAZY, LISTSET_LOCK_FREE };
+typedef enum LISTSET_BYTE listset_list { LISTSET_COARSE, LISTSET_FINE, LISTSET_OPTIMISTIC, LISTSET_LAZY, LISTSET_LOCK_FREE } listset_list;
 
-/* replies */
-enum {
+/* What a call of a set answers. */
+typedef enum LISTSET_BYTE listset_reply {
   LISTSET_FALSE = 0,
   LISTSET_TRUE = 1,
   LISTSET_FULL = 2,     /* add: the key is not there, and the seat has used its quota */
   LISTSET_AT = 3,       /* ceiling: the key is in *at */
   LISTSET_NOTHING = 4,  /* ceiling: there is no key at or above this one */
   LISTSET_NO_SEAT = 255 /* the seat is empty, or of a closed set; or the call has given up after 2^64 - 1 rounds, and the seat is lost */
-};
+} listset_reply;
 
-/* faults; LISTSET_OK is none */
-enum {
+/* Why something is refused. */
+typedef enum LISTSET_BYTE listset_fault {
+  LISTSET_OK = 0,              /* it is not */
   LISTSET_BAD_SEATS = 10,      /* not 1 to 64 */
   LISTSET_BAD_QUOTA = 11,      /* above 16,384 */
   LISTSET_BAD_KEYS = 12,       /* they do not rise, or are more than 1,048,576 */
@@ -128,34 +150,69 @@ enum {
   LISTSET_IS_SEAT = 15,        /* `out` is full */
   LISTSET_SEATS_OUT = 16,      /* not all seats are gathered */
   LISTSET_NO_MORE = 17,        /* no seat is left to be split off */
-  LISTSET_NO_GATHER = 18       /* not two seats of one list and number */
-};
+  LISTSET_NO_GATHER = 18,      /* not two seats of one list and number */
+  LISTSET_NONE_THERE = 255     /* a seat is empty, or of a closed set */
+} listset_fault;
+
+/* A sentence about it, which is constant. */
+const char *listset_fault_text(listset_fault fault);
 
 /* Opens a set of this list, with so many seats, each of which may put in as many keys as the quota says, and with keys that rise.
    The number tells it from other sets, as `listset_gather` asks. */
-uint8_t listset_open(uint8_t kind, uint32_t seats, uint32_t quota, uint64_t number, const uint32_t *keys, size_t count,
-                     listset_seat *out);
+LISTSET_USED listset_fault listset_open(listset_list kind, uint32_t seats, uint32_t quota, uint64_t number, const uint32_t *keys,
+                                        size_t count, listset_seat *out);
 
 /* Takes a seat out of this one. Once it has gathered another, it gives LISTSET_NO_MORE: all seats within it are one then. */
-uint8_t listset_split(listset_seat *seat, listset_seat *out);
+LISTSET_USED listset_fault listset_split(listset_seat *seat, listset_seat *out);
 
-/* The calls of the set: their answers are replies. */
-uint8_t listset_add(listset_seat *seat, uint32_t key);
-uint8_t listset_remove(listset_seat *seat, uint32_t key);
-uint8_t listset_contains(listset_seat *seat, uint32_t key);
-uint8_t listset_ceiling(listset_seat *seat, uint32_t key, uint32_t *at);
+/* The calls of the set. */
+LISTSET_USED listset_reply listset_add(listset_seat *seat, uint32_t key);
+LISTSET_USED listset_reply listset_remove(listset_seat *seat, uint32_t key);
+LISTSET_USED listset_reply listset_contains(listset_seat *seat, uint32_t key);
+LISTSET_USED listset_reply listset_ceiling(listset_seat *seat, uint32_t key, uint32_t *at);
 
 /* Puts `from`, with all that is within it, back into the other, and empties it. */
-uint8_t listset_gather(listset_seat *into, listset_seat *from);
+LISTSET_USED listset_fault listset_gather(listset_seat *into, listset_seat *from);
 
 /* Ends the set: the seat then holds its keys. They take memory; where that is refused, nothing is closed. */
-uint8_t listset_close(listset_seat *seat);
+LISTSET_USED listset_fault listset_close(listset_seat *seat);
 
 /* How many keys the closed set has; they are in `room`, rising, where it has places enough. SIZE_MAX where it is no closed set. */
 size_t listset_keys(listset_seat *closed, uint32_t *room, size_t places);
 
 /* Lets go of what a seat holds, and empties it. Without all its seats a set is not closed any more. */
 void listset_drop(listset_seat *seat);
+
+typedef size_t listset_drawing(const char *, size_t, const char *, size_t, char *, size_t, uint8_t *);
+
+static inline size_t listset_drawn(listset_drawing *function, const char *text, size_t length, const listset_window *window, char *room,
+                                   size_t size, uint8_t *status) {
+  const uint32_t numbers[] = {window->from, window->to, window->width};
+  char options[48] = "";
+  size_t at = 0;
+  for (int i = 0; i < 3; i++, at++)
+    if (numbers[i] != 0) at += (size_t)snprintf(options + at, 12, "=%lu", (unsigned long)numbers[i]);
+  return function(text, length, options, at - 1, room, size, status);
+}
+
+/* The picture of a schedule or a report, as text and as an SVG. */
+static inline size_t listset_draw(const char *text, size_t length, const listset_window *window, char *room, size_t size, uint8_t *status) {
+  return listset_drawn(listset_show, text, length, window, room, size, status);
+}
+
+static inline size_t listset_draw_svg(const char *text, size_t length, const listset_window *window, char *room, size_t size,
+                                      uint8_t *status) {
+  return listset_drawn(listset_show_svg, text, length, window, room, size, status);
+}
+
+/* The schedule that is generated of a plan. */
+static inline size_t listset_generate(const listset_plan *plan, char *room, size_t size, uint8_t *status) {
+  char values[128];
+  int count = snprintf(values, sizeof values, "%.32s%c%lu%c%lu%c%lu%c%lu%c%llu", plan->kind, 0, (unsigned long)plan->threads, 0,
+                       (unsigned long)plan->quota, 0, (unsigned long)plan->calls, 0, (unsigned long)plan->keys, 0,
+                       (unsigned long long)plan->seed);
+  return listset_gen(values, (size_t)count, room, size, status);
+}
 
 /* A function that takes one text. */
 typedef size_t listset_function(const char *text, size_t length, char *room, size_t size, uint8_t *status);

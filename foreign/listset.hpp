@@ -14,7 +14,6 @@
 
 #include <atomic>
 #include <deque>
-#include <initializer_list>
 #include <mutex>
 #include <optional>
 #include <stdexcept>
@@ -70,56 +69,31 @@ inline said trace(std::string_view schedule, bool with_chains = false) {
   return of_text(with_chains ? listset_trace_with_chains : listset_trace, schedule);
 }
 
-// Words with a zero byte between two.
-inline std::string words(std::initializer_list<std::string> parts) {
-  std::string made;
-  for (const std::string &part : parts) made += (&part == parts.begin() ? "" : std::string(1, '\0')) + part;
-  return made;
-}
-
-// The moments and the width of a picture, as numbers; an empty text where one is not given.
-struct window {
-  std::string from, to, width;
-};
+// What is drawn of a run: from one moment to another, in so many columns. 0 is none that is given: all of it, at its own width.
+using window = listset_window;
 
 inline said show(std::string_view given, const window &asked = {}, bool as_svg = false) {
-  auto word = [](const std::string &number) { return number.empty() ? number : "=" + number; };
   std::string_view text = placed(given);
-  std::string options = words({word(asked.from), word(asked.to), word(asked.width)});
-  auto function = as_svg ? listset_show_svg : listset_show;
   return said_by([&](char *room, size_t size, uint8_t *status) {
-    return function(text.data(), text.size(), options.data(), options.size(), room, size, status);
+    return (as_svg ? listset_draw_svg : listset_draw)(text.data(), text.size(), &asked, room, size, status);
   });
 }
 
 // The schedule that is generated: KIND is coarse, fine, optimistic, lazy or lock-free.
 inline said gen(const std::string &kind, uint32_t threads, uint32_t quota, uint32_t calls, uint32_t keys, uint64_t seed) {
-  auto text = [](uint64_t number) { return std::to_string(number); };
-  return of_text(listset_gen, words({kind, text(threads), text(quota), text(calls), text(keys), text(seed)}));
+  const listset_plan plan = {kind.c_str(), threads, quota, calls, keys, seed};
+  return said_by([&](char *room, size_t size, uint8_t *status) { return listset_generate(&plan, room, size, status); });
 }
 
 enum class list : uint8_t { coarse, fine, optimistic, lazy, lock_free };
 
 enum class added : uint8_t { not_new, is_new, full };
 
-// What listset.h has as a fault, or LISTSET_NO_SEAT: a call on a seat that was moved away, gathered or closed.
+// Why something was refused: LISTSET_NONE_THERE is a call on a seat that was moved away, gathered or closed.
 struct fault : std::runtime_error {
-  uint8_t code;
+  listset_fault code;
 
-  explicit fault(uint8_t code) : std::runtime_error(std::string("listset: ") + sentence(code)), code(code) {}
-
-  static const char *sentence(uint8_t code) {
-    switch (code) {
-    case LISTSET_BAD_SEATS: return "the seats are not 1 to 64";
-    case LISTSET_BAD_QUOTA: return "the quota is above 16384";
-    case LISTSET_BAD_KEYS: return "the keys do not rise or are too many";
-    case LISTSET_OUT_OF_MEMORY: return "out of memory";
-    case LISTSET_SEATS_OUT: return "not all seats are gathered";
-    case LISTSET_NO_MORE: return "no seat is left to be split off";
-    case LISTSET_NO_GATHER: return "not two seats of one set";
-    default: return "there is no seat";
-    }
-  }
+  explicit fault(listset_fault code) : std::runtime_error(std::string("listset: ") + listset_fault_text(code)), code(code) {}
 };
 
 // A thread's place in a set, or nothing. It is moved and not copied; one thread uses it at a time. A call writes to it, so each has
@@ -153,12 +127,12 @@ public:
   }
 
   // Takes another seat of this set in. Where it throws, both are as they were.
-  void gather(seat &&from) { tell(&from == this ? uint8_t(LISTSET_NO_GATHER) : listset_gather(&raw, &from.raw)); }
+  void gather(seat &&from) { tell(&from == this ? LISTSET_NO_GATHER : listset_gather(&raw, &from.raw)); }
 
   // Ends the set, whose seats are all within this one, and gives its keys. Where it throws, nothing is lost: it may be called again.
   std::vector<uint32_t> close() {
     uint32_t none = 0;
-    uint8_t code = listset_close(&raw);
+    listset_fault code = listset_close(&raw);
     size_t count = listset_keys(&raw, &none, 0);
     if (count == SIZE_MAX) throw fault(code);
     std::vector<uint32_t> keys(count);
@@ -170,12 +144,12 @@ public:
 private:
   listset_seat raw = LISTSET_NONE;
 
-  static void tell(uint8_t code) {
+  static void tell(listset_fault code) {
     if (code != LISTSET_OK) throw fault(code);
   }
 
-  static uint8_t replied(uint8_t reply) {
-    if (reply == LISTSET_NO_SEAT) throw fault(reply);
+  static listset_reply replied(listset_reply reply) {
+    if (reply == LISTSET_NO_SEAT) throw fault(LISTSET_NONE_THERE);
     return reply;
   }
 
@@ -188,7 +162,7 @@ inline seat open(list kind, uint32_t seats, uint32_t quota, const std::vector<ui
   seat made;
   uint32_t none = 0;
   const uint32_t *first = keys.empty() ? &none : keys.data();
-  seat::tell(listset_open(static_cast<uint8_t>(kind), seats, quota, sets++, first, keys.size(), &made.raw));
+  seat::tell(listset_open(static_cast<listset_list>(kind), seats, quota, sets++, first, keys.size(), &made.raw));
   return made;
 }
 
@@ -203,7 +177,7 @@ class shared {
 
   // The place that has the seats when the set is closed. A set that was moved from has none.
   place &first() {
-    if (places.empty()) throw fault(LISTSET_NO_SEAT);
+    if (places.empty()) throw fault(LISTSET_NONE_THERE);
     return places.front();
   }
 

@@ -144,9 +144,6 @@ def faults():
 
 LISTS = ["coarse", "fine", "optimistic", "lazy", "lock-free"]
 FULL, AT, NO_SEAT = 2, 3, 255  # replies; 0 and 1 are False and True
-FAULTS = {10: "the seats are not 1 to 64", 11: "the quota is above 16384", 12: "the keys do not rise or are too many",
-          13: "out of memory", 16: "not all seats are gathered", 17: "no seat is left to be split off",
-          18: "not two seats of one set", 255: "there is no seat"}
 GREATEST = 2**32 - 1
 _NUMBERS = itertools.count()
 
@@ -155,7 +152,8 @@ class Fault(Exception):
     """Why something is refused; `code` is that of listset.h."""
 
     def __init__(self, code):
-        super().__init__(FAULTS.get(code, f"fault {code}"))
+        _LIBRARY.listset_fault_text.restype = ctypes.c_char_p
+        super().__init__(_LIBRARY.listset_fault_text(ctypes.c_uint8(code)).decode())
         self.code = code
 
 

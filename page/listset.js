@@ -118,13 +118,14 @@ function readForEngine(input, piece) {
 // What the engine answers to the words. Options are looked at before the file is opened.
 function answerTo(engine, { name, functions, isJudge, isOn, texts: { lacks, ...texts }, isOfFile, values }) {
   if (isJudge) return engine.judgeFrom(opened(values[0]));
-  const wanted = `${functions[Number(isOn)]}${lacks === undefined ? "" : "_lacking"}`;
+  const wanted = functions[Number(isOn)];
   if (name === "example") return values.length > 0 ? engine.ask(wanted, values[0]) : engine.ask("listset_examples");
-  if (!isOfFile) return engine.ask(wanted, inPage("wordsOf")(values));
-  const options = Buffer.from(inPage("optionWords")(texts));
-  const named = lacks === undefined ? [] : [Buffer.from(lacks)];
-  const tried = engine.askBytes(wanted, ...named, Buffer.alloc(0), options);
-  return tried.status === WRONG ? tried : engine.askBytes(wanted, ...named, bytesOf(opened(values[0])), options);
+  if (!isOfFile) return engine.ask(wanted, values.join("\0"));
+  const options = ["from", "to", "width"].map((name) => (texts[name] === undefined ? "" : `=${texts[name]}`)).join("\0");
+  const broken = (text) => engine.askBytes("listset_lacking", Buffer.from(lacks), text, Buffer.from(`${wanted.slice("listset_".length)}\0${options}`));
+  const ask = (text) => (lacks === undefined ? engine.askBytes(wanted, text, Buffer.from(options)) : broken(text));
+  const tried = ask(Buffer.alloc(0));
+  return tried.status === WRONG ? tried : ask(bytesOf(opened(values[0])));
 }
 
 function answerOrTrouble(engine, words) {

@@ -4,11 +4,12 @@ page/tests/break_it.js."""
 
 import re
 
+import lists
 import pytest
 from harness.programs import LONG, TOP, ran
 
 LACKS = TOP / "examples" / "schedules" / "lacks"
-LISTS = {"coarse": "CoarseList", "fine": "FineList", "optimistic": "OptimisticList", "lazy": "LazyList", "lock-free": "LockFreeList"}
+LISTS = {it.word: it.type for it in lists.lists()}
 BLOCK = r"(?:^    .*\n|^\n(?=    ))+"
 LACKING = re.compile(r"^- `([a-z-]+)` \(([a-z-]+)\): (.*)$", re.M)
 NONE, ANOTHER = "not linearizable", "another order explains this report"

@@ -1,17 +1,14 @@
-"""What programs print if an allocation fails: each in turn, one a run. CALLS is the program of crates/memory_calls, proved or
-not: the one that was built last.
+"""What programs print if an allocation fails: each in turn, one a run.
 
-`tests/harness/fail_allocation.c`, which the toolchain's own clang compiles, refuses the block of memory of one number, and overwrites what is given
-back, so that a read of it shows. A run that does not end within 5 seconds of a processor, or 60 in all, fails.
+`tests/harness/fail_allocation.c`, which the toolchain's own clang compiles, refuses the block of memory of one number, and overwrites what
+is freed, so that a read of it shows. A run that does not end within 5 seconds of a processor, or 60 in all, fails.
 
-PROGRAM, for each command of ASKED and each growth from the first on, says that it is out of memory and prints nothing else (but `trace`
-without chains, which prints its events as they are made); or does as ever, where std asks for less room than it guessed at first. A fault for whose line there is no memory has its status.
+The program says that it is out of memory and prints nothing else (but `trace`, which prints its events as they are made);
+or does as ever, where std asks for less room than it guessed at first. An error for whose line there is no memory has its status.
 
-CALLS makes calls of the libraries one by one: it takes blocks before its first call, as many as its input says, and the fewer they
-are, the later is the growth that is refused. It fails where a call answers anything but want of memory (or that a thread was
-refused), or what it answers with memory, or, made again, not that. A growth whose refusal no call answers is passed over: right
-where std guessed, and else a call that asks for memory and does not say so. Which call it is the growths before it tell: CALLS
-takes a block in the name of each call that asks for none, and of each other one that has no growth of its own.
+CALLS is the program of crates/memory_calls. It makes calls of the libraries one by one, and takes blocks before
+its first call, as many as its input says: the fewer they are, the later is the block that is refused. It fails where a call answers
+anything but an allocation failure (or that a thread was refused), or what it answers with memory, or, made again, not that.
 """
 
 import functools
@@ -25,79 +22,74 @@ import pytest
 
 from harness.programs import SECONDS, TOP
 
-REFUSED = 1000  # the block that is refused: more than the growths of the calls
+REFUSED = 1000  # the block that is refused: more than the calls take
 PROCESSOR_SECONDS = 5  # of one run
 
 HARNESS = pathlib.Path(__file__).resolve().parent / "harness"
 EXAMPLES = TOP / "examples" / "schedules"
-CALLS = "crates/memory_calls/out/memory_calls", "crates/memory_calls/out/unproved/memory_calls"
+CALLS = TOP / "crates/memory_calls/out/unproved/memory_calls"
 
-# What PROGRAM is asked of files in examples/, of a drawn one (DRAWN) and of one with many opening keys, which goes past the end of its
-# call (OPENING) or not (ENDED); of one with many tries at a lock (TRIES), and of one with long chains (CHAIN). The number tells how many
-# growths are passed over: one as the words are read, and where std asks for less room than it guessed.
+# What the program is asked of files in examples/, of a drawn one (DRAWN) and of one with many opening keys, which goes past the end of its
+# call (OPENING) or not (ENDED); of one with many tries at a lock (TRIES), and of one with long chains (CHAIN).
 ASKED = """
-1 replay one-add.schedule
-1 replay opens-with-keys.schedule
-1 replay ceiling-left-in-chain.schedule
-1 replay DRAWN
-1 replay OPENING
-1 replay refused.schedule
-1 replay version-1-opening.schedule
-1 judge ../../tests/transcripts/data/recorded/seen.calls
-7 judge ../../tests/transcripts/data/recorded/lost.calls
-2 check one-add.report
-2 check opens-with-keys.report
-1 check ceiling-left-in-chain.broken.report
-2 check snip.broken.report
-1 check too-early.report
-1 check version-1-at.report
-1 show one-add.schedule
-1 show OPENING
-1 show refused.schedule
-1 show version-1-opening.schedule
-2 show opens-with-keys.report
-15 show two-removers.broken.report
-3 show snip.broken.report
-1 show --svg open-call.schedule
-3 show --svg stale-pred.broken.report
-1 trace one-add.schedule
-3 trace --chain marked-in-chain.schedule
-1 trace refused.schedule
-1 trace version-1-opening.schedule
-1 trace OPENING
-2 trace --chain OPENING
-1 show --svg --from 2 OPENING
-1 trace --lacks lock OPENING
-2 replay --lacks lock ENDED
-3 show --lacks lock ENDED
-1 trace --chain TRIES
-5 trace --chain CHAIN
-1 draft ../../tests/transcripts/data/drafts/ceiling-meets-mark.draft
-1 draft one-add.schedule
-1 example
-1 example snip
-1 example --broken stale-pred
-1 example --broken full
-1 gen fine 2 4 12 8 1
-1 gen skip
-1 run coarse 1 4 6 8 1 2
-1 run lock-free 1 4 20 40 1 2
-1 run skip
-1 faults
-1 --version
+replay one-add.schedule
+replay opens-with-keys.schedule
+replay ceiling-left-in-chain.schedule
+replay DRAWN
+replay OPENING
+replay refused.schedule
+replay version-1-opening.schedule
+judge ../../tests/transcripts/data/recorded/seen.calls
+judge ../../tests/transcripts/data/recorded/lost.calls
+check one-add.report
+check opens-with-keys.report
+check ceiling-left-in-chain.broken.report
+check snip.broken.report
+check too-early.report
+check version-1-at.report
+show one-add.schedule
+show OPENING
+show refused.schedule
+show version-1-opening.schedule
+show opens-with-keys.report
+show two-removers.broken.report
+show snip.broken.report
+show --svg open-call.schedule
+show --svg stale-pred.broken.report
+trace one-add.schedule
+trace --chain marked-in-chain.schedule
+trace refused.schedule
+trace version-1-opening.schedule
+trace OPENING
+trace --chain OPENING
+show --svg --from 2 OPENING
+trace --lacks lock OPENING
+replay --lacks lock ENDED
+show --lacks lock ENDED
+trace --chain TRIES
+trace --chain CHAIN
+draft ../../tests/transcripts/data/drafts/ceiling-meets-mark.draft
+draft one-add.schedule
+example
+example snip
+example --broken stale-pred
+example --broken full
+gen fine 2 4 12 8 1
+gen skip
+run coarse 1 4 6 8 1 2
+run lock-free 1 4 20 40 1 2
+run skip
+faults
+--version
 """
 
-PASSED_OVER = "no call"
-REFUSAL_TO_COME = "still to be refused"
-# The calls in which std asks for less room where the room that it guessed is refused.
-GUESSING = {"Oracle::keys"}
-# The calls that ask for no growth, and (`BLOCKS`) all in whose name the program takes a block.
-WITHOUT_GROWTH = {
+LAST_CALL = "still to be refused"
+# The calls that do not allocate: in the name of each the program takes a block
+WITHOUT_ALLOCATION = {
     "World::step", "History::end", "LiveSet::add", "LiveSet::remove", "LiveSet::contains", "LiveSet::ceiling",
     "LiveSet::contains_now", "LiveSet::call_within", "LiveSet::receipt", "LiveSet::copied", "LiveSet::after",
     "LiveSet::gather", "LiveSet::close", "Seat::add", "Seat::remove", "Seat::contains", "Seat::ceiling", "session",
 }
-BLOCKS = WITHOUT_GROWTH | {"Oracle::keys"}
 BACK = "work (Memory, all comes back)"
 
 
@@ -121,53 +113,38 @@ def ran_where(refuse, number, *words, **how):
 
 
 def answers(program, refuse):
-    """What CALLS says where each growth is refused, from the first on, and where the first is that no call asks for."""
+    """The calls that CALLS names, where each block is refused in turn, up to the first that no call asks for."""
     told = []
-    for growth in range(1, REFUSED):
-        status, line, fault = ran_where(refuse, REFUSED, program, input=f"{REFUSED - growth}\n")
-        assert (status, fault) == (0, ""), f"with growth {growth} refused: {line}"
+    for number in range(1, REFUSED):
+        status, line, fault = ran_where(refuse, REFUSED, program, input=f"{REFUSED - number}\n")
+        assert (status, fault) == (0, ""), f"with block {number} refused: {line}"
         told.append(line.rstrip("\n").removesuffix(" wanted memory"))
-        if told[-1] == REFUSAL_TO_COME:
-            assert told[0] == "World::new"
+        if told[-1] == LAST_CALL:
             return told[:-1]
-    raise AssertionError(f"growth {REFUSED - 1} is that of a call, so there are more: raise REFUSED")
-
-
-def look_at_passed_over(calls):
-    """Growths are passed over in calls that may guess alone."""
-    call = None
-    for growth, name in enumerate(calls, start=1):
-        call = call if name == PASSED_OVER else name
-        assert name != PASSED_OVER or call in GUESSING, f"growth {growth}, of {call} or behind it, is refused and no call tells it"
-
-
-def look_at_work(calls):
-    """`work` gives set and seats back at each growth that is refused, also at that of the keys."""
-    worked = [name for name in calls if name.startswith("work (Memory")]
-    assert len(worked) > 1 and {*worked} == {BACK}
+    raise AssertionError(f"block {REFUSED - 1} is that of a call, so there are more: raise REFUSED")
 
 
 OUT_OF_MEMORY = 3, "", "listset: out of memory\n"
 SPAWN = 1, "", "listset: work: Spawn\n"
-LAST = 10  # so many growths, one after another, are not passed over: then there are no more
+LAST = 10  # so many blocks, one after another, make no difference: then there are no more
 
 
-def told_and_over(program, words, refuse):
-    """How many growths of a command are told, and how many are passed over."""
+def out_of_memory_at_each(program, words, refuse):
+    """How often a command says that it is out of memory, where each of its blocks is refused in turn."""
     how = {"cwd": EXAMPLES, "stdin": subprocess.DEVNULL}
     due = ran_where(refuse, 0, program, *words, **how)
-    goes_along = words[0] == "trace" and words[1] not in ("--chain", "--lacks")
+    goes_along = words[0] == "trace"
     met = {OUT_OF_MEMORY} | ({SPAWN} if words[0] == "run" else set()) | ({(due[0], "", "")} if due[2] else set())
-    told = over = passed = 0
+    told = passed = 0
     for number in range(1, 10 * REFUSED):
         found = ran_where(refuse, number, program, *words, **how)
         if goes_along and found[0] == OUT_OF_MEMORY[0] and due[1].startswith(found[1]):
             found = found[0], "", found[2]
-        assert found in met or found == due, f"with growth {number} refused"
-        told, over, passed = (told + 1, over + passed, 0) if found in met else (told, over, passed + 1)
+        assert found in met or found == due, f"with block {number} refused"
+        told, passed = (told + 1, 0) if found in met else (told, passed + 1)
         if passed == LAST:
-            return told, over
-    raise AssertionError("there are more growths")
+            return told
+    raise AssertionError("there are more blocks")
 
 
 def texts(program, room):
@@ -184,20 +161,16 @@ def texts(program, room):
     return {name: str(file) for name, file in files.items()}
 
 
-@pytest.mark.parametrize("row", ASKED.strip().splitlines())
-def test_each_growth_of_a_command(program, room, once, row):
-    over, *words = row.split()
+@pytest.mark.parametrize("words", ASKED.strip().splitlines())
+def test_each_block_of_a_command(program, room, once, words):
     made = texts(program, room)
-    told, passed = told_and_over(program, [made.get(word, word) for word in words], once(refuser))
-    assert told > 0 and passed == int(over)
+    assert out_of_memory_at_each(program, [made.get(word, word) for word in words.split()], once(refuser)) > 0
 
 
-def test_each_growth_of_the_calls(once, lacking):
-    """Of the calls that are made one by one; each of BLOCKS has a block in its name."""
-    built = [TOP / it for it in CALLS if (TOP / it).exists()]
-    if not built:
-        lacking(f"{CALLS[1]} is missing: tests/unproved memory_calls builds it")
-    calls = answers(max(built, key=lambda it: it.stat().st_mtime), once(refuser))
-    look_at_passed_over(calls)
-    look_at_work(calls)
-    assert BLOCKS <= {*calls}
+def test_each_block_of_the_calls(once, lacking):
+    """Of the calls that are made one by one. `work` gives set and seats back whatever is refused."""
+    if not CALLS.exists():
+        lacking(f"{CALLS.relative_to(TOP)} is missing: tests/unproved memory_calls builds it")
+    calls = answers(CALLS, once(refuser))
+    assert {name for name in calls if name.startswith("work (Memory")} == {BACK}
+    assert WITHOUT_ALLOCATION <= {*calls}

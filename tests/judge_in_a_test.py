@@ -137,7 +137,10 @@ def test_the_default_line(form, program):
     kind, said = form.told(program, "right")
     assert kind == "ok" and int(re.search("^ok: ([0-9]+) calls", said, re.M)[1]) > 20_000, said
     for of, preset in (("check then act", ""), ("first use", ""), ("again", ""), ("collides", "multiples of 64")):
-        kind, said = form.told(program, of)
+        for seed in (1, 1002, 2003, 3004):  # (on a busy machine a test may see none of its calls meet)
+            kind, said = form.told(program, of, f"seed={seed}" if seed > 1 else "")
+            if kind == "refused":
+                break
         assert kind == "refused" and re.search(rf"^seed [0-9]+ \({preset}.*\): not linearizable$", said, re.M), said
         assert "key 0 of the recording is" not in said if of == "check then act" else True
 
@@ -157,15 +160,17 @@ def test_a_call_whose_outcome_is_not_known_is_pending(form, program):
     (recorded,) = (form.room / "kept").iterdir()
     calls = [it.split() for it in recorded.read_text().splitlines() if it.startswith("call ")]
     open_calls = [it for it in calls if it[5] == "-"]
-    assert kind == "ok" and len(calls) == 1000 and open_calls and len({it[1] for it in calls}) == 4 + len(open_calls), said
+    threads = len({it[1] for it in calls})  # (after a pending call its thread goes on under a new number, if calls are left)
+    assert kind == "ok" and len(calls) == 1000 and open_calls and len(open_calls) <= threads <= 4 + len(open_calls), said
 
 
 @each(LANGUAGES)
 def test_runs_that_do_not_meet(form, program):
     kind, said = form.told(program, "right", "threads=1 calls=2000 keys=1 pauses=0 runs=2")
-    assert kind == "ok" and "ok: 12000 calls, of which 0 " in said and "that is few" in said, said  # (each run is made again, twice)
+    calls = int(re.search("^ok: ([0-9]+) calls, of which 0 ", said, re.M)[1])
+    assert kind == "ok" and calls in range(4000, 12_001, 2000) and "that is few" in said, said  # (each run is made again, twice if that is soon)
     kind, said = form.told(program, "right", "threads=1 calls=200 runs=1 at_least=5")
-    assert kind == "too few" and "0 of 600 calls overlapped a change of their key, and at_least asks for 5 of 100" in said
+    assert kind == "too few" and re.search("0 of [246]00 calls overlapped a change of their key, and at_least asks for 5 of 100", said), said
 
 
 STOPS = {
@@ -205,7 +210,7 @@ def test_a_seed_gives_the_same_calls_again(form, program):
         form.told(program, "finds all", f"threads=1 calls=50 keys=5 runs=1 seed={seed} record={form.room / 'kept'}")
         return (form.room / "kept" / f"seed-{seed}.calls").read_text()
 
-    first, other = of(7), of(13)
+    first, other = of(7), of(14)
     assert of(7) == first != other
     assert {tuple(it.split()[2:4]) for it in (first + other).splitlines() if it.startswith("call ")} >= {("add", "4"), ("remove", "0"), ("contains", "3")}
 
@@ -246,7 +251,7 @@ def test_a_count_stands_in_place_of_many_calls(form):
 @each(LANGUAGES)
 def test_the_smallest_refusal_of_further_runs_is_told(form):
     said = form.told(refusing(form, 1, 2), "right", f"{FEW} keys=4")[1]
-    assert said.count("\ncall ") == 2 and "seed 7 (few keys): not linearizable" in said and len(form.left()) == 1, said
+    assert said.count("\ncall ") == 2 and "seed 8 (few keys): not linearizable" in said and len(form.left()) == 1, said
 
 
 # ---- the judge underneath
@@ -363,11 +368,98 @@ def test_servers(room, program):
     well(*words, cwd=room, env={**os.environ, "LISTSET": program, "TMPDIR": str(room), "PYTHONPATH": str(FORMS / "python")})
 
 
+# ---- as a package, of each language: a project of one's own takes it from where it is installed
+
+CMAKE = """cmake_minimum_required(VERSION 3.18)
+project(own LANGUAGES CXX)
+find_package(listset_judge REQUIRED)
+add_executable(own {0})
+target_link_libraries(own listset::judge)
+"""
+
+
+@pytest.mark.needs("cmake", "g++")
+def test_the_package_of_cpp(room, program):
+    well("cmake", "-S", FORMS / "cpp", "-B", room / "out")
+    well("cmake", "--install", room / "out", "--prefix", room / "here")
+    assert (room / "here/lib/pkgconfig/listset_judge.pc").exists()
+    (room / "own.cpp").write_text((FORMS / "cpp/tests/sets.cpp").read_text().replace('"../listset_judge.hpp"', "<listset_judge.hpp>"))
+    (room / "CMakeLists.txt").write_text(CMAKE.format("own.cpp"))
+    well("cmake", "-S", room, "-B", room / "own", f"-DCMAKE_PREFIX_PATH={room / 'here'}", "-DCMAKE_INSTALL_LIBDIR=lib")
+    well("cmake", "--build", room / "own")
+    assert Form("C++", room, [room / "own/own"]).told(program, "right", FEW)[0] == "ok"
+
+
+def test_the_package_of_python(room, program, lacking):
+    if ran(sys.executable, "-c", "import setuptools, wheel, pip").returncode:
+        lacking("pip, setuptools or wheel is not installed: Debian's packages python3-pip and python3-wheel")
+    source = shutil.copytree(FORMS / "python", room / "source", ignore=shutil.ignore_patterns("__pycache__"))
+    well(sys.executable, "-m", "pip", "wheel", "--quiet", "--no-index", "--no-build-isolation", "--no-deps", "-w", room, source, cwd=room)
+    (wheel,) = room.glob("*.whl")
+    own = "import listset_judge, listset_servers, sets; print(listset_judge.judge(sets.Right, threads=2, calls=50, runs=1))"
+    tests = source / "tests/sets.py"
+    tests.write_text(tests.read_text().replace("sys.path.insert", "(lambda *_: None)"))
+    how = {**os.environ, "PYTHONPATH": f"{wheel}:{tests.parent}", "LISTSET": program, "TMPDIR": str(room)}
+    assert "ok: " in well(sys.executable, "-B", "-c", own, cwd=room, env=how)
+
+
+@pytest.mark.needs("mvn", "javac", "java")
+def test_the_package_of_java(room, program, lacking):
+    if not pathlib.Path("/usr/share/maven-repo/org/apache/maven/plugins/maven-jar-plugin").exists():
+        lacking("the plugins of maven are not installed: Debian's packages libmaven-compiler-plugin-java and libmaven-jar-plugin-java")
+    source = shutil.copytree(FORMS / "java", room / "source")
+    well("mvn", "-o", "-q", "-Dmaven.repo.local=/usr/share/maven-repo", "package", cwd=source)
+    (jar,) = (source / "target").glob("*.jar")
+    well("javac", "-cp", jar, "-d", room, source / "tests/Sets.java")
+    assert Form("Java", room, ["java", "-cp", f"{jar}:{room}", "Sets"]).told(program, "right", FEW)[0] == "ok"
+
+
+@pytest.mark.needs("go")
+def test_the_package_of_go(room, program):
+    module = re.search("^module (.*)$", (FORMS / "go/go.mod").read_text(), re.M)[1]
+    (room / "go.mod").write_text(f"module own\n\ngo 1.18\n\nrequire {module} v0.1.0\n\nreplace {module} => {FORMS / 'go'}\n")
+    sets = (FORMS / "go/sets_test.go").read_text().replace("package judge", "package own").replace('import (\n', f'import (\n\t. "{module}"\n')
+    (room / "own_test.go").write_text(sets.partition("func TestACheckThatIsNotComeToAgain")[0])
+    well(*go_words("test", "-c", "-o", "own"), cwd=room)
+    assert Form("Go", room, [room / "own", "-test.run=^TestSet$"]).told(program, "right", FEW)[0] == "ok"
+
+
+@pytest.mark.needs("cargo")
+def test_the_package_of_rust(room):
+    well("cargo", "package", "--offline", "--allow-dirty", "--quiet", "--target-dir", room, "--manifest-path", FORMS / "rust/Cargo.toml")
+    assert [*(room / "package").glob("*.crate")]
+
+
+# ---- published sets
+
+
+def refused(said):
+    """Of each set whether its one test refused it."""
+    return {name: int(it) for name, it in re.findall(r"^(.*): refused in ([01]) of 1 tests$", said, re.M)}
+
+
+OF_CPP = {"libcds": (["-lcds"], "cds/init.h"), "others": (["-ltbb", "-lurcu-cds", "-lurcu", "-lck"], "ck_hs.h")}
+
+
 @pytest.mark.needs("g++")
-def test_sets_of_libcds(room, program, lacking):
-    if not pathlib.Path("/usr/include/cds/init.h").exists():
-        lacking("libcds is not installed: Debian's package libcds-dev")
-    well("g++", "-O1", "-std=c++17", "-pthread", FORMS / "real-sets" / "libcds.cpp", "-lcds", "-o", room / "libcds")
-    said = well(room / "libcds", 1, env={**os.environ, "LISTSET": program, "TMPDIR": str(room)})
-    found = dict(re.findall("^([A-Za-z]+), test 1: (ok|seed)", said, re.M))
-    assert found.pop("SkipListSet") in ("ok", "seed") and set(found.values()) == {"ok"}, said  # (the first is seldom ok)
+@pytest.mark.parametrize("name", OF_CPP)
+def test_published_sets_of_cpp(room, program, lacking, name):
+    libraries, header = OF_CPP[name]
+    if not pathlib.Path("/usr/include", header).exists():
+        lacking("a library is not installed: Debian's packages libcds-dev, libtbb-dev, liburcu-dev and libck-dev")
+    well("g++", "-O1", "-std=c++17", "-pthread", FORMS / "real-sets" / f"{name}.cpp", *libraries, "-o", room / name)
+    found = refused(well(room / name, 1, env={**os.environ, "LISTSET": program, "TMPDIR": str(room)}))
+    found.pop("SkipListSet", None)  # (which is seldom right)
+    assert len(found) == 3 and not any(found.values()), found
+
+
+@pytest.mark.needs("javac", "java")
+def test_published_sets_of_java(room, program, lacking):
+    jar = pathlib.Path("/usr/share/java/jctools-core.jar")
+    if not jar.exists():
+        lacking("JCTools is not installed: Debian's package libjctools-java")
+    well(*in_jvm("javac"), "-cp", jar, "-d", room, FORMS / "java/Judge.java", FORMS / "real-sets/Jctools.java")
+    words = [*in_jvm("java"), f"-Djava.io.tmpdir={room}", "-cp", f"{room}:{jar}", "Jctools", 1]
+    found = refused(well(*words, env={**os.environ, "LISTSET": program}))
+    right = [found[it] for it in ("ConcurrentSkipListSet", "ConcurrentHashMap.newKeySet", "CopyOnWriteArraySet", "synchronizedSet")]
+    assert len(found) == 8 and not any(right) and found["HashSet"] and found["by identity"], found

@@ -1,6 +1,6 @@
 """What `judge` says of recordings beside a search of all orders: its verdict, and each line of a refusal. Of a text with an error it names the
 line and the cause that a reader in Python finds; and it says so whatever the pieces are in which the text comes. `--few` tries a tenth of
-the texts. (The test `judge` of crates/tests_alone tries 100,000 histories.)
+the texts.
 """
 
 import collections

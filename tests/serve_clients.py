@@ -1,12 +1,9 @@
 """The answers of `listset serve` to clients, at once and one after another.
 
 For each list: 63 clients on keys that they share, whose answers have to add up, and 63 clients at once, each on keys of its
-own, so that each of its answers is known, and of a ceiling the few that are right; after them, alone, one more client asks
-for the ceiling of each key, which is then known. For one list: 200 clients on 8 seats; one seat and one client after another,
-10,000 of them too, and 200 where few files may be open at once; a client that sends thousands of lines, each after the answer to
-the one before; clients that send all their lines before they read an answer; answers that fill their room, and answers that
-leave together; a client that reads none; and clients that send bytes past the end of their session. On the loopback alone; every
-wait is bounded, and the server is ended by its own number if it does not end.
+own, so that each of its answers is known. For one list: 200 clients on 8 seats; one seat and 10,000 clients one after another, with few
+open files; lines that come in groups of any size; a client that reads no answer; and clients that send bytes past the end of their
+session. On the loopback alone; every wait is bounded, and the server is ended by its own number if it does not end.
 """
 
 import collections
@@ -268,25 +265,15 @@ def test_queue(program):
 
 
 def test_one_after_another(program):
-    """As many connections as may be asked for, one after another, on few keys."""
-    sessions, keys = 10_000, 1000
-    with serving(program, ONE_LIST, 1, ROOM, sessions) as server:
-        for number in range(sessions):
-            key, told = number % keys, b"TRUE" if number < keys else b"FALSE"
-            with server.connect() as connection:
-                asks(connection, b"ADD %d\nCEILING %d\nQUIT\n" % (key, key), b"%b\nAT %d\nBYE\n" % (told, key))
-        server.ends(sessions, 2 * sessions, 2 * sessions, range(keys))
-
-
-def test_few_open_files(program):
-    """A server with room for few open files has let go of a connection when the next one comes, however a session ends."""
-    sessions, files = 200, 32
+    """As many connections as may be asked for, one after another, where few files may be open at once, however a session ends."""
+    sessions, keys, files = 10_000, 1000, 32
     limited = ["sh", "-c", f'ulimit -n {files} && exec "$@"', "sh"]
     with serving(program, ONE_LIST, 1, ROOM, sessions, before=limited) as server:
         for number in range(sessions):
+            key, told = number % keys, b"TRUE" if number < keys else b"FALSE"
             with server.connect() as connection:
                 connection.settimeout(SOON)
-                asks(connection, b"CONTAINS 7\n", b"FALSE\n")
+                asks(connection, b"ADD %d\nCEILING %d\n" % (key, key), b"%b\nAT %d\n" % (told, key))
                 if number % 3 == 0:
                     asks(connection, b"QUIT\n", b"BYE\n")
                 elif number % 3 == 1:
@@ -294,7 +281,7 @@ def test_few_open_files(program):
                     assert connection.recv(1) == b""
                 else:
                     resets(connection)
-        server.ends(sessions, sessions, sessions, [])
+        server.ends(sessions, 2 * sessions, 2 * sessions, range(keys))
 
 
 def drips(connection, end):
@@ -346,22 +333,32 @@ def test_a_port_that_is_asked_for(program):
         server.ends(1, 1, 1, [])
 
 
-# ---- one line after another
+# ---- lines in groups
 
 
-def test_one_line_after_another(program):
-    """A client that waits for each answer before it sends its next line has all of them: answers of each kind, keys of each length, and
-    some thousands in all."""
-    keys, rounds = [10**digits for digits in range(10)], 300
-    turns = [(f"CEILING {key}", f"AT {key}") for key in keys]
-    turns += [("ADD 5", "FULL"), ("ADD 1", "FALSE"), ("CONTAINS 1", "TRUE"), (f"CEILING {keys[-1] + 1}", "NONE"), ("MOVE 7", "BAD")]
+@pytest.mark.parametrize("group", [1, 1000, 1023, 1024, 2048, 6000])
+def test_lines_in_groups(program, group):
+    """A client sends so many lines, and reads all their answers before it sends the next: answers of each kind, keys of each length. They
+    have to leave although no further line comes, also if they fill the room in which a server holds them back (4,096 bytes); and those of
+    many lines in few pieces."""
+    keys = [10**digits for digits in range(10)]
+    turns = [(f"CEILING {key}", f"AT {key}") for key in keys] + [("MOVE 7", "BAD")] * 5
+    turns += [("ADD 5", "FULL"), ("ADD 1", "FALSE"), ("CONTAINS 1", "TRUE"), (f"CEILING {keys[-1] + 1}", "NONE")]
+    turns = [(f"ADD {key}", "TRUE") for key in keys] + turns * max(100, 2 * group // len(turns))
     with serving(program, ONE_LIST, 1, len(keys), 1) as server:
         with server.connect() as connection:
             connection.settimeout(SOON)
-            for line, answer in [(f"ADD {key}", "TRUE") for key in keys] + turns * rounds + [("QUIT", "BYE")]:
-                asks(connection, f"{line}\n".encode(), f"{answer}\n".encode())
-        calls = len(keys) + (len(turns) - 1) * rounds
+            for at in range(0, len(turns), group):
+                asks(connection, *("".join(f"{it}\n" for it in column).encode() for column in zip(*turns[at:at + group])))
+            assert group < 6000 or segments_with_data(connection) <= len(turns) // 60
+            asks(connection, b"QUIT\n", b"BYE\n")
+        calls = sum(answer != "BAD" for _, answer in turns)
         server.ends(1, calls, calls, keys)
+
+
+def segments_with_data(connection):
+    """How many segments with data the system has got on a connection: `tcpi_data_segs_in` of linux/tcp.h."""
+    return struct.unpack_from("I", connection.getsockopt(socket.IPPROTO_TCP, socket.TCP_INFO, 160), 152)[0]
 
 
 def test_a_client_that_says_nothing_is_waited_for(program):
@@ -378,64 +375,7 @@ def test_a_client_that_says_nothing_is_waited_for(program):
         server.ends(1, 2, 2, [7])
 
 
-# ---- answers that wait, and a client that does not read them
-
-
-class Burst(Client):
-    """A client that sends a thousand lines, on keys of its own, before it reads an answer. It says good-bye only when it has
-    all answers, so these have to leave although no further line comes."""
-
-    ROUND = b"ADD {0}\nCONTAINS {0}\nREMOVE {0}\nCONTAINS {0}\n", [b"TRUE\n", b"TRUE\n", b"TRUE\n", b"FALSE\n"]
-    ROUNDS = REQUESTS // 4
-
-    def __init__(self, server, number):
-        super().__init__(server)
-        self.manner, self.keys = f"client {number}", range(number * self.ROUNDS, (number + 1) * self.ROUNDS)
-
-    def speak(self, connection):
-        connection.settimeout(SOON)
-        lines, answers = self.ROUND
-        turns = [(line, [answer]) for key in self.keys
-                 for line, answer in zip(lines.replace(b"{0}", b"%d" % key).splitlines(keepends=True), answers)]
-        takes_turns(connection, turns)
-        asks(connection, b"QUIT\n", b"BYE\n")
-
-
-def test_all_lines_at_once(program):
-    """The answers to a thousand lines are more than a server holds back, and all of them leave before it waits for the next
-    line."""
-    clients = 8
-    with serving(program, ONE_LIST, clients, ROOM, clients) as server:
-        have_ended([Burst(server, number) for number in range(clients)])
-        server.ends(clients, clients * REQUESTS, clients * REQUESTS, [])
-
-
-def test_answers_that_fill_their_room(program):
-    """Answers wait in a room of 4,096 bytes: as many as fill it, one fewer, and twice as many leave before the next line comes."""
-    counts = [1023, 1024, 2048]
-    with serving(program, ONE_LIST, 1, ROOM, len(counts)) as server:
-        for count in counts:
-            with server.connect() as connection:
-                connection.settimeout(SOON)
-                asks(connection, b"\n" * count, b"BAD\n" * count)
-                asks(connection, b"QUIT\n", b"BYE\n")
-        server.ends(len(counts), 0, 0, [])
-
-
-def segments_with_data(connection):
-    """How many segments with data the system has got on a connection: `tcpi_data_segs_in` of linux/tcp.h."""
-    return struct.unpack_from("I", connection.getsockopt(socket.IPPROTO_TCP, socket.TCP_INFO, 160), 152)[0]
-
-
-def test_answers_leave_together(program):
-    """The answers to lines that come together leave in a few pieces, and not one by one or byte by byte."""
-    lines = 6000
-    with serving(program, ONE_LIST, 1, ROOM, 1) as server:
-        with server.connect() as connection:
-            asks(connection, b"CONTAINS 7\n" * lines, b"FALSE\n" * lines)
-            assert segments_with_data(connection) <= lines // 60
-            asks(connection, b"QUIT\n", b"BYE\n")
-        server.ends(1, lines, lines, [])
+# ---- a client that does not read its answers
 
 
 def sends_until_stuck(connection):

@@ -145,7 +145,8 @@ def rust(room):
 
 
 def java(room):
-    shutil.copy(FORMS / "java" / "Judge.java", room)
+    judge = (FORMS / "java" / "Judge.java").read_text()
+    (room / "Judge.java").write_text(judge.replace("package listset;\n", ""))
     first, _, of_any = line_of("Java")
     (room / "Own.java").write_text(JAVA % (first, of_any, options_of("Java")))
     well(*in_jvm("javac"), "Judge.java", "Own.java", cwd=room)

@@ -10,28 +10,22 @@ from texts_page import first_sentence
 # What each table shows, by library.
 SHOWN = {
     "functions-histories": {
-        "lset_history": ["check_order", "Oracle::opened", "Oracle::apply", "History::opened", "History::begin", "History::end"],
+        "lset_history": ["check_order"],
         "lset_judge": ["judge", "Judge::new", "Judge::add", "Judge::close", "Judge::close_cut_off"],
         "lset_recording": ["RecordingReader::new", "RecordingReader::feed", "RecordingReader::finish"],
-    },
-    "functions-steps": {
-        "lset_words": ["layout"],
-        "lset_steps": ["World::opened", "World::step", "World::content"],
-        "lset_lists": ["on_list"],
     },
     "functions-texts": {
         "lset_schedule": ["read_schedule", "write_schedule", "generate"],
         "lset_report": ["read_report", "write_report"],
-        "lset_replay": ["replay", "run_of", "Run::make"],
-        "tool_draft": ["read_draft", "schedule_of"],
+        "lset_replay": ["replay"],
     },
     "functions-running": {
         "lset_live": ["open_with", "Seat::add", "Seat::remove", "Seat::contains", "Seat::ceiling", "LiveSet::gather", "LiveSet::close",
-                      "Closed::keys", "LiveSet::contains_now", "LiveSet::add", "LiveSet::call", "LiveSet::call_within"],
+                      "Closed::keys", "LiveSet::contains_now", "LiveSet::call", "LiveSet::call_within"],
         "lset_work": ["work"],
     },
-    "functions-sessions": {"lset_session": ["session", "buffered_session"], "lset_server": ["serve"]},
 }
+
 
 def signature_in_short(name, signature):
     """The signature without what each has: bounds, `self` and the types of `alloc` and `rt`."""
@@ -60,11 +54,4 @@ def first_program(top):
     return "".join(f"    {line}\n" for line in (top / "crates/first_program/stdout").read_text(encoding="utf-8").splitlines())
 
 
-def own_threads(top):
-    """The functions of crates/first_program that start threads."""
-    text = (top / "crates/first_program/src/main.rt").read_text(encoding="utf-8")
-    found = re.findall(r"^(?:///.*\n)+fn (?:add_and_tell|started_threads)\b[\s\S]*?^}\n", text, re.MULTILINE)
-    return "```rust\n" + "\n".join(found) + "```\n"
-
-
-MADE = {part: functools.partial(functions, part) for part in SHOWN} | {"first-program": first_program, "own-threads": own_threads}
+MADE = {part: functools.partial(functions, part) for part in SHOWN} | {"first-program": first_program}

@@ -4,9 +4,10 @@ step, what the thread sets after it and its next row are said in words. The colu
 import functools
 import re
 
+import lists
 from antt_expressions import definitions_in
 
-LISTS = ["coarse", "fine", "optimistic", "lazy", "lock_free"]
+LISTS = [it.table for it in lists.lists()]
 REGISTERS = ["pred", "curr", "succ", "node", "pkey", "ckey"]
 READ_ROWS = range(20, 26)
 

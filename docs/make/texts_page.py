@@ -11,7 +11,7 @@ LIMITS = [
     ("lset_words/src/lib.rt", "MOST_OPENING", "`TooMany`; of `run` `work: Opening`"),
     ("lset_schedule/src/lib.rt", "MOST_EVENTS", "`TooMany`"),
     ("lset_schedule/src/lib.rt", "MOST_STEPS", "`Number`; of a draft `Waits`"),
-    ("tool_draft/src/lib.rt", "MOST_ROW", "`Number`"),
+    ("tool_replay/src/draft.rt", "MOST_ROW", "`Number`"),
     ("lset_report/src/report.rt", "MOST_CALLS", "`TooMany`"),
     ("lset_report/src/report.rt", "MOST_PLACES", "`TooMany`"),
     ("lset_report/src/report.rt", "MOST_KEYS", "`TooMany`"),

@@ -18,7 +18,7 @@ static bool is_right(const std::string &kind, uint64_t seed) {
   listset::said schedule = listset::gen(kind, 3, 8, 40, 6, seed);
   listset::said report = listset::replay(schedule.text);
   return schedule.is_ok() && report.is_ok() && begins(report.text, "listset-report ") && listset::check(report.text).is_ok()
-         && listset::trace(schedule.text).is_ok() && listset::show(report.text, {"1", "", "60"}).is_ok();
+         && listset::trace(schedule.text).is_ok() && listset::show(report.text, {1, 0, 60}).is_ok();
 }
 
 static bool has(const listset::said &said, std::string_view part) { return said.text.find(part) != std::string::npos; }
@@ -30,10 +30,12 @@ static void expect_own() {
   expect(begins(listset::show(report).text, "lock-free list") && begins(listset::show(report, {}, true).text, "<svg "), "show");
   expect(listset::draft(draft).text == schedule, "draft");
   for (bool as_svg : {false, true}) {
-    expect(has(listset::show(report, {"0", "", ""}, as_svg), "bad FROM"), "from");
-    expect(has(listset::show(report, {"", "0", ""}, as_svg), "bad TO"), "to");
-    expect(has(listset::show(report, {"", "", "0"}, as_svg), "bad WIDTH"), "width");
+    const std::string all = listset::show(report, {}, as_svg).text;
+    for (listset::window part : {listset::window{9, 0, 0}, {0, 9, 0}}) expect(listset::show(report, part, as_svg).text != all, "a part");
+    expect(listset::show(report, {1, UINT32_MAX, 0}, as_svg).text == all, "all of it");
+    expect(has(listset::show(report, {9, 2, 0}, as_svg), "bad TO"), "to");
   }
+  expect(listset::show(report, {0, 0, 20}).text != listset::show(report).text, "a width");
   expect(has(listset::examples(), "snip") && has(listset::faults(), "listset: line L:"), "examples, faults");
 }
 
@@ -71,7 +73,7 @@ int main() {
   expect(broken.is_ok() && refused.status == LISTSET_WRONG_TEXT && begins(refused.text, "refused "), "a broken report is taken");
   expect(listset::example("none").status == LISTSET_WRONG_VALUE, "there is no such example");
   expect(listset::check({}).status == LISTSET_WRONG_TEXT, "no text is a report");
-  expect(listset::show(broken.text, {"x", "", ""}).status == LISTSET_WRONG_VALUE, "a moment is a number");
+  expect(listset::show(broken.text, {9, 2, 0}).status == LISTSET_WRONG_VALUE, "no such moments");
   expect(listset::gen("lazy", 4, 200, 1000, 50, 1).text.size() > 4096, "a text that wants more room");
   return wrong != 0;
 }

@@ -80,7 +80,7 @@ static size_t tried(const char *name, listset_function *function) {
 // The same of `listset_said`, which asks for blocks too: it gives none where one of these is refused. Gives how often it did.
 static size_t tried_said(listset_function *function) {
   uint8_t due, status;
-  size_t count, found, none = 0;
+  size_t count = 0, found, none = 0;
   refused_at = 0;
   char *want = listset_said(function, text, length, &count, &due);
   for (size_t at = 1;; at++) {

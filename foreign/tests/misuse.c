@@ -44,9 +44,9 @@ static void calls_without_a_seat(const char *what, listset_seat *none) {
   expect(what, listset_contains(none, 1), LISTSET_NO_SEAT);
   expect(what, listset_ceiling(none, 1, &at), LISTSET_NO_SEAT);
   expect(what, at, UNTOUCHED);
-  expect(what, listset_split(none, &out), none->full ? LISTSET_NO_MORE : LISTSET_NO_SEAT);
+  expect(what, listset_split(none, &out), none->full ? LISTSET_NO_MORE : LISTSET_NONE_THERE);
   expect(what, out.full, false);
-  expect(what, listset_close(none), LISTSET_NO_SEAT);
+  expect(what, listset_close(none), LISTSET_NONE_THERE);
   if (!none->full) expect(what, listset_keys(none, room, 4), SIZE_MAX), expect(what, room[0], UNTOUCHED);
 }
 
@@ -83,8 +83,8 @@ static void refused_calls(uint8_t kind) {
   expect("gather a seat of another set", listset_gather(&a, &other), LISTSET_NO_GATHER);
   expect("the one goes on", listset_contains(&a, 63), LISTSET_TRUE);
   expect("the other goes on", listset_contains(&other, 63), LISTSET_FALSE);
-  expect("gather none", listset_gather(&a, &c), LISTSET_NO_SEAT);
-  expect("gather into none", listset_gather(&c, &b), LISTSET_NO_SEAT);
+  expect("gather none", listset_gather(&a, &c), LISTSET_NONE_THERE);
+  expect("gather into none", listset_gather(&c, &b), LISTSET_NONE_THERE);
   expect("keys of a running set", listset_keys(&a, room, 8), SIZE_MAX);
   expect("gather", listset_gather(&a, &b), LISTSET_OK);
   expect("what was gathered is not split off", listset_split(&a, &b), LISTSET_NO_MORE);
@@ -206,8 +206,17 @@ static void one_life(uint8_t kind, size_t refused) {
   listset_drop(&a);
 }
 
+// Each fault has a sentence of its own.
+static void sentences(void) {
+  for (int fault = LISTSET_BAD_SEATS; fault <= LISTSET_NO_GATHER + 1; fault++)
+    for (int other = LISTSET_OK; other < fault; other += other == LISTSET_OK ? LISTSET_BAD_SEATS : 1)
+      expect("sentences alike", strcmp(listset_fault_text((listset_fault)fault), listset_fault_text((listset_fault)other)) == 0, 0);
+  expect("the version", listset_version_number(), LISTSET_VERSION_NUMBER);
+}
+
 int main(void) {
   listset_seat none = LISTSET_NONE;
+  sentences();
   for (uint32_t key = 0; key <= MOST_KEYS; key++) many[key] = 4095 * key;
   calls_without_a_seat("an empty seat", &none);
   listset_drop(&none);

@@ -79,10 +79,12 @@ static int is_right(uint8_t list) {
   uint32_t keys[KEYS], none;
   pthread_t threads[THREADS];
   if (listset_open(list, THREADS, QUOTA, list, &none, 0, &tasks[0].seat) != LISTSET_OK) return 0;
-  for (unsigned at = 1; at < THREADS; at++) listset_split(&tasks[0].seat, &tasks[tasks[at].number = at].seat);
+  for (unsigned at = 1; at < THREADS; at++)
+    if (listset_split(&tasks[0].seat, &tasks[tasks[at].number = at].seat) != LISTSET_OK) return 0;
   for (int at = 0; at < THREADS; at++) pthread_create(&threads[at], NULL, run, &tasks[at]);
   for (int at = 0; at < THREADS; at++) pthread_join(threads[at], NULL);
-  for (int at = 1; at < THREADS; at++) listset_gather(&tasks[0].seat, &tasks[at].seat);
+  for (int at = 1; at < THREADS; at++)
+    if (listset_gather(&tasks[0].seat, &tasks[at].seat) != LISTSET_OK) return 0;
   if (listset_close(&tasks[0].seat) != LISTSET_OK) return 0;
   size_t count = listset_keys(&tasks[0].seat, keys, KEYS);
   listset_drop(&tasks[0].seat);

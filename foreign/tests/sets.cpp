@@ -133,10 +133,10 @@ static void expect_no_seat() {
   listset::shared closed(list::lazy, 2, 1), moved(list::lazy, 2, 1);
   seat last = listset::open(list::lazy, 1, 1, {7});
   closed.close(), last.close();
-  expect(thrown([&] { closed.close(); }) == LISTSET_NO_SEAT && thrown([&] { last.close(); }) == LISTSET_NO_SEAT, "a set that is closed twice");
-  for (int again = 0; again < 2; again++) expect(thrown([&] { closed.add(1); }) == LISTSET_NO_SEAT, "a call of a closed set");
+  expect(thrown([&] { closed.close(); }) == LISTSET_NONE_THERE && thrown([&] { last.close(); }) == LISTSET_NONE_THERE, "a set that is closed twice");
+  for (int again = 0; again < 2; again++) expect(thrown([&] { closed.add(1); }) == LISTSET_NONE_THERE, "a call of a closed set");
   listset::shared set = std::move(moved);
-  expect(thrown([&] { moved.add(1); }) == LISTSET_NO_SEAT && thrown([&] { moved.close(); }) == LISTSET_NO_SEAT, "a set that was moved from");
+  expect(thrown([&] { moved.add(1); }) == LISTSET_NONE_THERE && thrown([&] { moved.close(); }) == LISTSET_NONE_THERE, "a set that was moved from");
   expect(set.add(1) == added::is_new && set.close() == std::vector<uint32_t>({1}), "the set that it became");
 }
 
@@ -169,7 +169,7 @@ template <typename Set> static void expect_ends(Set set) {
 static void expect_assigned(list kind) {
   seat mine = listset::open(kind, 2, 1, {1}), other = listset::open(kind, 1, 1, {2});
   mine = std::move(other);
-  expect(thrown([&] { other.contains(1); }) == LISTSET_NO_SEAT, "the seat that was moved away");
+  expect(thrown([&] { other.contains(1); }) == LISTSET_NONE_THERE, "the seat that was moved away");
   seat &same = mine;
   mine = std::move(same);
   expect(mine.contains(2) && !mine.contains(1) && mine.close() == std::vector<uint32_t>({2}), "the seat that was assigned");
@@ -240,14 +240,14 @@ int main() {
   expect(thrown([&] { mine.close(); }) == LISTSET_SEATS_OUT, "a seat is out");
   expect(thrown([&] { mine.gather(std::move(other)); }) == LISTSET_NO_GATHER, "a seat of another set");
   expect(thrown([&] { mine.gather(std::move(mine)); }) == LISTSET_NO_GATHER, "a seat into itself");
-  expect(thrown([&] { none.add(1); }) == LISTSET_NO_SEAT, "no seat");
+  expect(thrown([&] { none.add(1); }) == LISTSET_NONE_THERE, "no seat");
   expect(thrown([] { listset::open(list::lazy, 65, 1); }) == LISTSET_BAD_SEATS, "too many seats");
   expect(split.add(7) == added::is_new && split.add(8) == added::full && mine.add(7) == added::not_new, "add");
   expect(mine.contains(5) && mine.remove(5) && !mine.contains(5) && !other.contains(9), "remove, contains");
   expect(mine.ceiling(6) == 7u && !mine.ceiling(10), "ceiling");
   mine.gather(std::move(split));
   expect(mine.close() == std::vector<uint32_t>({7, 9}), "close");
-  expect(thrown([&] { mine.contains(7); }) == LISTSET_NO_SEAT, "a closed set");
+  expect(thrown([&] { mine.contains(7); }) == LISTSET_NONE_THERE, "a closed set");
   expect(other.close().empty(), "the other set is closed");
   return wrong != 0;
 }

@@ -38,16 +38,12 @@
 #include <vector>
 #include <cxxabi.h>
 #include <dirent.h>
-#include <fcntl.h>
-#include <spawn.h>
 #include <sys/mman.h>
 #include <sys/wait.h>
 #include <unistd.h>
 #ifdef __linux__
 #include <sys/prctl.h>
 #endif
-
-extern char **environ;
 
 namespace listset {
 #ifdef LISTSET_H  // (two files of one program may differ in this)
@@ -105,19 +101,9 @@ struct range {
 };
 
 // made of words.json by judge/make_words: `longest` in looks at the counter, `part` in calls, `patience` in seconds
-constexpr shape PRESETS[] = {{"few keys", 4, 1, 2500, 4, 1}, {"fresh sets", 4, 40, 10, 4, 1}, {"multiples of 64", 4, 1, 2500, 8, 64}, {"one key", 3, 1, 2500, 1, 1}, {"multiples of 1,000", 8, 1, 1250, 8, 1000}, {"many keys", 4, 1, 2500, 1000, 1}};
+constexpr shape PRESETS[] = {{"few keys", 4, 1, 2500, 4, 1}, {"fresh sets", 4, 40, 10, 4, 1}, {"multiples of 64", 4, 1, 2500, 8, 64}, {"one key", 3, 1, 2500, 1, 1}, {"sets that grow", 4, 20, 125, 64, 1}, {"many keys", 4, 1, 2500, 1000, 1}, {"multiples of 1,000", 8, 1, 1250, 8, 1000}};
 constexpr range RANGES[] = {{"threads", 1, 64}, {"threads times calls", 1, 1000000000}, {"keys", 1, 1048576}, {"pauses", 0, 100}, {"runs", 1, 1000000}, {"seconds", 1, 3600}, {"at_least", 0, 100}};
-constexpr unsigned PART = 20000;
-constexpr unsigned LONGEST = 100;
-constexpr unsigned HOT = 4;
-constexpr unsigned ENOUGH = 5;
-constexpr unsigned HARDER = 2;
-constexpr unsigned FURTHER = 20;
-constexpr unsigned PATIENCE = 3;
-constexpr unsigned READABLE = 6;
-constexpr unsigned MEET = 250;
-constexpr unsigned AWAKE = 300000;
-constexpr unsigned SLOW = 5;
+constexpr unsigned PART = 20000, LONGEST = 100, HOT = 4, ENOUGH = 5, HARDER = 2, FURTHER = 20, PATIENCE = 3, READABLE = 6, MEET = 250, AWAKE = 300000;
 constexpr const char *OK = "ok: %s calls, of which %s overlapped a change of their key";
 constexpr const char *FEW = "that is few: take more threads, fewer keys or a machine that does less";
 constexpr const char *TOO_FEW = "%s of %s calls overlapped a change of their key, and at_least asks for %s of 100: take more threads, fewer keys or a machine that does less";
@@ -215,26 +201,23 @@ struct slot {
     std::atomic<unsigned> begin, end;  // 0 as long as it has none
 };
 
-// A run in memory that its process shares with this one: the part that goes on.
+// A run in memory that its process shares with this one: the calls from one rest to the next.
 struct area {
     const shape of;
     const uint64_t seed;
-    const unsigned rows, parts;                   // the calls of each thread in a part, of which the last may have fewer; how many there are
-    slot *slots = nullptr;                        // those of each thread in turn
-    bool *opening = nullptr, *left = nullptr;     // of each key of each set whether it was there, at first and at the end
-    std::atomic<unsigned> tickets{0}, looks{0}, there{0}, done{0};
-    std::atomic<unsigned> begun{0}, before{0};    // the rounds, and the last moment of the parts before this one
+    const unsigned rows, parts, rounds;        // the calls of each thread in a part, of which the last may have fewer; the parts of a set, and of all
+    slot *slots = nullptr;                     // those of each thread in turn
+    bool *opening = nullptr, *left = nullptr;  // of each key of each set whether it was there, at first and at the end
+    std::atomic<unsigned> tickets{0}, there{0}, done{0}, begun{0};
     std::atomic<phase> at{GOING};
     std::atomic<bool> is_stopping{false};
     char why[240] = "";
 
     area(const shape &it, uint64_t of_seed)
-        : of(it), seed(of_seed), rows(it.sets > 1 ? it.sets * it.calls : std::min(it.calls, PART / it.threads)),
-          parts(it.sets > 1 ? 1 : (it.calls - 1) / rows + 1) {}
+        : of(it), seed(of_seed), rows(std::min(it.calls, PART / it.threads)), parts((it.calls - 1) / rows + 1), rounds(it.sets * parts) {}
 
     static std::shared_ptr<area> made(const shape &it, uint64_t of_seed) {
-        size_t count = size_t(it.threads) * area(it, of_seed).rows, keys = size_t(it.sets) * it.keys;
-        size_t size = sizeof(area) + count * sizeof(slot) + 2 * keys;
+        size_t count = area(it, of_seed).count(), keys = size_t(it.sets) * it.keys, size = sizeof(area) + count * sizeof(slot) + 2 * keys;
         void *place = mmap(nullptr, size, PROT_READ | PROT_WRITE, MAP_SHARED | MAP_ANONYMOUS, -1, 0);
         if (place == MAP_FAILED) throw no_verdict(NO_MEMORY);
         std::shared_ptr<area> found(new (place) area(it, of_seed), [size](area *old) { old->~area(), munmap(old, size); });
@@ -244,10 +227,7 @@ struct area {
         return found;
     }
 
-    unsigned rounds() const { return std::max(of.sets, parts); }
-
-    // What changes as long as the run goes on.
-    unsigned moved() const { return tickets + looks; }
+    size_t count() const { return size_t(of.threads) * rows; }
 
     // Writes down what was thrown; the first stays.
     void fail(phase as, const std::string &thrown) {
@@ -268,6 +248,12 @@ struct area {
     void meet() {
         const unsigned all = there++ / of.threads * of.threads + of.threads;
         waits([&] { return there >= all; });
+    }
+
+    // Once a part has been read.
+    void go_on() {
+        for (size_t i = 0; i < count(); i++) slots[i].begin = slots[i].end = 0;
+        at = GOING;
     }
 };
 
@@ -313,13 +299,15 @@ template <class Make, class K> struct maker {
         return unsigned(draw()) % below;
     }
 
-    // The calls of a thread in a round.
-    void call_set(area &run, slot *at, unsigned round, unsigned count, unsigned &number, std::mt19937 &draw) {
+    // The calls of a thread on a set.
+    void call_set(area &run, unsigned thread, unsigned round, unsigned &number, std::mt19937 &draw) {
         set_type &its = *set;
+        slot *at = run.slots + size_t(thread) * run.rows;
+        const unsigned count = std::min(run.rows, run.of.calls - round % run.parts * run.rows);
         for (unsigned i = 0; i < count; i++, at++) {
             if (i % MEET == 0) run.meet();
             const unsigned key = drawn_key(draw);
-            at->thread = number, at->call = drawn(draw), at->key = key + (run.of.sets > 1 ? round * run.of.keys : 0);
+            at->thread = number, at->call = drawn(draw), at->key = round / run.parts * run.of.keys + key;
             for (unsigned pause = draw() % 100 < how.pauses ? unsigned(draw()) % LONGEST : 0; pause > 0; pause--) run.tickets.load();
             at->begin.store(++run.tickets, std::memory_order_release);
             const reply given = at->call == kind::add ? add(its, keys[key]) : at->call == kind::remove ? remove(its, keys[key]) : contains(its, keys[key]);
@@ -333,34 +321,32 @@ template <class Make, class K> struct maker {
         std::mt19937 draw(uint32_t(run.seed * 64 + thread));
         unsigned number = thread;
         if (how.begins) how.begins();
-        for (unsigned round = 0; round < run.rounds() && run.waits([&] { return run.begun > round; }); round++) {
-            slot *mine = run.slots + size_t(thread) * run.rows + (run.of.sets > 1 ? round * run.of.calls : 0);
-            const unsigned count = run.of.sets > 1 ? run.of.calls : std::min(run.rows, run.of.calls - round * run.rows);
-            tried(run, FAILED, [&] { call_set(run, mine, round, count, number, draw); });
+        for (unsigned round = 0; round < run.rounds && run.waits([&] { return run.begun > round; }); round++) {
+            tried(run, FAILED, [&] { call_set(run, thread, round, number, draw); });
             run.done++;
         }
         if (how.ends) how.ends();
     }
 
     void look_up(area &run, bool *there) {
-        for (const K &key : keys) *there++ = contains(*set, key) == reply::yes, run.looks++;
+        for (const K &key : keys) *there++ = contains(*set, key) == reply::yes, run.tickets++;
     }
 
     // Makes each set and has the threads call it; rests after each part until somebody has read it.
     void lead(area &run) {
         pointer own{};
-        for (unsigned round = 0; round < run.rounds() && !run.is_stopping; round++) {
-            const size_t first = run.of.sets > 1 ? size_t(round) * run.of.keys : 0;
-            if (round == 0 || run.of.sets > 1) {
-                tried(run, UNMADE, [&] { set = nullptr, own = nullptr, own = make(), set = &*own; });
-                if (!run.is_stopping && how.opens_with_keys) look_up(run, run.opening + first);
-            }
+        for (unsigned round = 0; round < run.rounds; round++) {
+            const size_t first = size_t(round / run.parts) * run.of.keys;
+            if (round > 0) run.at = RESTING;
             if (!run.waits([&] { return run.at == GOING; })) return;
-            if (run.of.sets == 1) run.before = run.tickets.load();
+            if (round % run.parts == 0) {
+                tried(run, UNMADE, [&] { set = nullptr, own = nullptr, own = make(), set = &*own; });
+                if (run.is_stopping) return;
+                if (how.opens_with_keys) look_up(run, run.opening + first);
+            }
             run.begun = round + 1;
             if (!run.waits([&] { return run.done == run.of.threads * (round + 1); })) return;
-            if (run.of.sets > 1 || round + 1 == run.rounds()) look_up(run, run.left + first);
-            else run.at = RESTING;
+            if ((round + 1) % run.parts == 0) look_up(run, run.left + first);
         }
     }
 
@@ -380,9 +366,9 @@ template <class Make, class K> struct maker {
 // Waits until `is_done`; false if no call begins or ends for too long before that.
 template <class Done> bool comes_to_end(const area &run, unsigned seconds, Done is_done) {
     using clock = std::chrono::steady_clock;
-    unsigned seen = run.moved();
+    unsigned seen = run.tickets;
     for (auto since = clock::now(); !is_done(); std::this_thread::sleep_for(std::chrono::microseconds(300))) {
-        if (seen != run.moved()) seen = run.moved(), since = clock::now();
+        if (seen != run.tickets) seen = run.tickets, since = clock::now();
         if (clock::now() - since > std::chrono::seconds(seconds)) return false;
     }
     return true;
@@ -459,11 +445,9 @@ inline std::string made_part(caller &by, const area &run, unsigned seconds) {
 
 // ---- the judge
 
-// Its name, what it says of its proof, and the command to which words are added.
+// Its name, what it says of its proof, and the words of a shell that run it.
 struct judge_found {
-    std::string name, proof;
-    std::vector<std::string> command;
-    std::vector<std::string> with(std::vector<std::string> words) const { return words.insert(words.begin(), command.begin(), command.end()), words; }
+    std::string name, proof, command;
 };
 
 // The line in which a judge says whether it is proved.
@@ -472,22 +456,22 @@ inline std::string proof_in(const std::string &version) {
     return at == std::string::npos ? "proof unknown" : version.substr(at, version.find('\n', at) - at);
 }
 
-// What a command or the library says.
-struct answer {
-    int status;  // -1: it cannot be run
-    std::string said;
-};
-
 inline std::string stripped(std::string text) {
     while (!text.empty() && text.back() == '\n') text.pop_back();
     return text;
 }
 
+// The status of a command or of the library, and what it says.
+struct answer {
+    int status;
+    std::string said;
+};
+
 #ifdef LISTSET_H
 // The library, which is given a recording at its end.
 struct asked {
     std::string all;
-    explicit asked(const std::vector<std::string> &) {}
+    asked(const judge_found &, const std::string &) {}
     void write(const std::string &text) { all += text; }
     answer end() {
         uint8_t status;
@@ -498,82 +482,66 @@ struct asked {
     }
 };
 
-inline judge_found find_judge() { return {"liblistset", proof_in(listset_version()), {}}; }
+inline judge_found find_judge() { return {"liblistset", proof_in(listset_version()), ""}; }
 #else
-// A pipe, whose ends are closed with it.
-struct ends {
-    int from = -1, to = -1;
-    ends() {
-        int both[2];
-        if (pipe(both)) throw no_verdict(say(NO_PROCESS, std::string(strerror(errno))));
-        from = both[0], to = both[1];
-        fcntl(from, F_SETFD, FD_CLOEXEC), fcntl(to, F_SETFD, FD_CLOEXEC);
-    }
-    ends(const ends &) = delete;
-    ~ends() { shut(from), shut(to); }
-    static void shut(int &it) {
-        if (it != -1) close(std::exchange(it, -1));
-    }
-    std::string all() {
-        std::string text;
-        char some[4096];
-        for (ssize_t got; (got = read(from, some, sizeof some)) > 0 || (got < 0 && errno == EINTR);) text.append(some, size_t(std::max<ssize_t>(got, 0)));
-        return stripped(text);
-    }
-};
+inline std::string quoted(const std::string &word) {
+    std::string text = "'";
+    for (char it : word) text += it == '\'' ? "'\\''" : std::string(1, it);
+    return text + "'";
+}
 
-// A command, which is given its input as it grows. (What `--version` says of a judge that it builds is for the user's eyes.)
+inline FILE *started(const std::string &command, const char *mode) {
+    FILE *made = popen(("exec " + command).c_str(), mode);
+    if (!made) throw no_verdict(say(NO_PROCESS, std::string(strerror(errno))));
+    return made;
+}
+
+inline int ended(FILE *command) {
+    const int status = pclose(command);
+    return WIFEXITED(status) ? WEXITSTATUS(status) : 128;
+}
+
+// A program, which is given a recording as it grows. What it says comes into a file.
 struct asked {
-    ends in, out, errors;
-    pid_t process = -1;
+    const std::string file;
+    FILE *to;
 
-    explicit asked(std::vector<std::string> words, bool is_version = false) {
-        posix_spawn_file_actions_t actions;
-        posix_spawn_file_actions_init(&actions);
-        posix_spawn_file_actions_adddup2(&actions, in.from, 0);
-        posix_spawn_file_actions_adddup2(&actions, out.to, 1);
-        if (!is_version) posix_spawn_file_actions_adddup2(&actions, errors.to, 2);
-        std::vector<char *> argv;
-        for (auto &it : words) argv.push_back(it.data());
-        argv.push_back(nullptr);
-        if (posix_spawnp(&process, argv[0], &actions, nullptr, argv.data(), environ)) process = -1;
-        posix_spawn_file_actions_destroy(&actions);
-        ends::shut(in.from), ends::shut(out.to), ends::shut(errors.to);
-    }
+    asked(const judge_found &by, const std::string &recording)
+        : file(recording + ".said"), to(started(by.command + " judge - >" + quoted(file) + " 2>&1", "w")) {}
+    asked(const asked &) = delete;
     ~asked() {
-        if (process != -1) kill(process, SIGKILL);
-        end();
+        if (to) end();
     }
     void write(const std::string &text) {
         sigset_t broken, before, pending;
         sigemptyset(&broken), sigaddset(&broken, SIGPIPE);
         pthread_sigmask(SIG_BLOCK, &broken, &before);
-        ssize_t count = 1;
+        ssize_t count = 1;  // (past the buffer of `to`, which would be written again where it is closed)
         for (size_t at = 0; at < text.size() && (count > 0 || errno == EINTR); at += size_t(std::max<ssize_t>(count, 0)))
-            count = ::write(in.to, text.data() + at, text.size() - at);
+            count = ::write(fileno(to), text.data() + at, text.size() - at);
         int number;  // (one that has ended reads no further)
         if (count < 0 && !sigpending(&pending) && sigismember(&pending, SIGPIPE)) sigwait(&broken, &number);
         pthread_sigmask(SIG_SETMASK, &before, nullptr);
     }
     answer end() {
-        int status;
-        ends::shut(in.to);
-        if (process == -1) return {-1, ""};
-        std::string said = out.all(), troubles = errors.all();
-        if (waitpid(std::exchange(process, -1), &status, 0) < 0) return {-1, ""};
-        return {WIFEXITED(status) ? WEXITSTATUS(status) : 128, said.empty() ? troubles : said};
+        const int status = ended(std::exchange(to, nullptr));
+        std::ostringstream said;
+        said << std::ifstream(file).rdbuf();
+        std::remove(file.c_str());
+        return {status, stripped(said.str())};
     }
 };
 
 inline judge_found find_judge() {
     const char *named = std::getenv("LISTSET");
     const std::string name = named ? named : "listset";
-    bool is_script = name.size() > 3 && name.substr(name.size() - 3) == ".js";
-    judge_found found{name, "", is_script ? std::vector<std::string>{"node", name} : std::vector<std::string>{name}};
-    answer version = asked(found.with({"--version", "--long"}), true).end();
-    if (version.status == -1 || version.status == 127)
-        throw no_verdict(is_script ? say(NO_NODE, name) : named ? say(NO_NAMED, name) : NO_JUDGE);
-    found.proof = proof_in(version.said);
+    const bool is_script = name.size() > 3 && name.substr(name.size() - 3) == ".js";
+    judge_found found{name, "", (is_script ? "node " : "") + quoted(name)};
+    FILE *version = started(found.command + " --version --long", "r");  // (what it says of a judge that it builds is for the user's eyes)
+    std::string said;
+    for (int it; (it = fgetc(version)) != EOF;) said += char(it);
+    if (ended(version) == 127) throw no_verdict(is_script ? say(NO_NODE, name) : named ? say(NO_NAMED, name) : NO_JUDGE);
+    found.proof = proof_in(said);
     return found;
 }
 #endif
@@ -600,14 +568,14 @@ struct recording {
     const std::string path;
     bool is_kept;
     std::ofstream file;
-    asked judge;
+    std::optional<asked> judge;
 
-    recording(const options &how, uint64_t seed, const judge_found &by)
-        : path(path_of(how.record, seed)), is_kept(!how.record.empty()), judge(by.with({"judge", "-"})) {
+    recording(const options &how, uint64_t seed, const judge_found &by) : path(path_of(how.record, seed)), is_kept(!how.record.empty()) {
         std::error_code fault;
         if (is_kept) std::filesystem::create_directories(how.record, fault);
         file.open(path);
         check();
+        judge.emplace(by, path);
     }
     recording(const recording &) = delete;
     ~recording() {
@@ -623,8 +591,8 @@ struct recording {
     void check() const {
         if (!file) throw no_verdict(say(NO_FOLDER, path.substr(0, path.rfind('/'))));
     }
-    void write(const std::string &text) { file << text, judge.write(text); }
-    answer end() { return file.close(), check(), judge.end(); }
+    void write(const std::string &text) { file << text, judge->write(text); }
+    answer end() { return file.close(), check(), judge->end(); }
 };
 
 inline std::string line_of(const slot &it, unsigned end) {
@@ -637,10 +605,9 @@ inline std::string line_of(const slot &it, unsigned end) {
 // The lines of the calls of a part by their begins, and those of the calls under way.
 inline std::pair<std::string, std::string> lines_of(const area &from) {
     std::map<unsigned, std::pair<const slot *, unsigned>> found;
-    for (size_t i = 0; i < size_t(from.of.threads) * from.rows; i++) {
-        const slot &it = from.slots[i];
-        const unsigned end = it.end, begin = it.begin;  // (the end may be that of a part before)
-        if (begin > from.before) found[begin] = {&it, end > begin ? end : 0};
+    for (size_t i = 0; i < from.count(); i++) {
+        const unsigned end = from.slots[i].end, begin = from.slots[i].begin;
+        if (begin > 0) found[begin] = {&from.slots[i], end};
     }
     std::string lines, under_way;
     for (auto &[begin, it] : found) lines += line_of(*it.first, it.second), under_way += it.second == 0 ? line_of(*it.first, 0) : "";
@@ -663,14 +630,14 @@ struct trouble {
 inline trouble record(caller &by, area &run, recording &to, unsigned seconds) {
     trouble found;
     const size_t keys = size_t(run.of.sets) * run.of.keys;
-    for (unsigned part = 1; part <= run.parts && found.how.empty(); part++) {
-        if (part > 1) run.at = GOING;
+    for (unsigned round = 0; round < run.rounds && found.how.empty(); round++) {
+        if (round > 0) run.go_on();
         found.how = made_part(by, run, seconds);
         if (run.at == UNMADE) throw no_verdict(run.why);
         if (run.at == FAILED) found.how = run.why;
         if (!found.how.empty() && run.tickets == 0) throw no_verdict(say(NOT_MADE, found.how));
         auto [lines, under_way] = lines_of(run);
-        to.write((part > 1 ? "" : "listset-calls 1\n" + lines_of_keys("opening", run.opening, keys)) + lines);
+        to.write((round > 0 ? "" : "listset-calls 1\n" + lines_of_keys("opening", run.opening, keys)) + lines);
         found.under_way = under_way;
     }
     to.write(found.how.empty() ? lines_of_keys("key", run.left, keys) + "end\n" : "cut\n");
@@ -795,11 +762,7 @@ template <class Make, class Key> struct tester {
         if (how.keys || !std::is_same_v<Key, number>) it.times = 1;
         if (how.keys) it.keys = how.keys;
         if (how.calls) it.calls = how.calls, it.sets = 1;
-        return fitted(it);
-    }
-
-    static shape fitted(shape it) {
-        if (it.sets > 1) it.sets = std::max(1u, std::min(it.sets, PART / (it.threads * it.calls)));
+        if (how.opens_with_keys) it.calls *= std::exchange(it.sets, 1);
         return it;
     }
 
@@ -807,7 +770,7 @@ template <class Make, class Key> struct tester {
     shape harder(shape it) const {
         if (!how.threads) it.threads = std::min(2 * it.threads, 8u);
         if (!how.keys) it.keys = std::max(it.keys / 2, 1u);
-        return fitted(it);
+        return it;
     }
 
     std::vector<K> keys_of(const shape &it) const {

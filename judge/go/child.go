@@ -21,46 +21,45 @@ const fileName = "LISTSET_AREA"
 
 // child is a process that runs a test again, up to its Check, and makes runs there.
 type child struct {
-	*run
+	*area
 	process *exec.Cmd
 	errors  bytes.Buffer
 	over    chan bool
 }
 
 // inChild gives the caller of the Check of this name; in the process of its own it makes the runs, and does not come back.
-func inChild(name string, r *run) (caller, error) {
+func inChild(name string, a *area) (caller, error) {
+	c := &child{area: a, over: make(chan bool)}
 	if os.Getenv(checkName) == name {
-		r.serve()
+		c.serve()
 	}
 	file, err := os.CreateTemp("", "listset-")
 	if err == nil {
 		defer os.Remove(file.Name())
 		defer file.Close()
-		err = file.Truncate(int64(r.size()))
+		err = file.Truncate(int64(a.bytes()))
 	}
 	if err == nil {
-		err = r.share(file)
+		err = c.share(file)
 	}
 	if err != nil {
-		return nil, fmt.Errorf(sayNoMemory+": %v", err)
+		return c, fmt.Errorf(sayNoMemory+": %v", err)
 	}
-	made := &child{run: r, over: make(chan bool)}
-	return made, made.start(name, file.Name())
+	return c, c.start(name, file.Name())
 }
 
 // share has the run written down in a file that processes share.
-func (r *run) share(file *os.File) error {
-	memory, err := syscall.Mmap(int(file.Fd()), 0, r.size(), syscall.PROT_READ|syscall.PROT_WRITE, syscall.MAP_SHARED)
+func (c *child) share(file *os.File) error {
+	memory, err := syscall.Mmap(int(file.Fd()), 0, c.bytes(), syscall.PROT_READ|syscall.PROT_WRITE, syscall.MAP_SHARED)
 	if err == nil {
-		r.lay(memory)
+		c.lay(memory)
 	}
 	return err
 }
 
 // start starts the process, and waits until it has come to the Check.
 func (c *child) start(name, file string) error {
-	test := name[:strings.LastIndex(name, "#")]
-	pieces := strings.Split(test, "/")
+	pieces := strings.Split(name[:strings.LastIndex(name, "#")], "/")
 	for i, piece := range pieces {
 		pieces[i] = "^" + regexp.QuoteMeta(piece) + "$"
 	}
@@ -98,11 +97,10 @@ func (c *child) isOver() bool {
 	}
 }
 
-func (c *child) hasEnded() bool { return atomic.LoadUint32(&c.at) == ended || c.isOver() }
+func (c *child) hasEnded() bool { return atomic.LoadUint32(&c.at) >= over || c.isOver() }
 
-// trouble is how the process ended, if it was too soon.
 func (c *child) trouble() string {
-	if atomic.LoadUint32(&c.at) == ended {
+	if atomic.LoadUint32(&c.at) >= over {
 		return ""
 	}
 	for _, line := range strings.Split(c.errors.String(), "\n") {
@@ -123,24 +121,19 @@ func (c *child) stop() {
 }
 
 // serve makes the runs that another process asks for, as long as it is there.
-func (r *run) serve() {
+func (c *child) serve() {
 	file, err := os.OpenFile(os.Getenv(fileName), os.O_RDWR, 0)
-	if err == nil {
-		err = r.share(file)
-	}
-	if err != nil {
+	if err != nil || c.share(file) != nil {
 		os.Exit(1)
 	}
 	go func() {
 		io.Copy(io.Discard, os.Stdin)
 		os.Exit(1)
 	}()
-	atomic.StoreUint32(&r.isHere, 1)
-	for {
-		for atomic.LoadUint32(&r.at) != going {
-			time.Sleep(100 * time.Microsecond)
+	atomic.StoreUint32(&c.isHere, 1)
+	for ; ; time.Sleep(100 * time.Microsecond) {
+		if atomic.LoadUint32(&c.at) == going {
+			c.callAll()
 		}
-		r.takeShape()
-		r.callAll()
 	}
 }

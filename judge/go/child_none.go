@@ -3,4 +3,4 @@
 package judge
 
 // inChild makes the runs in this process, since here none of its own can share memory with it.
-func inChild(_ string, r *run) (caller, error) { return &here{r}, nil }
+func inChild(_ string, a *area) (caller, error) { return &here{a}, nil }

@@ -55,13 +55,13 @@ func DefaultOptions() Options {
 }
 
 func (o Options) check() error {
-	atLeast1 := func(given int) int {
+	or1 := func(given int) int {
 		if given == 0 {
 			return 1
 		}
 		return given
 	}
-	given := []int{atLeast1(o.Threads), atLeast1(o.Threads) * atLeast1(o.Calls), atLeast1(o.Keys), o.Pauses, o.Runs, o.Seconds, o.AtLeast}
+	given := []int{or1(o.Threads), or1(o.Threads) * or1(o.Calls), or1(o.Keys), o.Pauses, o.Runs, o.Seconds, o.AtLeast}
 	for i, its := range ranges {
 		if given[i] < its.least || given[i] > its.most {
 			return fmt.Errorf(sayRange, its.name, given[i], its.least, its.most)
@@ -73,12 +73,29 @@ func (o Options) check() error {
 	return nil
 }
 
-// shape is a run: the goroutines, the fresh sets one after another, the calls of each goroutine on each, the keys, and what their
-// numbers are multiples of.
+// shape is a run.
 type shape struct {
-	name                              string
-	threads, sets, calls, keys, times int
+	name string
+	size
 }
+
+// size is the goroutines, the fresh sets one after another, the calls of each goroutine on each, the keys, and what their numbers are
+// multiples of.
+type size struct{ threads, sets, calls, keys, times int }
+
+// rows is the calls of each goroutine from one rest to the next, of which the last of a set may be fewer.
+func (s size) rows() int {
+	if most := manyPart / s.threads; most < s.calls {
+		return most
+	}
+	return s.calls
+}
+
+func (s size) parts() int { return (s.calls-1)/s.rows() + 1 }
+
+func (s size) rounds() int { return s.sets * s.parts() }
+
+func (s size) allCalls() int { return s.threads * s.sets * s.calls }
 
 type limits struct {
 	name        string
@@ -98,15 +115,8 @@ func (o Options) shapeOf(seed int64) shape {
 	if o.Calls > 0 {
 		s.calls, s.sets = o.Calls, 1
 	}
-	return s.fitted()
-}
-
-func (s shape) fitted() shape {
-	if most := manyPart / (s.threads * s.calls); s.sets > 1 && s.sets > most {
-		s.sets = most
-	}
-	if s.sets < 1 {
-		s.sets = 1
+	if o.OpensWithKeys {
+		s.calls, s.sets = s.sets*s.calls, 1
 	}
 	return s
 }
@@ -119,7 +129,17 @@ func (o Options) harder(s shape) shape {
 	if o.Keys == 0 && s.keys > 1 {
 		s.keys /= 2
 	}
-	return s.fitted()
+	return s
+}
+
+// most is the largest number of a run.
+func (o Options) most(of func(size) int) (most int) {
+	for i := range presets {
+		if its := of(o.shapeOf(int64(i + 1)).size); its > most {
+			most = its
+		}
+	}
+	return most
 }
 
 // Verdict is what is known if some order explains each run: the calls, those that overlapped a change of their key, by the judge, and
@@ -129,11 +149,11 @@ type Verdict struct {
 	Judge             string
 }
 
-func (v Verdict) isFew() bool { return v.Overlapped*100 < v.Calls*manyEnough }
+func isFew(overlapped, calls int) bool { return overlapped*100 < calls*manyEnough }
 
 func (v Verdict) String() string {
 	few := ""
-	if v.isFew() {
+	if isFew(v.Overlapped, v.Calls) {
 		few = "; " + sayFew
 	}
 	return fmt.Sprintf(sayOk, v.Calls, v.Overlapped) + few + "; judge: " + v.Judge
@@ -152,7 +172,10 @@ func (f *Failed) Error() string {
 // NotLinearizable is the error if no order explains a run. NotEnded is the error if the set crashed, hung or panicked in it, which was
 // judged up to there. Any other error means that nothing is known of the set: an option is out of range, no set could be made, too few
 // calls overlapped, or there is no judge.
-type NotLinearizable struct{ Failed }
+type NotLinearizable struct {
+	Failed
+	refused refusal
+}
 
 type NotEnded struct{ Failed }
 
@@ -181,7 +204,7 @@ func CheckKeys[K comparable, S SetOf[K]](t Test, newSet func() S, key func(uint3
 
 // Judge judges the sets that `newSet` makes, in this process.
 func Judge[S Set](newSet func() S, options Options) (Verdict, error) {
-	return judged(options, func(int) (source, error) { return numbers(newSet), nil }, nil)
+	return judged(options, func(int) (source, error) { return numbers(newSet), nil }, "")
 }
 
 func check(t Test, of func(keys int) (source, error), options []Options) {
@@ -191,15 +214,13 @@ func check(t Test, of func(keys int) (source, error), options []Options) {
 		return
 	}
 	options = append(options, DefaultOptions())
+	if options[0].InProcess {
+		name = ""
+	}
+	verdict, err := judged(options[0], of, name)
 	if len(options) > 2 {
-		t.Fatal(fmt.Errorf("Check takes one Options, and was given %d", len(options)-1))
-		return
+		err = fmt.Errorf("Check takes one Options, and was given %d", len(options)-1)
 	}
-	var childOf func(*run) (caller, error)
-	if !options[0].InProcess {
-		childOf = func(r *run) (caller, error) { return inChild(name, r) }
-	}
-	verdict, err := judged(options[0], of, childOf)
 	if err != nil {
 		t.Fatal(err)
 		return
@@ -232,14 +253,13 @@ func nameOf(t Test) string {
 
 // source makes sets of numbers, and shows the key of a number.
 type source struct {
-	newSet  func() Set
-	shown   func(number uint32) string
-	isOwn   bool // the keys are given by the test
-	numbers int
+	newSet func() Set
+	shown  func(number uint32) string
+	isOwn  bool // the keys are given by the test
 }
 
 func numbers[S Set](newSet func() S) source {
-	return source{newSet: func() Set { return newSet() }, shown: func(n uint32) string { return fmt.Sprint(n) }}
+	return source{func() Set { return newSet() }, func(n uint32) string { return fmt.Sprint(n) }, false}
 }
 
 // keyed is a set of other keys, by their numbers.
@@ -254,31 +274,40 @@ func (k keyed[K]) Contains(number uint32) bool { return k.set.Contains(k.keys[nu
 
 func ofKeys[K comparable, S SetOf[K]](newSet func() S, key func(uint32) K, count int) (source, error) {
 	keys, seen := make([]K, count), map[K]int{}
+	shown := func(n uint32) string { return fmt.Sprintf("%#v", keys[n]) }
 	for number := range keys {
 		keys[number] = key(uint32(number))
 		if old, is := seen[keys[number]]; is {
-			return source{}, fmt.Errorf(sayTwice, fmt.Sprintf("%#v", keys[number]), old, number)
+			return source{}, fmt.Errorf(sayTwice, shown(uint32(number)), old, number)
 		}
 		seen[keys[number]] = number
 	}
-	made := func() Set { return keyed[K]{newSet(), keys} }
-	return source{newSet: made, shown: func(n uint32) string { return fmt.Sprintf("%#v", keys[n]) }, isOwn: true, numbers: count}, nil
+	return source{func() Set { return keyed[K]{newSet(), keys} }, shown, true}, nil
 }
 
-// judged judges run after run, each in the process that `childOf` gives, or in this one.
-func judged(options Options, of func(keys int) (source, error), childOf func(*run) (caller, error)) (verdict Verdict, err error) {
+// tester judges one run after another.
+type tester struct {
+	options Options
+	area    *area
+	caller  caller
+	by      *judgeFound
+}
+
+// judged judges run after run, each in the process of the Check of this name, or in this one if it is none.
+func judged(options Options, of func(keys int) (source, error), name string) (verdict Verdict, err error) {
 	if err = options.check(); err != nil {
 		return verdict, err
 	}
-	t := &tester{options: options}
-	if t.source, err = of(options.mostKeys()); err != nil {
+	its, err := of(options.most(func(s size) int { return s.keys }))
+	if err != nil {
 		return verdict, err
 	}
-	t.run = newRun(options, t.source)
-	if childOf == nil {
-		t.caller = &here{t.run}
-	} else if t.caller, err = childOf(t.run); err != nil {
-		return verdict, err
+	t := &tester{options: options, area: newArea(options, its)}
+	t.caller = &here{t.area}
+	if name != "" {
+		if t.caller, err = inChild(name, t.area); err != nil {
+			return verdict, err
+		}
 	}
 	defer t.caller.stop()
 	if t.by, err = findJudge(); err != nil {
@@ -287,46 +316,24 @@ func judged(options Options, of func(keys int) (source, error), childOf func(*ru
 	return t.all()
 }
 
-// mostKeys is how many keys a run may have.
-func (o Options) mostKeys() (most int) {
-	for i := range presets {
-		if keys := o.shapeOf(int64(i + 1)).keys; keys > most {
-			most = keys
-		}
-	}
-	return most
-}
-
-// tester judges one run after another.
-type tester struct {
-	options Options
-	source  source
-	run     *run
-	caller  caller
-	by      *judgeFound
-}
-
 func (t *tester) all() (Verdict, error) {
 	verdict, until := Verdict{Judge: t.by.String()}, time.Now().Add(manyPatience*time.Second)
-	for i := 0; i < t.options.Runs; i++ {
-		seed := t.options.Seed + int64(i)
-		s := t.options.shapeOf(seed)
-		for tries := 0; tries <= manyHarder; tries++ {
-			found, err := t.judgedRun(seed, s)
+	for seed := t.options.Seed; seed < t.options.Seed+int64(t.options.Runs); seed++ {
+		for s, tries := t.options.shapeOf(seed), 0; tries <= manyHarder; s, tries = t.options.harder(s), tries+1 {
+			met, err := t.judgedRun(seed, s)
 			if refused, is := err.(*NotLinearizable); is {
-				err = t.smallest(refused, found)
+				err = t.smallest(refused)
 			}
 			if err != nil {
 				return verdict, err
 			}
-			verdict.Calls, verdict.Overlapped = verdict.Calls+s.threads*s.sets*s.calls, verdict.Overlapped+found.overlapped
-			if found.overlapped*100 >= s.threads*s.sets*s.calls*manyEnough || time.Now().After(until) {
+			verdict.Calls, verdict.Overlapped = verdict.Calls+s.allCalls(), verdict.Overlapped+met
+			if !isFew(met, s.allCalls()) || time.Now().After(until) {
 				break
 			}
-			s = t.options.harder(s)
 		}
 	}
-	if verdict.isFew() {
+	if isFew(verdict.Overlapped, verdict.Calls) {
 		fmt.Fprintln(os.Stderr, verdict) // (a test that passes may show no log)
 	}
 	if verdict.Overlapped*100 < verdict.Calls*t.options.AtLeast {
@@ -336,49 +343,45 @@ func (t *tester) all() (Verdict, error) {
 }
 
 // smallest is, of the refusal and of further runs, the one that has the fewest calls, and two at least.
-func (t *tester) smallest(best *NotLinearizable, of judgement) error {
+func (t *tester) smallest(best *NotLinearizable) error {
 	since, seed := time.Now(), best.Seed
-	for i := 0; i < manyFurther && of.rank() > manyReadable/2 && time.Since(since) < manyPatience*time.Second; i++ {
+	for i := 0; i < manyFurther && best.refused.rank() > manyReadable/2 && time.Since(since) < manyPatience*time.Second; i++ {
 		seed += int64(len(presets))
-		found, err := t.judgedRun(seed, t.options.shapeOf(seed))
+		_, err := t.judgedRun(seed, t.options.shapeOf(seed))
 		if other, is := err.(*NotLinearizable); is {
-			if found.rank() < of.rank() {
-				best, other, of = other, best, found
+			if other.refused.rank() < best.refused.rank() {
+				best, other = other, best
 			}
-			t.dropped(other.File)
+			t.drop(other.File)
 		} else if ended, is := err.(*NotEnded); is {
-			t.dropped(ended.File)
+			t.drop(ended.File)
 			break // (a process of its own that has ended makes no further run)
 		}
 	}
 	return best
 }
 
-func (t *tester) dropped(file string) {
+func (t *tester) drop(file string) {
 	if t.options.Record == "" {
 		os.Remove(file)
 	}
 }
 
-// judgedRun has a run made, and judges it as it is made.
-func (t *tester) judgedRun(seed int64, s shape) (judgement, error) {
-	recording, err := newRecording(seed, t.options.Record, t.by)
+// judgedRun has a run made, and judges it as it is made: how many calls overlapped a change of their key.
+func (t *tester) judgedRun(seed int64, s shape) (int, error) {
+	r, err := newRecording(seed, s.name, t.options.Record, t.by)
 	if err != nil {
-		return judgement{}, err
+		return 0, err
 	}
-	defer recording.close()
-	t.run.begin(seed, s, t.caller)
-	for part := 1; part <= t.run.parts && recording.trouble == ""; part++ {
-		if part > 1 {
-			t.run.goOn()
-		}
-		trouble, err := t.run.madePart(t.caller)
-		if err == nil {
-			err = recording.write(t.run.text(part, trouble), trouble)
+	defer r.close()
+	t.area.begin(seed, s.size, t.caller)
+	for round := 1; round <= s.rounds() && r.trouble == ""; round++ {
+		if r.trouble, err = t.area.made(t.caller); err == nil {
+			err = r.write(t.area, round)
 		}
 		if err != nil {
-			return judgement{}, err
+			return 0, err
 		}
 	}
-	return recording.judged(s.name, t.run.keyLine)
+	return r.judged(t.area)
 }

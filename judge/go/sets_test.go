@@ -38,108 +38,95 @@ func (r *right[K]) Contains(key K) bool {
 	return r.keys[key]
 }
 
-// checkThenAct has each half under the lock, and not the two together.
-type checkThenAct struct{ *right[uint32] }
-
-func (c checkThenAct) Add(key uint32) bool {
-	isNew := !c.Contains(key)
-	runtime.Gosched()
-	return isNew && (c.right.Add(key) || true)
+// set is right, but for what the variable SET says.
+type set struct {
+	*right[uint32]
+	is    string
+	calls int32
+	parts sync.Map
 }
 
-// firstUse makes the part of a key in its first call, and two calls may make it.
-type firstUse struct{ parts sync.Map }
-
-func (f *firstUse) part(key uint32) *right[uint32] {
-	if found, is := f.parts.Load(key); is {
-		return found.(*right[uint32])
+func newSet() *set {
+	made := &set{right: newMySet(), is: os.Getenv("SET")}
+	if made.is == "opens" {
+		made.keys[1], made.keys[3] = true, true
+	} else if made.is == "not made" {
+		panic("no room")
 	}
-	made := newMySet()
-	f.parts.Store(key, made)
 	return made
 }
 
-func (f *firstUse) Add(key uint32) bool      { return f.part(key).Add(key) }
-func (f *firstUse) Remove(key uint32) bool   { return f.part(key).Remove(key) }
-func (f *firstUse) Contains(key uint32) bool { return f.part(key).Contains(key) }
-
-// collides takes keys for one that have a place in common.
-type collides struct{ *right[uint32] }
-
-func (c collides) Add(key uint32) bool      { return c.right.Add(key % 64) }
-func (c collides) Remove(key uint32) bool   { return c.right.Remove(key % 64) }
-func (c collides) Contains(key uint32) bool { return c.right.Contains(key % 64) }
-
-// lossy loses each fiftieth reply: then it is not known, or the call is made again.
-type lossy struct {
-	*right[uint32]
-	isAgain bool
-	calls   int32
+// part is all of it, but for "first use": there the part of a key is made by its first call, and two calls may make it.
+func (s *set) part(key uint32) *right[uint32] {
+	if s.is != "first use" {
+		return s.right
+	}
+	if found, is := s.parts.Load(key); is {
+		return found.(*right[uint32])
+	}
+	made := newMySet()
+	s.parts.Store(key, made)
+	return made
 }
 
-func (l *lossy) called(call func(uint32) bool, key uint32) bool {
-	reply := call(key)
-	if atomic.AddInt32(&l.calls, 1)%50 > 0 {
+// place is the key, but for "collides": it takes keys for one that have a place in common.
+func (s *set) place(key uint32) uint32 {
+	if s.is == "collides" {
+		return key % 64
+	}
+	return key
+}
+
+// called loses each fiftieth reply: then it is not known, or the call is made again.
+func (s *set) called(call func(uint32) bool, key uint32) bool {
+	reply := call(s.place(key))
+	if s.is != "not known" && s.is != "again" || atomic.AddInt32(&s.calls, 1)%50 > 0 {
 		return reply
 	}
-	if !l.isAgain {
+	if s.is == "not known" {
 		panic(NotKnown)
 	}
 	return call(key)
 }
 
-func (l *lossy) Add(key uint32) bool    { return l.called(l.right.Add, key) }
-func (l *lossy) Remove(key uint32) bool { return l.called(l.right.Remove, key) }
-
-// finds finds all keys from some call on.
-type finds struct {
-	*right[uint32]
-	calls, due int32
-}
-
-func (f *finds) Contains(key uint32) bool {
-	return atomic.AddInt32(&f.calls, 1) > f.due || f.right.Contains(key)
-}
-
-// stops has a remove that does not come back, with the lock held.
-type stops struct {
-	*right[uint32]
-	last         func()
-	due, removes int
-}
-
-func (s *stops) Remove(key uint32) bool {
+// stop has a remove that does not come back, with the lock held.
+func (s *set) stop() {
 	s.lock.Lock()
 	defer s.lock.Unlock()
-	if s.removes++; s.removes == s.due {
-		s.last()
+	s.calls++
+	switch {
+	case s.is == "hangs" && s.calls == 30:
+		select {}
+	case s.is == "exits" && s.calls == 30:
+		os.Exit(3)
+	case s.is == "throws" && s.calls == 30:
+		panic("no memory")
+	case s.is == "crashes" && s.calls == 30 || s.is == "crashes late" && s.calls == 10000:
+		new(sync.Mutex).Unlock()
 	}
-	was := s.keys[key]
-	delete(s.keys, key)
-	return was
 }
 
-func stopping(due int, last func()) func() Set {
-	return func() Set { return &stops{right: newMySet(), last: last, due: due} }
+func (s *set) Add(key uint32) bool {
+	if s.is == "check then act" {
+		isNew := !s.Contains(key)
+		runtime.Gosched()
+		return isNew && (s.right.Add(key) || true)
+	}
+	return s.called(s.part(key).Add, key)
 }
 
-var sets = map[string]func() Set{
-	"right":          func() Set { return newMySet() },
-	"opens":          func() Set { return &right[uint32]{keys: map[uint32]bool{1: true, 3: true}} },
-	"adds only":      func() Set { return newMySet() },
-	"not known":      func() Set { return &lossy{right: newMySet()} },
-	"again":          func() Set { return &lossy{right: newMySet(), isAgain: true} },
-	"check then act": func() Set { return checkThenAct{newMySet()} },
-	"first use":      func() Set { return &firstUse{} },
-	"collides":       func() Set { return collides{newMySet()} },
-	"finds all":      func() Set { return &finds{right: newMySet()} },
-	"finds all late": func() Set { return &finds{right: newMySet(), due: 8000} },
-	"hangs":          stopping(30, func() { select {} }),
-	"crashes":        stopping(30, func() { new(sync.Mutex).Unlock() }),
-	"crashes late":   stopping(10000, func() { new(sync.Mutex).Unlock() }),
-	"exits":          stopping(30, func() { os.Exit(3) }),
-	"throws":         stopping(30, func() { panic("no memory") }),
-	"not made":       func() Set { panic("no room") },
+func (s *set) Remove(key uint32) bool {
+	if s.is != "not known" && s.is != "again" && s.is != "finds all late" {
+		s.stop()
+	}
+	return s.called(s.part(key).Remove, key)
+}
+
+func (s *set) Contains(key uint32) bool {
+	if s.is == "finds all" || s.is == "finds all late" && atomic.AddInt32(&s.calls, 1) > 8000 {
+		return true
+	}
+	return s.part(key).Contains(s.place(key))
 }
 
 // told is a test that prints how a verdict came out, and it.
@@ -181,13 +168,13 @@ func howOf(words string) Options {
 // TestSet judges the set that the variable SET names, with the options of HOW, as "threads=4 runs=2".
 func TestSet(t *testing.T) {
 	how := howOf(os.Getenv("HOW"))
-	switch name := os.Getenv("SET"); name {
+	switch os.Getenv("SET") {
 	case "texts":
 		CheckKeys(told{t}, newRight[string], func(n uint32) string { return fmt.Sprint("key ", n) }, how)
 	case "twice":
 		CheckKeys(told{t}, newRight[string], func(n uint32) string { return fmt.Sprint("key ", n/2) }, how)
 	default:
-		Check(told{t}, sets[name], how)
+		Check(told{t}, newSet, how)
 	}
 }
 

@@ -1,3 +1,5 @@
+package listset;
+
 import java.io.ByteArrayOutputStream;
 import java.io.File;
 import java.io.IOException;
@@ -50,37 +52,22 @@ public final class Judge {
 
     /** A run: the threads, the fresh sets one after another, the calls of each thread on each, the keys, what their numbers are multiples of. */
     private record Shape(String name, int threads, int sets, int calls, int keys, int times) {
-        Shape fitted() {
-            int most = sets > 1 ? Math.max(PART / (threads * calls), 1) : 1;
-            return new Shape(name, threads, Math.min(sets, most), calls, keys, times);
-        }
-
         long allCalls() { return (long) threads * sets * calls; }
 
-        /** The calls of each thread from one rest to the next, of which the last may be fewer. */
-        int rows() { return sets > 1 ? sets * calls : Math.min(calls, PART / threads); }
+        /** The calls of each thread from one rest to the next, of which the last of a set may be fewer. */
+        int rows() { return Math.min(calls, PART / threads); }
 
-        int parts() { return sets > 1 ? 1 : (calls - 1) / rows() + 1; }
+        int parts() { return (calls - 1) / rows() + 1; }
 
-        int rounds() { return Math.max(sets, parts()); }
+        int rounds() { return sets * parts(); }
     }
 
     private record Limits(String name, long least, long most) { }
 
     // made of words.json by judge/make_words: PART and MEET in calls, PATIENCE in seconds
-    private static final Shape[] PRESETS = {new Shape("few keys", 4, 1, 2500, 4, 1), new Shape("fresh sets", 4, 40, 10, 4, 1), new Shape("multiples of 64", 4, 1, 2500, 8, 64), new Shape("one key", 3, 1, 2500, 1, 1), new Shape("multiples of 1,000", 8, 1, 1250, 8, 1000), new Shape("many keys", 4, 1, 2500, 1000, 1)};
+    private static final Shape[] PRESETS = {new Shape("few keys", 4, 1, 2500, 4, 1), new Shape("fresh sets", 4, 40, 10, 4, 1), new Shape("multiples of 64", 4, 1, 2500, 8, 64), new Shape("one key", 3, 1, 2500, 1, 1), new Shape("sets that grow", 4, 20, 125, 64, 1), new Shape("many keys", 4, 1, 2500, 1000, 1), new Shape("multiples of 1,000", 8, 1, 1250, 8, 1000)};
     private static final Limits[] RANGES = {new Limits("threads", 1, 64), new Limits("threads times calls", 1, 1000000000), new Limits("keys", 1, 1048576), new Limits("pauses", 0, 100), new Limits("runs", 1, 1000000), new Limits("seconds", 1, 3600), new Limits("at_least", 0, 100)};
-    private static final int PART = 20000;
-    private static final int LONGEST = 100;
-    private static final int HOT = 4;
-    private static final int ENOUGH = 5;
-    private static final int HARDER = 2;
-    private static final int FURTHER = 20;
-    private static final int PATIENCE = 3;
-    private static final int READABLE = 6;
-    private static final int MEET = 250;
-    private static final int AWAKE = 300000;
-    private static final int SLOW = 5;
+    private static final int PART = 20000, LONGEST = 100, HOT = 4, ENOUGH = 5, HARDER = 2, FURTHER = 20, PATIENCE = 3, READABLE = 6, MEET = 250, AWAKE = 300000;
     private static final String OK = "ok: %s calls, of which %s overlapped a change of their key";
     private static final String FEW = "that is few: take more threads, fewer keys or a machine that does less";
     private static final String TOO_FEW = "%s of %s calls overlapped a change of their key, and at_least asks for %s of 100: take more threads, fewer keys or a machine that does less";
@@ -181,15 +168,15 @@ public final class Judge {
         /** The preset of a seed, with what these options say. */
         private Shape shapeOf(long seed) {
             Shape it = PRESETS[(int) Math.floorMod(seed - 1, (long) PRESETS.length)];
-            boolean isKeys = keys > 0, isCalls = calls > 0;
-            return new Shape(it.name, threads > 0 ? threads : it.threads, isCalls ? 1 : it.sets, isCalls ? calls : it.calls,
-                isKeys ? keys : it.keys, isKeys ? 1 : it.times).fitted();
+            int ofSet = calls > 0 ? calls : opensWithKeys ? it.sets * it.calls : it.calls;
+            return new Shape(it.name, threads > 0 ? threads : it.threads, calls > 0 || opensWithKeys ? 1 : it.sets, ofSet,
+                keys > 0 ? keys : it.keys, keys > 0 ? 1 : it.times);
         }
 
         /** With more threads and fewer keys, where these options leave them open. */
         private Shape harder(Shape it) {
             int more = threads > 0 ? it.threads : Math.min(2 * it.threads, 8), fewer = keys > 0 ? it.keys : Math.max(it.keys / 2, 1);
-            return new Shape(it.name, more, it.sets, it.calls, fewer, it.times).fitted();
+            return new Shape(it.name, more, it.sets, it.calls, fewer, it.times);
         }
 
         /** The most keys of a run, and of all its sets. */
@@ -366,9 +353,9 @@ public final class Judge {
             try (Recording recording = new Recording(seed, shape, how.record, program)) {
                 area.begin(seed, shape, caller);
                 String trouble = null;
-                for (int part = 1; part <= shape.parts() && trouble == null; part++) {
-                    if (part > 1) area.goOn();
-                    Part made = area.madePart(caller, part);
+                for (int round = 1; round <= shape.rounds() && trouble == null; round++) {
+                    if (round > 1) area.goOn();
+                    Part made = area.madePart(caller, round);
                     recording.write(made.text);
                     trouble = made.trouble == null ? null : UNDER_WAY.formatted(made.trouble, made.underWay, "%s");
                 }
@@ -406,11 +393,11 @@ public final class Judge {
     /** A run in memory that another JVM may share: the part that goes on. */
     private static final class Area {
         private static final VarHandle INT = MethodHandles.byteBufferViewVarHandle(int[].class, ByteOrder.nativeOrder());
-        // Where numbers are: the last moment of the parts before is BEFORE, IS_HERE that another JVM has come, SHAPE five of them.
-        private static final int TICKETS = 0, LOOKS = 4, THERE = 8, DONE = 12, BEGUN = 16, BEFORE = 20, AT = 24, STOPPING = 28, FAILED = 32,
-            LENGTH = 36, IS_HERE = 40, UNMADE = 44, SEED = 48, SHAPE = 56, WHY = 76, MOST_WHY = 240, SLOTS = WHY + MOST_WHY;
+        // Where numbers are: IS_HERE that another JVM has come, SHAPE five of them; WHY a text.
+        private static final int TICKETS = 0, THERE = 4, DONE = 8, BEGUN = 12, AT = 16, STOPPING = 20, LENGTH = 24, IS_HERE = 28, SEED = 32,
+            SHAPE = 40, WHY = 60, MOST_WHY = 240, SLOTS = WHY + MOST_WHY;
         private static final int BEGIN = 0, END = 4, CALL = 8, KEY = 12, REPLY = 16, THREAD = 20, SLOT = 24; // of a call, those of each thread in turn
-        private static final int GOING = 1, RESTING = 2, ENDED = 3; // AT
+        private static final int GOING = 1, RESTING = 2, OVER = 3, FAILED = 4, UNMADE = 5; // AT
 
         private final Options how;
         private final int opening, left; // where of each key of each set it is written whether it was there, at first and at the end
@@ -433,7 +420,11 @@ public final class Judge {
 
         int next(int at) { return (int) INT.getAndAdd(memory, at, 1) + 1; }
 
-        void goOn() { set(AT, GOING); }
+        /** Lets a run go on whose part has been read. */
+        void goOn() {
+            for (int at = SLOTS; at < opening; at += SLOT) memory.putLong(at, 0);
+            set(AT, GOING);
+        }
 
         Shape shape() {
             return new Shape("", get(SHAPE), get(SHAPE + 4), get(SHAPE + 8), get(SHAPE + 12), get(SHAPE + 16));
@@ -441,15 +432,15 @@ public final class Judge {
 
         /** Has the run of a seed begin. */
         void begin(long seed, Shape of, Caller caller) {
-            for (int at = 0; at < memory.capacity(); at++) if (at < IS_HERE || at >= UNMADE) memory.put(at, (byte) 0);
+            for (int at = 0; at < memory.capacity(); at++) if (at < IS_HERE || at >= SEED) memory.put(at, (byte) 0);
             memory.putLong(SEED, seed);
             memory.putInt(SHAPE, of.threads).putInt(SHAPE + 4, of.sets).putInt(SHAPE + 8, of.calls).putInt(SHAPE + 12, of.keys).putInt(SHAPE + 16, of.times);
-            goOn();
+            set(AT, GOING);
             caller.begin();
         }
 
         /** Waits until the part is made that goes on, or no call begins or ends for too long. */
-        Part madePart(Caller caller, int number) {
+        Part madePart(Caller caller, int round) {
             String trouble = null;
             int seen = -1;
             for (long since = System.nanoTime(); trouble == null && get(AT) != RESTING; LockSupport.parkNanos(300_000)) {
@@ -457,15 +448,15 @@ public final class Judge {
                     trouble = caller.trouble();
                     break;
                 }
-                int now = get(TICKETS) + get(LOOKS);
+                int now = get(TICKETS);
                 if (now != seen) since = System.nanoTime();
                 seen = now;
                 if (System.nanoTime() - since > how.seconds * 1_000_000_000L) trouble = HUNG.formatted(how.seconds);
             }
-            if (get(FAILED) == 1) trouble = textOf(WHY, get(LENGTH));
-            if (get(UNMADE) == 1) throw new NoVerdict(trouble);
+            if (get(AT) >= FAILED) trouble = textOf(WHY, get(LENGTH));
+            if (get(AT) == UNMADE) throw new NoVerdict(trouble);
             if (trouble != null && get(TICKETS) == 0) throw new NoVerdict(NOT_MADE.formatted(trouble));
-            return part(number, trouble);
+            return part(round, trouble);
         }
 
         private String textOf(int at, int length) {
@@ -474,15 +465,15 @@ public final class Judge {
             return new String(bytes, StandardCharsets.UTF_8);
         }
 
-        private Part part(int number, String trouble) {
+        private Part part(int round, String trouble) {
             Shape of = shape();
-            StringBuilder text = new StringBuilder(number > 1 ? "" : "listset-calls 1\n" + linesOfKeys("opening ", opening)), underWay = new StringBuilder();
+            StringBuilder text = new StringBuilder(round > 1 ? "" : "listset-calls 1\n" + linesOfKeys("opening ", opening)), underWay = new StringBuilder();
             for (Row it : rows(of)) {
                 text.append(it.line());
                 if (it.end == 0 && it.reply != Calls.UNKNOWN) underWay.append(it.line());
             }
             if (trouble != null) text.append("cut\n");
-            else if (number == of.parts()) text.append(linesOfKeys("key ", left)).append("end\n");
+            else if (round == of.rounds()) text.append(linesOfKeys("key ", left)).append("end\n");
             return new Part(text.toString(), trouble, underWay.toString());
         }
 
@@ -490,10 +481,8 @@ public final class Judge {
         private List<Row> rows(Shape of) {
             List<Row> found = new ArrayList<>();
             for (int at = SLOTS; at < SLOTS + of.threads * of.rows() * SLOT; at += SLOT) {
-                int end = get(at + END), begin = get(at + BEGIN); // (the end may be that of a part before)
-                boolean isOver = end > begin;
-                int reply = isOver ? get(at + REPLY) : Calls.NO;
-                if (begin > get(BEFORE)) found.add(new Row(get(at + THREAD), get(at + CALL), get(at + KEY), begin, isOver ? end : 0, reply));
+                int end = get(at + END), begin = get(at + BEGIN), reply = end > 0 ? get(at + REPLY) : Calls.NO;
+                if (begin > 0) found.add(new Row(get(at + THREAD), get(at + CALL), get(at + KEY), begin, end, reply));
             }
             found.sort(Comparator.comparingInt(Row::begin));
             return found;
@@ -508,21 +497,20 @@ public final class Judge {
         /** Makes sets and calls them, to the end. */
         <S, K> void callAll(Calls<S, K> calls) {
             new Play<>(this, calls, shape()).all();
-            set(AT, ENDED);
+            INT.compareAndSet(memory, AT, GOING, OVER);
         }
 
         /** Does this; what it throws is written down, the first alone. */
-        private void tried(String words, Runnable does) {
+        private void tried(int as, Runnable does) {
             try {
                 does.run();
             } catch (Throwable why) {
                 if (next(STOPPING) > 1) return;
-                byte[] text = words.formatted(why).getBytes(StandardCharsets.UTF_8);
+                byte[] text = (as == UNMADE ? NOT_MADE : THREW).formatted(why).getBytes(StandardCharsets.UTF_8);
                 int length = Math.min(text.length, MOST_WHY);
                 memory.put(WHY, text, 0, length);
                 set(LENGTH, length);
-                if (words.equals(NOT_MADE)) set(UNMADE, 1);
-                set(FAILED, 1);
+                set(AT, as);
                 why.printStackTrace();
             }
         }
@@ -554,9 +542,9 @@ public final class Judge {
             List<Thread> threads = new ArrayList<>();
             for (int i = 0; i < of.threads; i++) {
                 int thread = i;
-                threads.add(started(() -> area.tried(THREW, () -> callInRounds(thread))));
+                threads.add(started(() -> area.tried(Area.FAILED, () -> callInRounds(thread))));
             }
-            area.tried(THREW, this::lead);
+            area.tried(Area.FAILED, this::lead);
             for (Thread it : threads) join(it);
         }
 
@@ -571,24 +559,22 @@ public final class Judge {
         /** Makes each set and has the threads call it; rests after each part until somebody has read it. */
         private void lead() {
             for (int i = 0; i < of.rounds(); i++) {
-                int round = i;
-                if (round == 0 || of.sets > 1) {
-                    area.tried(NOT_MADE, () -> set = calls.make.get());
+                int round = i, keys = round / of.parts() * of.keys;
+                if (round > 0) area.set(Area.AT, Area.RESTING);
+                if (!waits(() -> area.get(Area.AT) == Area.GOING)) return;
+                if (round % of.parts() == 0) {
+                    area.tried(Area.UNMADE, () -> set = calls.make.get());
                     if (area.get(Area.STOPPING) > 0) return;
-                    if (area.how.opensWithKeys) lookUp(area.opening + round * of.keys);
-                } else {
-                    area.set(Area.AT, Area.RESTING);
-                    if (!waits(() -> area.get(Area.AT) == Area.GOING)) return;
-                    area.set(Area.BEFORE, area.get(Area.TICKETS));
+                    if (area.how.opensWithKeys) lookUp(area.opening + keys);
                 }
                 area.set(Area.BEGUN, round + 1);
                 if (!waits(() -> area.get(Area.DONE) == (round + 1) * of.threads)) return;
-                if (of.sets > 1 || round + 1 == of.rounds()) lookUp(area.left + (of.sets > 1 ? round * of.keys : 0));
+                if ((round + 1) % of.parts() == 0) lookUp(area.left + keys);
             }
         }
 
         private void lookUp(int at) {
-            for (int key = 0; key < of.keys; key++, area.next(Area.LOOKS)) {
+            for (int key = 0; key < of.keys; key++, area.next(Area.TICKETS)) {
                 area.memory.put(at + key, (byte) (calls.reply(set, 2, calls.key(key, of.times)) == Calls.YES ? 1 : 0));
             }
         }
@@ -598,13 +584,13 @@ public final class Judge {
             SplittableRandom draw = new SplittableRandom(area.memory.getLong(Area.SEED) * 64 + thread);
             int number = thread;
             for (int i = 0; i < of.rounds(); i++) {
-                int round = i, first = Area.SLOTS + (thread * of.rows() + (of.sets > 1 ? round * of.calls : 0)) * Area.SLOT;
+                int round = i, count = Math.min(of.rows(), of.calls - round % of.parts() * of.rows());
                 if (!waits(() -> area.get(Area.BEGUN) > round)) return;
                 S its = set;
-                int count = of.sets > 1 ? of.calls : Math.min(of.rows(), of.calls - round * of.rows());
                 for (int done = 0; done < count; done++) {
                     if (done % MEET == 0 && !meets()) return;
-                    if (call(its, first + done * Area.SLOT, of.sets > 1 ? round * of.keys : 0, number, draw) == Calls.UNKNOWN) number += of.threads;
+                    int at = Area.SLOTS + (thread * of.rows() + done) * Area.SLOT;
+                    if (call(its, at, round / of.parts() * of.keys, number, draw) == Calls.UNKNOWN) number += of.threads;
                 }
                 area.next(Area.DONE);
             }
@@ -643,7 +629,7 @@ public final class Judge {
     private record Here<S, K>(Calls<S, K> calls, Area area) implements Caller {
         @Override public void begin() { Judge.started(() -> area.callAll(calls)); }
 
-        @Override public boolean hasEnded() { return area.get(Area.AT) == Area.ENDED; }
+        @Override public boolean hasEnded() { return area.get(Area.AT) >= Area.OVER; }
 
         @Override public String trouble() { return null; }
 
@@ -732,10 +718,10 @@ public final class Judge {
 
         @Override public void begin() { }
 
-        @Override public boolean hasEnded() { return area.get(Area.AT) == Area.ENDED || !process.isAlive(); }
+        @Override public boolean hasEnded() { return area.get(Area.AT) >= Area.OVER || !process.isAlive(); }
 
         @Override public String trouble() {
-            return area.get(Area.AT) == Area.ENDED ? null : ENDED_SO.formatted(process.exitValue());
+            return area.get(Area.AT) >= Area.OVER ? null : ENDED_SO.formatted(process.exitValue());
         }
 
         @Override public void close() { process.destroyForcibly(); }

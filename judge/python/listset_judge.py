@@ -51,8 +51,9 @@ PRESETS = (
     Shape("fresh sets", 4, 40, 10, 4, 1),
     Shape("multiples of 64", 4, 1, 2500, 8, 64),
     Shape("one key", 3, 1, 2500, 1, 1),
-    Shape("multiples of 1,000", 8, 1, 1250, 8, 1000),
+    Shape("sets that grow", 4, 20, 125, 64, 1),
     Shape("many keys", 4, 1, 2500, 1000, 1),
+    Shape("multiples of 1,000", 8, 1, 1250, 8, 1000),
 )
 RANGES = (
     ("threads", 1, 64),
@@ -63,17 +64,7 @@ RANGES = (
     ("seconds", 1, 3600),
     ("at_least", 0, 100),
 )
-PART = 20000
-LONGEST = 100
-HOT = 4
-ENOUGH = 5
-HARDER = 2
-FURTHER = 20
-PATIENCE = 3
-READABLE = 6
-MEET = 250
-AWAKE = 300000
-SLOW = 5
+PART, LONGEST, HOT, ENOUGH, HARDER, FURTHER, PATIENCE, READABLE, MEET, AWAKE, SLOW = 20000, 100, 4, 5, 2, 20, 3, 6, 250, 300000, 5
 OK = "ok: %s calls, of which %s overlapped a change of their key"
 FEW = "that is few: take more threads, fewer keys or a machine that does less"
 TOO_FEW = "%s of %s calls overlapped a change of their key, and at_least asks for %s of 100: take more threads, fewer keys or a machine that does less"
@@ -177,11 +168,13 @@ class Options:
         it = it._replace(calls=it.calls if it.sets > 1 else it.calls // SLOW, threads=self.threads or it.threads)
         if self.keys or self.key:
             it = it._replace(keys=self.keys or it.keys, times=1)
-        return fitted(it._replace(calls=self.calls, sets=1) if self.calls else it)
+        if self.calls or self.opens_with_keys:
+            it = it._replace(calls=self.calls or it.sets * it.calls, sets=1)
+        return it
 
     def harder(self, it: Shape) -> Shape:
         """With more threads and fewer keys, where these options leave them open."""
-        return fitted(it._replace(threads=self.threads or min(2 * it.threads, 8), keys=self.keys or max(it.keys // 2, 1)))
+        return it._replace(threads=self.threads or min(2 * it.threads, 8), keys=self.keys or max(it.keys // 2, 1))
 
     def check_keys(self, it: Shape) -> None:
         seen = {}
@@ -193,10 +186,6 @@ class Options:
     def key_of(self, number: int, it: Shape) -> Any:
         """The key of a number, each time made anew."""
         return (self.key or int)(number * it.times)
-
-
-def fitted(it: Shape) -> Shape:
-    return it._replace(sets=max(1, min(it.sets, PART // (it.threads * it.calls)))) if it.sets > 1 else it
 
 
 def judge(make: Callable[[], Any], *, threads: int | None = None, calls: int | None = None, keys: int | None = None,
@@ -382,21 +371,20 @@ class Run:
         self.make, self.how, self.shape, self.seed = make, how, shape, seed
         how.check_keys(shape)
         self.tickets, self.there = itertools.count(1), threading.Barrier(shape.threads + 1)
-        # of each thread the most calls of a part, and of a round; the parts; how many were read
-        self.most = shape.sets * shape.calls if shape.sets > 1 else min(shape.calls, PART // shape.threads)
-        self.per_round = shape.calls if shape.sets > 1 else self.most
-        self.parts, self.part = 1 if shape.sets > 1 else -(-shape.calls // self.most), 0
-        # what was raised; whether it goes on; how far each thread is, the looks, and the last moment of the parts before; of each key of
-        # each set whether it was there at first, and at the end; the calls
-        self.at_keys = self.WHY + 1 + (shape.threads + 2) * self.COUNT.size
+        self.most = min(shape.calls, PART // shape.threads)  # of each thread the most calls of a part
+        self.parts, self.round = -(-shape.calls // self.most), 0  # of a set; the round that was read last
+        # what was raised; whether it goes on; how far each thread is, and the looks; of each key of each set whether it was there at
+        # first, and at the end; the calls
+        self.at_keys = self.WHY + 1 + (shape.threads + 1) * self.COUNT.size
         self.at_slots = self.at_keys + 2 * shape.keys * shape.sets
         self.slots = mmap.mmap(-1, self.at_slots + shape.threads * self.most * self.SLOT.size)
 
+    @property
+    def rounds(self):
+        return self.shape.sets * self.parts
+
     def count(self, at, number):
         self.COUNT.pack_into(self.slots, self.WHY + 1 + at * self.COUNT.size, number)
-
-    def before(self):
-        return self.COUNT.unpack_from(self.slots, self.at_keys - self.COUNT.size)[0]
 
     def fail(self, said):
         """Writes down what was raised; the first stays."""
@@ -463,8 +451,9 @@ class Run:
 
     def made(self, has_ended):
         """Lets the parts be made; gives, of each in turn, whether it hung."""
-        for part in range(self.parts):
-            if part:
+        for one in range(self.rounds):
+            if one:
+                self.slots[self.at_slots :] = bytes(len(self.slots) - self.at_slots)
                 self.at = GOING
             yield "" if self.comes_to_end(lambda: self.at == RESTING or has_ended()) else HUNG % self.how.seconds
 
@@ -495,19 +484,20 @@ class Run:
 
     def lead(self):
         """Makes each set and has the threads call it; rests after each part until it has been read."""
-        sets, parts, keys = self.shape.sets, self.parts, self.shape.keys
+        keys = self.shape.keys
         try:
-            for one in range(max(sets, parts)):
-                if one == 0 or sets > 1:
+            for one in range(self.rounds):
+                if one and not self.goes_on():
+                    return
+                of_set = self.at_keys + one // self.parts * keys
+                if one % self.parts == 0:
                     self.make_set()
                     if self.how.opens_with_keys:
-                        self.look_up(self.at_keys + one * keys)
-                elif not self.goes_on():
-                    return
+                        self.look_up(of_set)
                 self.there.wait()  # none begins before all are there
                 self.there.wait()
-                if sets > 1 or one == parts - 1:
-                    self.look_up(self.at_keys + (sets + one * (sets > 1)) * keys)
+                if (one + 1) % self.parts == 0:
+                    self.look_up(of_set + self.shape.sets * keys)
         except threading.BrokenBarrierError:
             pass
         finally:
@@ -526,7 +516,6 @@ class Run:
         self.at = RESTING
         while self.at == RESTING:
             time.sleep(0.0005)
-        self.count(self.shape.threads + 1, next(self.tickets))
         return self.at == GOING
 
     def look_up(self, to):
@@ -538,11 +527,11 @@ class Run:
         """The calls of one thread."""
         draw, number = random.Random(self.seed * 64 + thread), thread
         try:
-            for one, done in enumerate(range(0, max(self.shape.calls, self.shape.sets * self.per_round), self.per_round)):
+            for one in range(self.rounds):
                 self.there.wait()
-                first = thread * self.most + (done if self.shape.sets > 1 else 0)
-                count = self.per_round if self.shape.sets > 1 else min(self.most, self.shape.calls - done)
-                number = self.call(range(first, first + count), one * self.shape.keys * (self.shape.sets > 1), thread, number, draw)
+                first, of_set = thread * self.most, one // self.parts * self.shape.keys
+                places = range(first, first + min(self.most, self.shape.calls - one % self.parts * self.most))
+                number = self.call(places, of_set, thread, number, draw)
                 self.there.wait()
         except threading.BrokenBarrierError:
             pass
@@ -575,13 +564,12 @@ class Run:
     def read(self, trouble):
         """Takes in what was written down."""
         why = self.slots[: self.WHY].rstrip(b"\0").decode(errors="replace")
-        self.trouble, self.rows, self.part = why or trouble, [], self.part + 1
+        self.trouble, self.rows, self.round = why or trouble, [], self.round + 1
         if self.trouble and not why.startswith(THREW % "") and not self.slots[self.at_slots]:
             raise NoVerdict(why if why.startswith(NOT_MADE % "") else NOT_MADE % self.trouble)
-        before = self.before()  # (calls that began by then are of parts before)
         for at in range(self.shape.threads * self.most):
             begin, end, thread, key, word, reply = self.SLOT.unpack_from(self.slots, self.at_slots + at * self.SLOT.size)
-            if begin > before:
+            if begin:
                 self.rows.append(Call(begin, 0 if reply == UNKNOWN else end, thread, WORDS[word], key, reply))
         self.rows.sort()
         for word in (ADD, REMOVE):
@@ -591,7 +579,7 @@ class Run:
 
     def text(self):
         """What the recording has of this part."""
-        first, last = self.part == 1, self.trouble or self.part == self.parts
+        first, last = self.round == 1, self.trouble or self.round == self.rounds
         lines = ["listset-calls 1", *self.lines_of_keys("opening", 0)] if first else []
         lines += map(line_of, self.rows)
         if last:

@@ -3,14 +3,11 @@
 
 export const CODE = {
   "crates/lset_loops/src/coarse.rt": [
-    { name: "walk", first: 16, steps: [{"line": 26, "rows": [2]}, {"line": 28, "rows": [3]}, {"line": 32, "rows": [4]}], calls: [], text: `
+    { name: "walk", first: 15, steps: [{"line": 22, "rows": [2]}, {"line": 24, "rows": [3]}, {"line": 28, "rows": [4]}], calls: [], text: `
 /// Walks from the head to the first key that is not below that of the call.
-fn walk<O: Origin, P: Pause, N: Rounds>(
-    caller: &Caller<CoarseList, O, P>,
-    place: &mut TableSeat,
-) -> Option<Found>
-    requires { AtHead O.begun caller.now.slots place.old }
-    ensures { IfSome result (λ f. StopsAt O.begun caller.now.slots f place.new) }
+fn walk<P: Pause, N: Rounds>(caller: &Caller<CoarseList, P>, place: &mut TableSeat) -> Option<Found>
+    requires { AtHead caller.now.origin caller.now.slots place.old }
+    ensures { IfSome result (λ f. StopsAt caller.now.origin caller.now.slots f place.new) }
 {
     let key = caller.key;
     let mut pred = Node::head();
@@ -26,15 +23,15 @@ fn walk<O: Origin, P: Pause, N: Rounds>(
     }
     None
 }` },
-    { name: "act", first: 39, steps: [{"line": 50, "rows": [5, 6, 7]}, {"line": 54, "rows": [8]}, {"line": 55, "rows": [9]}], calls: [], text: `
+    { name: "act", first: 35, steps: [{"line": 46, "rows": [5, 6, 7]}, {"line": 50, "rows": [8]}, {"line": 51, "rows": [9]}], calls: [], text: `
 /// Does what the call does at the key that was found.
-fn act<O: Origin, P: Pause>(
-    caller: &Caller<CoarseList, O, P>,
+fn act<P: Pause>(
+    caller: &Caller<CoarseList, P>,
     place: &mut TableSeat,
     found: Found,
 ) -> (OwnSlots, Reply)
-    requires { StopsAt O.begun caller.now.slots found place.old }
-    ensures { Leaves O.begun result place.new }
+    requires { StopsAt caller.now.origin caller.now.slots found place.old }
+    ensures { Leaves caller.now.origin result place.new }
 {
     match decide(caller.call, found.word, caller.slots) {
         Decision::PutIn => {
@@ -43,48 +40,39 @@ fn act<O: Origin, P: Pause>(
         }
         Decision::TakeOut => {
             let link = caller.load_link(place, found.curr); // row 8
-            caller.store_link(place, found.pred, Node::behind(link)); // row 9
+            caller.store_link(place, found.pred, Link::To(Node::behind(link))); // row 9
             (caller.slots, Reply::True)
         }
         Decision::Answer(reply) => (caller.slots, reply),
     }
 }` },
-    { name: "make", first: 62, steps: [{"line": 81, "rows": [1]}, {"line": 84, "rows": [10]}], calls: [[82, "walk"], [83, "act"]], text: `
-fn make<O: Origin, P: Pause, N: Rounds>(
+    { name: "coarse_within", first: 58, steps: [{"line": 71, "rows": [1]}, {"line": 74, "rows": [10]}], calls: [[72, "walk"], [73, "act"]], text: `
+/// Makes a whole call: it takes the lock, walks to its key, acts there, and gives the lock back. (Herlihy and Shavit's
+/// coarse-grained list.) \`None\` where a loop of it has made \`N::MOST\` rounds.
+pub fn coarse_within<P: Pause, N: Rounds>(
     table: &Words<CoarseList>,
     place: &mut TableSeat,
     slots: OwnSlots,
     call: Call,
     pause: &P,
 ) -> Option<(OwnSlots, Reply)>
-    requires begins { MayBegin coarse O.begun slots place.old }
-    requires call { IsCall O.begun call table.now.table_id table.now.key }
-    ensures { IfSome result (λ r. HasAnswered coarse O.begun r place.new) }
+    requires { MayCall coarse table.now.table_id table.now.key slots place.old }
+    ensures { IfSome result (λ r. HasCalled coarse call place.old r place.new) }
 {
-    let caller = Caller::<'_, CoarseList, O, P> {
-        table,
-        pause,
-        slots,
-        call,
-        key: call.key().word(),
-        origin: PhantomData,
-    };
+    let caller = Caller::new(table, place, slots, call, pause);
     caller.begin_locked::<N>(place, LOCK)?; // row 1
-    let found = walk::<O, P, N>(&caller, place)?;
+    let found = walk::<P, N>(&caller, place)?;
     let answer = act(&caller, place, found);
     caller.release_last(place, LOCK); // row 10
     Some(answer)
 }` },
   ],
   "crates/lset_loops/src/fine.rt": [
-    { name: "walk", first: 17, steps: [{"line": 27, "rows": [2]}, {"line": 29, "rows": [3]}, {"line": 30, "rows": [4]}, {"line": 34, "rows": [5]}, {"line": 35, "rows": [6]}], calls: [], text: `
+    { name: "walk", first: 16, steps: [{"line": 23, "rows": [2]}, {"line": 25, "rows": [3]}, {"line": 26, "rows": [4]}, {"line": 30, "rows": [5]}, {"line": 31, "rows": [6]}], calls: [], text: `
 /// Walks hand over hand from the head, which is locked, to the first key that is not below that of the call.
-fn walk<O: Origin, P: Pause, N: Rounds>(
-    caller: &Caller<FineList, O, P>,
-    place: &mut TableSeat,
-) -> Option<Found>
-    requires { AtHead O.begun caller.now.slots place.old }
-    ensures { IfSome result (λ f. StopsAt O.begun caller.now.slots f place.new) }
+fn walk<P: Pause, N: Rounds>(caller: &Caller<FineList, P>, place: &mut TableSeat) -> Option<Found>
+    requires { AtHead caller.now.origin caller.now.slots place.old }
+    ensures { IfSome result (λ f. StopsAt caller.now.origin caller.now.slots f place.new) }
 {
     let key = caller.key;
     let mut pred = Node::head();
@@ -102,15 +90,15 @@ fn walk<O: Origin, P: Pause, N: Rounds>(
     }
     None
 }` },
-    { name: "act", first: 42, steps: [{"line": 53, "rows": [7, 8, 9]}, {"line": 57, "rows": [10]}, {"line": 58, "rows": [11]}], calls: [], text: `
+    { name: "act", first: 38, steps: [{"line": 49, "rows": [7, 8, 9]}, {"line": 53, "rows": [10]}, {"line": 54, "rows": [11]}], calls: [], text: `
 /// Does what the call does at the key that was found, between two nodes that it has locked.
-fn act<O: Origin, P: Pause>(
-    caller: &Caller<FineList, O, P>,
+fn act<P: Pause>(
+    caller: &Caller<FineList, P>,
     place: &mut TableSeat,
     found: Found,
 ) -> (OwnSlots, Reply)
-    requires { StopsAt O.begun caller.now.slots found place.old }
-    ensures { Leaves O.begun found result place.new }
+    requires { StopsAt caller.now.origin caller.now.slots found place.old }
+    ensures { Leaves caller.now.origin found result place.new }
 {
     match decide(caller.call, found.word, caller.slots) {
         Decision::PutIn => {
@@ -119,34 +107,28 @@ fn act<O: Origin, P: Pause>(
         }
         Decision::TakeOut => {
             let link = caller.load_link(place, found.curr); // row 10
-            caller.store_link(place, found.pred, Node::behind(link)); // row 11
+            caller.store_link(place, found.pred, Link::To(Node::behind(link))); // row 11
             (caller.slots, Reply::True)
         }
         Decision::Answer(reply) => (caller.slots, reply),
     }
 }` },
-    { name: "make", first: 65, steps: [{"line": 84, "rows": [1]}, {"line": 87, "rows": [12]}, {"line": 88, "rows": [13]}], calls: [[85, "walk"], [86, "act"]], text: `
-fn make<O: Origin, P: Pause, N: Rounds>(
+    { name: "fine_within", first: 61, steps: [{"line": 74, "rows": [1]}, {"line": 77, "rows": [12]}, {"line": 78, "rows": [13]}], calls: [[75, "walk"], [76, "act"]], text: `
+/// Makes a whole call: it walks to its key, locking each node before it gives up the one behind it, acts there, and gives
+/// both locks back. (Herlihy and Shavit's fine-grained list.) \`None\` where a loop of it has made \`N::MOST\` rounds.
+pub fn fine_within<P: Pause, N: Rounds>(
     table: &Words<FineList>,
     place: &mut TableSeat,
     slots: OwnSlots,
     call: Call,
     pause: &P,
 ) -> Option<(OwnSlots, Reply)>
-    requires begins { MayBegin fine O.begun slots place.old }
-    requires call { IsCall O.begun call table.now.table_id table.now.key }
-    ensures { IfSome result (λ r. HasAnswered fine O.begun r place.new) }
+    requires { MayCall fine table.now.table_id table.now.key slots place.old }
+    ensures { IfSome result (λ r. HasCalled fine call place.old r place.new) }
 {
-    let caller = Caller::<'_, FineList, O, P> {
-        table,
-        pause,
-        slots,
-        call,
-        key: call.key().word(),
-        origin: PhantomData,
-    };
+    let caller = Caller::new(table, place, slots, call, pause);
     caller.begin_locked::<N>(place, lock_index(HEAD))?; // row 1
-    let found = walk::<O, P, N>(&caller, place)?;
+    let found = walk::<P, N>(&caller, place)?;
     let answer = act(&caller, place, found);
     caller.unlock(place, found.curr); // row 12
     caller.unlock_last(place, found.pred); // row 13
@@ -154,16 +136,16 @@ fn make<O: Origin, P: Pause, N: Rounds>(
 }` },
   ],
   "crates/lset_loops/src/optimistic.rt": [
-    { name: "walk", first: 23, steps: [{"line": 38, "rows": [2]}, {"line": 43, "rows": [3]}], calls: [], text: `
+    { name: "walk", first: 22, steps: [{"line": 37, "rows": [2]}, {"line": 42, "rows": [3]}], calls: [], text: `
 /// Walks from the head, whose link led to \`first\`, to the first key that is not below that of the call.
 #[inline(always)]
-fn walk<O: Origin, P: Pause, N: Rounds>(
-    caller: &Caller<OptimisticList, O, P>,
+fn walk<P: Pause, N: Rounds>(
+    caller: &Caller<OptimisticList, P>,
     place: &mut TableSeat,
     first: Node,
 ) -> Option<Stopped>
-    requires { AtKey O.begun caller.now.slots 0 first.number 0 place.old }
-    ensures { IfSome result (λ f. StopsAt O.begun caller.now.slots f place.new) }
+    requires { AtKey caller.now.origin caller.now.slots 0 first.number 0 place.old }
+    ensures { IfSome result (λ f. StopsAt caller.now.origin caller.now.slots f place.new) }
 {
     let key = caller.key;
     let mut pred = Node::head();
@@ -182,17 +164,17 @@ fn walk<O: Origin, P: Pause, N: Rounds>(
     }
     None
 }` },
-    { name: "reaches", first: 51, steps: [{"line": 69, "rows": [6]}, {"line": 71, "rows": [7]}], calls: [], text: `
+    { name: "reaches", first: 50, steps: [{"line": 68, "rows": [6]}, {"line": 70, "rows": [7]}], calls: [], text: `
 /// Walks a second time from the head, as far as \`pred\`. Answers whether it came there: not where it saw a key above that of
 /// \`pred\`.
 #[inline(always)]
-fn reaches<O: Origin, P: Pause, N: Rounds>(
-    caller: &Caller<OptimisticList, O, P>,
+fn reaches<P: Pause, N: Rounds>(
+    caller: &Caller<OptimisticList, P>,
     place: &mut TableSeat,
     stopped: Stopped,
 ) -> Option<bool>
-    requires { HasLocked O.begun caller.now.slots stopped place.old }
-    ensures { IfSome result (λ r. HasReached O.begun caller.now.slots stopped.found r place.new) }
+    requires { HasLocked caller.now.origin caller.now.slots stopped place.old }
+    ensures { IfSome result (λ r. HasReached caller.now.origin caller.now.slots stopped.found r place.new) }
 {
     let pred = stopped.found.pred.number;
     let before = stopped.before;
@@ -213,18 +195,18 @@ fn reaches<O: Origin, P: Pause, N: Rounds>(
     }
     None
 }` },
-    { name: "validate", first: 82, steps: [{"line": 95, "rows": [8]}], calls: [[92, "reaches"]], text: `
+    { name: "validate", first: 81, steps: [{"line": 94, "rows": [8]}], calls: [[91, "reaches"]], text: `
 /// Whether \`pred\` is still in the list and leads to \`curr\`, both of which are locked.
-fn validate<O: Origin, P: Pause, N: Rounds>(
-    caller: &Caller<OptimisticList, O, P>,
+fn validate<P: Pause, N: Rounds>(
+    caller: &Caller<OptimisticList, P>,
     place: &mut TableSeat,
     stopped: Stopped,
 ) -> Option<bool>
-    requires { HasLocked O.begun caller.now.slots stopped place.old }
-    ensures { IfSome result (λ r. HasValidated O.begun caller.now.slots stopped.found r place.new) }
+    requires { HasLocked caller.now.origin caller.now.slots stopped place.old }
+    ensures { IfSome result (λ r. HasValidated caller.now.origin caller.now.slots stopped.found r place.new) }
 {
     let found = stopped.found;
-    if !reaches::<O, P, N>(caller, place, stopped)? {
+    if !reaches::<P, N>(caller, place, stopped)? {
         return Some(false);
     }
     let link = caller.load_link(place, found.pred); // row 8
@@ -233,15 +215,15 @@ fn validate<O: Origin, P: Pause, N: Rounds>(
     }
     Some(true)
 }` },
-    { name: "act", first: 102, steps: [{"line": 113, "rows": [9, 10, 11]}, {"line": 117, "rows": [12]}, {"line": 118, "rows": [13]}], calls: [], text: `
+    { name: "act", first: 101, steps: [{"line": 112, "rows": [9, 10, 11]}, {"line": 116, "rows": [12]}, {"line": 117, "rows": [13]}], calls: [], text: `
 /// Does what the call does at the key that was found, between two nodes that it has locked.
-fn act<O: Origin, P: Pause>(
-    caller: &Caller<OptimisticList, O, P>,
+fn act<P: Pause>(
+    caller: &Caller<OptimisticList, P>,
     place: &mut TableSeat,
     found: Found,
 ) -> (OwnSlots, Reply)
-    requires { AreNeighbours O.begun caller.now.slots found place.old }
-    ensures { Leaves O.begun found result place.new }
+    requires { AreNeighbours caller.now.origin caller.now.slots found place.old }
+    ensures { Leaves caller.now.origin found result place.new }
 {
     match decide(caller.call, found.word, caller.slots) {
         Decision::PutIn => {
@@ -250,39 +232,34 @@ fn act<O: Origin, P: Pause>(
         }
         Decision::TakeOut => {
             let link = caller.load_link(place, found.curr); // row 12
-            caller.store_link(place, found.pred, Node::behind(link)); // row 13
+            caller.store_link(place, found.pred, Link::To(Node::behind(link))); // row 13
             (caller.slots, Reply::True)
         }
         Decision::Answer(reply) => (caller.slots, reply),
     }
 }` },
-    { name: "make", first: 125, steps: [{"line": 144, "rows": [1], "begins": true, "answers": false}, {"line": 148, "rows": [4]}, {"line": 149, "rows": [5]}, {"line": 152, "rows": [14], "begins": false, "answers": true}, {"line": 153, "rows": [15], "begins": false, "answers": true}, {"line": 156, "rows": [14], "begins": false, "answers": false}, {"line": 157, "rows": [15], "begins": false, "answers": false}, {"line": 158, "rows": [1], "begins": false, "answers": false}], calls: [[146, "walk"], [150, "validate"], [151, "act"]], text: `
-fn make<O: Origin, P: Pause, N: Rounds>(
+    { name: "optimistic_within", first: 124, steps: [{"line": 138, "rows": [1], "begins": true, "answers": false}, {"line": 142, "rows": [4]}, {"line": 143, "rows": [5]}, {"line": 146, "rows": [14], "begins": false, "answers": true}, {"line": 147, "rows": [15], "begins": false, "answers": true}, {"line": 150, "rows": [14], "begins": false, "answers": false}, {"line": 151, "rows": [15], "begins": false, "answers": false}, {"line": 152, "rows": [1], "begins": false, "answers": false}], calls: [[140, "walk"], [144, "validate"], [145, "act"]], text: `
+/// Makes a whole call: it walks to its key without a lock, locks the two nodes there, looks by a second walk whether they
+/// are still neighbours in the list, and acts, or gives them back and starts over. (Herlihy and Shavit's optimistic list.)
+/// \`None\` where a loop of it has made \`N::MOST\` rounds.
+pub fn optimistic_within<P: Pause, N: Rounds>(
     table: &Words<OptimisticList>,
     place: &mut TableSeat,
     slots: OwnSlots,
     call: Call,
     pause: &P,
 ) -> Option<(OwnSlots, Reply)>
-    requires begins { MayBegin optimistic O.begun slots place.old }
-    requires call { IsCall O.begun call table.now.table_id table.now.key }
-    ensures { IfSome result (λ r. HasAnswered optimistic O.begun r place.new) }
+    requires { MayCall optimistic table.now.table_id table.now.key slots place.old }
+    ensures { IfSome result (λ r. HasCalled optimistic call place.old r place.new) }
 {
-    let caller = Caller::<'_, OptimisticList, O, P> {
-        table,
-        pause,
-        slots,
-        call,
-        key: call.key().word(),
-        origin: PhantomData,
-    };
+    let caller = Caller::new(table, place, slots, call, pause);
     let mut link = caller.begin_at_head(place); // row 1
     for round in 0..N::MOST {
-        let stopped = walk::<O, P, N>(&caller, place, Node::behind(link))?;
+        let stopped = walk::<P, N>(&caller, place, Node::behind(link))?;
         let found = stopped.found;
         caller.lock::<N>(place, found.pred)?; // row 4
         caller.lock::<N>(place, found.curr)?; // row 5
-        if validate::<O, P, N>(&caller, place, stopped)? {
+        if validate::<P, N>(&caller, place, stopped)? {
             let answer = act(&caller, place, found);
             caller.unlock(place, found.pred); // row 14
             caller.unlock_last(place, found.curr); // row 15
@@ -296,16 +273,16 @@ fn make<O: Origin, P: Pause, N: Rounds>(
 }` },
   ],
   "crates/lset_loops/src/lazy.rt": [
-    { name: "walk", first: 18, steps: [{"line": 32, "rows": [2]}, {"line": 36, "rows": [3]}], calls: [], text: `
+    { name: "walk", first: 17, steps: [{"line": 31, "rows": [2]}, {"line": 35, "rows": [3]}], calls: [], text: `
 /// Walks from the head, whose link led to \`first\`, to the first key that is not below that of the call.
 #[inline(always)]
-fn walk<O: Origin, P: Pause, N: Rounds>(
-    caller: &Caller<LazyList, O, P>,
+fn walk<P: Pause, N: Rounds>(
+    caller: &Caller<LazyList, P>,
     place: &mut TableSeat,
     first: Node,
 ) -> Option<Found>
-    requires { AtKey O.begun caller.now.slots 0 first.number place.old }
-    ensures { IfSome result (λ f. StopsAt O.begun caller.now.slots f place.new) }
+    requires { AtKey caller.now.origin caller.now.slots 0 first.number place.old }
+    ensures { IfSome result (λ f. StopsAt caller.now.origin caller.now.slots f place.new) }
 {
     let key = caller.key;
     let mut pred = Node::head();
@@ -321,15 +298,15 @@ fn walk<O: Origin, P: Pause, N: Rounds>(
     }
     None
 }` },
-    { name: "validate", first: 43, steps: [{"line": 52, "rows": [6]}, {"line": 56, "rows": [7]}], calls: [], text: `
+    { name: "validate", first: 42, steps: [{"line": 51, "rows": [6]}, {"line": 55, "rows": [7]}], calls: [], text: `
 /// Whether \`pred\` leads to \`curr\`, and neither has a mark: then the answer is the node behind \`curr\`.
-fn validate<O: Origin, P: Pause>(
-    caller: &Caller<LazyList, O, P>,
+fn validate<P: Pause>(
+    caller: &Caller<LazyList, P>,
     place: &mut TableSeat,
     found: Found,
 ) -> Option<Node>
-    requires { HasLocked O.begun caller.now.slots found place.old }
-    ensures { HasValidated O.begun caller.now.slots found result place.new }
+    requires { HasLocked caller.now.origin caller.now.slots found place.old }
+    ensures { HasValidated caller.now.origin caller.now.slots found result place.new }
 {
     let before = caller.load_link(place, found.pred); // row 6
     if before != 2 * found.curr.number {
@@ -341,16 +318,16 @@ fn validate<O: Origin, P: Pause>(
     }
     Some(Node::behind(after))
 }` },
-    { name: "act", first: 63, steps: [{"line": 75, "rows": [8, 9, 10]}, {"line": 79, "rows": [11]}, {"line": 80, "rows": [12]}], calls: [], text: `
+    { name: "act", first: 62, steps: [{"line": 74, "rows": [8, 9, 10]}, {"line": 78, "rows": [11]}, {"line": 79, "rows": [12]}], calls: [], text: `
 /// Does what the call does at the key that was found, between two nodes that it has locked.
-fn act<O: Origin, P: Pause>(
-    caller: &Caller<LazyList, O, P>,
+fn act<P: Pause>(
+    caller: &Caller<LazyList, P>,
     place: &mut TableSeat,
     found: Found,
     succ: Node,
 ) -> (OwnSlots, Reply)
-    requires { AreNeighbours O.begun caller.now.slots found succ place.old }
-    ensures { Leaves O.begun found result place.new }
+    requires { AreNeighbours caller.now.origin caller.now.slots found succ place.old }
+    ensures { Leaves caller.now.origin found result place.new }
 {
     match decide(caller.call, found.word, caller.slots) {
         Decision::PutIn => {
@@ -358,37 +335,32 @@ fn act<O: Origin, P: Pause>(
             (one_more(caller.slots), Reply::True)
         }
         Decision::TakeOut => {
-            caller.store_mark(place, found.curr, succ); // row 11
-            caller.store_link(place, found.pred, succ); // row 12
+            caller.store_link(place, found.curr, Link::Marked(succ)); // row 11
+            caller.store_link(place, found.pred, Link::To(succ)); // row 12
             (caller.slots, Reply::True)
         }
         Decision::Answer(reply) => (caller.slots, reply),
     }
 }` },
-    { name: "make", first: 87, steps: [{"line": 107, "rows": [1], "begins": true, "answers": false}, {"line": 110, "rows": [4]}, {"line": 111, "rows": [5]}, {"line": 115, "rows": [13], "begins": false, "answers": true}, {"line": 116, "rows": [14], "begins": false, "answers": true}, {"line": 120, "rows": [13], "begins": false, "answers": false}, {"line": 121, "rows": [14], "begins": false, "answers": false}, {"line": 122, "rows": [1], "begins": false, "answers": false}], calls: [[109, "walk"], [112, "validate"], [114, "act"]], text: `
-fn make<O: Origin, P: Pause, N: Rounds>(
+    { name: "lazy_change_within", first: 86, steps: [{"line": 101, "rows": [1], "begins": true, "answers": false}, {"line": 104, "rows": [4]}, {"line": 105, "rows": [5]}, {"line": 109, "rows": [13], "begins": false, "answers": true}, {"line": 110, "rows": [14], "begins": false, "answers": true}, {"line": 114, "rows": [13], "begins": false, "answers": false}, {"line": 115, "rows": [14], "begins": false, "answers": false}, {"line": 116, "rows": [1], "begins": false, "answers": false}], calls: [[103, "walk"], [106, "validate"], [108, "act"]], text: `
+/// Makes a whole \`add\` or \`remove\` on a LazyList: it walks to its place without a lock, locks the two nodes there, looks
+/// whether they are still neighbours in the list, and acts, or gives them back and starts over. (Herlihy and Shavit's lazy
+/// list, after Heller and others.) \`None\` where a loop of it has made \`N::MOST\` rounds.
+pub fn lazy_change_within<P: Pause, N: Rounds>(
     table: &Words<LazyList>,
     place: &mut TableSeat,
     slots: OwnSlots,
     call: Call,
     pause: &P,
 ) -> Option<(OwnSlots, Reply)>
-    requires begins { MayBegin lazy O.begun slots place.old }
-    requires call { IsCall O.begun call table.now.table_id table.now.key }
-    requires walks { first_row O.begun.call ≡ 1 }
-    ensures { IfSome result (λ r. HasAnswered lazy O.begun r place.new) }
+    requires may { MayCall lazy table.now.table_id table.now.key slots place.old }
+    requires changes { first_row call ≡ 1 }
+    ensures { IfSome result (λ r. HasCalled lazy call place.old r place.new) }
 {
-    let caller = Caller::<'_, LazyList, O, P> {
-        table,
-        pause,
-        slots,
-        call,
-        key: call.key().word(),
-        origin: PhantomData,
-    };
+    let caller = Caller::new(table, place, slots, call, pause);
     let mut link = caller.begin_at_head(place); // row 1
     for round in 0..N::MOST {
-        let found = walk::<O, P, N>(&caller, place, Node::behind(link))?;
+        let found = walk::<P, N>(&caller, place, Node::behind(link))?;
         caller.lock::<N>(place, found.pred)?; // row 4
         caller.lock::<N>(place, found.curr)?; // row 5
         match validate(&caller, place, found) {
@@ -409,37 +381,34 @@ fn make<O: Origin, P: Pause, N: Rounds>(
 }` },
   ],
   "crates/lset_loops/src/reads.rt": [
-    { name: "make", first: 44, steps: [{"line": 64, "rows": [20], "begins": true, "answers": false}, {"line": 66, "rows": [21]}, {"line": 72, "rows": [22]}, {"line": 75, "rows": [20], "begins": false, "answers": false}], calls: [], text: `
-fn make<M: ReadsByRows, O: Origin, P: Pause>(
+    { name: "contains_on", first: 42, steps: [{"line": 59, "rows": [20], "begins": true, "answers": false}, {"line": 61, "rows": [21]}, {"line": 67, "rows": [22]}, {"line": 70, "rows": [20], "begins": false, "answers": false}], calls: [], text: `
+/// Makes a whole \`contains\` of \`key\`: it goes on to the first key that is not below its own, and asks for the mark of a node
+/// that has it. (Herlihy and Shavit's wait-free \`contains\`.)
+///
+/// \`place\` is the place of an idle seat of these words, and \`slots\` are those of its thread. The answer is the slots and the
+/// reply. \`pause\` is asked after each step that does not answer. It waits for nobody, and returns.
+pub fn contains_on<M: ReadsByRows, P: Pause>(
     table: &Words<M>,
     place: &mut TableSeat,
     slots: OwnSlots,
     key: Key,
     pause: &P,
 ) -> (OwnSlots, Reply)
-    requires begins { MayBegin M.table O.begun slots place.old }
-    requires call { IsCall O.begun (Contains key) table.now.table_id table.now.key }
-    ensures { HasAnswered M.table O.begun result place.new }
+    requires { MayCall M.table table.now.table_id table.now.key slots place.old }
+    ensures { HasCalled M.table (Contains key) place.old result place.new }
 {
-    let target = key.word();
-    let caller = Caller::<'_, M, O, P> {
-        table,
-        pause,
-        slots,
-        call: Call::Contains(key),
-        key: target,
-        origin: PhantomData,
-    };
+    let caller = Caller::new(table, place, slots, Call::Contains(key), pause);
+    let target = caller.key;
     let mut curr = Node::behind(caller.begin_at_head(place)); // row 20
     loop {
         let word = caller.look_at_key(place, curr); // row 21
         if word > target {
-            return (slots, Reply::False);
+            return (caller.slots, Reply::False);
         }
         caller.goes_on();
         if word == target {
             let mark = caller.look_at_link(place, curr); // row 22
-            return (slots, reply_by_mark(mark));
+            return (caller.slots, reply_by_mark(mark));
         }
         let link = caller.look_at_link(place, curr); // row 20
         caller.goes_on();
@@ -448,16 +417,16 @@ fn make<M: ReadsByRows, O: Origin, P: Pause>(
 }` },
   ],
   "crates/lset_loops/src/lock_free.rt": [
-    { name: "find", first: 17, steps: [{"line": 31, "rows": [2]}, {"line": 34, "rows": [3]}, {"line": 40, "rows": [1], "begins": false, "answers": false}, {"line": 43, "rows": [4]}], calls: [], text: `
+    { name: "find", first: 16, steps: [{"line": 30, "rows": [2]}, {"line": 33, "rows": [3]}, {"line": 39, "rows": [1], "begins": false, "answers": false}, {"line": 42, "rows": [4]}], calls: [], text: `
 /// Walks from the head, whose link led to \`first\`, to the first key that is not below that of the call, and takes marked
 /// nodes out on its way (Herlihy and Shavit's \`find\`).
-fn find<O: Origin, P: Pause, N: Rounds>(
-    caller: &Caller<LockFreeList, O, P>,
+fn find<P: Pause, N: Rounds>(
+    caller: &Caller<LockFreeList, P>,
     place: &mut TableSeat,
     first: Node,
 ) -> Option<Found>
-    requires { AtLink O.begun caller.now.slots 0 first.number place.old }
-    ensures { IfSome result (λ f. StopsAt O.begun caller.now.slots f place.new) }
+    requires { AtLink caller.now.origin caller.now.slots 0 first.number place.old }
+    ensures { IfSome result (λ f. StopsAt caller.now.origin caller.now.slots f place.new) }
 {
     let key = caller.key;
     let mut pred = Node::head();
@@ -466,7 +435,7 @@ fn find<O: Origin, P: Pause, N: Rounds>(
         let link = caller.load_link(place, curr); // row 2
         let succ = Node::behind(link);
         if link % 2 != 0 {
-            if caller.exchange_link(place, pred, curr, succ) { // row 3
+            if caller.exchange(place, pred, Link::To(curr), Link::To(succ)) { // row 3
                 caller.goes_on();
                 curr = succ;
                 continue;
@@ -485,21 +454,21 @@ fn find<O: Origin, P: Pause, N: Rounds>(
     }
     None
 }` },
-    { name: "attempt", first: 54, steps: [{"line": 66, "rows": [5, 6]}, {"line": 67, "rows": [7]}, {"line": 74, "rows": [8]}, {"line": 75, "rows": [9]}, {"line": 79, "rows": [10]}], calls: [], text: `
+    { name: "attempt", first: 53, steps: [{"line": 65, "rows": [5, 6]}, {"line": 66, "rows": [7]}, {"line": 73, "rows": [8]}, {"line": 74, "rows": [9]}, {"line": 78, "rows": [10]}], calls: [], text: `
 /// Does what the call does at the key that was found. \`None\` where a link was another by then.
-fn attempt<O: Origin, P: Pause>(
-    caller: &Caller<LockFreeList, O, P>,
+fn attempt<P: Pause>(
+    caller: &Caller<LockFreeList, P>,
     place: &mut TableSeat,
     found: Found,
 ) -> Option<(OwnSlots, Reply)>
-    requires { StopsAt O.begun caller.now.slots found place.old }
-    ensures { HasTried O.begun caller.now.slots result place.new }
+    requires { StopsAt caller.now.origin caller.now.slots found place.old }
+    ensures { HasTried caller.now.origin caller.now.slots result place.new }
 {
     match decide(caller.call, found.word, caller.slots) {
         Decision::PutIn => {
             caller.goes_on();
             let node = caller.fill_slot(place, found.curr); // rows 5, 6
-            if !caller.exchange_link(place, found.pred, found.curr, node) { // row 7
+            if !caller.exchange(place, found.pred, Link::To(found.curr), Link::To(node)) { // row 7
                 return None;
             }
             Some((one_more(caller.slots), Reply::True))
@@ -507,40 +476,35 @@ fn attempt<O: Origin, P: Pause>(
         Decision::TakeOut => {
             caller.goes_on();
             let succ = Node::behind(caller.load_link(place, found.curr)); // row 8
-            if !caller.exchange_mark(place, found.curr, succ) { // row 9
+            if !caller.exchange(place, found.curr, Link::To(succ), Link::Marked(succ)) { // row 9
                 return None;
             }
             caller.goes_on();
-            caller.exchange_link_last(place, found.pred, found.curr, succ); // row 10
+            caller.exchange_last(place, found.pred, Link::To(found.curr), Link::To(succ)); // row 10
             Some((caller.slots, Reply::True))
         }
         Decision::Answer(reply) => Some((caller.slots, reply)),
     }
 }` },
-    { name: "make", first: 86, steps: [{"line": 106, "rows": [1], "begins": true, "answers": false}, {"line": 111, "rows": [1], "begins": false, "answers": false}], calls: [[108, "find"], [109, "attempt"]], text: `
-fn make<O: Origin, P: Pause, N: Rounds>(
+    { name: "lock_free_change_within", first: 85, steps: [{"line": 100, "rows": [1], "begins": true, "answers": false}, {"line": 105, "rows": [1], "begins": false, "answers": false}], calls: [[102, "find"], [103, "attempt"]], text: `
+/// Makes a whole \`add\` or \`remove\` on a LockFreeList: it walks to its place, and puts its next slot in there, or marks the
+/// node and tries once to take it out; or starts over where a link has changed. (Herlihy and Shavit's lock-free list.)
+/// \`None\` where a loop of it has made \`N::MOST\` rounds.
+pub fn lock_free_change_within<P: Pause, N: Rounds>(
     table: &Words<LockFreeList>,
     place: &mut TableSeat,
     slots: OwnSlots,
     call: Call,
     pause: &P,
 ) -> Option<(OwnSlots, Reply)>
-    requires begins { MayBegin lock_free O.begun slots place.old }
-    requires call { IsCall O.begun call table.now.table_id table.now.key }
-    requires walks { first_row O.begun.call ≡ 1 }
-    ensures { IfSome result (λ r. HasAnswered lock_free O.begun r place.new) }
+    requires may { MayCall lock_free table.now.table_id table.now.key slots place.old }
+    requires changes { first_row call ≡ 1 }
+    ensures { IfSome result (λ r. HasCalled lock_free call place.old r place.new) }
 {
-    let caller = Caller::<'_, LockFreeList, O, P> {
-        table,
-        pause,
-        slots,
-        call,
-        key: call.key().word(),
-        origin: PhantomData,
-    };
+    let caller = Caller::new(table, place, slots, call, pause);
     let mut link = caller.begin_at_head(place); // row 1
     for round in 0..N::MOST {
-        let found = find::<O, P, N>(&caller, place, Node::behind(link))?;
+        let found = find::<P, N>(&caller, place, Node::behind(link))?;
         match attempt(&caller, place, found) {
             Some(answer) => return Some(answer),
             None => link = caller.load_link(place, Node::head()), // row 1

@@ -1,31 +1,26 @@
 // The page: its parts are put together, and it starts.
-import "./older.js";
-import { judgeBreaking, listenToBreaking, showBreaking } from "./activities/break_level.js";
-import { fillBreaks } from "./activities/break_map.js";
 import { drawCompare, listenToSides, pressForSides, showSides } from "./activities/compare.js";
-import { listenToCourses } from "./activities/courses.js";
+import { listenToCourses, listenToHandIn } from "./activities/courses.js";
 import { listenToJudging } from "./activities/judge_begin.js";
 import { drawJudging } from "./activities/judging.js";
-import { drawStrip } from "./activities/learn_map.js";
-import { learning, startLearning } from "./activities/learning.js";
-import { drawLesson, listenToLessons } from "./activities/lessons.js";
 import { followAddress, openCourseFile, openFirst, openRecorded, showBeforehand } from "./activities/open.js";
 import { showPlace } from "./activities/place.js";
 import { drawReadMap } from "./activities/read.js";
-import { drawWatchMap } from "./activities/watch.js";
 import { Engine } from "./engine/engine.js";
 import { listenToBar, listenToDrawings, listenToFiles, listenToSettings, listenToWork, placeParts, stopUnable } from "./page/controls.js";
 import { byId } from "./page/dom.js";
 import { refreshReport } from "./page/files.js";
 import { keysOf, pressKey } from "./page/keys.js";
 import { fillExamples, fillWorks, showQuestion } from "./page/menu.js";
-import { drawMovesNow } from "./page/moves.js";
 import { held, on, show, takeTrace } from "./page/now.js";
 import { fitSlide, isAtMap, services, showParts } from "./page/places.js";
 import { keepHeights, showBar, showMarks, showRun } from "./page/view.js";
 import { keepNow, keepSoon } from "./page/visit.js";
 import { showHeader } from "./page/work.js";
 import { Trace } from "./run/trace.js";
+import { isScene, leaveScene, listenToScene, pressInScene, renderScene } from "./story/scene.js";
+import { startLearning } from "./story/learning.js";
+import { takeViews } from "./story/views.js";
 
 const EMPTY_TRACE = "listset-trace 1\nlist lazy\nthreads 2\nquota 4\nend\n";
 
@@ -36,10 +31,11 @@ function listen() {
   listenToFiles();
   listenToSettings();
   listenToJudging();
-  listenToBreaking();
+  listenToScene();
   listenToSides();
   placeParts();
   keysOf.compare = pressForSides;
+  for (const activity of ["story", "ask", "code", "break", "learn"]) keysOf[activity] = pressInScene;
   document.addEventListener("click", stopUnable, true);
   document.addEventListener("keydown", pressKey);
   window.addEventListener("resize", fitSlide);
@@ -52,7 +48,13 @@ function listen() {
 // that leaves.
 function render(state, moment) {
   showParts(state);
-  for (const draw of [showBar, showQuestion, showBreaking, drawLesson, drawJudging, drawMovesNow, showPlace]) draw(moment);
+  if (isScene(state)) {
+    renderScene(state);
+    showPlace(moment);
+    return keepSoon();
+  }
+  leaveScene();
+  for (const draw of [showBar, showQuestion, drawJudging, showPlace]) draw(moment);
   if (!isAtMap()) showRun(moment);
   showMarks();
   showSides();
@@ -62,11 +64,18 @@ function render(state, moment) {
 
 function connect() {
   held.render = render;
-  on("taken", judgeBreaking, showHeader);
+  on("taken", showHeader);
   on("ran", showMarks, keepSoon, refreshReport);
   on("kept", fillWorks);
   on("recorded", openRecorded);
   on("course", openCourseFile);
+}
+
+// Nothing is drawn yet: what the page says while the engine comes stands there.
+function takeEmpty() {
+  held.render = () => {};
+  takeTrace(new Trace(EMPTY_TRACE), 0, "");
+  held.render = render;
 }
 
 async function startEngine() {
@@ -83,23 +92,23 @@ async function startEngine() {
 function fillMaps() {
   fillExamples();
   if (held.engine !== null) {
-    fillBreaks();
-    listenToLessons(startLearning());
-    listenToCourses(learning.panel);
-    drawStrip();
+    const panel = startLearning();
+    listenToCourses(panel);
+    listenToHandIn(panel);
   }
-  drawWatchMap(true);
   drawReadMap();
   drawCompare();
 }
 
 async function startPage() {
   document.body.dataset.ready = "begun";
+  takeViews();
   connect();
   listen();
-  if (!showBeforehand()) takeTrace(new Trace(EMPTY_TRACE), 0, "");
+  if (!showBeforehand()) takeEmpty();
   await startEngine();
   fillMaps();
+  document.body.dataset.ready = "soon";
   try {
     await openFirst();
   } finally {

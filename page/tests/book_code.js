@@ -22,11 +22,21 @@ for (const [kind, { calls, rows }] of Object.entries(inPage("LISTS"))) {
     check(`${kind}, ${call}: ${count} lines`, count >= 3 && count <= 15);
   }
 }
-const [levels, words] = ["BREAK_LEVELS", "LACKS_IN_WORDS"].map(inPage);
+const levels = inPage("BREAK_LEVELS");
 const lacking = inPage("LACKING");
 check("each broken list is a level", Object.keys(levels).sort().join() === Object.keys(lacking).sort().join());
-for (const [name, { hints, lacks }] of Object.entries(levels)) {
-  check(`${name} has three hints and a sentence`, hints.length === 3 && (lacks ?? words[name]) !== undefined);
+const NUMBERS = [
+  "lock", "mark-in-remove", "mark", "new-slot", "second-lock", "hand-over-hand", "second-walk", "marks-in-validation", "mark-in-add", "same-node",
+  "mark-at-key", "mark-in-ceiling", "mark-in-contains",
+]; // assignments name the levels by them
+check(`the numbers of the levels: ${Object.keys(levels)}`, Object.keys(levels).join() === NUMBERS.join());
+for (const [name, { hints, lacks, others, missing }] of Object.entries(levels)) {
+  check(`${name} has three hints and a sentence`, hints.length === 3 && lacks.endsWith("."));
+  const replies = Object.values(others);
+  check(`${name} has wrong answers with replies`, replies.length === (name === inPage("NO_TASK") ? 0 : 2) && replies.every((reply) => /^it \w+ .*[a-z)]$/.test(reply)));
+  const lines = BOOK_CODE[lacking[name]];
+  const isThere = ({ row, part }) => lines.some(({ rows = [], text }) => rows.includes(row) && text.includes(part));
+  check(`${name}: what is missing stands in the code`, missing.length > 0 && missing.every(isThere));
 }
 console.log(JSON.stringify(result));
 process.exit(result.failed.length === 0 ? 0 : 1);

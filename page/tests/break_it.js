@@ -45,7 +45,7 @@ function checkBroken(ask, name) {
 
 // Each event has its sentence and its picture, and the whole list departs at one of them: up to it both make the same.
 function checkDeparture(ask, name) {
-  const trace = new Trace(ask("listset_trace_lacking", name, scheduleOf(name)).text, 2);
+  const trace = new Trace(ask("listset_lacking", name, scheduleOf(name), "trace").text, 2);
   check(`${name} stands in its trace`, trace.lacks === name && trace.kind === LACKING[name]);
   const state = new (inPage("State"))(trace);
   for (let count = 0; count <= trace.total; count++) {
@@ -73,7 +73,7 @@ function checkContents(trace) {
 
 // Its trace as a file: by the grammar, compared with the engine's; and another name in it is none.
 function checkFile(ask, name) {
-  const { text } = ask("listset_trace_lacking", name, scheduleOf(name));
+  const { text } = ask("listset_lacking", name, scheduleOf(name), "trace");
   check(`${name}: its trace is one: ${inPage("faultOfTrace")(text)}`, inPage("faultOfTrace")(text) === null);
   const compared = (given) => inPage("comparedTrace")(ask, new Trace(given, 2));
   check(`${name}: ${compared(text)}`, compared(text) === "a trace from a file, and the engine gives the same for its schedule");
@@ -86,12 +86,10 @@ function checkFile(ask, name) {
 // An answer that is no verdict, and no trace, is shown as it stands.
 function checkTroubles(ask) {
   const stopped = (name) => (one, ...texts) => (one === name ? { status: 1, text: "the engine stopped: unreachable" } : ask(one, ...texts));
-  const unchecked = verdictOnLacking(stopped("listset_check"), "lock", scheduleOf("lock"));
+  const unchecked = verdictOnLacking(stopped("listset_check_record"), "lock", scheduleOf("lock"));
   const isTold = unchecked.kind === "refused" && unchecked.says === "The run is not judged: the engine stopped: unreachable.";
-  check(`no answer of check: ${unchecked.says}`, isTold && unchecked.report === null);
-  const { kind, says } = verdictOnLacking(stopped("listset_show"), "lock", scheduleOf("lock"));
-  check(`no answer of show: ${says}`, kind === "points" && says.endsWith("is not known."));
-  const trace = new Trace(ask("listset_trace_lacking", "lock", scheduleOf("lock")).text, 2);
+  check(`no answer of the judge: ${unchecked.says}`, isTold && unchecked.report === null);
+  const trace = new Trace(ask("listset_lacking", "lock", scheduleOf("lock"), "trace").text, 2);
   check("no trace of the whole list", departureOf(stopped("listset_trace"), trace) === null);
   const tries = ["begin 0 add 5", "go 0 1", "begin 1 add 7", "go 1 10000", "go 1 10000"];
   const { text } = ask("listset_trace", `listset-schedule 1\nlist coarse\nthreads 2\nquota 4\n${tries.join("\n")}\n`);
@@ -193,21 +191,10 @@ function checkLesson(ask) {
   check("a goal is due of a whole list", faultOf(LESSON.replace(/^lacks .*\n/m, "")).fault.includes('lacks "goal"'));
 }
 
-// A wrong answer to what a list lacks is contradicted, and never reads as agreement.
-function checkWhy() {
-  const [levels, whyWrong, wordOf] = ["BREAK_LEVELS", "whyWrong", "wordOf"].map(inPage);
-  for (const name of Object.keys(levels)) {
-    const wrong = [...Object.keys(levels[name].others ?? {}), ...Object.keys(levels).map(wordOf)].filter((word) => word !== wordOf(name));
-    for (const word of wrong) check(`${name}: ${whyWrong(name, word)}`, /^No: (it \w+ |that is not so)/.test(whyWrong(name, word)));
-  }
-  const early = whyWrong("lock", "It releases the lock before it writes the link.");
-  check(`level 1: ${early}`, early.startsWith("No: it releases the lock only after that. "));
-}
-
 async function main() {
   const engine = await startedEngine();
   const ask = (name, ...texts) => engine.ask(name, ...texts);
-  const named = ask("listset_replay_lacking", "luck", startOf("lock"));
+  const named = ask("listset_lacking", "luck", startOf("lock"), "replay");
   check(`a name of none: ${named.text}`, named.status === 2 && named.text.includes("bad NAME"));
   for (const name of NAMES) {
     checkBroken(ask, name);
@@ -220,7 +207,6 @@ async function main() {
   checkDrafts(ask);
   checkHandedIn(ask);
   checkLesson(ask);
-  checkWhy();
   console.log(JSON.stringify(result));
 }
 

@@ -4,13 +4,12 @@
 const TEXT = 4.5;
 const EDGE = 3;
 const GROUNDS_OF = {
-  ink: ["paper", "wash", "press", "now", "new", "bad-wash", "ground", "go-wash", "made"],
-  soft: ["paper", "wash", "now", "ground", "press"],
-  go: ["paper", "go-wash"],
-  wait: ["wait-wash", "paper"],
-  paper: ["go", "ink"],
-  pale: ["paper", "wash", "now"],
-  bad: ["paper", "wash", "now"],
+  ink: ["paper", "wash", "press", "ground", "good-wash", "bad-wash"],
+  soft: ["paper", "wash", "ground", "press"],
+  pale: ["paper", "wash", "ground"],
+  good: ["paper", "good-wash"],
+  bad: ["paper", "bad-wash", "wash"],
+  paper: ["ink"],
 };
 const THREADS = [0, 1, 2, 3, 4, 5, 6, 7];
 // The texts in the bars of the history, with the share of the thread's colour in the bar: of begun ones, and of those to come.

@@ -32,24 +32,12 @@ function checkTraces(result, engine, cases) {
     const state = new (inPage("State"))(trace);
     const atFirst = JSON.stringify(state.threads);
     state.moveTo(trace.total);
-    check(result, `the keys in the chain of ${schedule}`, keysOf(state) === keysAtLast(trace));
+    check(result, `the keys in the chain of ${schedule}`, inPage("keysInChain")(state).join() === inPage("promisedKeys")(trace).join());
     state.moveTo(0);
     check(result, `back to the start of ${schedule}`, JSON.stringify(state.threads) === atFirst);
   }
   check(result, "a ceiling answers a key", [...replies].some((reply) => /^at-\d+$/.test(reply)));
   check(result, "and one that there is none", replies.has("nothing"));
-}
-
-// The keys of the nodes without a mark in the chain, and those that the events put in and took out.
-function keysOf(state) {
-  const inside = state.chain().filter((name) => name !== "head" && name !== "tail" && !state.nodes[name].link.endsWith("*"));
-  return inside.map((name) => state.nodes[name].key).join();
-}
-
-function keysAtLast(trace) {
-  const last = trace.total;
-  const parts = inPage("contentsIn")(trace, last + 1, last + 1);
-  return parts[0].keys.join();
 }
 
 async function main() {

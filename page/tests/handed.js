@@ -65,11 +65,6 @@ function checkMail(course) {
     const isSame = isWhole && same(linesOf(read), linesOf(wanted));
     check(`${how}: ${JSON.stringify(read).slice(0, 600)}`, isSame);
   }
-  const before = textsIn(text.replace("lessons 2", "lessons 1").replace(/^(course|student) .*\n/gm, "").replace("end\n", ""));
-  check(
-    "a text as the page made it before",
-    readHandIn(before[0]).solutions.length === 14 && readHandIn(before[0]).faults.length === 0,
-  );
   const class_ = textsIn(`${text}${fs.readFileSync(BOOK, "utf8")}${quoted(text)}`);
   check("a class and a course in one file", same(class_.map(({ kind }) => kind), ["hand-in", "course", "hand-in"]));
   check("the course as it stands", class_[1].text === fs.readFileSync(BOOK, "utf8").replace(/\n$/, ""));
@@ -109,9 +104,6 @@ function checkTeacher(course, folder) {
   );
   const claim = group.lines.find((line) => line.startsWith("Cy: ") && line.includes("judge snip points"));
   check(`a claim that is wrong: ${claim}`, claim?.includes("There is one: this is a run"));
-  const before = text("Ada", answers).replace("lessons 2", "lessons 1").replace(/^(course|student) .*\n/gm, "").replace("end\n", "");
-  const ofBefore = said(folder, before);
-  check(`as the page made it before: ${ofBefore.lines}`, ofBefore.status === 0 && ofBefore.lines[0].startsWith("0: 12 of 12 solved"));
   const twice = said(folder, text("Ada", answers.slice(0, 6)), text("Ada", answers.slice(6)));
   check(`two texts of one student: ${twice.lines}`, twice.status === 0 && twice.lines.length === 1);
 }
@@ -127,7 +119,7 @@ function checkOwn(ask, course, folder) {
   const same = group.filter((line) => line.startsWith("the same schedules: "));
   check(`the same schedules: ${same}`, same.join() === "the same schedules: Ada, Dee (one-lock, break mark-in-remove)");
   const example = ask("listset_example", "stale-pred").text;
-  const trace = new (inPage("Trace"))(ask("listset_trace_lacking", "second-walk", example).text, inPage("versionOf")(example));
+  const trace = new (inPage("Trace"))(ask("listset_lacking", "second-walk", example, "trace").text, inPage("versionOf")(example));
   const shown = inPage("scheduleOfTrace")(trace);
   const line = `break second-walk ${inPage("addressOf")(shown, trace.total)}`;
   const [named] = said(folder, text("Eve", [], [line])).lines.slice(-1);

@@ -2,6 +2,8 @@
 // checks passed, and what failed, as JSON.
 "use strict";
 
+const fs = require("fs");
+const path = require("path");
 const { inPage, startedEngine } = require("../in_node.js");
 const { causesTold, wrongCauses } = require("./causes.js");
 
@@ -158,19 +160,11 @@ function checkLabels(ask, schedules) {
   check("most labels are in words", words > 100);
 }
 
-// The chips left of a line are at most seven letters and edges; all threads are told, by their numbers or how many more.
-function checkChips() {
-  const drawn = (threads) => inPage("drawWho")(threads).replace(/<[^>]*>/g, " ").trim().replace(/ +/g, " ");
-  const due = [[[], ""], [[3], "t3"], [[0, 1], "t0 t1"], [[0, 1, 2], "0 1 2"], [[0, 1, 2, 3], "0 1 +2"], [[10, 11], "10 11"]];
-  due.push([[10, 11, 12], "10 +2"], [Array.from({ length: 64 }, (_, thread) => thread), "0 +63"]);
-  for (const [threads, text] of due) check(`the chips of ${threads}: ${drawn(threads)}`, drawn(threads) === text);
-}
-
 const TITLE = "listset-calls 1\n";
 
 function saidOf(ask, lines) {
   const text = inPage("withNewline")(lines);
-  return inPage("verdictOnCalls")(ask("listset_judge", text).text, text);
+  return inPage("verdictOnCalls")(ask("listset_judge_record", text), text);
 }
 
 const barsIn = (drawn) => drawn.split('<g class="bar ').length - 1;
@@ -194,6 +188,24 @@ function checkRecorded(ask) {
   const many = saidOf(ask, `${TITLE}${calls}end`);
   const drawn = barsIn(inPage("drawRecorded")(many.calls, many.from, 600));
   check(`many calls: ${many.reasons}`, drawn === 40 && many.reasons.at(-1) === "The first 40 calls are drawn.");
+}
+
+// The record of a recording, or of a report, says what the program's own line about it does.
+function checkRecords(ask, reports) {
+  const recorded = path.join(__dirname, "..", "..", "tests", "transcripts", "data", "recorded");
+  const texts = fs.readdirSync(recorded).map((file) => fs.readFileSync(path.join(recorded, file), "utf8"));
+  for (const text of texts) {
+    const [told, record] = ["listset_judge", "listset_judge_record"].map((name) => ask(name, text));
+    const { kind, why, fault, count } = inPage("readVerdict")(record);
+    const first = { ok: `ok ${count} calls`, none: `not linearizable\nno order explains the calls of key ${why?.key} `, fault: fault?.says }[kind];
+    check(`the record of ${text.slice(0, 80)}: ${record.text}`, told.status === record.status && told.text.startsWith(first));
+  }
+  for (const text of [...reports, "listset-report 1\n", ""]) {
+    const [told, record] = ["listset_check", "listset_check_record"].map((name) => ask(name, text));
+    const { kind, order } = inPage("readVerdict")(record);
+    const isSame = order === null ? told.text === (kind === "own" ? "ok\n" : record.text) : told.text.trim().endsWith(order.call ?? "WrongSet");
+    check(`the record of ${text.slice(0, 200)}: ${record.text}`, told.status === record.status && isSame);
+  }
 }
 
 // A refusal says the change that made the key so, and the calls that have no order from there; these are drawn, of all that the text has.
@@ -226,15 +238,13 @@ function checkRefusals(ask) {
 
 // What is said of the answers that a short text does not get.
 function checkAnswers() {
-  const said = (lines) => inPage("verdictOnCalls")(`${lines.join("\n")}\n`, TITLE);
-  const why = ["not linearizable", "no order explains the calls of key 7 and leaves it as it was left"];
-  const from = ["after the calls that ended by moment 40 the key is not there", "from there these calls have no order that leaves the key as it was left:"];
-  const more = "12 more calls of the key that began at moments 45 to 79 are not shown: whatever they did, these have no order";
-  const { kind, reasons, calls } = said([...why, ...from, "call 2 add 7 50 60 true", "call 3 remove 7 55 - -", more]);
+  const said = (text) => inPage("verdictOnCalls")({ text: `${text}\n` }, TITLE);
+  const { kind, reasons, calls } = said("verdict none\nkey 7\nsince 40 false\ncall 2 add 7 50 60 true\ncall 3 remove 7 55 - -\nhidden 12 45 79");
   check(`more calls: ${reasons}`, kind === "none" && reasons.length === 5 && calls.length === 2 && reasons[3].startsWith("12 more calls"));
-  check(`no calls: ${said(why).reasons}`, said(why).reasons[1] === "At the end the set does not have it." && said(why).calls.length === 0);
-  for (const line of ["listset: out of memory", "the engine stopped: unreachable", inPage("NO_ENGINE"), "not linearizable"]) {
-    const trouble = said([line]);
+  const bare = said("verdict none\nkey 7");
+  check(`no calls: ${bare.reasons}`, bare.reasons[1] === "At the end the set does not have it." && bare.calls.length === 0);
+  for (const line of ["listset: out of memory", "the engine stopped: unreachable", inPage("NO_ENGINE")]) {
+    const trouble = said(line);
     check(`no answer: ${trouble.says}`, trouble.kind === "fault" && trouble.says === line && trouble.reasons.length === 0);
   }
 }
@@ -261,17 +271,14 @@ function checkFaultsOfCalls(ask) {
   }
 }
 
-// An answer of check or show that is no verdict is shown, and counts as none.
+// An answer that is no verdict is shown, and counts as none.
 function checkTroubles(ask) {
   const answer = answerOfWord(exerciseOf(ask("listset_replay", ask("listset_example", "snip").text).text, "points"), "2-true,0-true,1-true");
-  const turned = answerOfWord(answer.exercise, "1-true,0-true,2-true");
-  const stopped = (name) => (one, ...texts) => (one === name ? { status: 1, text: "the engine stopped: unreachable" } : ask(one, ...texts));
-  const none = verdictOn(stopped("listset_check"), answer);
-  check(`no answer of check: ${none.says}`, none.isRight === null && none.says === "This order is not judged: the engine stopped: unreachable.");
-  const bare = verdictOn(stopped("listset_show"), turned);
-  check(`no answer of show: ${bare.says}`, bare.isRight === false && /^refused \w+ \d+$/.test(bare.says));
+  const stopped = () => ({ status: 1, text: "the engine stopped: unreachable" });
+  const none = verdictOn(stopped, answer);
+  check(`no answer: ${none.says}`, none.isRight === null && none.says === "This order is not judged: the engine stopped: unreachable.");
   const broken = exerciseOf(ask("listset_broken_example", "snip").text, "claim", false);
-  const claim = verdictOn(stopped("listset_show"), Object.assign(new OwnAnswer(broken), { isNone: true }));
+  const claim = verdictOn(stopped, Object.assign(new OwnAnswer(broken), { isNone: true }));
   const untold = "Whether there is none is not judged: the engine stopped: unreachable.";
   check(`nor of a claim: ${claim.says}`, claim.isRight === null && claim.says === untold);
 }
@@ -312,6 +319,7 @@ async function main() {
   const engine = await startedEngine();
   const ask = (name, ...texts) => engine.ask(name, ...texts);
   const schedules = [];
+  const reports = [];
   for (const name of ask("listset_examples", "").text.trimEnd().split("\n").map((line) => line.split(" ")[0])) {
     const schedule = ask("listset_example", name).text;
     const report = ask("listset_replay", schedule).text;
@@ -319,6 +327,7 @@ async function main() {
     checkClaims(ask, name, report);
     checkHidden(ask, name, schedule);
     schedules.push(schedule);
+    reports.push(report, report.replace(/^(place .*\n)(place .*\n)/m, "$2$1"), report.replace(/^place .*\n/m, ""));
   }
   for (const kind of ["coarse", "fine", "optimistic", "lazy", "lock-free"]) {
     for (let number = 1; number <= 12; number++) schedules.push(inPage("scheduleOfSeed")(ask, inPage("seedOf")(kind, number)));
@@ -326,8 +335,8 @@ async function main() {
   checkLabels(ask, schedules);
   const traceOf = (text) => new (inPage("Trace"))(ask("listset_trace", text).text, inPage("versionOf")(text));
   checkHistoryLabels(schedules.slice(0, Object.keys(inPage("CLASSICS")).length).map(traceOf));
-  checkChips();
   checkRecorded(ask);
+  checkRecords(ask, reports);
   checkRefusals(ask);
   checkAnswers();
   checkFaultsOfCalls(ask);

@@ -1,16 +1,14 @@
-// node tests/parts.js: the parts of the page that need no browser, by the committed module: the sentences at the turns of the
-// examples, addresses, and what is kept beside the page.
+// node tests/parts.js: the parts of the page that need no browser, by the committed module: some sentences, addresses, and what is kept
+// beside the page.
 "use strict";
 
 const { createHash } = require("crypto");
 const fs = require("fs");
 const path = require("path");
-const vm = require("vm");
 const { inPage, startedEngine } = require("../in_node.js");
 const { crossedLabels, crossedNodes } = require("./arrows.js");
 const { causesTold, wrongCauses } = require("./causes.js");
 const { contrastsOf } = require("./colours.js");
-const { TURNS } = require("./turns.js");
 
 const folder = path.dirname(__dirname);
 const result = { passed: 0, failed: [] };
@@ -24,65 +22,34 @@ const traceOf = (engine, schedule) =>
   new (inPage("Trace"))(engine.ask("listset_trace", schedule).text, inPage("versionOf")(schedule));
 const withoutTags = (text) => text.replace(/<[^>]*>/g, "");
 
+// Each example has a question, what it turns on, and events at which it does, each with a sentence of its own.
 function checkTurns(engine) {
-  const classics = inPage("CLASSICS");
-  const names = engine.ask("listset_examples", "").text.trimEnd().split("\n").map((line) => line.split(" ")[0]);
-  check("docs/CLASSIC.md has the examples", Object.keys(classics).join() === names.join());
-  for (const name of names) {
-    const { question, turnsOn, without, turns: events } = classics[name];
-    const isTold = events.length > 1 && events.every((event) => event in TURNS[name]);
-    check(`${name}: there is a word for each event at which it turns`, isTold);
-    check(`${name}: it has a question, and what it turns on`, question.endsWith("?") && turnsOn.length > 40);
+  for (const [name, { question, turnsOn, without, turns }] of Object.entries(inPage("CLASSICS"))) {
+    check(`${name}: it has a question, and what it turns on`, question.endsWith("?") && turnsOn.length > 40 && turns.length > 1);
     check(`${name}: what is said of it leads to nothing below it`, turnsOn.endsWith(".") && without.endsWith("."));
-    const trace = traceOf(engine, engine.ask("listset_example", name).text);
-    const state = new (inPage("State"))(trace);
-    for (const [event, words] of Object.entries(TURNS[name])) {
-      const sentence = withoutTags(inPage("sentenceOf")(inPage("momentAt")(state, Number(event))));
-      check(`${name}, event ${event}: "${words}" is not in "${sentence}"`, sentence.includes(words));
-    }
+    const told = sentencesOf(engine, engine.ask("listset_example", name).text);
+    check(`${name}: it turns at events that it has`, turns.every((event) => told[event - 1]?.length > 20));
   }
 }
 
-// A list has a few sentences more that the examples do not have at their turns.
-function checkSentences(engine) {
-  const sentences = (lines) => {
-    const trace = traceOf(engine, `${lines.join("\n")}\n`);
-    const state = new (inPage("State"))(trace);
-    return trace.events().map((_, index) => withoutTags(inPage("sentenceOf")(inPage("momentAt")(state, index + 1))));
-  };
-  const header = (kind, quota) => [`listset-schedule 1`, `list ${kind}`, "threads 2", `quota ${quota}`];
-  const coarse = sentences([...header("coarse", 0), "begin 0 add 5", "go 0 4"]);
-  check("a thread without slots", coarse[3].endsWith("with a key above 5. It will answer full: it has no slot."));
-  const adds = ["begin 0 add 5", "go 0 11", "begin 0 add 7", "go 0 13"];
-  const lazy = sentences([...header("lazy", 4), ...adds, "begin 1 remove 5", "go 1 10"]);
-  check("a key below", lazy.includes("t0 reads n2.key: 5. 5 is below 7: the walk continues."));
-  check("an add goes on", lazy.some((text) => text.endsWith("tail does not have the key 5: the add goes ahead.")));
-  check("a remove goes on", lazy.some((text) => text.endsWith("n2 has the key 5: the remove goes ahead.")));
-  const unlink = lazy.find((text) => text.includes("This unlinks n2, t0's node, which t1 marked at event"));
-  check("the unlink of LazyList", unlink?.endsWith("It will answer true."));
-  check("the last lock", lazy[10].startsWith("t0 unlocks tail. It holds the lock of head."));
-  const walk = sentences([...header("optimistic", 4), "begin 0 add 5", "go 0 10", "begin 0 add 7", "go 0 8"]);
-  check("the second walk meets pred", walk[walk.length - 1] === "t0 reads n2.key: 5. The second walk reaches pred, n2.");
-  checkValidations(sentences, header);
-  const stale = sentences(engine.ask("listset_example", "stale-pred").text.trimEnd().split("\n"));
-  check("locks by their nodes' keys", stale[27] === "t0 locks tail. It holds the locks of n6 and tail.");
-  check("a walk that comes to the same node again", stale[32] === "t0 reads head.link: tail. The walk reaches tail.");
-  const marked = ["begin 0 add 5", "go 0 6", "begin 0 remove 5", "go 0 3", "begin 1 remove 5", "go 1 5", "go 0 1"];
-  const late = sentences([...header("lock-free", 4), ...marked]).pop();
-  check("a mark that came before", late.endsWith("tail, marked. n2 is marked already: the next step will fail."));
+function sentencesOf(engine, schedule) {
+  const trace = traceOf(engine, schedule);
+  const state = new (inPage("State"))(trace);
+  return trace.events().map((_, index) => withoutTags(inPage("sentenceOf")(inPage("momentAt")(state, index + 1))));
 }
 
-// What is told of validations that hold, and of the second walk up to pred.
-function checkValidations(sentences, header) {
-  const adds = ["begin 0 add 5", "go 0 10", "begin 0 add 7", "go 0 14", "begin 0 add 9", "go 0 11"];
-  const told = sentences([...header("optimistic", 4), ...adds]);
-  const held = "t0 reads head.link: tail. The validation succeeds. tail does not have the key 5: the add goes ahead.";
-  check("a validation holds", told[5] === held);
-  check("the second walk goes on", told.includes("t0 reads n2.key: 5. This is not pred, n3: the second walk continues."));
-  const lazy = sentences([...header("lazy", 4), "begin 0 add 5", "go 0 11", "begin 1 add 5", "go 1 6"]);
-  const ofLazy = "t0 reads tail.link: tail. The validation succeeds. tail does not have the key 5: the add goes ahead.";
-  check("that of LazyList", lazy[5] === "t0 reads head.link: tail." && lazy[6] === ofLazy);
-  check("and leads to a reply", lazy.pop() === "t1 reads n2.link: tail. The validation succeeds. It will answer false.");
+// How sentences end that no generated run has often (tests/sentences.js reads the others back).
+function checkSentences(engine) {
+  const last = (kind, quota, ...lines) =>
+    sentencesOf(engine, ["listset-schedule 1", `list ${kind}`, "threads 2", `quota ${quota}`, ...lines, ""].join("\n")).pop();
+  const wanted = [
+    ["with a key above 5. It will answer full: it has no slot.", "coarse", 0, "begin 0 add 5", "go 0 3"],
+    ["The second walk reaches pred, n2.", "optimistic", 4, "begin 0 add 5", "go 0 10", "begin 0 add 7", "go 0 8"],
+    ["The validation succeeds. It will answer false.", "lazy", 4, "begin 0 add 5", "go 0 11", "begin 1 add 5", "go 1 6"],
+    ["tail, marked. n2 is marked already: the next step will fail.", "lock-free", 4, "begin 0 add 5", "go 0 6", "begin 0 remove 5", "go 0 3",
+      "begin 1 remove 5", "go 1 5", "go 0 1"],
+  ];
+  for (const [end, ...run] of wanted) check(`${end} is not how this ends: ${last(...run)}`, last(...run).endsWith(end));
 }
 
 const RUN_17 = "9e6e9361cbb54bb9"; // the sum of the schedule of #seed=lazy.2.5.2.17
@@ -101,7 +68,7 @@ const refusalBy = (deed) => {
 function checkDocs(engine) {
   const lengthOf = (line) => (line.startsWith("go ") ? Number(line.split(" ")[2]) : Number(line.startsWith("begin ")));
   for (const page of ["how-it-works", "classic", "tables"]) {
-    const links = fs.readFileSync(path.join(folder, `${page}.html`), "utf8").matchAll(/href="index\.html(#[^"]+)"/g);
+    const links = fs.readFileSync(path.join(folder, `${page}.html`), "utf8").matchAll(/href="index\.html(#(?:example|list)=[^"]+)"/g);
     const addresses = [...links].map(([, hash]) => inPage("readAddress")(hash.replaceAll("&amp;", "&")));
     check(`${page}.html leads into runs`, addresses.length > 20);
     for (const { example, text, event } of addresses) {
@@ -125,33 +92,15 @@ function checkRead() {
   }
 }
 
-function checkWords() {
-  const [counted, warningOf] = ["counted", "warningOf"].map(inPage);
-  check("one lesson, two lessons", [0, 1, 2].map((count) => counted(count, "lesson")).join() === "0 lessons,1 lesson,2 lessons");
-  const said = ["file:///page/index.html#break=1", "http://127.0.0.1/index.html", "https://file.example/"].map(warningOf);
-  check(`of a file it is said that others cannot open it: ${said}`, said[0].includes("Others cannot open it") && said[1] + said[2] === "");
-}
-
-// A slide is laid out for 1280 x 720, whatever the window of a projector is; and a chain that grows moves nothing below its picture.
+// A slide is laid out for 1280 x 720, whatever the window of a projector is.
 function checkRoom() {
-  const [slideZoom, keptHeight, roomOf, forgetRoom] = ["slideZoom", "keptHeight", "roomOf", "forgetRoom"].map(inPage);
+  const slideZoom = inPage("slideZoom");
   for (const [width, height] of [[1280, 720], [1366, 768], [1440, 900], [1600, 900], [1920, 1080], [2560, 1440]]) {
     const zoom = slideZoom(width, height);
     const [wide, high] = [width / zoom, height / zoom];
     check(`a slide at ${width} x ${height}: ${wide} x ${high}`, wide > 1279.9 && high > 719.9 && Math.min(wide - 1280, high - 720) < 0.1);
   }
   check("in one column a slide is no smaller than the rest", [390, 700, 800].every((width) => slideZoom(width, 844) === 1));
-  const trace = (total) => ({ kind: "lazy", threads: 2, total });
-  const size = { width: 600, height: 200 };
-  const grown = (run) => roomOf(run, () => size, size, 800, true);
-  forgetRoom();
-  grown(trace(3));
-  const heights = [[300, 800], [260, 800], [310, 800], [280, 800]].map((given) => (grown(trace(4)), keptHeight(...given)));
-  check(`the picture of a run that goes on keeps its room: ${heights}`, heights.join() === "300,300,310,310");
-  check("not in another width", keptHeight(250, 700) === 250);
-  forgetRoom();
-  grown(trace(3));
-  check("nor does another run", keptHeight(240, 700) === 240);
 }
 
 // A trace that goes on where another one ends is the one that is read from its start; so is the state.
@@ -239,7 +188,7 @@ function checkFaults(engine) {
     const [, found] = /^(?:listset:|refused) line \d+:? (\w+)$/m.exec(said) ?? [];
     check(`${cause} of ${text.slice(-40)}: ${said.slice(0, 200)}`, found === cause);
   }
-  const ofOther = ask("listset_trace_lacking", "lock", HEAD.replace("coarse", "lazy")).text;
+  const ofOther = ask("listset_lacking", "lock", HEAD.replace("coarse", "lazy"), "trace").text;
   const isTold = inPage("CAUSES").Kind.includes("on a broken list, the kind of");
   check(`a broken list is of one kind: ${ofOther}`, ofOther === "listset: line 2: Kind\n" && isTold);
 }
@@ -247,11 +196,13 @@ function checkFaults(engine) {
 // Each form of address in README.md is one.
 function checkForms() {
   const table = fs.readFileSync(path.join(folder, "README.md"), "utf8").split("| Address |")[1].split("\n\n")[0];
-  const forms = [...table.matchAll(/^\|([^|]*)\|/gm)].flatMap(([, cell]) => [...cell.matchAll(/`([^`]+)`/g)].map(([, form]) => form));
+  const cells = [...table.matchAll(/^\|([^|]*)\|/gm)].map(([, cell]) => cell);
+  const forms = cells.flatMap((cell) => [...cell.matchAll(/`([#&][^`]+)`/g)].map(([, form]) => form.replace("..", "A")));
   check("README.md has the forms of addresses", forms.length > 15);
   for (const form of forms) {
     const base = form.startsWith("#") ? form : `#list=lazy&threads=2&quota=4${form === "&judge" ? "&s=b0.add.5" : ""}${form}`;
-    check(`${form} is an address: ${refusalOf(base.replace("..", "A"))}`, refusalOf(base.replace("..", "A")) === "");
+    const refusal = inPage("sceneOfHash")(base) === null ? refusalOf(base) : "";
+    check(`${form} is an address: ${refusal}`, refusal === "");
   }
 }
 
@@ -405,7 +356,7 @@ function wrongLine(trace, event, held, met) {
     rows.includes(held.pc) &&
     text.endsWith(`// row${rows.length > 1 ? "s" : ""} ${rows.join(", ")}`) &&
     (text.includes(".begin_") ? [0, held.pc].includes(held.came) : held.came !== 0) &&
-    (isAnswer ? /_last\(|\.look_at_|\.exchange_link\(/.test(text) : !text.includes("_last(")) &&
+    (isAnswer ? /_last\(|\.look_at_|\.exchange\(/.test(text) : !text.includes("_last(")) &&
     (held.pc !== 1 || held.came !== 3 || code.name === "find");
   return isGood ? [] : [`${kind}, event ${event.number}: row ${held.pc} at ${found.file}:${line}`];
 }
@@ -418,20 +369,6 @@ function checkColours() {
   for (const { name, contrast, least } of contrasts) check(`${name}: a contrast of ${contrast.toFixed(2)}`, contrast >= least);
 }
 
-// In a language as browsers of 2021 have it, which lacks what older.js defines.
-function checkOlder() {
-  const without = "delete Object.hasOwn; for (const it of ['at', 'findLast']) delete Array.prototype[it]; delete String.prototype.at;";
-  const asked = [
-    "[[1, 2].at(-1), [1, 2].at(0), [1, 2].at(2), 'ab'.at(-1), 'ab'.at(-3)]",
-    "[[1, 2, 3].findLast((it) => it < 3), [1].findLast((it) => it > 1)]",
-    "[Object.hasOwn({ a: 1 }, 'a'), Object.hasOwn({}, 'toString'), Object.keys([7]).join()]",
-  ].map((words) => `${words}.map(String).join()`);
-  const text = fs.readFileSync(path.join(folder, "src", "older.js"), "utf8");
-  const told = (...before) => vm.runInNewContext([...before, `[${asked}].join("; ")`].join("\n"), {});
-  const wanted = "2,1,undefined,b,undefined; 2,undefined; true,false,0";
-  check(`older.js: ${told(without, text)}`, told(without, text) === told() && told() === wanted);
-}
-
 async function main() {
   const engine = await startedEngine();
   const names = Object.keys(inPage("CLASSICS"));
@@ -439,7 +376,6 @@ async function main() {
   checkSentences(engine);
   checkTraces(engine, names);
   checkColours();
-  checkOlder();
   const texts = names.map((name) => engine.ask("listset_example", name).text);
   checkAddresses(engine, texts);
   checkContents(engine, texts);
@@ -449,7 +385,6 @@ async function main() {
   checkSeeds(engine);
   checkDocs(engine);
   checkRead();
-  checkWords();
   checkRoom();
   const crowds = crowded(engine);
   checkArrows(engine, [...texts, ...crowds]);

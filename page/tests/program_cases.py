@@ -67,26 +67,13 @@ def generated(program, dice):
             yield program.program_answers("gen", *[str(word) for word in words])[0]
 
 
-def up_to_refusals(program, text):
-    """The schedule with each line that is refused cut to the events of it that are not, or left out."""
-    while True:
-        trace = program.program_answers("trace", text=text)[0].decode().splitlines()
-        if not trace[-1].startswith("refused "):
-            return text
-        number = int(trace[-1].split()[2])
-        done = sum(f" line {number} " in line for line in trace[4:-1])
-        lines = text.decode().splitlines()
-        lines[number - 1:number] = [re.sub(r" \d+$", f" {done}", lines[number - 1])] if done else []
-        text = "".join(f"{line}\n" for line in lines).encode()
-
-
 def with_ceilings(program, dice):
-    """So many schedules of each list, of version 2, with a ceiling in place of each `contains`, and the events that there are."""
+    """So many schedules of each list, of version 2, with a ceiling in place of each `contains`; some end at a refused event."""
     for kind in LISTS:
         for number in range(CEILINGS):
             words = [kind, dice.choice([2, 3, 4]), 8, dice.randrange(4, 30), dice.choice([3, 12]), 1000 + number]
             text = program.program_answers("gen", *[str(word) for word in words])[0].replace(b"listset-schedule 1", b"listset-schedule 2")
-            yield up_to_refusals(program, text.replace(b" contains ", b" ceiling "))
+            yield text.replace(b" contains ", b" ceiling ")
 
 
 def of_versions(texts):
@@ -149,9 +136,9 @@ def cases_of_lacking(program, dice):
         for name, text in [*((file.stem, text) for text in (file.read_bytes(), *drawn, *wrong)), ("luck", drawn[0])]:
             of_name = {"before": (name.encode(),)}
             for function, words in LACKING_FUNCTIONS.items():
-                yield program.case(f"listset_{function}_lacking", text, [*words, "--lacks", name], **of_name)
+                yield program.case("listset_lacking", text, [*words, "--lacks", name], options=function.encode(), **of_name)
             words = ["show", "--from=3", "--width=x", "--lacks", name]
-            yield program.case("listset_show_lacking", text, words, options=b"\0".join((b"=3", b"", b"=x")), **of_name)
+            yield program.case("listset_lacking", text, words, options=b"\0".join((b"show", b"=3", b"", b"=x")), **of_name)
 
 
 def cases_of_values(program):

@@ -57,17 +57,14 @@ const CLAIMS = [
   [/(undefined|null|NaN|\[object)/, () => true],
 ];
 
-// The keys of the nodes in the chain that have no mark.
-function keysInChain(state, chain) {
-  return chain.filter((name) => !state.nodes[name].link.endsWith("*")).map((name) => String(state.nodes[name].key));
-}
+const keysInChain = (state) => inPage("keysInChain")(state).map(String);
 
 // What is so after an event.
 function factsAfter(state, event, others) {
   const chain = state.chain();
   const lockOf = (name) => (name === "the list" ? state.lock : state.nodes[name].lock);
   const linkOf = (name) => state.nodes[name].link;
-  const keys = keysInChain(state, chain);
+  const keys = keysInChain(state);
   const keyOf = (name) => String(state.nodes[name].key);
   return { ...others, event, thread: `t${event.thread}`, chain, keys, keyOf, lockOf, linkOf, locks: state.locks() };
 }
@@ -90,7 +87,7 @@ function readRun(trace) {
     const next = events.slice(index + 1).find(({ thread }) => thread === event.thread) ?? null;
     state.moveTo(event.number - 1);
     const chainBefore = state.chain();
-    const before = { next, chainBefore, keysBefore: keysInChain(state, chainBefore), eventAt: (number) => events[number - 1] };
+    const before = { next, chainBefore, keysBefore: keysInChain(state), eventAt: (number) => events[number - 1] };
     const sentence = inPage("sentenceOf")(inPage("momentAt")(state, event.number)).replace(/<[^>]*>/g, "");
     return { number: event.number, sentence, wrong: falseIn(sentence, factsAfter(state, event, before)) };
   });
@@ -116,7 +113,7 @@ function runOf(engine, kind, lacks, number) {
 }
 
 function tracedOf(engine, lacks, text) {
-  const made = lacks === null ? engine.ask("listset_trace", text) : engine.ask("listset_trace_lacking", lacks, text);
+  const made = lacks === null ? engine.ask("listset_trace", text) : engine.ask("listset_lacking", lacks, text, "trace");
   return made.text.startsWith("listset-trace") ? new (inPage("Trace"))(made.text, inPage("versionOf")(text)) : null;
 }
 

@@ -3,13 +3,13 @@
 
 const { inPage } = require("../in_node.js");
 
-const { stateAtFirst, reduce, isWhatIf, exampleIn, entryOf, factsOf, SEEN, addressIn, titleIn, readAddress, startOfLacking } = inPage(
-  "({ stateAtFirst, reduce, isWhatIf, exampleIn, entryOf, factsOf, SEEN, addressIn, titleIn, readAddress, startOfLacking })",
+const { stateAtFirst, reduce, exampleIn, entryOf, factsOf, SEEN, addressIn, titleIn, readAddress, sceneOfHash, startOfLacking } = inPage(
+  "({ stateAtFirst, reduce, exampleIn, entryOf, factsOf, SEEN, addressIn, titleIn, readAddress, sceneOfHash, startOfLacking })",
 );
 const result = { passed: 0, failed: [] };
 const TEXT = "listset-schedule 1\nlist lock-free\nthreads 2\nquota 4\nbegin 0 add 5\n";
 const GIVEN = { course: null, sides: null };
-const TITLES = { sides: "A beside B", lesson: "The one lock", level: (name) => `Level of ${name}` };
+const TITLES = { sides: "A beside B", scene: "The one lock · Why not just one lock?" };
 
 function check(name, isGood) {
   if (isGood) result.passed++;
@@ -26,20 +26,22 @@ function shown(task, text, lacks = null, count = 1) {
 }
 
 const EXAMPLE = { kind: "example", id: "snip", work: "from snip", begun: TEXT };
-const LESSON = { kind: "lesson", id: "one-lock", course: inPage("BOOK_NAME"), work: "lesson one-lock", begun: "" };
+// A scene of the story, and its run.
+function atScene(activity, id, text = "", given = {}) {
+  const state = reduce(shown(EXAMPLE, TEXT), { type: "place", activity, screen: "scene", id, given });
+  return reduce(state, { type: "scene", text });
+}
 
 function checkReducer() {
   const own = shown(EXAMPLE, TEXT);
   const other = shown(EXAMPLE, `${TEXT}go 0 1\n`, null, 9);
-  check("an example is one", exampleIn(own) === "snip" && !isWhatIf(own));
-  check("and goes on as a what-if", exampleIn(other) === "" && isWhatIf(other) && other.task.id === "snip");
+  check("an example is one", exampleIn(own) === "snip");
   check("a count stays within its run", other.run.count === 2 && reduce(other, { type: "count", count: -3 }).run.count === 0);
   const judged = reduce(own, { type: "exercise", exercise: { level: "claim" } });
   check("an exercise is of the activity Judge", judged.place.activity === "judge");
   check("another trace ends it", shown(EXAMPLE, TEXT).exercise === null);
-  check("a lesson is of Learn", shown(LESSON, TEXT).place.activity === "learn");
-  check("a broken list of Break", shown({ kind: "own", work: "w" }, TEXT, "marks").place.activity === "break");
-  check("a run leaves the map", reduce(reduce(own, { type: "place", activity: "learn", screen: "map" }), { type: "task", task: LESSON }).place.screen === "stage");
+  check("a run leaves the scene", reduce(atScene("ask", "snip"), { type: "task", task: EXAMPLE }).place.screen === "stage");
+  check("a scene begins anew", reduce(atScene("break", "3", TEXT), { type: "place", activity: "break", screen: "scene", id: "4" }).scene.text === "");
   check("a state is not changed", own.run.count === 1 && own.place.activity === "watch");
   let isRefused = false;
   try {
@@ -48,7 +50,7 @@ function checkReducer() {
     isRefused = true;
   }
   check("an action that there is not", isRefused);
-  check("a step is no entry of the history", entryOf(own) === entryOf(other) && entryOf(own) !== entryOf(shown(LESSON, TEXT)));
+  check("a step is no entry of the history", entryOf(own) === entryOf(other) && entryOf(own) !== entryOf(atScene("ask", "snip")));
 }
 
 function seenIn(state, given = { hasEngine: true }) {
@@ -59,28 +61,30 @@ function seenIn(state, given = { hasEngine: true }) {
 function checkSeen() {
   const has = (state, ids, given) => ids.every((id) => seenIn(state, given).includes(id));
   const own = shown(EXAMPLE, TEXT);
-  const whatIf = shown(EXAMPLE, `${TEXT}go 0 1\n`);
-  check("a question", has(own, ["question-box", "moves-box", "past", "code-column", "map"]) && !has(own, ["what-if"]));
-  check("a what-if keeps it", has(whatIf, ["question-box", "what-if", "task", "moves-box"]));
-  check("no moves without the engine", !has(own, ["moves-box"], { hasEngine: false }) && has(own, ["no-engine"], { hasEngine: false }));
+  check("a question", has(own, ["question-box", "go-on-box", "past", "code-column", "bench"]) && !has(own, ["scene"]));
+  check("no moves without the engine", !has(own, ["go-on-box"], { hasEngine: false }) && has(own, ["no-engine"], { hasEngine: false }));
   const claim = reduce(own, { type: "exercise", exercise: { level: "claim" } });
   check("a claim shows no run", has(claim, ["judge", "judge-moments"]) && !["list", "dock", "said", "past"].some((id) => has(claim, [id])));
   const slide = reduce(own, { type: "view", view: "lecture" });
-  check("a slide", has(slide, ["task", "list", "past", "leave"]) && !["top", "map", "moves-box", "told"].some((id) => has(slide, [id])));
+  check("a slide", has(slide, ["task", "list", "past", "leave"]) && !["top", "map", "go-on-box", "told"].some((id) => has(slide, [id])));
   const map = reduce(own, { type: "place", activity: "read", screen: "map" });
+  const scene = atScene("story", "2");
+  check("a scene", has(scene, ["scene", "top"]) && !["bench", "task", "map"].some((id) => has(scene, [id])));
+  check("a frame", !has(reduce(scene, { type: "view", view: "embed" }), ["top"]) && !has(reduce(scene, { type: "view", view: "embed" }), ["leave"]));
   check("a map", has(map, ["map", "map-read"]) && !["task", "work", "workshop"].some((id) => has(map, [id])));
 }
 
 function checkAddresses() {
-  const level = Object.keys(inPage("BREAK_LEVELS"))[2];
+  const start = startOfLacking("mark");
   const states = {
     "#example=snip&event=1": shown(EXAMPLE, TEXT),
-    "#watch=snip&list=lock-free&threads=2&quota=4&s=b0.add.5,g0.1&event=2": shown(EXAMPLE, `${TEXT}go 0 1\n`, null, 2),
-    "#learn=one-lock&list=lock-free&threads=2&quota=4&s=b0.add.5&event=1": shown(LESSON, TEXT),
-    "#break=3": shown({ kind: "level", id: level, work: "w", begun: startOfLacking(level) }, startOfLacking(level), level, 0),
+    "#learn=one-lock&list=lock-free&threads=2&quota=4&s=b0.add.5&event=1": atScene("learn", "one-lock", TEXT),
+    "#break=3": atScene("break", "3", start),
+    "#break=3&list=lock-free&threads=2&quota=2&opening=3.7&s=b0.add.5&event=1": atScene("break", "3", `${start}begin 0 add 5\n`),
     "#seed=lazy.2.5.2.17&event=1": shown({ kind: "seed", id: "lazy.2.5.2.17", work: "run 17", begun: TEXT }, TEXT),
     "#list=lock-free&threads=2&quota=4&s=b0.add.5&event=1": shown({ kind: "own", id: "", work: "my schedule", begun: "" }, TEXT),
-    "#learn": reduce(shown(EXAMPLE, TEXT), { type: "place", activity: "learn", screen: "map" }),
+    "#learn": atScene("learn", ""),
+    "#read": reduce(shown(EXAMPLE, TEXT), { type: "place", activity: "read", screen: "map" }),
     "#example=snip&event=1&judge": reduce(shown(EXAMPLE, TEXT), { type: "exercise", exercise: { level: "points" } }),
     "#example=snip&event=1&view=lecture": reduce(shown(EXAMPLE, TEXT), { type: "view", view: "lecture" }),
   };
@@ -88,11 +92,18 @@ function checkAddresses() {
     const found = addressIn(state, GIVEN);
     check(`${address}: ${found}`, found === address);
     const wanted = readAddress(found);
-    check(`${address} is read`, wanted.text === null || wanted.text === state.run.text);
+    check(`${address} is read`, wanted.text === null || wanted.text === state.run.text || wanted.text === state.scene.text);
     const title = titleIn(state, TITLES);
-    check(`${address} has a title in words: ${title}`, title.endsWith("(list sets, step by step)") || title.endsWith(": list sets, step by step"));
+    check(`${address} has a title in words: ${title}`, title.endsWith(" · Why not just one lock?"));
   }
-  const mine = shown({ ...LESSON, course: "Mine", id: "first" }, TEXT);
+  for (const [address, ...place] of [["#story=2", "story", "2"], ["#ask", "ask", ""], ["#ask=snip", "ask", "snip"], ["#teachers", "teachers", ""],
+    ["#assignment=Week+3&learn=one-lock&break=6.7&judge=lazy.2.5.2.17", "assignment", "Week 3", "", { learn: "one-lock", break: "6.7", judge: "lazy.2.5.2.17" }]]) {
+    const found = addressIn(atScene(...place), GIVEN);
+    check(`${address}: ${found}`, found === address);
+    const { activity, id, given } = sceneOfHash(found);
+    check(`${address} is read`, activity === place[0] && id === place[1] && JSON.stringify(given) === JSON.stringify(place[3] ?? {}));
+  }
+  const mine = atScene("learn", "first", TEXT);
   const course = addressIn(mine, { ...GIVEN, course: "#course=abc" });
   check(`a course stays in the address: ${course}`, course.startsWith("#course=abc&learn=first&list=") && readAddress(course).course === "abc");
 }

@@ -10,19 +10,19 @@ lowered module does the same:
   below the pointer without setting it.
 - A memory.grow that fails gives -1 as a 64-bit number, which heap.c compares.
 
-Numbers that the linker filled up with zeros are written short. What is not known here is refused.
+Numbers that the linker filled up with zeros are written short. What is not known here, such as floating point, is refused.
 """
 
-I32, I64, F32, F64 = 0x7F, 0x7E, 0x7D, 0x7C
-ADDED_LOCALS = [I32, F32, F64, I64, I64]  # of each function, behind its own
-LOADS, STORES = range(0x28, 0x36), range(0x36, 0x3F)
-STORED = dict(zip(STORES, [I32, I64, F32, F64, I32, I32, I64, I64, I64]))
+I32, I64 = 0x7F, 0x7E
+ADDED_LOCALS = [I32, I64, I64]  # of each function, behind its own
+LOADS = {*range(0x28, 0x2A), *range(0x2C, 0x36)}
+STORED = {0x36: I32, 0x37: I64, 0x3A: I32, 0x3B: I32, 0x3C: I64, 0x3D: I64, 0x3E: I64}  # what each store stores
 BRANCH_BY_TABLE, GLOBAL_SET, MEMORY_SIZE, MEMORY_GROW, MORE = 0x0E, 0x24, 0x3F, 0x40, 0xFC
-LAST_TRUNCATION, MEMORY_COPY, MEMORY_FILL = 7, 10, 11  # behind MORE
-NO_NUMBERS = {0x00, 0x01, 0x05, 0x0B, 0x0F, 0x1A, 0x1B, *range(0x45, 0xC5)}
+MEMORY_COPY, MEMORY_FILL = 10, 11  # behind MORE
+WHOLE = {*range(0x45, 0x5B), *range(0x67, 0x8B), 0xA7, 0xAC, 0xAD, *range(0xC0, 0xC5)}  # of whole numbers
+NO_NUMBERS = {0x00, 0x01, 0x05, 0x0B, 0x0F, 0x1A, 0x1B, *WHOLE}
 ONE_NUMBER = {0x0C, 0x0D, 0x10, *range(0x20, 0x25)}  # branches, a call, variables
 ONE_SIGNED = {*range(0x02, 0x05), 0x41, 0x42}  # blocks, constants
-FLOATS = {0x43: 4, 0x44: 8}
 PUSHES = {0x20, 0x23, 0x41, 0x42}  # these take nothing from the stack
 CUT, EXTENDED_SIGNED, EXTENDED = b"\xa7", b"\xac", b"\xad"
 STACK_POINTER = 0  # the first global
@@ -45,11 +45,10 @@ class Reader:
         return self.at < len(self.content)
 
     def take(self, count):
-        taken = self.content[self.at : self.at + count]
-        if len(taken) < count:
-            raise NotLowered("an early end")
         self.at += count
-        return taken
+        if self.at > len(self.content):
+            raise NotLowered("an early end")
+        return self.content[self.at - count : self.at]
 
     def byte(self):
         return self.take(1)[0]
@@ -62,15 +61,13 @@ class Reader:
 
     def number(self, is_signed=False):
         value = shift = 0
-        more = True
-        while more:
+        while shift <= MOST_BITS:
             byte = self.byte()
             value |= (byte & 127) << shift
             shift += 7
-            more = byte > 127
-        if shift > MOST_BITS + 6:
-            raise NotLowered("a number of more than 64 bits")
-        return value - (1 << shift) if is_signed and byte & 64 else value
+            if byte < 128:
+                return value - (1 << shift) if is_signed and byte & 64 else value
+        raise NotLowered("a number of more than 64 bits")
 
 
 def leb(value, is_signed=False):
@@ -89,7 +86,7 @@ class Body:
         self.code, self.made = Reader(body), bytearray()
         self.groups = [(self.code.number(), self.code.byte()) for _ in range(self.code.number())]
         own = parameters + sum(count for count, _ in self.groups)
-        self.i32, self.f32, self.f64, self.i64, self.other = range(own, own + len(ADDED_LOCALS))
+        self.i32, self.i64, self.other = range(own, own + len(ADDED_LOCALS))
         self.pushed = None  # where the last instruction begins, if it takes nothing and gives one value
 
     def lowered(self):
@@ -111,9 +108,6 @@ class Body:
 
     def with_signed(self, word):
         return bytes([word]) + leb(self.code.number(True), True)
-
-    def float(self, word):
-        return bytes([word]) + self.code.take(FLOATS[word])
 
     def branch_by_table(self, word):
         count = self.code.number()
@@ -140,7 +134,7 @@ class Body:
         if self.pushed is not None:
             self.made[self.pushed : self.pushed] = CUT
             return bytes([word]) + self.place()
-        local = {I32: self.i32, F32: self.f32, F64: self.f64, I64: self.i64}[STORED[word]]
+        local = self.i32 if STORED[word] == I32 else self.i64
         return keep(local) + CUT + give(local) + bytes([word]) + self.place()
 
     def memory_size(self, word):
@@ -151,15 +145,11 @@ class Body:
 
     def more(self, word):
         which = self.code.number()
-        made = bytes([word]) + leb(which)
-        if which <= LAST_TRUNCATION:
-            return made
+        made = give(self.i64) + CUT + bytes([word]) + leb(which) + self.code.zero()
         if which == MEMORY_COPY:
-            below = keep(self.i64) + keep(self.other) + CUT + give(self.other) + CUT
-            return below + give(self.i64) + CUT + made + self.code.zero() + self.code.zero()
+            return keep(self.i64) + keep(self.other) + CUT + give(self.other) + CUT + made + self.code.zero()
         if which == MEMORY_FILL:
-            below = keep(self.i64) + keep(self.i32) + CUT + give(self.i32)
-            return below + give(self.i64) + CUT + made + self.code.zero()
+            return keep(self.i64) + keep(self.i32) + CUT + give(self.i32) + made
         raise NotLowered(f"the instruction fc {which:02x}")
 
 
@@ -167,9 +157,8 @@ LOWERED = {
     **dict.fromkeys(NO_NUMBERS, Body.as_it_is),
     **dict.fromkeys(ONE_NUMBER, Body.with_number),
     **dict.fromkeys(ONE_SIGNED, Body.with_signed),
-    **dict.fromkeys(FLOATS, Body.float),
     **dict.fromkeys(LOADS, Body.load),
-    **dict.fromkeys(STORES, Body.store),
+    **dict.fromkeys(STORED, Body.store),
     BRANCH_BY_TABLE: Body.branch_by_table,
     GLOBAL_SET: Body.global_set,
     MEMORY_SIZE: Body.memory_size,
@@ -179,12 +168,11 @@ LOWERED = {
 
 
 def keep(local):
-    """Takes the value on top into a local."""
+    """Takes the value on top into a local; `give` gives it back."""
     return b"\x21" + leb(local)
 
 
 def give(local):
-    """Gives it back."""
     return b"\x20" + leb(local)
 
 
@@ -238,12 +226,6 @@ def check_imports(content):
         imports.number()
 
 
-def with_stack_pointer(content):
-    if len(content) < 3 or [*content[1:3]] != [I64, 1]:
-        raise NotLowered("a first global that is no stack pointer")
-    return content
-
-
 SECTIONS = TYPES, FUNCTIONS, MEMORY, GLOBALS, EXPORTS, CODE, DATA = 1, 3, 5, 6, 7, 10, 11
 IMPORTS = 2  # a module may have none
 
@@ -259,10 +241,10 @@ def lowered(module):
         sections[kind] = code.take(code.number())
     if missing := set(SECTIONS) - sections.keys():
         raise NotLowered(f"no section {min(missing)}")
-    if IMPORTS in sections:
-        check_imports(sections[IMPORTS])
+    check_imports(sections.get(IMPORTS, b"\0"))
+    if [*sections[GLOBALS][1:3]] != [I64, 1]:
+        raise NotLowered("a first global that is no stack pointer")
     sections[MEMORY] = lowered_memory(sections[MEMORY])
-    sections[GLOBALS] = with_stack_pointer(sections[GLOBALS])
     sections[CODE] = lowered_code(sections[CODE], parameters_of(sections[TYPES], sections[FUNCTIONS]))
     sections[DATA] = lowered_data(sections[DATA])
     return head + b"".join(bytes([kind]) + leb(len(it)) + it for kind, it in sections.items())

@@ -9,7 +9,7 @@ import os.path
 import pathlib
 import re
 
-LAYERS = ["made", "older.js", "data", "engine", "run", "course", "draw", "page", "activities", "main.js"]
+LAYERS = ["made", "data", "engine", "run", "course", "draw", "page", "story", "activities", "main.js"]
 IMPORT = re.compile(r'^import (?:\{([^}]*)\} from )?"([^"]+)";\n', re.M)
 EXPORT = re.compile(r"^export (?=(?:async )?(?:const|function\*?|class) (\w+))", re.M)
 COMMENT = re.compile(r"^ *//.*\n", re.M)  # no text of src/ has such a line in it

@@ -3,13 +3,8 @@ them."""
 import json
 import re
 
-TITLES = {
-    "CoarseList": "coarse",
-    "FineList": "fine",
-    "OptimisticList": "optimistic",
-    "LazyList": "lazy",
-    "LockFreeList": "lock-free",
-}
+from lists import lists as all_lists
+
 REGISTERS = ["pred", "curr", "succ", "node", "pkey", "ckey"]
 CALLS = ["add", "remove", "contains", "ceiling"]
 # What the column "Then" says of where a row leads, in its own words.
@@ -90,8 +85,8 @@ def rows_text(tables):
     sections = {part.split("\n", 1)[0].strip(): part for part in tables.split("\n## ")}
     reads = reads_of(sections["Reads without locks"])
     lists = {}
-    for name, kind in TITLES.items():
-        own = reads if kind in ("lazy", "lock-free") else {}
+    for one in all_lists():
+        name, kind, own = one.type, one.word, reads if one.has_reads() else {}
         adds, removes, _ = deciding_rows(sections[name])
         rows = rows_of(sections[name]) | {number: row for some in own.values() for number, row in some.items()}
         lists[kind] = {"name": name, "registers": registers_in(rows.values()), "adds": adds, "removes": removes,

@@ -9,10 +9,11 @@ import signal
 import subprocess
 import time
 
+import lists
 from toolchain import NEEDS, TOP
 
 PROVED, UNPROVED = TOP / "crates/listset/out/listset", TOP / "crates/listset/out/unproved/listset"
-KINDS = ["coarse", "fine", "optimistic", "lazy", "lock-free"]
+KINDS = [it.word for it in lists.lists()]
 SECONDS = 60  # for each wait
 LONG = 600  # seconds, for a compiler and for a whole test
 # cargo, for what is built once: in half the time

@@ -8,9 +8,11 @@ mod lists;
 mod lock_free;
 mod meeting;
 mod optimistic;
+mod reports;
 mod running;
 mod world;
 
 pub use lists::{ALL, BrokenList, named};
+pub use reports::{read_broken_schedule, report_broken};
 pub use running::broken_run;
 pub use world::BrokenWorld;

@@ -4,9 +4,8 @@
 #![tactic(auto)]
 
 ghost use Rattle.lset_words.specs.declared.Call.TheVariants.{Add, Remove, Contains, Ceiling};
-ghost use Rattle.ffi_sets.specs.Calls.{EndsSet, GivesKeys, HasCeiling, HasGathered, HasMade, HasOpened, HasSplit};
+ghost use Rattle.ffi_sets.specs.Calls.{HasCeiling, HasMade};
 ghost use Rattle.ffi_sets.specs.Sets.{GathersAt};
-ghost use Rattle.std.specs.Prelude.{◌≡◌, false};
 
 use ffi_sets::CSeat;
 use std::alloc::Global;
@@ -26,9 +25,7 @@ pub extern "C" fn listset_open(
     number: u64,
     keys: &[u32],
     out: &mut CSeat,
-) -> u8
-    ensures { HasOpened out.old.full out.old.held kind (record { threads = seats; quota = quota; keys = keys.now }) number result out.new.full out.new.held }
-{
+) -> u8 {
     ffi_sets::open_set(alloc, kind, seats, quota, number, keys, out)
 }
 
@@ -37,9 +34,7 @@ pub extern "C" fn listset_open(
 /// Returns `DONE`, or an error and changes nothing: `IS_SEAT` if `out` is not empty, `NO_SEAT` if `seat` is empty,
 /// `NO_MORE` if no seat can be split off it (so too if it is a closed set), `OUT_OF_MEMORY` if an allocation failed. Does not block.
 #[unsafe(no_mangle)]
-pub extern "C" fn listset_split(alloc: Global, seat: &mut CSeat, out: &mut CSeat) -> u8
-    ensures { HasSplit seat.old.full seat.old.held out.old.full out.old.held result seat.new.full seat.new.held out.new.full out.new.held }
-{
+pub extern "C" fn listset_split(alloc: Global, seat: &mut CSeat, out: &mut CSeat) -> u8 {
     ffi_sets::split_seat(alloc, seat, out)
 }
 
@@ -88,7 +83,6 @@ pub extern "C" fn listset_ceiling(alloc: Global, seat: &mut CSeat, key: u32, at:
 #[unsafe(no_mangle)]
 pub extern "C" fn listset_gather(alloc: Global, into: &mut CSeat, from: &mut CSeat) -> u8
     requires { GathersAt into.old.full into.old.held from.old.full from.old.held }
-    ensures { HasGathered into.old.full into.old.held from.old.full from.old.held result into.new.full into.new.held from.new.full from.new.held }
 {
     ffi_sets::gather_seats(alloc, into, from)
 }
@@ -98,25 +92,19 @@ pub extern "C" fn listset_gather(alloc: Global, into: &mut CSeat, from: &mut CSe
 /// Returns `DONE`, or an error and changes nothing: `NO_SEAT` if `seat` is empty or a closed set, `SEATS_OUT` if other seats
 /// are out, `OUT_OF_MEMORY` if an allocation failed. Does not block.
 #[unsafe(no_mangle)]
-pub extern "C" fn listset_close(alloc: Global, seat: &mut CSeat) -> u8
-    ensures { EndsSet seat.old.full seat.old.held result seat.new.full seat.new.held }
-{
+pub extern "C" fn listset_close(alloc: Global, seat: &mut CSeat) -> u8 {
     ffi_sets::close_set(alloc, seat)
 }
 
 /// Returns how many keys the closed set `closed` has, and copies them to `room`, in strictly increasing order, if they fit;
 /// 2^64 - 1 if it is not a closed set. Does not block or allocate.
 #[unsafe(no_mangle)]
-pub extern "C" fn listset_keys(alloc: Global, closed: &mut CSeat, room: &mut [u32]) -> usize
-    ensures { GivesKeys closed.old.full closed.old.held room.old room.new result closed.new.full closed.new.held }
-{
+pub extern "C" fn listset_keys(alloc: Global, closed: &mut CSeat, room: &mut [u32]) -> usize {
     ffi_sets::give_keys(alloc, closed, room)
 }
 
 /// Drops what the seat contains, and leaves it empty. A set of which a seat was dropped cannot be closed. Does not block.
 #[unsafe(no_mangle)]
-pub extern "C" fn listset_drop(alloc: Global, seat: &mut CSeat)
-    ensures { seat.new.full ≡ false }
-{
+pub extern "C" fn listset_drop(alloc: Global, seat: &mut CSeat) {
     ffi_sets::let_go(alloc, seat);
 }

@@ -1,10 +1,11 @@
-ghost use Rattle.tool_base.specs.Generating.{Generates};
+ghost use Rattle.tool_replay.specs.Generating.{Generates};
 ghost use Rattle.tool_base.specs.Tools.{view};
 ghost use Rattle.ffi_page.specs.Page.{OfWords};
 
 use crate::words::words_in;
 use std::alloc::Global;
-use tool_base::{Answer, Trouble, generate_for};
+use tool_base::{Answer, Trouble};
+use tool_replay::generate_for;
 
 /// Returns the text of the schedule that `gen` prints for the arguments in these bytes.
 pub fn generate_by(alloc: Global, bytes: &[u8]) -> Result<Answer, Trouble>

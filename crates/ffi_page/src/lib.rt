@@ -1,6 +1,6 @@
 //! The tools as functions of C for a web page: a text in, a text out, and the exit status of the program `listset`.
 //!
-//! Each function writes what the program prints of the text, its result or the line about an error, to the front of `room`,
+//! Each function writes what the program prints of the text, its result (or a record of it) or the line about an error, to the front of `room`,
 //! returns its length in bytes, and sets `status` to the program's exit status: 0; 1 if something is wrong with the text; 2
 //! if a name is wrong; 3 if an allocation failed. If `room` is too short nothing is written there: call again with that many
 //! bytes. No function keeps state, and none but `listset_judge_from` blocks.
@@ -9,13 +9,14 @@
 mod generating;
 mod handing;
 mod host;
+mod records;
 mod showing;
 mod words;
 
-ghost use Rattle.tool_base.specs.Replaying.{ReplaysText};
-ghost use Rattle.tool_base.specs.Checking.{ChecksText};
+ghost use Rattle.tool_replay.specs.Replaying.{ReplaysText};
+ghost use Rattle.tool_replay.specs.Checking.{ChecksText};
 ghost use Rattle.tool_base.specs.Faults.{TellsFaults};
-ghost use Rattle.tool_base.specs.Generating.{Generates};
+ghost use Rattle.tool_replay.specs.Generating.{Generates};
 ghost use Rattle.tool_base.specs.Tools.{OnText};
 ghost use Rattle.tool_judge.specs.Judging.{Judges};
 ghost use Rattle.ffi_page.specs.Page.{Hands, OfText, OfWords};
@@ -23,11 +24,12 @@ ghost use Rattle.ffi_page.specs.Page.{Hands, OfText, OfWords};
 use generating::generate_by;
 use handing::hand;
 use host::HostInput;
-use showing::{draw_broken, draw_text, example_by, replay_broken, trace_broken};
+use records::{judge_recording, judge_report};
+use showing::{draw_text, example_by, run_broken};
 use std::alloc::Global;
-use tool_base::{Check, Replay, answer_text, list_faults};
-use tool_draft::Expand;
+use tool_base::{answer_text, list_faults};
 use tool_judge::{judge_bytes, judge_input};
+use tool_replay::{Check, Expand, Replay};
 use tool_trace::Trace;
 
 /// What `listset replay` prints of a schedule: its report; or the line about the first error of the text, the first event
@@ -75,6 +77,39 @@ pub extern "C" fn listset_judge_from(
     hand(judge_input(alloc, &mut input), room, status)
 }
 
+/// The verdict of `listset judge` as a record, lines of a word and its values: `verdict ok`, `calls N`, `overlapped N`, `cut BOOL`; or
+/// with status 1 `verdict none`, `key K` and what else is known: `moment M`, up to which the calls have no order, and if there is none
+/// the key is left otherwise; `since M BOOL`, from which moment on and whether the key is there then; `by call ..`, the change that made it
+/// so; `call ..` for each call that has no order from there; `hidden N FIRST LAST`, how many more began in these moments. The error is a
+/// line as of `listset_judge`.
+#[unsafe(no_mangle)]
+pub extern "C" fn listset_judge_record(
+    alloc: Global,
+    text: &[u8],
+    room: &mut [u8],
+    status: &mut u8,
+) -> usize
+    ensures { Hands (λ _. Unit {0}) room.old room.new status.new result }
+{
+    hand(judge_recording(alloc, text), room, status)
+}
+
+/// The verdict on a report as a record: `verdict own` if its order explains it. Else, with status 1, first why that is refused,
+/// `order FAULT CALL ..` with the reply of the place, its number and the reply of the set, or the begin, the other call and its end; and, of
+/// `SetReply` and `WrongSet`, `set K ..`; then what is known of all other orders, `verdict another`, `verdict unknown`, or `verdict none` with the lines of `listset_judge_record`. The error is
+/// a line as of `listset_check`.
+#[unsafe(no_mangle)]
+pub extern "C" fn listset_check_record(
+    alloc: Global,
+    text: &[u8],
+    room: &mut [u8],
+    status: &mut u8,
+) -> usize
+    ensures { Hands (λ _. Unit {0}) room.old room.new status.new result }
+{
+    hand(judge_report(alloc, text), room, status)
+}
+
 /// What `listset check` prints of a report: `ok`, or the first fault of its order with status 1; or the line about the first
 /// error of the text, or a text that is too long.
 #[unsafe(no_mangle)]
@@ -100,11 +135,11 @@ pub extern "C" fn listset_trace(
 ) -> usize
     ensures { Hands (λ _. Unit {0}) room.old room.new status.new result }
 {
-    hand(
-        answer_text(alloc, &Trace { chains: false }, text),
-        room,
-        status,
-    )
+    let tool = Trace {
+        chains: false,
+        lacks: None,
+    };
+    hand(answer_text(alloc, &tool, text), room, status)
 }
 
 /// What `listset trace --chain` prints of a schedule: its trace, with the chain after each event that changed it, up to the
@@ -119,11 +154,11 @@ pub extern "C" fn listset_trace_with_chains(
 ) -> usize
     ensures { Hands (λ _. Unit {0}) room.old room.new status.new result }
 {
-    hand(
-        answer_text(alloc, &Trace { chains: true }, text),
-        room,
-        status,
-    )
+    let tool = Trace {
+        chains: true,
+        lacks: None,
+    };
+    hand(answer_text(alloc, &tool, text), room, status)
 }
 
 /// What `listset show` prints of a schedule or a report: the picture, with status 1 if it says why the order of a report is
@@ -161,84 +196,22 @@ pub extern "C" fn listset_show_svg(
     hand(draw_text(alloc, text, true, options), room, status)
 }
 
-/// What `listset replay --lacks NAME` prints of a schedule, run on the broken list of this name: the report of its run;
-/// `listset: bad NAME: ..` with status 2 if no list has the name; or the line about the first error of the text, a schedule
-/// of another list, or the event at which the run ends.
+/// What a command prints of a schedule that is run on the broken list of this name (`--lacks NAME`). The words are, with a zero byte
+/// between two, the command, `replay`, `trace`, `trace_with_chains`, `show` or `show_svg`, and then options as those of `listset_show`. The
+/// report's order is judged by `show` alone, whose last lines say whether another order explains it. The error is a line as of the command
+/// on the whole list, `listset: bad NAME: ..` with status 2 if no list has the name, or the first error of a schedule of another list.
 #[unsafe(no_mangle)]
-pub extern "C" fn listset_replay_lacking(
+pub extern "C" fn listset_lacking(
     alloc: Global,
     name: &[u8],
     text: &[u8],
+    words: &[u8],
     room: &mut [u8],
     status: &mut u8,
 ) -> usize
     ensures { Hands (λ _. Unit {0}) room.old room.new status.new result }
 {
-    hand(replay_broken(alloc, name, text), room, status)
-}
-
-/// What `listset trace --lacks NAME` prints of a schedule, run on the broken list of this name: its trace, up to the event
-/// at which the run ends, which has status 1; or a line as of `listset_replay_lacking`.
-#[unsafe(no_mangle)]
-pub extern "C" fn listset_trace_lacking(
-    alloc: Global,
-    name: &[u8],
-    text: &[u8],
-    room: &mut [u8],
-    status: &mut u8,
-) -> usize
-    ensures { Hands (λ _. Unit {0}) room.old room.new status.new result }
-{
-    hand(trace_broken(alloc, name, text, false), room, status)
-}
-
-/// What `listset trace --chain --lacks NAME` prints of a schedule, run on the broken list of this name: its trace, with the
-/// chain after each event that changed it, up to the event at which the run ends, which has status 1; or a line as of
-/// `listset_replay_lacking`.
-#[unsafe(no_mangle)]
-pub extern "C" fn listset_trace_with_chains_lacking(
-    alloc: Global,
-    name: &[u8],
-    text: &[u8],
-    room: &mut [u8],
-    status: &mut u8,
-) -> usize
-    ensures { Hands (λ _. Unit {0}) room.old room.new status.new result }
-{
-    hand(trace_broken(alloc, name, text, true), room, status)
-}
-
-/// What `listset show --lacks NAME` prints of a schedule, run on the broken list of this name: the picture of the report of
-/// its run, with status 1 if its order is refused, and last lines that say whether another order explains it; or a line as
-/// of `listset_replay_lacking`. The options are those of `listset_show`.
-#[unsafe(no_mangle)]
-pub extern "C" fn listset_show_lacking(
-    alloc: Global,
-    name: &[u8],
-    text: &[u8],
-    options: &[u8],
-    room: &mut [u8],
-    status: &mut u8,
-) -> usize
-    ensures { Hands (λ _. Unit {0}) room.old room.new status.new result }
-{
-    hand(draw_broken(alloc, name, text, false, options), room, status)
-}
-
-/// What `listset show --svg --lacks NAME` prints of a schedule, run on the broken list of this name: the picture of
-/// `listset_show_lacking` as an SVG, with its statuses, lines and options.
-#[unsafe(no_mangle)]
-pub extern "C" fn listset_show_svg_lacking(
-    alloc: Global,
-    name: &[u8],
-    text: &[u8],
-    options: &[u8],
-    room: &mut [u8],
-    status: &mut u8,
-) -> usize
-    ensures { Hands (λ _. Unit {0}) room.old room.new status.new result }
-{
-    hand(draw_broken(alloc, name, text, true, options), room, status)
+    hand(run_broken(alloc, name, text, words), room, status)
 }
 
 /// What `listset draft` prints of a draft: the schedule; or the line about the first error of the text, the first line that

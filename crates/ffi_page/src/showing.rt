@@ -2,58 +2,57 @@ use crate::words::{option_at, words_in};
 use broken_lists::{BrokenList, named};
 use std::alloc::Global;
 use tool_base::{Answer, Trouble, ValueName, answer_text};
-use tool_broken::{ReplayBroken, ShowBroken, TraceBroken};
-use tool_examples::{print_example, read_example_request};
+use tool_judge::ShowJudged;
+use tool_replay::{ReplayBroken, print_example, read_example_request};
 use tool_show::{Show, read_show};
+use tool_trace::Trace;
 
-/// What the options ask for. The errors are `Bad` if one is wrong, and `Memory`.
-fn show_by(alloc: Global, svg: bool, options: &[u8]) -> Result<Show, Trouble> {
-    let words = words_in(alloc, options)?;
-    let from = option_at(&words, 0);
-    let to = option_at(&words, 1);
-    let width = option_at(&words, 2);
-    Ok(read_show(svg, from, to, width)?)
-}
-
-fn broken_of(name: &[u8]) -> Result<BrokenList, Trouble> {
-    named(name).ok_or(Trouble::Bad(ValueName::Lacks))
+/// What the options ask for that begin at this index of the words. The error names one that is wrong.
+fn show_by(svg: bool, words: &[String], first: usize) -> Result<Show, ValueName> {
+    let from = option_at(words, first);
+    let to = option_at(words, first.saturating_add(1));
+    let width = option_at(words, first.saturating_add(2));
+    read_show(svg, from, to, width)
 }
 
 /// Draws a schedule or a report, as text or as an SVG (`svg`), in the moments and the width of the options. The errors are
-/// those of `Show`, and `Bad` if an option is wrong.
+/// those of `ShowJudged`, and `Bad` if an option is wrong.
 pub fn draw_text(alloc: Global, text: &[u8], svg: bool, options: &[u8]) -> Result<Answer, Trouble> {
-    let show = show_by(alloc, svg, options)?;
-    answer_text(alloc, &show, text)
+    let words = words_in(alloc, options)?;
+    let show = show_by(svg, &words, 0)?;
+    answer_text(alloc, &ShowJudged { show }, text)
 }
 
-/// Draws the report of the run of a schedule on the broken list of this name.
-pub fn draw_broken(
+/// Answers a command on a schedule of the broken list of this name, in the moments and the width of the options behind the command.
+pub fn run_broken(
     alloc: Global,
     name: &[u8],
     text: &[u8],
-    svg: bool,
-    options: &[u8],
+    words: &[u8],
 ) -> Result<Answer, Trouble> {
-    let show = show_by(alloc, svg, options)?;
-    let broken = broken_of(name)?;
-    answer_text(alloc, &ShowBroken { broken, show }, text)
+    let words = words_in(alloc, words)?;
+    let Some(command) = words.first() else {
+        return Err(Trouble::Bad(ValueName::Name));
+    };
+    let command = command.as_bytes();
+    let show = show_by(command == b"show_svg".as_slice(), &words, 1)?;
+    let broken = named(name).ok_or(Trouble::Bad(ValueName::Lacks))?;
+    match command {
+        b"replay" => answer_text(alloc, &ReplayBroken { broken }, text),
+        b"trace" => trace(alloc, broken, text, false),
+        b"trace_with_chains" => trace(alloc, broken, text, true),
+        b"show" | b"show_svg" => {
+            let lacks = Some(broken);
+            let show = Show { lacks, ..show };
+            answer_text(alloc, &ShowJudged { show }, text)
+        }
+        _ => Err(Trouble::Bad(ValueName::Name)),
+    }
 }
 
-/// Replays a schedule on the broken list of this name.
-pub fn replay_broken(alloc: Global, name: &[u8], text: &[u8]) -> Result<Answer, Trouble> {
-    let broken = broken_of(name)?;
-    answer_text(alloc, &ReplayBroken { broken }, text)
-}
-
-/// Traces a schedule on the broken list of this name.
-pub fn trace_broken(
-    alloc: Global,
-    name: &[u8],
-    text: &[u8],
-    chains: bool,
-) -> Result<Answer, Trouble> {
-    let broken = broken_of(name)?;
-    answer_text(alloc, &TraceBroken { broken, chains }, text)
+fn trace(alloc: Global, broken: BrokenList, text: &[u8], chains: bool) -> Result<Answer, Trouble> {
+    let lacks = Some(broken);
+    answer_text(alloc, &Trace { chains, lacks }, text)
 }
 
 /// Prints what `example` prints.

@@ -1,7 +1,6 @@
 //! What is done with seats of C, and the number that C is answered.
-ghost use Rattle.std.specs.Prelude.{◌≡◌, ◌⊎◌, true, false};
+ghost use Rattle.std.specs.Prelude.{◌≡◌, false};
 ghost use Rattle.ffi_sets.specs.Calls.{HasMade, code_of};
-ghost use Rattle.ffi_sets.specs.Sets.{number_of_fault};
 
 use crate::codes::{BAD_KEYS, BAD_QUOTA, BAD_SEATS, DONE, NO_SEAT, OUT_OF_MEMORY};
 use crate::each::call_held;
@@ -26,9 +25,7 @@ pub fn reply_code(reply: Option<Reply>) -> u8
 }
 
 /// Returns the number of an error of `lset_live::open_with`.
-pub fn fault_code(fault: OpenFault) -> u8
-    ensures { result ≡ number_of_fault fault }
-{
+pub fn fault_code(fault: OpenFault) -> u8 {
     match fault {
         OpenFault::Seats => BAD_SEATS,
         OpenFault::Quota => BAD_QUOTA,
@@ -53,7 +50,6 @@ pub fn call_from_seat(alloc: Global, seat: &mut CSeat, call: Call) -> u8
 /// empty.
 pub fn put_new(alloc: Global, seat: &mut CSeat, held: Held) -> u8
     requires { seat.old.full ≡ false }
-    ensures { ((result ≡ 0) × (seat.new.full ≡ true) × (seat.new.held ≡ held)) ⊎ ((result ≡ 13) × (seat.new.full ≡ false)) }
 {
     match Box::new(alloc, held) {
         Ok(boxed) => {

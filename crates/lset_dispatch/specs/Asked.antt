@@ -8,7 +8,7 @@ use Rattle.lset_command.specs.declared.command_line.Command.TheVariants as comma
 use Rattle.lset_schedule.specs.Generating.{IsAccepted}
 use Rattle.tool_base.specs.declared.arguments.RandomRequest.{RandomRequest}
 use Rattle.tool_base.specs.declared.trouble.ValueName.{ValueName}
-use Rattle.tool_base.specs.Generating.{random_request_of}
+use Rattle.tool_base.specs.Arguments.{random_request_of}
 use Rattle.lset_dispatch.specs.declared.request.Request.{Request}
 use Rattle.lset_dispatch.specs.declared.request.Request.TheVariants.{Replay, Judge, Check, Gen, Faults}
 

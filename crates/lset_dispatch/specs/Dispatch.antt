@@ -9,9 +9,9 @@ use Rattle.clap.specs.declared.error.kind.ErrorKind.TheVariants.{OutOfMemory, Di
 use Rattle.lset_command.specs.CommandLine.{Choice, choice_of, listset, path_of}
 use Rattle.tool_base.specs.declared.trouble.Trouble.TheVariants.{Bad, CannotRead, Memory}
 use Rattle.tool_base.specs.Tools.{Made, Ends, AppendsFront}
-use Rattle.tool_base.specs.Replaying.{Replays}
-use Rattle.tool_base.specs.Checking.{Checks}
-use Rattle.tool_base.specs.Generating.{Answers}
+use Rattle.tool_replay.specs.Replaying.{Replays}
+use Rattle.tool_replay.specs.Checking.{Checks}
+use Rattle.tool_replay.specs.Generating.{Answers}
 use Rattle.tool_base.specs.Faults.{TellsFaults}
 use Rattle.tool_judge.specs.Judging.{Judges}
 use Rattle.lset_dispatch.specs.Asked.{Asked, asked}

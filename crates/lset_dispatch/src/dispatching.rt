@@ -23,12 +23,7 @@ use tool_base::{Answer, FAULTS, Trouble, deliver, put};
 /// Ends a run whose command line `words_given` did not take, and returns the exit status. Writes the help or the version
 /// that was asked for to `output`, status 0, or what is wrong to `stderr`, status 2. If an allocation failed, before or now,
 /// it writes the line about that to `stderr`, status 3. A help that is not written whole is a write that failed, status 1.
-pub fn decline<W: Write, E: Write>(
-    alloc: Global,
-    error: &Error,
-    output: &mut W,
-    stderr: &mut E,
-) -> u8
+fn decline<W: Write, E: Write>(alloc: Global, error: &Error, output: &mut W, stderr: &mut E) -> u8
     ensures { Declines (kind_of error.now)
         (W.contents output.old) (W.contents output.new) (E.contents stderr.old) (E.contents stderr.new) result }
 {

@@ -6,6 +6,4 @@ mod dispatching;
 mod request;
 mod running;
 
-pub use dispatching::{decline, run_words, tool_words};
-pub use request::{Request, read_request};
-pub use running::run_request;
+pub use dispatching::{run_words, tool_words};

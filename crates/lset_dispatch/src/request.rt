@@ -8,8 +8,9 @@ use tool_base::{
     LivesRequest, RandomRequest, ServeRequest, ValueName, read_lives_request, read_random_request,
     read_serve_request,
 };
-use tool_examples::{ExampleRequest, read_example_request};
+use tool_replay::{ExampleRequest, read_example_request};
 use tool_show::{Show, read_show};
+use tool_trace::Trace;
 
 /// What a command line asks for, whatever the file is that the command reads.
 #[derive(Clone, Copy)]
@@ -17,9 +18,8 @@ pub enum Request {
     Replay(Option<BrokenList>),
     Judge,
     Check,
-    Show(Show, Option<BrokenList>),
-    /// With the chains or without.
-    Trace(bool, Option<BrokenList>),
+    Show(Show),
+    Trace(Trace),
     Draft,
     Example(ExampleRequest),
     Gen(RandomRequest),
@@ -63,7 +63,8 @@ fn read_show_request(options: &Options) -> Result<Request, ValueName>
     let to = text_of(&options.to);
     let width = text_of(&options.width);
     let show = read_show(options.svg, from, to, width)?;
-    Ok(Request::Show(show, find_broken(&options.lacks)?))
+    let lacks = find_broken(&options.lacks)?;
+    Ok(Request::Show(Show { lacks, ..show }))
 }
 
 fn read_example(words: &Words) -> Result<Request, ValueName>
@@ -99,7 +100,10 @@ pub fn read_request(words: &Words) -> Result<Request, ValueName>
         Command::Judge => Ok(Request::Judge),
         Command::Check => Ok(Request::Check),
         Command::Show => read_show_request(options),
-        Command::Trace => Ok(Request::Trace(options.chain, find_broken(&options.lacks)?)),
+        Command::Trace => Ok(Request::Trace(Trace {
+            chains: options.chain,
+            lacks: find_broken(&options.lacks)?,
+        })),
         Command::Draft => Ok(Request::Draft),
         Command::Example => read_example(words),
         Command::Gen => Ok(Request::Gen(read_random_request(&words.values)?)),

@@ -9,14 +9,11 @@ use std::net::{Net, TcpListener, TcpStream};
 use std::sync::Wait;
 use std::thread::Threads;
 use std::time::Clock;
-use tool_base::{deliver, generate_text, list_faults, run_tool, tool_check, tool_replay};
-use tool_broken::{ReplayBroken, ShowBroken, TraceBroken};
-use tool_draft::Expand;
-use tool_examples::print_example;
-use tool_judge::judge_input;
-use tool_run::run_lives;
-use tool_serve::{serve_set, serve_set_of};
-use tool_trace::{Trace, trace_events};
+use tool_base::{deliver, list_faults, run_tool};
+use tool_judge::{ShowJudged, judge_input};
+use tool_replay::{Expand, ReplayBroken, generate_text, print_example, tool_check, tool_replay};
+use tool_threads::{run_lives, serve_set, serve_set_of};
+use tool_trace::trace_events;
 
 /// Replays the input, by a broken list if one is given.
 fn replay<R: Read, W: Write, E: Write>(
@@ -52,26 +49,8 @@ pub fn run_request<
         Request::Replay(broken) => replay(alloc, broken, input, output, stderr),
         Request::Judge => deliver(judge_input(alloc, input), output, stderr),
         Request::Check => tool_check(alloc, input, output, stderr),
-        Request::Show(show, None) => run_tool(alloc, &show, input, output, stderr),
-        Request::Show(show, Some(broken)) => {
-            run_tool(alloc, &ShowBroken { broken, show }, input, output, stderr)
-        }
-        Request::Trace(true, None) => {
-            run_tool(alloc, &Trace { chains: true }, input, output, stderr)
-        }
-        Request::Trace(false, None) => {
-            let made = trace_events(alloc, input, output);
-            deliver(made, output, stderr)
-        }
-        Request::Trace(chains, Some(broken)) => {
-            run_tool(
-                alloc,
-                &TraceBroken { broken, chains },
-                input,
-                output,
-                stderr,
-            )
-        }
+        Request::Show(show) => run_tool(alloc, &ShowJudged { show }, input, output, stderr),
+        Request::Trace(trace) => deliver(trace_events(alloc, trace, input, output), output, stderr),
         Request::Draft => run_tool(alloc, &Expand {}, input, output, stderr),
         Request::Example(example) => deliver(print_example(alloc, example), output, stderr),
         Request::Gen(random) => deliver(generate_text(alloc, random), output, stderr),

@@ -1,6 +1,6 @@
 -- What stands at one moment: at most one changing call, which is what the log's entry says, and it leads the set on.
-use Rattle.std.proofs.Common.{◌≡◌, ℕ, suc, ◌<◌, ◌≤◌, true, false, inl, inr, List, [], ◌∷◌, sym, refl, subst, ap, ◌∙◌, arith}
-use Rattle.std.specs.Prelude.{◌==◌, Option, Some, None, IsSomeAnd, IfSome, filter, slice_index}
+use Rattle.std.proofs.Common.{rules, ◌≡◌, ℕ, suc, ◌<◌, true, false, inl, inr, List, [], ◌∷◌, sym, refl, subst, ap, ◌∙◌, arith}
+use Rattle.std.specs.Prelude.{◌==◌, Option, Some, None, filter, slice_index}
 use Rattle.std.specs.List.{AllByRecursion}
 use Rattle.std.proofs.lemmas.Bool.Decides.{nat_tests}
 use Rattle.lset_words.specs.declared.Call.{Call}
@@ -21,7 +21,7 @@ use Rattle.lset_history.proofs.Keys.{has_true, has_false}
 use Rattle.lset_history.proofs.Calls.{Run}
 use Rattle.lset_history.proofs.SetFitting.{SameKeys, rises_for, replies_from_fits}
 use Rattle.lset_history.proofs.States.{Shows, keys_after, counts_after, set_after}
-use Rattle.lset_history.proofs.Standings.{Stood, Follows, During, during, Changing, changing, Reading}
+use Rattle.lset_history.proofs.Standings.{Stood, Follows, Changing, changing, Reading}
 use Rattle.lset_history.proofs.Order.{moment_of, Leads, Stays}
 
 -- the call with the reply that it has where it stands
@@ -30,10 +30,8 @@ answered_of s = record { thread = s.traced.thread; call = s.traced.call; reply =
 
 -- THE SET ANSWERS a call that changes
 pub change_replies : (threads quota : ℕ) (content after : Content) (counts : ℕ → ℕ) (s : SetState) (t : ℕ) (call : Call)
-    (change : Change)
-    → Shows threads content counts s → t < threads → Changes (Some change) content after
-    → MayChange quota (counts t) call false (Some change)
-    → (reply_to quota s t call ≡ True)
+    (change : Change) → Shows threads content counts s → t < threads → Changes (Some change) content after
+    → MayChange quota (counts t) call false (Some change) → (reply_to quota s t call ≡ True)
     × (after_call s t call True ≡ record {
       keys = keys_after (Some change) s.keys;
       counts = counts_after t
@@ -98,26 +96,7 @@ module _ (r : Run) (last : ℕ) (calls : List TracedCall) (places : List (Option
 
   -- two calls do not change at one moment
   clash : (m : ℕ) (s q : Standing) → Here m s → Here m q → Follows s q → makes_change s ≡ true → makes_change q ≡ true → ⊥
-  clash m s q a b f t u =
-      let c : Changing r s = changing r last calls places s a.0 t in
-      let d : Changing r q = changing r last calls places q b.0 u in
-      let em : s.moment ≡ m = a.1 in
-      let en : q.moment ≡ m = b.1 in
-      let em_before : s.moment ≡ suc c.change.before = c.change.is in
-      let g : q.moment ≡ suc c.change.before = omega arith in
-      let e : stepped s.traced.thread (Some c.change.change) c.change.reply ≡ stepped q.traced.thread
-      (Some d.change.change) d.change.reply =
-      (entry_of r q c.change.before (stepped s.traced.thread (Some c.change.change) c.change.reply) d g c.change.entry).1 in
-      let same : s.traced.thread ≡ q.traced.thread = cc in
-      let w : During last s.traced.begun s.moment s.traced.ended = during r last calls places s a.0 in
-      let late : q.traced.begun < q.moment = d.change.later in
-      over s.traced.ended w.in_call (f.1.one_thread same) (let n : s.moment ≡ q.moment = omega arith in n) late
-    where
-      over : (ended : Option (ℕ × Reply)) → IfSome ended (λ (x : ℕ × Reply). s.moment ≤ x.0)
-          → IsSomeAnd ended (λ (x : ℕ × Reply). x.0 < q.traced.begun)
-          → s.moment ≡ q.moment → q.traced.begun < q.moment → ⊥
-      over None a b n l = b
-      over (Some x) a b n l = let i : s.moment ≤ x.0 = a in let j : x.0 < q.traced.begun = b in omega arith
+  clash m s q a b f t u = search rules
 
   pub one_changes : (m : ℕ) → Pairs Follows ss → SomeOf (λ s. (makes_change s ≡ true) × (s.moment ≡ m)) ss
       → (x : Standing) × (filter makes_change (at_moment m ss) ≡ x ∷ []) × Changing r x × (x.moment ≡ m)
@@ -139,8 +118,7 @@ module _ (r : Run) (last : ℕ) (calls : List TracedCall) (places : List (Option
 
   -- THE SET IS LED ON by the entry
   pub turns : (j : ℕ) (e : Entry) (s : SetState) → Pairs Follows ss → r.log j ≡ e
-      → Enters r.threads r.quota r.log r.contents r.counts j e
-      → Shows r.threads (r.contents j) (r.counts j) s
+      → Enters r.threads r.quota r.log r.contents r.counts j e → Shows r.threads (r.contents j) (r.counts j) s
       → ((t : ℕ) (change : Change) (reply : Option Reply) → r.log j ≡ stepped t (Some change) reply
       → SomeOf (λ q. (makes_change q ≡ true) × (q.moment ≡ suc j)) ss)
       → Leads r.quota answered_of s (set_after e s) (filter makes_change (at_moment (suc j) ss))
@@ -148,16 +126,12 @@ module _ (r : Run) (last : ℕ) (calls : List TracedCall) (places : List (Option
       subst (Leads r.quota answered_of s s) (sym (none_changes (suc j) never)) (tt, refl)
     where
       never : (q : Standing) → Changing r q → q.moment ≡ suc j → ⊥
-      never q c m = let e : began t call ≡ stepped q.traced.thread (Some c.change.change) c.change.reply =
-          (entry_of r q j (began t call) c m l).1 in
-          absurd (cc)
+      never q c m = cc
   turns j (stepped t None reply) s f l h w some =
       subst (Leads r.quota answered_of s s) (sym (none_changes (suc j) never)) (tt, refl)
     where
       never : (q : Standing) → Changing r q → q.moment ≡ suc j → ⊥
-      never q c m = let e : stepped t None reply ≡ stepped q.traced.thread (Some c.change.change) c.change.reply =
-          (entry_of r q j (stepped t None reply) c m l).1 in
-          absurd (cc)
+      never q c m = cc
   turns j (stepped t (Some change) reply) s f l h w some =
       let o : (x : Standing) × (filter makes_change (at_moment (suc j) ss) ≡ x ∷ []) × Changing r x × (x.moment ≡ suc j) =
       one_changes (suc j) f (some t change reply l) in

@@ -1,6 +1,6 @@
 -- What a step does to the calls of a log, and what holds of the calls at every moment of an account.
-use Rattle.std.proofs.Common.{◌≡◌, ◌≢◌, ℕ, zero, suc, ◌<◌, ◌≤◌, ◌⊎◌, Bool, true, false, ◌||◌, ◌&&◌, inl, inr, List, [], ◌∷◌, map}
-use Rattle.std.proofs.Common.{sym, refl, subst, ◌∙◌, arith}
+use Rattle.std.proofs.Common.{rules, ◌≡◌, ◌≢◌, ℕ, zero, suc, ◌<◌, ◌≤◌, ◌⊎◌, Bool, true, false, ◌||◌, ◌&&◌, inl, inr, List, []}
+use Rattle.std.proofs.Common.{◌∷◌, map, sym, refl, subst, ◌∙◌, arith}
 use Rattle.std.specs.Prelude.{◌==◌, Option, Some, None, is_none, is_some, if◌then◌else◌, IsSomeAnd}
 use Rattle.std.specs.List.{AllByRecursion}
 use Rattle.std.proofs.lemmas.Bool.Decides.{nat_tests}
@@ -31,15 +31,9 @@ step_of k t change reply x = if is_under_way t x then traced_on (suc k) change r
 
 -- A CALL UNDER WAY
 may_be : (quota count : ℕ) (call here : Call) (b : Bool) (change : Change) → here ≡ call
-    → MayChange quota count here b (Some change)
-    → MayChange quota count call false (Some change)
+    → MayChange quota count here b (Some change) → MayChange quota count call false (Some change)
 may_be quota count call here b (key, true) e m = (sym e ∙ m.0, refl, m.2)
 may_be quota count call here b (key, false) e m = (sym e ∙ m.0, refl)
-
-none_before : (quota count : ℕ) (call : Call) (b : Bool) (change : Change) → MayChange quota count call b (Some change)
-    → b ≡ false
-none_before quota count call b (key, true) m = m.1
-none_before quota count call b (key, false) m = m.1
 
 has_now : (m : ℕ) (b : Bool) (change : Option Change) (changed : Option ℕ) → b ≡ is_some changed
     → (b || is_change change) ≡ is_some (changed_by m change changed)
@@ -49,10 +43,8 @@ has_now m true (Some change) changed e = refl
 has_now m false (Some change) changed e = refl
 
 changed_step : (r : Run) (k thread : ℕ) (call : Call) (begun : ℕ) (changed : Option ℕ) (change : Option Change)
-    (reply : Option Reply)
-    → Stepping r k thread change reply → OpenAt r k thread call begun changed → begun ≤ k
-    → ChangedBy r k thread call begun changed
-    → ChangedBy r (suc k) thread call begun (changed_by (suc k) change changed)
+    (reply : Option Reply) → Stepping r k thread change reply → OpenAt r k thread call begun changed → begun ≤ k
+    → ChangedBy r k thread call begun changed → ChangedBy r (suc k) thread call begun (changed_by (suc k) change changed)
 changed_step r k thread call begun changed None reply s o l c = changed_on r k thread call begun changed c
 changed_step r k thread call begun changed (Some change) reply s o l c = (
   omega arith,
@@ -80,8 +72,7 @@ reply_of r k thread call here begun first b (Some changed) reply e f g c right =
     (c.0, subst (λ z. RightReply z r.quota r.contents r.counts first (suc k) thread here (Some reply)) e right)
 
 changed_now : (r : Run) (k thread : ℕ) (call : Call) (begun : ℕ) (changed : Option ℕ) (change : Option Change)
-    (reply : Option Reply)
-    → r.log k ≡ stepped thread change reply → OpenAt r k thread call begun changed
+    (reply : Option Reply) → r.log k ≡ stepped thread change reply → OpenAt r k thread call begun changed
     → has_changed r.log thread (suc k) ≡ is_some (changed_by (suc k) change changed)
 changed_now r k thread call begun changed change reply e o =
     let f : (thread == thread) ≡ true = equal_test thread thread refl in
@@ -89,8 +80,7 @@ changed_now r k thread call begun changed change reply e o =
     ∙ (rw f (has_now (suc k) (has_changed r.log thread k) change changed o.changed_is))
 
 ended_step : (r : Run) (k thread : ℕ) (call : Call) (begun : ℕ) (changed : Option ℕ) (change : Option Change)
-    (reply : Option Reply)
-    → Stepping r k thread change reply → OpenAt r k thread call begun changed → begun ≤ k
+    (reply : Option Reply) → Stepping r k thread change reply → OpenAt r k thread call begun changed → begun ≤ k
     → ChangedBy r (suc k) thread call begun (changed_by (suc k) change changed)
     → EndedBy r (suc k) thread call begun (changed_by (suc k) change changed) (ended_by (suc k) reply)
 ended_step r k thread call begun changed change None s o l c = record {
@@ -220,19 +210,10 @@ changer_now : (k t : ℕ) (change : Change) (reply : Option Reply) (x : TracedCa
 changer_now k t change reply x p = let b : is_under_way t x ≡ true = is_way t x p.0 p.1 in rw b refl
 
 changer_stays : (r : Run) (k t m : ℕ) (change : Option Change) (reply : Option Reply) (x : TracedCall)
-    → Stepping r k t change reply
-    → ChangesAt m x × Traced r k x → ChangesAt m (step_of k t change reply x)
+    → Stepping r k t change reply → ChangesAt m x × Traced r k x → ChangesAt m (step_of k t change reply x)
 changer_stays r k t m None reply x s p = elim (cases_Bool (is_under_way t x)) [ inl b ↦ rw b p.0 | inr b ↦ rw b p.0 ]
 changer_stays r k t m (Some change) reply x s p = elim (cases_Bool (is_under_way t x)) [
-  | inl b ↦ absurd (let w : (t ≡ x.thread) × (x.ended ≡ None) = way_of t x b in
-      let o : OpenAt r k x.thread x.call x.begun x.changed = open_call r k x w.1 p.1 in
-      let c : has_changed r.log x.thread k ≡ is_some x.changed = o.changed_is in
-      let d : has_changed r.log x.thread k ≡ is_some (Some m) = subst (λ z. has_changed r.log x.thread k ≡ is_some z) p.0 c in
-      let f : has_changed r.log t k ≡ false = none_before r.quota (r.counts k t) (last_call r.log t k)
-      (has_changed r.log t k) change s.may in
-      let g : has_changed r.log x.thread k ≡ false = subst (λ z. has_changed r.log z k ≡ false) w.0 f in
-      let i : is_some (Some m) ≡ true = refl in
-      cc)
+  | inl b ↦ absurd (search rules)
   | inr b ↦ rw b p.0
 ]
 
@@ -258,8 +239,7 @@ changers_step r k t change reply xs s h j u here told l e = elim (same_or_not j 
 ]
 
 after_step : (r : Run) (k t : ℕ) (change : Option Change) (reply : Option Reply) (xs : List TracedCall)
-    → Stepping r k t change reply
-    → Calls r k xs → Calls r (suc k) (map (step_of k t change reply) xs)
+    → Stepping r k t change reply → Calls r k xs → Calls r (suc k) (map (step_of k t change reply) xs)
 after_step r k t change reply xs s h = record {
   each = all_map (step_of k t change reply) (Traced r (suc k)) xs
       (all_imply (Traced r k) (λ x. Traced r (suc k) (step_of k t change reply x))
@@ -294,12 +274,7 @@ run_of threads quota log contents counts =
 pub calls_of : (op : Opening) (last : ℕ) (log : Log) (contents : Contents) (counts : Counts)
     → Account op last log contents counts
     → (k : ℕ) → k ≤ last → Calls (run_of op.threads op.quota log contents counts) k (calls_at log k)
-calls_of op last log contents counts a zero l = record {
-  each = tt;
-  pairs = tt;
-  opens = λ t o. absurd (cc);
-  changers = λ j t change reply m e. absurd (omega arith);
-}
+calls_of op last log contents counts a zero l = grind arith
 calls_of op last log contents counts a (suc k) l =
     calls_on (run_of op.threads op.quota log contents counts) k (log k) refl (a.enters k (omega arith))
     (calls_of op last log contents counts a k (omega arith))

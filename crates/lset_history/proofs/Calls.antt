@@ -1,6 +1,6 @@
 -- The calls of a log: what holds of each call, of two calls, and which calls there are, at every moment of an account.
-use Rattle.std.proofs.Common.{◌≡◌, ◌≢◌, ℕ, suc, ◌<◌, ◌≤◌, Bool, true, false, inl, inr, List, [], ◌∷◌, ◌++◌, sym, refl, subst, ap}
-use Rattle.std.proofs.Common.{◌∙◌, arith}
+use Rattle.std.proofs.Common.{rules, ◌≡◌, ◌≢◌, ℕ, suc, ◌<◌, ◌≤◌, Bool, true, false, inl, inr, List, [], ◌∷◌, ◌++◌, sym, refl}
+use Rattle.std.proofs.Common.{subst, ap, ◌∙◌, arith}
 use Rattle.std.specs.Prelude.{◌==◌, Option, Some, None, is_some, IsSomeAnd}
 use Rattle.std.specs.List.{AllByRecursion}
 use Rattle.lset_words.specs.declared.Call.{Call}
@@ -127,8 +127,7 @@ open_stays u t change None b f = refl
 open_stays u t change (Some reply) b f = rw f refl
 
 pub stays_stepped : (r : Run) (k u thread : ℕ) (call : Call) (begun : ℕ) (changed : Option ℕ) (change : Option Change)
-    (reply : Option Reply)
-    → r.log k ≡ stepped u change reply → u ≢ thread → OpenAt r k thread call begun changed
+    (reply : Option Reply) → r.log k ≡ stepped u change reply → u ≢ thread → OpenAt r k thread call begun changed
     → OpenAt r (suc k) thread call begun changed
 stays_stepped r k u thread call begun changed change reply e n o =
     let f : (u == thread) ≡ false = unequal_test u thread n in
@@ -152,9 +151,7 @@ ended_began : (r : Run) (k u thread : ℕ) (here call : Call) (begun : ℕ) (cha
 ended_began r k u thread here call begun changed None e shut o = stays_begun r k u thread call here begun changed e n o
   where
     n : u ≢ thread
-    n i = let a : is_open r.log thread k ≡ true = o.is in
-        let b : is_open r.log thread k ≡ false = subst (λ z. is_open r.log z k ≡ false) i shut in
-        absurd (cc)
+    n i = cc
 ended_began r k u thread here call begun changed (Some end) e shut o = let a : end.0 ≤ k = o.0 in (omega arith, o.1)
 
 traced_began : (r : Run) (k u : ℕ) (here : Call) (x : TracedCall) → r.log k ≡ began u here → is_open r.log u k ≡ false
@@ -220,9 +217,4 @@ after_beginning r k t call xs e l shut h = record {
     ]
 
     before : (j u : ℕ) (change : Change) (reply : Option Reply) → j < suc k → r.log j ≡ stepped u (Some change) reply → j < k
-    before j u change reply m f = elim (same_or_not j k) [
-      | inl i ↦ absurd (let g : r.log k ≡ stepped u (Some change) reply = subst
-          (λ z. r.log z ≡ stepped u (Some change) reply) i f in
-          let c : began t call ≡ stepped u (Some change) reply = sym e ∙ g in cc)
-      | inr n ↦ omega arith
-    ]
+    before j u change reply m f = search rules

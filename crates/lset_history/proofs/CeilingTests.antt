@@ -1,9 +1,9 @@
 -- A test of whether a key, or none, is the least one at or above another at a moment, where all keys are below 2^32.
-use Rattle.std.proofs.Common.{◌≡◌, ℕ, ◌+◌, ◌-◌, ◌<◌, ◌≤◌, ◌⊎◌, inl, inr, true, false, List, sym, refl, subst, ap, ◌∙◌, arith}
+use Rattle.std.proofs.Common.{rules, ◌≡◌, ℕ, ◌+◌, ◌-◌, ◌<◌, ◌≤◌, ◌⊎◌, inl, inr, true, List, refl, subst, ap, arith}
 use Rattle.std.specs.Prelude.{Option, Some, None}
-use Rattle.lset_words.proofs.Numbers.{below_or_not, same_number, equal_test}
+use Rattle.lset_words.proofs.Numbers.{same_number, equal_test}
 use Rattle.lset_words.specs.Account.{Content, IsCeiling}
-use Rattle.lset_history.specs.Changes.{IsFirst, is_present, state_at, IsBounded, first_passing, same_key, least_present, has_ceiling}
+use Rattle.lset_history.specs.Changes.{IsFirst, is_present, IsBounded, first_passing, same_key, least_present, has_ceiling}
 use Rattle.lset_history.proofs.Firsts.{first_passing_is, one_first}
 use Rattle.lset_history.proofs.Raises.{CeilingAt}
 
@@ -25,11 +25,7 @@ same_key_same (Some a) (Some b) e = equal_test a b (some_is a b e)
 module _ (changes : ℕ → List ℕ) (bounded : IsBounded changes) (key : ℕ) where
   from_first : (m : ℕ) (o : Option ℕ) → IsFirst (λ j. is_present changes j m ≡ true) key (key + (4294967295 - key)) o →
       CeilingAt changes key o m
-  from_first m None h = λ j a p. elim (below_or_not j 4294967296) [
-    | inl l ↦ h j a (omega arith) p
-    | inr g ↦ absurd (let e : state_at false (changes j) m ≡ false = ap (λ ms. state_at false ms m) (bounded j g) in
-        let f : false ≡ true = sym e ∙ p in cc)
-  ]
+  from_first m None h = search rules
   from_first m (Some x) h = (h.0, h.2, h.3)
 
   least_is : (m : ℕ) → CeilingAt changes key (least_present changes key m) m
@@ -64,8 +60,7 @@ module _ (changes : ℕ → List ℕ) (bounded : IsBounded changes) (key : ℕ) 
 
   -- what a search finds is what the test finds, moment after moment
   pub ceiling_search : (found : Option ℕ) (from to : ℕ) (o : Option ℕ) → from ≤ to →
-      IsFirst (CeilingAt changes key found) from to o
-      → o ≡ first_passing true (has_ceiling changes key found) from (to - from)
+      IsFirst (CeilingAt changes key found) from to o → o ≡ first_passing true (has_ceiling changes key found) from (to - from)
   ceiling_search found from to o l h =
       one_first (λ m. has_ceiling changes key found m ≡ true) from to o (first_passing true (has_ceiling changes key found) from
       (to - from))

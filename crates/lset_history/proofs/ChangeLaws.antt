@@ -1,9 +1,9 @@
 -- What one more change of a key makes of whether keys are there.
-use Rattle.std.proofs.Common.{◌≡◌, ◌≢◌, ℕ, zero, suc, ◌+◌, ◌<◌, ◌≤◌, ◌⊎◌, inl, inr, Bool, true, false, not, List, [], ◌∷◌, ◌++◌}
-use Rattle.std.proofs.Common.{length, get_or, sym, refl, ap, ◌∙◌, arith}
+use Rattle.std.proofs.lemmas.Grind.{common_steps}
+use Rattle.std.proofs.Common.{◌≡◌, ◌≢◌, ℕ, zero, suc, ◌+◌, ◌<◌, ◌≤◌, Bool, true, false, not, List, [], ◌∷◌, ◌++◌, length, get_or}
+use Rattle.std.proofs.Common.{sym, refl, ap, ◌∙◌, arith}
 use Rattle.std.specs.Prelude.{All, ◌==◌, nat_lt, if◌then◌else◌}
 use Rattle.std.proofs.lemmas.Bool.{lt-ltb, le-ltb}
-use Rattle.std.proofs.lemmas.List.{get_or_push, get_or_append_left, length_push}
 use Rattle.std.proofs.lemmas.List.Elements.{All-get_or, All-from_get_or}
 use Rattle.lset_words.proofs.Numbers.{equal_test, unequal_test}
 use Rattle.lset_history.specs.Changes.{ChangesValue, moments_of, state_at, state_after, is_present, is_present_now, with_change}
@@ -63,16 +63,7 @@ present_past changes k m h = state_past false (changes k) m (λ j n. All-get_or 
 
 -- all changes up to a moment, and one more
 all_pushed : (ms : List ℕ) (k at : ℕ) → All (λ x. x ≤ k) ms → k ≤ at → All (λ x. x ≤ at) (ms ++ at ∷ [])
-all_pushed ms k at h l = All-from_get_or (λ x. x ≤ at) (ms ++ at ∷ []) 0 (λ i below.
-    let long : length (ms ++ at ∷ []) ≡ length ms + 1 = length_push ms at in
-    elim (last_or_before i (length ms) (omega arith)) [
-      | inl e ↦ (let a : get_or (ms ++ at ∷ []) i 0 ≡ at = get_or_push ms at 0 i (sym e) in omega arith)
-      | inr y ↦ (let a : get_or (ms ++ at ∷ []) i 0 ≡ get_or ms i 0 = get_or_append_left ms (at ∷ []) 0 i y in
-          let b : get_or ms i 0 ≤ k = All-get_or (λ x. x ≤ k) ms i 0 y h in omega arith)
-    ])
-  where
-    last_or_before : (i n : ℕ) → i < n + 1 → (i ≡ n) ⊎ (i < n)
-    last_or_before i n l = grind arith
+all_pushed ms k at h l = grind (arith, common_steps)
 
 pub all_upto_later : (ms : List ℕ) (k at : ℕ) → k ≤ at → All (λ x. x ≤ k) ms → All (λ x. x ≤ at) ms
 all_upto_later ms k at l h = All-from_get_or (λ x. x ≤ at) ms 0 (λ i below.

@@ -1,12 +1,12 @@
 -- Looking for a moment among rising ones, and what is found there.
-use Rattle.std.proofs.Common.{◌≡◌, ◌≢◌, ℕ, zero, suc, ◌+◌, ◌-◌, ◌*◌, ◌^◌, ◌%◌, ◌<◌, ◌≤◌, ◌⊎◌, inl, inr, Bool, true, false, not, List}
-use Rattle.std.proofs.Common.{[], ◌∷◌, ◌++◌, length, get_or, sym, refl, subst, ap, ◌∙◌, arith}
+use Rattle.std.proofs.Common.{rules, ◌≡◌, ◌≢◌, ℕ, zero, suc, ◌+◌, ◌-◌, ◌*◌, ◌^◌, ◌%◌, ◌<◌, ◌≤◌, ◌⊎◌, inl, inr, Bool, true, false}
+use Rattle.std.proofs.Common.{not, List, [], ◌∷◌, ◌++◌, length, get_or, sym, refl, subst, ap, ◌∙◌, arith}
 use Rattle.std.specs.Prelude.{◌==◌, Option, Some, None, Contains, if◌then◌else◌}
 use Rattle.std.specs.List.Sorted.{IsStrictlyIncreasing}
 use mathlib.Core.Bool.{beq}
 use Rattle.std.proofs.Math.Nat.{pow-suc}
 use Rattle.std.proofs.lemmas.Nat.{pow_pos}
-use Rattle.std.proofs.lemmas.Bool.{cases_Bool, false≢true, le-ltb}
+use Rattle.std.proofs.lemmas.Bool.{cases_Bool, le-ltb}
 use Rattle.std.proofs.lemmas.List.Elements.{All-contains, All-from_get_or, Contains-get_or}
 use Rattle.lset_words.proofs.Numbers.{same_number, equal_test, unequal_test}
 use Rattle.lset_words.specs.SequentialSet.{has_key}
@@ -40,10 +40,7 @@ pub below_rises : (ms : List ℕ) → IsStrictlyIncreasing ms → (i j : ℕ) �
 below_rises ms rise i zero l below = let e : i ≡ 0 = omega arith in rw e (omega arith)
 below_rises ms rise i (suc j) l below = elim (last_or_before i j l) [
   | inl e ↦ (rw e (omega arith))
-  | inr k ↦ (let a : get_or ms i 0 ≤ get_or ms j 0 = below_rises ms rise i j k (omega arith) in
-      let b : get_or ms j 0 < get_or ms (j + 1) 0 = rise j (omega arith) in
-      let c : get_or ms (j + 1) 0 ≡ get_or ms (suc j) 0 = ap (λ z. get_or ms z 0) (let f : j + 1 ≡ suc j = omega arith in f) in
-      omega arith)
+  | inr k ↦ grind (arith, below_rises ms rise i j k (omega arith))
 ]
   where
     last_or_before : (i j : ℕ) → i ≤ suc j → (i ≡ suc j) ⊎ (i ≤ j)
@@ -110,10 +107,7 @@ module _ (there : Bool) (ms : List ℕ) (rise : IsStrictlyIncreasing ms) (wanted
   turns : (n : count < length ms) → state_at there ms (get_or ms count 0) ≡ not (turned count there)
   turns n = state_between there ms (suc count) (get_or ms count 0) (omega arith)
       (λ j k. below_rises ms rise j count (omega arith) n)
-      (λ k. let a : get_or ms count 0 < get_or ms (count + 1) 0 = rise count (omega arith) in
-      let e : get_or ms (count + 1) 0 ≡ get_or ms (suc count) 0 = ap (λ z. get_or ms z 0) (let f : count + 1 ≡ suc count =
-      omega arith in f) in
-      omega arith)
+      (grind arith)
       ∙ turned_not count there
 
   pub found_at_once : turned count there ≡ wanted → IsFirst Wanted from to (Some from)
@@ -138,10 +132,7 @@ state_opened false ms m = refl
 
 pub rises_behind : (b : Bool) (ms : List ℕ) → IsStrictlyIncreasing ((if b then 0 ∷ [] else []) ++ ms) → IsStrictlyIncreasing ms
 rises_behind true ms h i l =
-    let a : get_or ms i 0 < get_or (0 ∷ ms) (suc i + 1) 0 = h (suc i) (omega arith) in
-    let e : get_or (0 ∷ ms) (suc i + 1) 0 ≡ get_or ms (i + 1) 0 =
-    ap (λ z. get_or (0 ∷ ms) z 0) (let f : suc i + 1 ≡ suc (i + 1) = omega arith in f) in
-    omega (arith, a, e)
+    let a : get_or ms i 0 < get_or (0 ∷ ms) (suc i + 1) 0 = h (suc i) (omega arith) in grind arith
 rises_behind false ms h i l = h i l
 
 no_longer : (b : Bool) (ms : List ℕ) (n : ℕ) → length ((if b then 0 ∷ [] else []) ++ ms) ≤ n → length ms ≤ n
@@ -176,16 +167,5 @@ module _ (keys : List ℕ) (key upto : ℕ) (rise : IsStrictlyIncreasing keys) (
       elim (cases_Bool (get_or keys (upto - 1) 0 == key)) [
         | inl e ↦ has_true key keys (subst (λ z. Contains keys z) (same_number (get_or keys (upto - 1) 0) key e)
             (Contains-get_or keys (upto - 1) 0 (omega arith))) ∙ sym e
-        | inr e ↦ has_none_equal (λ i l same. elim (before_or_past i upto) [
-          | inl b ↦ (let a : get_or keys i 0 ≤ get_or keys (upto - 1) 0 =
-              below_rises keys rise i (upto - 1) (omega arith) (omega arith) in
-              let c : get_or keys (upto - 1) 0 ≤ key = h.upto (upto - 1) (omega arith) in
-              let d : get_or keys (upto - 1) 0 ≡ key = omega (arith, a, c, same) in
-              let f : (get_or keys (upto - 1) 0 == key) ≡ true = equal_test (get_or keys (upto - 1) 0) key d in
-              false≢true (sym e ∙ f))
-          | inr p ↦ (let a : key < get_or keys i 0 = h.past i p l in omega (arith, a, same))
-        ]) ∙ sym e
+        | inr e ↦ has_none_equal (search rules) ∙ sym e
       ]
-    where
-      before_or_past : (i n : ℕ) → (i < n) ⊎ (n ≤ i)
-      before_or_past i n = grind arith

@@ -1,5 +1,6 @@
 -- The walk from the last place of an order to the first: the least end so far, and the calls that stand too early.
-use Rattle.std.proofs.Common.{◌≡◌, ℕ, ◌<◌, ◌≤◌, List, length, Option, Some, None, refl, sym, subst, ⊎_elim, inl, inr, ◌⊎◌, suc, arith}
+use Rattle.std.proofs.Common.{rules, ◌≡◌, ℕ, ◌<◌, ◌≤◌, List, length, Option, Some, None, refl, sym, subst, ⊎_elim, inl, inr, ◌⊎◌}
+use Rattle.std.proofs.Common.{suc, arith}
 use Rattle.std.proofs.lemmas.Bool.{cases_order, cases_lt}
 use Rattle.std.specs.Option.{IsSomeAnd, MatchOption}
 use Rattle.lset_words.specs.declared.Reply.{Reply}
@@ -36,17 +37,6 @@ FindsEarly calls order i early =
     (EarlyFrom calls order i)
 
 -- ONE PLACE BEFORE
-holds_there : (o : Option (ℕ × Reply)) (end : ℕ) (reply : Reply) (moment : ℕ) → o ≡ Some (end, reply) → EndsBefore moment o
-    → end < moment
-holds_there o end reply moment e h = let P : Option (ℕ × Reply) → Type 0 = EndsBefore moment in subst P e h
-
-from_there : (o : Option (ℕ × Reply)) (end : ℕ) (reply : Reply) (moment : ℕ) → o ≡ Some (end, reply) → end < moment
-    → EndsBefore moment o
-from_there o end reply moment e h = let P : Option (ℕ × Reply) → Type 0 = EndsBefore moment in subst P (sym e) h
-
-never_there : (o : Option (ℕ × Reply)) (moment : ℕ) → o ≡ None → EndsBefore moment o → ⊥
-never_there o moment e h = let P : Option (ℕ × Reply) → Type 0 = EndsBefore moment in subst P e h
-
 -- of the places from j on, either j itself or one after it
 first_or_later : (calls : List CallRecord) (order : List Placed) (j moment : ℕ) → EndsFrom calls order j moment
     → EndsBefore moment (placed_call calls order j).ended ⊎ EndsFrom calls order (suc j) moment
@@ -60,46 +50,35 @@ later_from : (calls : List CallRecord) (order : List Placed) (j moment : ℕ) �
     → EndsFrom calls order j moment
 later_from calls order j moment (k, from, inside, ends) = (k, omega arith, inside, ends)
 
-pub least_some : (calls : List CallRecord) (order : List Placed) (j : ℕ) (least : Option ℕ) (end : ℕ) (reply : Reply)
-    → j < length order
-    → (placed_call calls order j).ended ≡ Some (end, reply) → EndsLeast calls order (suc j) least
-    → EndsLeast calls order j (Some (least_with least end))
-least_some calls order j None end reply inside e h = record {
-  below = λ moment low. (j, omega arith, inside, from_there _ end reply moment e low);
-  ends = λ moment from. ⊎_elim
-      (holds_there _ end reply moment e)
-      (λ later. absurd (h.ends moment later))
-      (first_or_later calls order j moment from);
+least_by : (calls : List CallRecord) (order : List Placed) (j : ℕ) (least : Option ℕ) (ended : Option (ℕ × Reply))
+    → ((m : ℕ) → EndsBefore m ended → EndsFrom calls order j m)
+    → ((m : ℕ) → EndsFrom calls order j m → EndsBefore m ended ⊎ EndsFrom calls order (suc j) m)
+    → EndsLeast calls order (suc j) least → EndsLeast calls order j (least_with least ended)
+least_by calls order j least None own parts h = record {
+  below = λ m low. later_from calls order j m (h.below m low);
+  ends = λ m from. ⊎_elim absurd (h.ends m) (parts m from);
 }
-least_some calls order j (Some m) end reply inside e h = record {
-  below = λ moment low. ⊎_elim
-      (λ (b : m < moment). later_from calls order j moment (h.below moment b))
-      (λ (a : moment ≤ m). (j, omega arith, inside, from_there _ end reply moment e (omega arith)))
-      (cases_lt m moment);
-  ends = λ moment from. ⊎_elim
-      (λ here. let low : end < moment = holds_there _ end reply moment e here in omega arith)
-      (λ later. let low : m < moment = h.ends moment later in omega arith)
-      (first_or_later calls order j moment from);
+least_by calls order j None (Some end) own parts h = record {
+  below = own;
+  ends = λ m from. ⊎_elim (λ (here : end.0 < m). here) (λ later. absurd (h.ends m later)) (parts m from);
+}
+least_by calls order j (Some least) (Some end) own parts h = record {
+  below = λ m low. ⊎_elim (λ (b : least < m). later_from calls order j m (h.below m b)) (λ (a : m ≤ least). own m (omega arith))
+      (cases_lt least m);
+  ends = λ m from. ⊎_elim (λ (here : end.0 < m). omega arith) (λ later. let low : least < m = h.ends m later in omega arith)
+      (parts m from);
 }
 
-pub least_none : (calls : List CallRecord) (order : List Placed) (j : ℕ) (least : Option ℕ)
-    → (placed_call calls order j).ended ≡ None → EndsLeast calls order (suc j) least → EndsLeast calls order j least
-least_none calls order j least e h = record {
-  below = λ moment low. later_from calls order j moment (h.below moment low);
-  ends = λ moment from. ⊎_elim
-      (λ here. absurd (never_there _ moment e here))
-      (h.ends moment)
-      (first_or_later calls order j moment from);
-}
+pub least_more : (calls : List CallRecord) (order : List Placed) (j : ℕ) (least : Option ℕ) (ended : Option (ℕ × Reply))
+    → j < length order → ended ≡ (placed_call calls order j).ended → EndsLeast calls order (suc j) least
+    → EndsLeast calls order j (least_with least ended)
+least_more calls order j least ended inside e h = least_by calls order j least ended
+    (λ m here. (j, omega arith, inside, rw e at here)) (λ m from. rw e (first_or_later calls order j m from)) h
 
 -- the place itself is too early, or it is not
 too_early_here : (calls : List CallRecord) (order : List Placed) (j : ℕ)
     → EndsFrom calls order (suc j) (placed_call calls order j).begun → IsTooEarly calls order j
 too_early_here calls order j (k, from, inside, ends) = (k, omega arith, inside, ends)
-
-ends_after : (calls : List CallRecord) (order : List Placed) (j : ℕ) → IsTooEarly calls order j
-    → EndsFrom calls order (suc j) (placed_call calls order j).begun
-ends_after calls order j (k, later, inside, ends) = (k, omega arith, inside, ends)
 
 pub early_here : (calls : List CallRecord) (order : List Placed) (j moment : ℕ) (least : Option ℕ) → j < length order
     → moment ≡ (placed_call calls order j).begun → EndsLeast calls order (suc j) least → IsSomeAnd least (λ end. end < moment)
@@ -115,15 +94,11 @@ early_here calls order j moment least inside e h low = record {
 
 pub early_later : (calls : List CallRecord) (order : List Placed) (j moment : ℕ) (least early : Option ℕ)
     → moment ≡ (placed_call calls order j).begun → EndsLeast calls order (suc j) least
-    → (IsSomeAnd least (λ end. end < moment) → ⊥)
-    → FindsEarly calls order (suc j) early → FindsEarly calls order j early
+    → (IsSomeAnd least (λ end. end < moment) → ⊥) → FindsEarly calls order (suc j) early → FindsEarly calls order j early
 early_later calls order j moment least early e h other found = later early found
   where
     here : (place : ℕ) → place ≡ j → IsTooEarly calls order place → ⊥
-    here place at early =
-        let P : ℕ → Type 0 = IsTooEarly calls order in
-        let Q : ℕ → Type 0 = EndsFrom calls order (suc j) in
-        other (h.ends moment (subst Q (sym e) (ends_after calls order j (subst P at early))))
+    here place at early = search rules
 
     later : (early : Option ℕ) → FindsEarly calls order (suc j) early → FindsEarly calls order j early
     later None found = λ place from inside early.

@@ -1,24 +1,24 @@
 -- What a history keeps of itself through a beginning and an end.
 use Rattle.std.proofs.Common.{◌≡◌, ℕ, suc, zero, ◌<◌, ◌≤◌, ◌^◌, ◌≢◌, ◌==◌, ◌&&◌, ◌||◌, Bool, true, false, List, [], ◌∷◌, ◌++◌}
-use Rattle.std.proofs.Common.{length, take, get_or, ◌+◌, max, add-one, Option, Some, None, is_none, is_some, refl, sym, ap, ◌∙◌}
-use Rattle.std.proofs.Common.{subst, arith, ⊎_elim, inl, inr, ◌⊎◌, replicate, length-append}
+use Rattle.std.proofs.Common.{length, get_or, ◌+◌, max, Option, Some, None, is_none, is_some, not, refl, sym, ap, ◌∙◌, subst}
+use Rattle.std.proofs.Common.{arith, ⊎_elim, inl, inr, ◌⊎◌, replicate}
 use Rattle.std.proofs.Math.Bool.{or-false}
 use Rattle.lset_words.specs.declared.TheConstants.{MOST_THREADS}
 use Rattle.lset_words.specs.Words.{Opening, Opens}
 use Rattle.std.specs.List.{All, list_any}
 use Rattle.std.specs.Option.{IfSome, IsSomeAnd}
 use Rattle.std.proofs.Math.ListN.{set}
-use Rattle.std.proofs.lemmas.List.{take_all, get_or-set_other, get_or-replicate, get_or_default, length-set}
-use Rattle.std.proofs.lemmas.List.Folds.{list_any_more, list_any-append, list_any_none}
+use Rattle.std.proofs.lemmas.List.{get_or-set_other, get_or-replicate, get_or_default, length-set}
+use Rattle.std.proofs.lemmas.List.Folds.{list_any-append, list_any_none}
 use Rattle.std.proofs.lemmas.List.Elements.{All-tail}
-use Rattle.std.proofs.lemmas.Bool.{cases_eq, cases_order, ne_eqb, eq-eqb, true≢false, and_left, and_right, and_from, or_parts}
-use Rattle.std.proofs.lemmas.Bool.{or_left, or_right}
+use Rattle.std.proofs.lemmas.Bool.{cases_eq, cases_order, ne_eqb, eq-eqb, true≢false, and_left, and_right, or_parts}
 use Rattle.lset_words.specs.declared.Reply.{Reply}
 use Rattle.lset_words.specs.declared.history.CallRecord.{CallRecord}
-use Rattle.lset_words.specs.History.{IsHistory, call_numbered, no_call}
+use Rattle.lset_words.specs.History.{IsHistory, MayFollow, call_numbered, no_call}
 use Rattle.lset_history.specs.History.{HistoryValue, IsLater, IsOpen, ended_with, has_open, latest_moment, last_moment, moment_of}
 use Rattle.lset_history.specs.History.{MayBegin, MayEnd, IsKept, with_begun, with_ended}
-use Rattle.lset_history.proofs.Histories.{IsCall, Follows, history_begun, history_ended, calls_of, pairs_of, never_ended}
+use Rattle.lset_history.proofs.Histories.{may_follow, call_of, follows_of, IsCall, Follows, history_begun, history_ended}
+use Rattle.lset_history.proofs.Histories.{calls_of, pairs_of, never_ended}
 use Rattle.lset_history.proofs.Pairs.{read_written, read_other}
 
 -- THE LATEST MOMENT
@@ -44,10 +44,8 @@ all_ends_below (x ∷ xs) at h (suc k) d b = all_ends_below xs at (omega arith) 
 pub is_later : (calls : List CallRecord) (at : ℕ) → latest_moment calls < at → IsLater calls at
 is_later calls at h = record { counted = omega arith; begins = begins_below calls at h; ends = all_ends_below calls at h }
 
-latest_below : (calls : List CallRecord) (at : ℕ) → 0 < at
-    → All (λ (x : CallRecord). x.begun < at) calls
-    → All (λ (x : CallRecord). IfSome x.ended (λ (e : ℕ × Reply). e.0 < at)) calls
-    → latest_moment calls < at
+latest_below : (calls : List CallRecord) (at : ℕ) → 0 < at → All (λ (x : CallRecord). x.begun < at) calls
+    → All (λ (x : CallRecord). IfSome x.ended (λ (e : ℕ × Reply). e.0 < at)) calls → latest_moment calls < at
 latest_below [] at some b e = some
 latest_below (x ∷ xs) at some b e =
     let head : x.begun < at = b zero x (omega arith) in
@@ -60,14 +58,13 @@ latest_below (x ∷ xs) at some b e =
 pub not_later : (calls : List CallRecord) (at : ℕ) → at ≤ latest_moment calls → IsLater calls at → ⊥
 not_later calls at h l = let below = latest_below calls at l.counted l.begins l.ends in omega arith
 
-latest_begun : (calls : List CallRecord) (x : CallRecord) (at : ℕ) → x.begun ≡ at → x.ended ≡ None → latest_moment calls < at
-    → latest_moment (calls ++ x ∷ []) ≡ at
-latest_begun [] x at b e h = rw (b, e) (omega arith)
-latest_begun (y ∷ ys) x at b e h = let rest = latest_begun ys x at b e (omega arith) in omega arith
+latest_pushed : (calls : List CallRecord) (x : CallRecord)
+    → latest_moment (calls ++ x ∷ []) ≡ max (latest_moment calls) (last_moment x)
+latest_pushed [] x = omega arith
+latest_pushed (y ∷ ys) x = let rest = latest_pushed ys x in omega arith
 
 latest_ended : (calls : List CallRecord) (n at : ℕ) (z : CallRecord) → n < length calls → z.begun < at
-    → moment_of z.ended ≡ at → latest_moment calls < at
-    → latest_moment (set calls n z) ≡ at
+    → moment_of z.ended ≡ at → latest_moment calls < at → latest_moment (set calls n z) ≡ at
 latest_ended [] n at z inside b e h = absurd (omega arith)
 latest_ended (y ∷ ys) zero at z inside b e h = omega arith
 latest_ended (y ∷ ys) (suc n) at z inside b e h = let rest = latest_ended ys n at z (omega arith) b e (omega arith) in omega arith
@@ -83,8 +80,7 @@ idle_before (x ∷ xs) t h (suc k) d b =
     let parts = or_parts (is_open_of t x) (list_any (is_open_of t) xs) h in idle_before xs t parts.1 k d (omega arith)
 
 pub any_set : (p : CallRecord → Bool) (calls : List CallRecord) (n : ℕ) (z d : CallRecord) → n < length calls
-    → p z ≡ p (get_or calls n d)
-    → list_any p (set calls n z) ≡ list_any p calls
+    → p z ≡ p (get_or calls n d) → list_any p (set calls n z) ≡ list_any p calls
 any_set p [] n z d inside e = refl
 any_set p (x ∷ xs) zero z d inside e = ap (λ b. b || list_any p xs) e
 any_set p (x ∷ xs) (suc n) z d inside e = ap (λ b. p x || b) (any_set p xs n z d (omega arith) e)
@@ -98,20 +94,14 @@ none_left : (o : Option (ℕ × Reply)) (P : ℕ × Reply → Type 0) → IsSome
 none_left None P h = absurd h
 none_left (Some x) P h = refl
 
-none_is : (o : Option (ℕ × Reply)) → o ≡ None → is_none o ≡ true
-none_is o e = rw e refl
-
 -- A CALL BEGINS
-call_begins : (h : HistoryValue) (x : CallRecord) → IsHistory h.opening.threads h.calls → MayBegin h x.thread x.begun →
-    x.ended ≡ None
-    → IsHistory h.opening.threads (h.calls ++ x ∷ [])
-call_begins h x history may e =
-    history_begun h.opening.threads h.calls x history
+pub begun_follows : (h : HistoryValue) (x : CallRecord) → MayBegin h x.thread x.begun → x.ended ≡ None
+    → MayFollow h.opening.threads h.calls x
+begun_follows h x may e =
+    may_follow h.opening.threads h.calls x
     (record { of_a_thread = may.of_a_thread; counted = may.later.counted; ends_later = no_end x.ended _ e })
-    (λ k d b.
-    let begun : (get_or h.calls k d).begun < x.begun = may.later.begins k d b in
-    record {
-      rising = begun;
+    (λ k d b. record {
+      rising = may.later.begins k d b;
       begins_alone = not_at (get_or h.calls k d).ended x.begun (may.later.ends k d b);
       ends_alone = no_end x.ended _ e;
       none_open = λ same. ended_if_idle ((get_or h.calls k d).thread == x.thread) (get_or h.calls k d).ended _ (eq-eqb _ _ same)
@@ -126,11 +116,19 @@ call_begins h x history may e =
     not_at None at h = tt
     not_at (Some z) at h = λ same. omega arith
 
-open_begun : (calls : List CallRecord) (x : CallRecord) (t : ℕ) → x.ended ≡ None → t ≡ x.thread
-    → has_open (calls ++ x ∷ []) t ≡ true
-open_begun calls x t e same =
-    list_any-append (is_open_of t) calls (x ∷ [])
-    ∙ or_right (has_open calls t) _ (or_left _ false (and_from _ _ (eq-eqb x.thread t (sym same)) (none_is x.ended e)))
+-- the calls of a thread that may begin another have ended
+idle_thread : (threads : ℕ) (calls : List CallRecord) (x : CallRecord) → MayFollow threads calls x → has_open calls x.thread ≡ false
+idle_thread threads calls x may = list_any_none (is_open_of x.thread) calls (λ k d b. ⊎_elim
+    (λ (same : (get_or calls k d).thread ≡ x.thread). and_right _ _ (none_left _ _ (may.none_open k d b same)))
+    (λ (other : (get_or calls k d).thread ≢ x.thread). and_left _ _ (ne_eqb _ x.thread other))
+    (cases_eq (get_or calls k d).thread x.thread))
+
+own_begun : (threads : ℕ) (calls : List CallRecord) (x : CallRecord) (t : ℕ) → MayFollow threads calls x → t ≡ x.thread
+    → has_open (calls ++ x ∷ []) t ≡ is_none x.ended
+own_begun threads calls x t may same =
+    let idle = idle_thread threads calls x may in
+    let own = eq-eqb x.thread x.thread refl in
+    rw (same, list_any-append (is_open_of x.thread) calls (x ∷ []), idle, own) (or-false (is_none x.ended))
 
 others_begun : (calls : List CallRecord) (x : CallRecord) (t : ℕ) → t ≢ x.thread → has_open (calls ++ x ∷ []) t ≡ has_open calls t
 others_begun calls x t other =
@@ -152,26 +150,65 @@ pub too_early : (h : HistoryValue) (busy : List Bool) (latest at : ℕ) → IsKe
     → IsLater h.calls at → ⊥
 too_early h busy latest at kept low = not_later h.calls at (let l = kept.latest_is in omega arith)
 
-pub kept_begun : (h : HistoryValue) (busy : List Bool) (latest : ℕ) (x : CallRecord)
-    → IsKept h busy latest → MayBegin h x.thread x.begun → latest < x.begun → x.begun < 2 ^ 32 → x.ended ≡ None
-    → IsKept (with_begun h x) (set busy x.thread true) x.begun
-kept_begun h busy latest x kept may above fits e = record {
+-- each moment of a beginning is above the call's number
+above_number : (threads : ℕ) (calls : List CallRecord) → IsHistory threads calls → (k : ℕ) → k < length calls
+    → k < (call_numbered calls k).begun
+above_number threads calls h zero low =
+    let c : IsCall threads (call_numbered calls 0) = calls_of threads calls h 0 no_call low in c.counted
+above_number threads calls h (suc k) low = grind (arith, pairs_of, above_number threads calls h k (omega arith))
+
+few_calls : (threads : ℕ) (calls : List CallRecord) → IsHistory threads calls → length calls ≤ latest_moment calls
+few_calls threads [] h = omega arith
+few_calls threads (x ∷ xs) h =
+    let n = length xs in
+    let above : n < (call_numbered (x ∷ xs) n).begun = above_number threads (x ∷ xs) h n (omega arith) in grind (
+      arith,
+      begins_below,
+    )
+
+pub kept_pushed : (h : HistoryValue) (busy : List Bool) (latest : ℕ) (x : CallRecord)
+    → IsKept h busy latest → MayFollow h.opening.threads h.calls x → max latest (last_moment x) < 2 ^ 32
+    → IsKept (with_begun h x) (set busy x.thread (is_none x.ended)) (max latest (last_moment x))
+kept_pushed h busy latest x kept may fits = record {
   opens = kept.opens;
-  history = call_begins h x kept.history may e;
-  flags = let l = length-set busy x.thread true in let f = kept.flags in omega arith;
+  history = history;
+  flags = let l = length-set busy x.thread (is_none x.ended) in let f = kept.flags in omega arith;
   busy_if_open = λ t low. ⊎_elim
-      (λ (same : t ≡ x.thread). read_written busy x.thread t true false same (here t low same)
-      ∙ sym (open_begun h.calls x t e same))
-      (λ (other : t ≢ x.thread). get_or-set_other busy x.thread t true false other ∙ kept.busy_if_open t low
+      (λ (same : t ≡ x.thread). read_written busy x.thread t (is_none x.ended) false same (let f = kept.flags in omega arith)
+      ∙ sym (own_begun h.opening.threads h.calls x t may same))
+      (λ (other : t ≢ x.thread). get_or-set_other busy x.thread t (is_none x.ended) false other ∙ kept.busy_if_open t low
       ∙ sym (others_begun h.calls x t other))
       (cases_eq t x.thread);
-  latest_is = let l = kept.latest_is in sym (latest_begun h.calls x x.begun refl e (omega arith));
-  numbered = let l = length-append h.calls (x ∷ []) in let n = kept.numbered in omega arith;
+  latest_is = latest_is;
+  numbered = let few = few_calls h.opening.threads (h.calls ++ x ∷ []) history in let l = latest_is in omega arith;
   fits = fits;
 }
   where
-    here : (t : ℕ) → t < h.opening.threads → t ≡ x.thread → x.thread < length busy
-    here t low same = let f = kept.flags in omega arith
+    history : IsHistory h.opening.threads (h.calls ++ x ∷ [])
+    history = history_begun h.opening.threads h.calls x kept.history (call_of h.opening.threads h.calls x may)
+        (follows_of h.opening.threads h.calls x may)
+
+    latest_is : max latest (last_moment x) ≡ latest_moment (h.calls ++ x ∷ [])
+    latest_is = let l = kept.latest_is in let p = latest_pushed h.calls x in omega arith
+
+pub flag_is : (o : Option (ℕ × Reply)) (b : Bool) → is_some o ≡ not b → b ≡ is_none o
+flag_is None true e = refl
+flag_is None false e = e
+flag_is (Some x) true e = e
+flag_is (Some x) false e = refl
+
+-- the same calls, of a set that opens with other keys
+pub kept_reopened : (h : HistoryValue) (busy : List Bool) (latest : ℕ) (keys : List ℕ) → IsKept h busy latest
+    → Opens (record h.opening { keys = keys }) → IsKept (record h { opening = record h.opening { keys = keys } }) busy latest
+kept_reopened h busy latest keys kept opens = record {
+  opens = opens;
+  history = kept.history;
+  flags = kept.flags;
+  busy_if_open = kept.busy_if_open;
+  latest_is = kept.latest_is;
+  numbered = kept.numbered;
+  fits = kept.fits;
+}
 
 -- A CALL ENDS
 -- the other calls of its thread have ended
@@ -186,8 +223,7 @@ alone threads calls n k h still (inr b) low same =
     absurd (never_ended (call_numbered calls n).ended _ still.not_ended (f.none_open (sym same)))
 
 idle_ended : (threads : ℕ) (calls : List CallRecord) (n t at : ℕ) (reply : Reply) → IsHistory threads calls → IsOpen calls n
-    → t ≡ (call_numbered calls n).thread
-    → has_open (set calls n (ended_with (call_numbered calls n) (at, reply))) t ≡ false
+    → t ≡ (call_numbered calls n).thread → has_open (set calls n (ended_with (call_numbered calls n) (at, reply))) t ≡ false
 idle_ended threads calls n t at reply h still same = list_any_none (is_open_of t) (set calls n z) each
   where
     z : CallRecord
@@ -248,12 +284,7 @@ kept_ended h busy latest n at reply kept still above fits = record {
 -- the thread of a call is one of the threads that a history may have
 thread_of_call : (h : HistoryValue) (busy : List Bool) (latest n : ℕ) → IsKept h busy latest → n < length h.calls
     → (call_numbered h.calls n).thread < MOST_THREADS
-thread_of_call h busy latest n kept inside =
-    let c : IsCall h.opening.threads (call_numbered h.calls n) = calls_of h.opening.threads h.calls kept.history n no_call inside
-    in
-    let few = kept.opens.within.few in
-    let low = c.of_a_thread in
-    omega arith
+thread_of_call h busy latest n kept inside = grind (arith, calls_of)
 
 -- what the fields tell of the call that is to end
 pub call_read : (calls : List CallRecord) (n : ℕ) (x : CallRecord) → n < length calls → x ≡ get_or calls n x
@@ -303,90 +334,3 @@ kept_new op o = record {
   numbered = omega arith;
   fits = omega arith;
 }
-
--- A HISTORY OF GIVEN CALLS, taken one by one
-latest_suc : (calls : List CallRecord) (i : ℕ) → i < length calls
-    → latest_moment (take (suc i) calls) ≡ max (latest_moment (take i calls)) (last_moment (call_numbered calls i))
-latest_suc [] i inside = absurd (omega arith)
-latest_suc (x ∷ xs) zero inside = omega arith
-latest_suc (x ∷ xs) (suc i) inside = let rest = latest_suc xs i (omega arith) in omega arith
-
-pub latest_more : (calls : List CallRecord) (i : ℕ) → i < length calls
-    → latest_moment (take (i + 1) calls) ≡ max (latest_moment (take i calls)) (last_moment (call_numbered calls i))
-latest_more calls i inside = rw add-one (latest_suc calls i inside)
-
--- what the flags tell of the first calls
-abbrev pub TellsOpen : List Bool → List CallRecord → Type 0
-TellsOpen busy calls = (t : ℕ) → t < MOST_THREADS → get_or busy t false ≡ has_open calls t
-
-pub tells_open_more : (busy : List Bool) (calls : List CallRecord) (i : ℕ) → i < length calls → length busy ≡ MOST_THREADS
-    → TellsOpen busy (take i calls) → (call_numbered calls i).ended ≡ None
-    → TellsOpen (set busy (call_numbered calls i).thread true) (take (i + 1) calls)
-tells_open_more busy calls i inside long tells e t low =
-    let x = call_numbered calls i in
-    let idle = λ (apart : x.thread ≢ t). and_left (x.thread == t) (is_none x.ended) (ne_eqb x.thread t apart) in
-    let more = list_any_more (is_open_of t) calls i no_call inside in
-    ⊎_elim
-    (λ (same : t ≡ x.thread).
-    read_written busy x.thread t true false same (omega arith)
-    ∙ sym (more ∙ or_right _ _ (and_from _ _ (eq-eqb x.thread t (sym same)) (none_is x.ended e))))
-    (λ (other : t ≢ x.thread).
-    get_or-set_other busy x.thread t true false other ∙ tells t low
-    ∙ sym (more ∙ ap (λ b. has_open (take i calls) t || b) (idle (λ e. other (sym e))) ∙ or-false _))
-    (cases_eq t x.thread)
-
-pub tells_ended_more : (busy : List Bool) (calls : List CallRecord) (i : ℕ) → i < length calls
-    → TellsOpen busy (take i calls) → is_none (call_numbered calls i).ended ≡ false → TellsOpen busy (take (i + 1) calls)
-tells_ended_more busy calls i inside tells e t low =
-    tells t low
-    ∙ sym (list_any_more (is_open_of t) calls i no_call inside
-    ∙ ap (λ b. has_open (take i calls) t || b) (and_right ((call_numbered calls i).thread == t) _ e) ∙ or-false _)
-
--- each moment of a beginning is above the call's number
-above_number : (threads : ℕ) (calls : List CallRecord) → IsHistory threads calls → (k : ℕ) → k < length calls
-    → k < (call_numbered calls k).begun
-above_number threads calls h zero low =
-    let c : IsCall threads (call_numbered calls 0) = calls_of threads calls h 0 no_call low in c.counted
-above_number threads calls h (suc k) low =
-    let f : Follows (call_numbered calls k) (call_numbered calls (suc k)) =
-    pairs_of threads calls h k (suc k) no_call (omega arith) low in
-    let rising = f.rising in
-    let before : k < (call_numbered calls k).begun = above_number threads calls h k (omega arith) in
-    omega arith
-
-few_calls : (threads : ℕ) (calls : List CallRecord) → IsHistory threads calls → length calls ≤ latest_moment calls
-few_calls threads [] h = omega arith
-few_calls threads (x ∷ xs) h =
-    let n = length xs in
-    let above : n < (call_numbered (x ∷ xs) n).begun = above_number threads (x ∷ xs) h n (omega arith) in
-    let below : (call_numbered (x ∷ xs) n).begun < suc (latest_moment (x ∷ xs)) =
-    begins_below (x ∷ xs) (suc (latest_moment (x ∷ xs))) (omega arith) n no_call (omega arith) in
-    omega arith
-
-pub kept_of : (op : Opening) (calls : List CallRecord) (busy : List Bool) (latest n : ℕ)
-    → Opens op → IsHistory op.threads calls → length busy ≡ MOST_THREADS
-    → length calls ≤ n → latest ≡ latest_moment (take n calls) → TellsOpen busy (take n calls) → latest < 2 ^ 32
-    → IsKept (record { opening = op; calls = calls }) busy latest
-kept_of op calls busy latest n o h long all e tells fits =
-    let whole = take_all n calls all in
-    let P : List CallRecord → Type 0 = TellsOpen busy in
-    let own : TellsOpen busy calls = subst P whole tells in
-    let moment : latest ≡ latest_moment calls = e ∙ ap latest_moment whole in
-    record {
-      opens = o;
-      history = h;
-      flags = let f = o.within.few in omega arith;
-      busy_if_open = λ t low. let f = o.within.few in own t (omega arith);
-      latest_is = moment;
-      numbered = let few = few_calls op.threads calls h in omega arith;
-      fits = fits;
-    }
-
-pub thread_within : (threads : ℕ) (calls given : List CallRecord) (i : ℕ) (d : CallRecord) → given ≡ calls →
-    IsHistory threads calls
-    → threads ≤ MOST_THREADS → i < length given → (get_or given i d).thread < MOST_THREADS
-thread_within threads calls given i d e h few inside =
-    let P : List CallRecord → Type 0 = λ xs. All (IsCall threads) xs in
-    let call : IsCall threads (get_or given i d) = subst P (sym e) (calls_of threads calls h) i d inside in
-    let low = call.of_a_thread in
-    omega arith

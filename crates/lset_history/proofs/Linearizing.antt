@@ -1,6 +1,7 @@
 -- THE PLACEMENT THEOREM: the order of placement linearizes the history of a run, and leaves its last content.
+use Rattle.std.proofs.lemmas.Grind.{common_steps}
 use Rattle.std.proofs.Common.{◌≡◌, ◌≢◌, ℕ, suc, ◌<◌, ◌≤◌, true, false, List, length, map, sym, refl, subst, ap, ◌∙◌, arith}
-use Rattle.std.specs.Prelude.{Option, Some, None, IsSomeAnd, IfSome, Contains, All, AllPairs, filter}
+use Rattle.std.specs.Prelude.{Option, Some, Contains, All, AllPairs, filter}
 use Rattle.std.specs.List.{AllByRecursion}
 use Rattle.std.specs.List.Sorted.{IsStrictlyIncreasing}
 use Rattle.std.proofs.lemmas.List.{length-map}
@@ -137,11 +138,7 @@ module _ (op : Opening) (last : ℕ) (log : Log) (contents : Contents) (counts :
       (pairs_imply Stands Follows (λ s q. s.number < q.number) (λ s q h i f. f.0) ss all_stood followed) last
     where
       one_moment : (s q : Standing) → Stands s → Stands q → s.number ≡ q.number → s.moment ≡ q.moment
-      one_moment s q h i e =
-          let b : place_at places q.number ≡ Some s.moment = subst (λ z. place_at places z ≡ Some s.moment) e h.place_is in
-          let c : place_at places q.number ≡ Some q.moment = i.place_is in
-          let f : Some s.moment ≡ Some q.moment = sym b ∙ c in
-          cc
+      one_moment s q h i e = cc
 
       one_change : (s q : Standing) → Stands s → Stands q → s.number ≡ q.number → makes_change s ≡ makes_change q
       one_change s q h i e =
@@ -158,17 +155,8 @@ module _ (op : Opening) (last : ℕ) (log : Log) (contents : Contents) (counts :
   is_in_time = pairs_std (InTime history) (map placed_of in_order) (pairs_map placed_of (InTime history) in_order
       (pairs_imply Stands Ahead (λ s q. InTime history (placed_of s) (placed_of q)) each in_order placed_stood pairs))
     where
-      over : (s q : Standing) (ended : Option (ℕ × Reply)) → s.moment ≤ q.moment → s.traced.begun ≤ s.moment
-          → IfSome ended (λ (e : ℕ × Reply). q.moment ≤ e.0) → IsSomeAnd ended (λ (e : ℕ × Reply). e.0 < s.traced.begun) → ⊥
-      over s q None l b d p = p
-      over s q (Some e) l b d p = let f : q.moment ≤ e.0 = d in let g : e.0 < s.traced.begun = p in omega arith
-
       each : (s q : Standing) → Stands s → Stands q → Ahead s q → InTime history (placed_of s) (placed_of q)
-      each s q h i f p =
-          let c : Precedes (record_of q.traced) (call_numbered history s.number) =
-          subst (λ z. Precedes z (call_numbered history s.number)) (numbered q i) p in
-          let d : Precedes (record_of q.traced) (record_of s.traced) = subst (Precedes (record_of q.traced)) (numbered s h) c in
-          over s q q.traced.ended f.1 (during r last calls places s h).from (during r last calls places q i).in_call d
+      each s q h i f p = grind (arith, common_steps)
 
   -- ALL THAT MUST STAND, AND NO MORE
   is_known : All (λ (p : Placed). p.call < length history) (map placed_of in_order)

@@ -1,6 +1,7 @@
 -- What the map of changes holds after one more change.
-use Rattle.std.proofs.Common.{◌≡◌, ◌≢◌, ℕ, ◌+◌, ◌<◌, ◌^◌, ◌≤◌, ◌⊎◌, inl, inr, Bool, true, false, List, [], ◌∷◌, ◌++◌, length, get_or}
-use Rattle.std.proofs.Common.{map, sym, refl, subst, ap, ◌∙◌, arith, append_assoc}
+use Rattle.std.proofs.lemmas.Grind.{common_steps}
+use Rattle.std.proofs.Common.{◌≡◌, ◌≢◌, ℕ, ◌+◌, ◌<◌, ◌^◌, ◌≤◌, inl, inr, Bool, true, false, List, [], ◌∷◌, ◌++◌, get_or, map, sym}
+use Rattle.std.proofs.Common.{refl, subst, ap, ◌∙◌, arith, append_assoc}
 use Rattle.std.specs.Prelude.{All, Contains, IsTrue, not, ◌==◌, Option, Some, None, Vec, if◌then◌else◌}
 use Rattle.std.specs.declared.alloc.Global.{Global}
 use Rattle.std.specs.Ordering.{nat_cmp, is_eq}
@@ -11,7 +12,6 @@ use Rattle.std.specs.BTreeSet as set
 use Rattle.std.specs.BTreeSet.{BTreeSet, contains, Updates}
 use Rattle.std.specs.List.Sorted.{IsStrictlyIncreasing}
 use Rattle.std.proofs.lemmas.Map.Made.{lookup-map_values}
-use Rattle.std.proofs.lemmas.List.{get_or_push, get_or_append_left, length_push}
 use Rattle.std.proofs.lemmas.List.Elements.{All-get_or, All-from_get_or, All-push, All-nil, All-cons, All-contains}
 use mathlib.Core.Bool.{cond}
 use Rattle.lset_words.proofs.Numbers.{same_number, same_or_not, unequal_test, if_other}
@@ -39,8 +39,7 @@ noted_in keys m k = ap moments_in (lookup-map_values (λ (v : Vec ℕ Global). v
 
 -- the key has these moments now
 noted_items : (m n : Kept) (key at : ℕ) (w : Vec ℕ Global) → UpdatesBy nat_cmp (nat_cmp key) m n (Some w)
-    → w.items ≡ items_in (get nat_cmp m key) ++ at ∷ []
-    → (k : ℕ) → items_in (get nat_cmp n k)
+    → w.items ≡ items_in (get nat_cmp m key) ++ at ∷ [] → (k : ℕ) → items_in (get nat_cmp n k)
     ≡ (if k == key then items_in (get nat_cmp m k) ++ at ∷ [] else items_in (get nat_cmp m k))
 noted_items m n key at w up is k = ap items_in (up.0 k) ∙ by_test (k == key) refl
   where
@@ -68,21 +67,7 @@ noted_map m n key at w up is keys k =
     by_test false = before
 
 rises_more : (ms : List ℕ) (at : ℕ) → IsStrictlyIncreasing ms → All (λ m. m < at) ms → IsStrictlyIncreasing (ms ++ at ∷ [])
-rises_more ms at rise later k below =
-    let long : length (ms ++ at ∷ []) ≡ length ms + 1 = length_push ms at in
-    elim (last_or_before k (length ms) (omega arith)) [
-      | inl e ↦ (let a : get_or (ms ++ at ∷ []) (k + 1) 0 ≡ at = get_or_push ms at 0 (k + 1) (sym e) in
-          let b : get_or (ms ++ at ∷ []) k 0 ≡ get_or ms k 0 = get_or_append_left ms (at ∷ []) 0 k (omega arith) in
-          let c : get_or ms k 0 < at = All-get_or (λ m. m < at) ms k 0 (omega arith) later in
-          omega arith)
-      | inr l ↦ (let a : get_or (ms ++ at ∷ []) (k + 1) 0 ≡ get_or ms (k + 1) 0 = get_or_append_left ms (at ∷ []) 0 (k + 1) l in
-          let b : get_or (ms ++ at ∷ []) k 0 ≡ get_or ms k 0 = get_or_append_left ms (at ∷ []) 0 k (omega arith) in
-          let c : get_or ms k 0 < get_or ms (k + 1) 0 = rise k l in
-          omega arith)
-    ]
-  where
-    last_or_before : (k n : ℕ) → k + 1 < n + 1 → (k + 1 ≡ n) ⊎ (k + 1 < n)
-    last_or_before k n l = grind arith
+rises_more ms at rise later k below = grind (arith, common_steps)
 
 pub rise_noted : (c d : ChangesValue) (key at : ℕ) → Rise c → IsLaterThanAll (moments_of c) at
     → ((k : ℕ) → moments_of d k ≡ with_change (moments_of c) key at k) → Rise d
@@ -217,8 +202,7 @@ same_by true x es rest v w o e f g =
 same_by false x es rest v w o e f g = ap (λ z. (x.0, x.1.items) ∷ z) (g e)
 
 pub same_items : (test : ℕ → Bool) (es : List (ℕ × Vec ℕ Global)) (v w : Vec ℕ Global) → lookup test es ≡ Some v →
-    w.items ≡ v.items
-    → shown (set_value test es w) ≡ shown es
+    w.items ≡ v.items → shown (set_value test es w) ≡ shown es
 same_items test [] v w e f = refl
 same_items test (x ∷ es) v w e f =
     same_by (test x.0) x es (set_value test es w) v w (lookup test es) e f (λ g. same_items test es v w g f)

@@ -9,10 +9,7 @@ use Rattle.lset_history.proofs.KeySets.{greater}
 next_above : (lo : ℕ) (xs : List ℕ) (i : ℕ) → RisesFrom lo xs → i < length xs → lo ≤ get_or xs i 0
 next_above lo [] i r l = absurd (omega arith)
 next_above lo (x ∷ xs) zero r l = r.0
-next_above lo (x ∷ xs) (suc i) r l =
-    let a : lo ≤ x = r.0 in
-    let b : x + 1 ≤ get_or xs i 0 = next_above (x + 1) xs i r.1 (omega arith) in
-    omega arith
+next_above lo (x ∷ xs) (suc i) r l = grind (arith, next_above (x + 1) xs i r.1 (omega arith))
 
 inserted : (lo : ℕ) (xs : List ℕ) (i : ℕ) → RisesFrom lo xs → i < length xs
     → insert_key nat_cmp (take i xs) (get_or xs i 0) ≡ take (suc i) xs

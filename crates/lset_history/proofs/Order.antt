@@ -1,6 +1,6 @@
 -- The order by moments: it holds what stands, once each, its moments rise, and it leads the sequential set on.
 use Rattle.std.proofs.Common.{◌≡◌, ◌≢◌, ℕ, zero, suc, ◌<◌, ◌≤◌, ◌⊎◌, Bool, true, false, not, inl, inr, List, [], ◌∷◌, ◌++◌, map}
-use Rattle.std.proofs.Common.{sym, refl, subst, ◌∙◌, arith}
+use Rattle.std.proofs.Common.{sym, refl, subst, arith}
 use Rattle.std.specs.Prelude.{◌==◌, filter}
 use Rattle.std.specs.List.{AllByRecursion}
 use Rattle.lset_words.specs.SequentialSet.{SetState, Answered, reply_to, after_call, IsLegal, set_left}
@@ -112,15 +112,8 @@ module _ (P : Standing → Type 0) (one_moment : (s r : Standing) → P s → P 
           (all_both P (λ s. s.moment ≡ m) (at_moment m ss) (all_filter P (λ s. s.moment == m) ss h) (moment_of m ss)))
           (all_left p (at_moment m ss)))
 
-      differs : (b : Bool) → b ≡ true → not b ≡ true → ⊥
-      differs b e f = let g : not true ≡ true = subst (λ z. not z ≡ true) e f in absurd (cc)
-
       apart : (s r : Standing) → Part makes_change s → Part (λ s. not (makes_change s)) r → Ahead s r
-      apart s r a b = let c : s.moment ≡ m = a.1 in let d : r.moment ≡ m = b.1 in (
-        λ e. let f : makes_change s ≡ makes_change r = one_change s r a.0 b.0 e in differs (makes_change r) (sym f
-            ∙ a.2) b.2,
-        omega arith,
-      )
+      apart s r a b = grind arith
 
   pub ahead : (m : ℕ) → Pairs Ahead (by_moments m ss)
   ahead zero = block_ahead 0

@@ -30,11 +30,8 @@ pub read_other : {X : Type 0} (xs : List X) (n k : ℕ) (z d e : X) → k ≢ n 
 read_other xs n k z d e ne low = get_or-set_other xs n k z d ne ∙ get_or_default xs k d e low
 
 -- a write at n keeps the pairs, where the new element goes with those before and after it
-pub pairs_set : {X : Type 0} (R : X → X → Type 0) (xs : List X) (n : ℕ) (z e : X)
-    → n < length xs
-    → ((k : ℕ) → k < n → R (get_or xs k e) z)
-    → ((k : ℕ) → n < k → k < length xs → R z (get_or xs k e))
-    → AllPairs R xs
+pub pairs_set : {X : Type 0} (R : X → X → Type 0) (xs : List X) (n : ℕ) (z e : X) → n < length xs
+    → ((k : ℕ) → k < n → R (get_or xs k e) z) → ((k : ℕ) → n < k → k < length xs → R z (get_or xs k e)) → AllPairs R xs
     → AllPairs R (set xs n z)
 pairs_set {X} R xs n z e inside before after pairs i j d a b =
     let short : j < length xs = omega (arith, length-set xs n z) in

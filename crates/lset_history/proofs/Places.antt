@@ -135,8 +135,7 @@ other_reply_there o now calls order i x e f h =
     subst G f (subst F e h)
 
 pub goes_on_there : (o now : OracleValue) (calls : List CallRecord) (order : List Placed) (i : ℕ) (x : CallRecord)
-    → i < length order
-    → now ≡ after_order o calls (take i order) → x ≡ placed_call calls order i
+    → i < length order → now ≡ after_order o calls (take i order) → x ≡ placed_call calls order i
     → after_reply now x (place_at order i).reply ≡ after_order o calls (take (i + 1) order)
 goes_on_there o now calls order i x inside e f =
     let reply = (place_at order i).reply in
@@ -170,8 +169,7 @@ wrong_in_front quota s calls order i k low w =
     subst G (sym (take-take k i order (omega arith))) (subst F (sym (get_or-take i order k (place_at [] 0) low)) w)
 
 pub right_before : (o : OracleValue) (calls : List CallRecord) (order : List Placed) (i : ℕ) → i ≤ length order
-    → HasReplies o calls (take i order)
-    → (k : ℕ) → k < i → HasWrongReply o.quota o.state calls order k → ⊥
+    → HasReplies o calls (take i order) → (k : ℕ) → k < i → HasWrongReply o.quota o.state calls order k → ⊥
 right_before o calls order i inside h k low w =
     passes_replies o calls (take i order) h k (omega (arith, length-take i order))
     (wrong_in_front o.quota o.state calls order i k low w)

@@ -1,5 +1,6 @@
 -- Every call of a run has its place, and only one: the order of placement is there, and is one order.
-use Rattle.std.proofs.Common.{◌≡◌, ℕ, zero, suc, ◌+◌, ◌<◌, ◌≤◌, ◌⊎◌, inl, inr, List, [], ◌∷◌, length, map, sym, refl, subst, ap, ◌∙◌, arith}
+use Rattle.std.proofs.Common.{◌≡◌, ℕ, zero, suc, ◌+◌, ◌<◌, ◌≤◌, ◌⊎◌, inl, inr, List, [], ◌∷◌, length, map, sym, refl, subst, ap}
+use Rattle.std.proofs.Common.{◌∙◌, arith}
 use Rattle.std.specs.Prelude.{Option, Some, None}
 use Rattle.std.specs.List.{AllByRecursion}
 use Rattle.std.proofs.lemmas.List.{ext_get_or}
@@ -7,7 +8,8 @@ use Rattle.lset_words.specs.declared.Reply.{Reply}
 use Rattle.lset_words.specs.declared.history.Placed.{Placed}
 use Rattle.lset_words.specs.Log.{Log, TracedCall, calls_at}
 use Rattle.lset_words.specs.Account.{Contents, Counts, Fits, Account}
-use Rattle.lset_words.specs.Placement.{IsLeastFit, StandsBy, StandsAt, IsPlacement, placed_of, by_moments, standing, traced_at, place_at}
+use Rattle.lset_words.specs.Placement.{IsLeastFit, StandsBy, StandsAt, IsPlacement, placed_of, by_moments, standing, traced_at}
+use Rattle.lset_words.specs.Placement.{place_at}
 use Rattle.lset_history.proofs.Lists.{all_imply}
 use Rattle.lset_history.proofs.Calls.{Run, EndedBy, Traced, Calls}
 use Rattle.lset_history.proofs.CallSteps.{run_of, calls_of}
@@ -35,13 +37,7 @@ least_by P (suc d) first last e f p = elim (f first (omega arith)) [
 ]
   where
     below : (r : Least P (suc first) last) → (P first → ⊥) → (m : ℕ) → first ≤ m → m < r.moment → P m → ⊥
-    below r n m b c h = elim (start m b) [
-      | inl i ↦ n (subst P i h)
-      | inr i ↦ r.least m i c h
-    ]
-      where
-        start : (m : ℕ) → first ≤ m → (m ≡ first) ⊎ (suc first ≤ m)
-        start m b = grind arith
+    below r n m b c h = grind arith
 
 -- A PLACE FOR EACH
 place_of : (r : Run) (last : ℕ) (x : TracedCall) (changed : Option ℕ) (ended : Option (ℕ × Reply))
@@ -113,13 +109,7 @@ has_placement op last log contents counts a =
 -- ONE PLACE FOR EACH
 least_once : (quota : ℕ) (contents : Contents) (counts : Counts) (x : TracedCall) (end : ℕ) (reply : Reply) (m n : ℕ)
     → IsLeastFit quota contents counts x end reply m → IsLeastFit quota contents counts x end reply n → m ≡ n
-least_once quota contents counts x end reply m n a b = elim (compared m n) [
-  | inl e ↦ e
-  | inr d ↦ elim d [ inl l ↦ absurd (b.least m a.from l a.fits) | inr l ↦ absurd (a.least n b.from l b.fits) ]
-]
-  where
-    compared : (m n : ℕ) → (m ≡ n) ⊎ ((m < n) ⊎ (n < m))
-    compared m n = grind arith
+least_once quota contents counts x end reply m n a b = grind arith
 
 stands_once : (quota : ℕ) (contents : Contents) (counts : Counts) (x : TracedCall) (changed : Option ℕ)
     (ended : Option (ℕ × Reply))

@@ -1,18 +1,13 @@
 -- A search for the first moment at which a key, or none, is the least one at or above another: from note to note, and at the end.
-use Rattle.std.proofs.Common.{◌≡◌, ◌≢◌, ℕ, ◌+◌, ◌<◌, ◌≤◌, inl, inr, Bool, true, false, not, List, [], ◌∷◌, sym, refl, subst, ap, ◌∙◌, arith}
-use Rattle.std.specs.Prelude.{Option, Some, None, All, IsTrue, IsSome, ◌==◌, nat_lt, if◌then◌else◌}
-use Rattle.std.specs.declared.cmp.Ordering.TheVariants.{Less, Equal, Greater}
-use Rattle.std.specs.declared.ops.Bound.TheVariants.{Excluded, Unbounded}
-use Rattle.std.specs.Ordering.{nat_cmp, is_gt}
-use Rattle.std.specs.Cmp.{nat_cmp_is}
-use Rattle.std.specs.BTreeMap.{BTreeMap, get}
-use Rattle.std.specs.BTreeMap.Range.{IsRangeOf}
-use Rattle.std.proofs.lemmas.Bool.{cases_order}
-use Rattle.std.proofs.lemmas.List.Elements.{All-head, All-tail, All-nil, All-cons, All-weaker}
+use Rattle.std.proofs.Common.{rules, ◌≡◌, ◌≢◌, ℕ, ◌+◌, ◌<◌, ◌≤◌, inl, inr, Bool, true, false, not, List, [], ◌∷◌, sym, refl}
+use Rattle.std.proofs.Common.{subst, ap, ◌∙◌, arith}
+use Rattle.std.specs.Prelude.{Option, Some, None, All, IsTrue, ◌==◌, nat_lt, if◌then◌else◌}
+use Rattle.std.proofs.lemmas.List.Elements.{All-tail, All-nil, All-cons, All-weaker}
 use Rattle.lset_words.proofs.Numbers.{below_or_not, same_or_not, equal_test, unequal_test, if_below, if_not_below}
 use Rattle.lset_words.specs.Account.{IsCeiling}
-use Rattle.lset_history.specs.Changes.{IsFirst, is_present, is_present_now, state_at, IsListed}
-use Rattle.lset_history.specs.Raising.{IsNextNote, is_against, IsCandidateUpTo, IsCandidate, IsBelow, IsSomeThere, CameAfter, IsNextPresent}
+use Rattle.lset_history.specs.Changes.{IsFirst, is_present, is_present_now, state_at}
+use Rattle.lset_history.specs.Raising.{IsNextNote, is_against, IsCandidateUpTo, IsCandidate, IsBelow, IsSomeThere, CameAfter}
+use Rattle.lset_history.specs.Raising.{IsNextPresent}
 use Rattle.lset_history.proofs.ChangeLaws.{present_past}
 
 abbrev pub CeilingAt : (ℕ → List ℕ) → ℕ → Option ℕ → ℕ → Type 0
@@ -23,10 +18,7 @@ abbrev IsQuiet : List ℕ → ℕ → ℕ → Type 0
 IsQuiet ms a b = All (λ m. a < m → m ≤ b → ⊥) ms
 
 quiet_upto : (x : ℕ) (ms : List ℕ) (a b : ℕ) → x ≤ b → IsQuiet (x ∷ ms) a b → x ≤ a
-quiet_upto x ms a b u q = elim (below_or_not a x) [
-  | inl l ↦ absurd (All-head (λ m. a < m → m ≤ b → ⊥) x ms q l u)
-  | inr g ↦ g
-]
+quiet_upto x ms a b u q = search rules
 
 quiet_state : (present : Bool) (ms : List ℕ) (a b : ℕ) → a ≤ b → IsQuiet ms a b → state_at present ms b ≡ state_at present ms a
 quiet_state present [] a b l q = refl
@@ -143,29 +135,10 @@ against_itself : (changes : ℕ → List ℕ) (key x m : ℕ) → key ≤ x →
     is_against changes key (Some x) x m ≡ not (is_present changes x m)
 against_itself changes key x m l = rw (if_not_below x key l, if_not_below x x (omega arith), equal_test x x refl) refl
 
-not_true : (b : Bool) → not b ≡ true → b ≡ true → ⊥
-not_true true e f = cc
-not_true false e f = cc
-
 against_is_not : (changes : ℕ → List ℕ) (key : ℕ) (o : Option ℕ) (j m : ℕ) → is_against changes key o j m ≡ true →
     CeilingAt changes key o m → ⊥
-against_is_not changes key None j m e h = elim (below_or_not j key) [
-  | inl l ↦ not_both (is_against changes key None j m) e (if_below j key l false (is_present changes j m))
-  | inr g ↦ h j g (sym (against_below changes key None j m g tt) ∙ e)
-]
-against_is_not changes key (Some x) j m e h = elim (below_or_not j key) [
-  | inl l ↦ not_both (is_against changes key (Some x) j m) e (rw (if_below j key l) refl)
-  | inr g ↦ elim (below_or_not x j) [
-    | inl l ↦ not_both (is_against changes key (Some x) j m) e (rw (if_not_below j key g, if_below x j l) refl)
-    | inr u ↦ elim (below_or_not j x) [
-      | inl l ↦ h.2 j g l (sym (against_below changes key (Some x) j m g l) ∙ e)
-      | inr v ↦
-          (let is : j ≡ x = omega arith in
-          not_true (is_present changes x m) (sym (against_itself changes key x m h.0)
-          ∙ subst (λ z. is_against changes key (Some x) z m ≡ true) is e) h.1)
-    ]
-  ]
-]
+against_is_not changes key None j m e h = search rules
+against_is_not changes key (Some x) j m e h = search rules
 
 -- a moment that no change is past
 upto : (ms : List ℕ) → (last : ℕ) × All (λ m. m ≤ last) ms
@@ -219,8 +192,7 @@ module _ (changes : ℕ → List ℕ) (key : ℕ) (found : Option ℕ) (from mom
       (λ j a p. absent_at_candidate came j a (subst (IsBelow j) (sym e) tt) p))
 
   pub it_is_least : (to x : ℕ) → found ≡ Some x → key ≤ x → is_present changes x moment ≡ true → moment ≤ to →
-      CameAfter changes key found moment
-      → IsFirst (CeilingAt changes key found) from to (Some moment)
+      CameAfter changes key found moment → IsFirst (CeilingAt changes key found) from to (Some moment)
   it_is_least to x e low there l came = candidate_is_first to l (subst (λ o. CeilingAt changes key o moment) (sym e)
       (low, there, λ j a b p. absent_at_candidate came j a (subst (IsBelow j) (sym e) b) p))
 
@@ -269,57 +241,4 @@ one_more_came changes key k end next moment after absent came = λ j l u e now. 
 
 pub below_unless : (k : ℕ) (end : Option ℕ) (b : Bool) → b ≡ false → ((IsBelow k end → ⊥) → IsTrue b) → IsBelow k end
 below_unless k None b e f = tt
-below_unless k (Some x) b e f = elim (below_or_not k x) [
-  | inl l ↦ l
-  | inr g ↦ absurd (is_not_true b e (f (λ l. omega arith)))
-]
-  where
-    is_not_true : (b : Bool) → b ≡ false → IsTrue b → ⊥
-    is_not_true true e t = cc
-    is_not_true false e t = cc
-
--- ---- the next note
-
-lower_moment : (a b : ℕ) → nat_cmp a b ≡ Less → a < b
-lower_moment a b e = elim (cases_order a b) [
-  | inl f ↦ absurd (let g : Equal ≡ Less = nat_cmp_is a b Equal f ∙ e in cc)
-  | inr d ↦ elim d [ inl l ↦ l | inr l ↦ absurd (let g : Greater ≡ Less = nat_cmp_is a b Greater l ∙ e in cc) ]
-]
-
-not_greater : (a b : ℕ) → is_gt (nat_cmp a b) ≡ false → a ≤ b
-not_greater a b e = elim (below_or_not b a) [
-  | inl l ↦ absurd (let g : is_gt Greater ≡ false = ap is_gt (nat_cmp_is a b Greater l) ∙ e in cc)
-  | inr g ↦ g
-]
-
-some_is : (a b : ℕ) → Some a ≡ Some b → a ≡ b
-some_is a b e = cc
-
-not_none : (k : ℕ) → None ≡ Some k → ⊥
-not_none k e = cc
-
-module _ (changes : ℕ → List ℕ) (keys_at : BTreeMap ℕ ℕ) (listed : (k : ℕ) → All (IsListed keys_at k) (changes k))
-    (moment : ℕ) (r : List (ℕ × ℕ)) (range : IsRangeOf nat_cmp (Excluded moment) Unbounded keys_at r) where
-  pub next_note : (at key : ℕ) (rest : List (ℕ × ℕ)) → r ≡ (at, key) ∷ rest → IsNextNote changes moment (Some (at, key))
-  next_note at key rest e =
-      let first = rw e at range.1 in (
-        lower_moment moment at first.0.0,
-        λ j. All-weaker (IsListed keys_at j) (λ m. moment < m → m ≤ at → (m ≡ at) × (j ≡ key))
-            (λ m lists l u.
-            let is : get nat_cmp keys_at m ≡ Some j = lists (omega arith) in
-            let least = rw e at range.2 m (sym (nat_cmp_is moment m Less l), tt) (subst IsSome (sym is) refl) in
-            let up : at ≤ m = not_greater at m least in
-            let same : m ≡ at = omega arith in (
-              same,
-              some_is j key (sym is ∙ ap (λ z. get nat_cmp keys_at z) same ∙ first.1),
-            ))
-            (changes j) (listed j),
-      )
-
-  pub no_next_note : r ≡ [] → IsNextNote changes moment None
-  no_next_note e = λ j. All-weaker (IsListed keys_at j) (λ m. m ≤ moment)
-      (λ m lists. elim (below_or_not moment m) [
-        | inl l ↦ absurd (not_none j (sym (range.5 e m (sym (nat_cmp_is moment m Less l), tt)) ∙ lists (omega arith)))
-        | inr g ↦ g
-      ])
-      (changes j) (listed j)
+below_unless k (Some x) b e f = search rules

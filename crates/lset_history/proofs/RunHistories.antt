@@ -1,5 +1,5 @@
 -- The calls of a run make a history.
-use Rattle.std.proofs.Common.{◌≡◌, ◌≢◌, ℕ, suc, ◌<◌, ◌≤◌, List, [], ◌∷◌, ◌++◌, map, sym, refl, subst, ◌∙◌, arith}
+use Rattle.std.proofs.Common.{◌≡◌, ◌≢◌, ℕ, suc, ◌<◌, ◌≤◌, List, [], ◌∷◌, ◌++◌, map, refl, subst, arith}
 use Rattle.std.specs.Prelude.{Option, Some, None, IsSomeAnd, IfSome, All}
 use Rattle.std.specs.List.{AllByRecursion}
 use Rattle.std.proofs.lemmas.List.{map-append}
@@ -8,7 +8,6 @@ use Rattle.lset_words.specs.declared.Reply.{Reply}
 use Rattle.lset_words.specs.declared.history.CallRecord.{CallRecord}
 use Rattle.lset_words.specs.History.{MayFollow, ContinuesHistory, IsHistory}
 use Rattle.lset_words.specs.Log.{Log, TracedCall, calls_at, history_at, record_of}
-use Rattle.lset_words.specs.Log.Entry.{began, stepped}
 use Rattle.lset_words.specs.Account.{Contents, Counts, Account}
 use Rattle.lset_history.proofs.Lists.{Pairs, all_imply, all_map, all-append}
 use Rattle.lset_history.proofs.Calls.{Run, EndedBy, EndAt, Traced, Later, Calls}
@@ -19,29 +18,11 @@ module _ (r : Run) (k : ℕ) where
   -- two moments of calls are moments of entries, so the same one only of the same entry
   end_no_beginning : (x y : TracedCall) (e : ℕ × Reply) → Traced r k x → EndAt r y.thread y.call y.begun y.changed e.0 e.1
       → e.0 ≢ x.begun
-  end_no_beginning x y e t d f =
-      let a : e.0 ≡ suc d.before = d.is in
-      let b : x.begun ≡ suc t.begins.before = t.begins.is in
-      let g : d.before ≡ t.begins.before = omega arith in
-      let h : r.log t.begins.before ≡ stepped y.thread d.change (Some e.1) =
-      subst (λ z. r.log z ≡ stepped y.thread d.change (Some e.1)) g d.entry in
-      let i : began x.thread x.call ≡ stepped y.thread d.change (Some e.1) = sym t.begins.entry ∙ h in
-      absurd (cc)
+  end_no_beginning x y e t d f = cc
 
   ends_apart : (x y : TracedCall) (e d : ℕ × Reply) → Later y x → y.ended ≡ Some d
-      → EndAt r x.thread x.call x.begun x.changed e.0 e.1
-      → EndAt r y.thread y.call y.begun y.changed d.0 d.1 → e.0 ≢ d.0
-  ends_apart x y e d l n p q f =
-      let a : e.0 ≡ suc p.before = p.is in
-      let b : d.0 ≡ suc q.before = q.is in
-      let g : q.before ≡ p.before = omega arith in
-      let h : r.log p.before ≡ stepped y.thread q.change (Some d.1) = subst
-      (λ z. r.log z ≡ stepped y.thread q.change (Some d.1)) g q.entry in
-      let i : stepped y.thread q.change (Some d.1) ≡ stepped x.thread p.change (Some e.1) = sym h ∙ p.entry in
-      let same : y.thread ≡ x.thread = cc in
-      let before : d.0 < x.begun = subst (λ z. IsSomeAnd z (λ (c : ℕ × Reply). c.0 < x.begun)) n (l.one_thread same) in
-      let late : x.begun < e.0 = p.later in
-      absurd (omega arith)
+      → EndAt r x.thread x.call x.begun x.changed e.0 e.1 → EndAt r y.thread y.call y.begun y.changed d.0 d.1 → e.0 ≢ d.0
+  ends_apart x y e d l n p q f = grind arith
 
   abbrev Before : TracedCall → TracedCall → Type 0
   Before x y = Traced r k y × Later y x
@@ -114,8 +95,7 @@ module _ (r : Run) (k : ℕ) where
 
 -- THE LOG OF A RUN TELLS A HISTORY
 pub is_history : (op : Opening) (last : ℕ) (log : Log) (contents : Contents) (counts : Counts)
-    → Account op last log contents counts
-    → (k : ℕ) → k ≤ last → IsHistory op.threads (history_at log k)
+    → Account op last log contents counts → (k : ℕ) → k ≤ last → IsHistory op.threads (history_at log k)
 is_history op last log contents counts a k l =
     let c : Calls (run_of op.threads op.quota log contents counts) k (calls_at log k) =
     calls_of op last log contents counts a k l in

@@ -1,6 +1,6 @@
 -- What the sequential set answers, from what its tree of keys and its counts tell.
-use Rattle.std.proofs.Common.{◌≡◌, ℕ, ◌≤◌, ◌<◌, ◌≢◌, ◌==◌, ◌+◌, Bool, true, false, cond, List, [], ◌∷◌, get_or, refl, sym, ap}
-use Rattle.std.proofs.Common.{inl, inr, ◌∙◌, arith}
+use Rattle.std.proofs.Common.{rules, ◌≡◌, ℕ, ◌≤◌, ◌<◌, ◌≢◌, ◌==◌, ◌+◌, Bool, true, false, cond, List, [], ◌∷◌, get_or, refl, sym}
+use Rattle.std.proofs.Common.{ap, inl, inr, ◌∙◌, arith}
 use Rattle.std.specs.Prelude.{filter}
 use Rattle.std.specs.BTreeMap.Range.{range_contains}
 use Rattle.std.specs.declared.ops.Bound.TheVariants.{Included, Unbounded}
@@ -36,8 +36,7 @@ add_present o t k h = record {
 }
 
 pub add_full : (o : OracleValue) (t : ℕ) (k : Key) (count : ℕ) → count ≡ get_or o.state.counts t 0
-    → in_tree k.0 o.state.keys ≡ false → count ≡ o.quota
-    → Answers o o t (Add k) Full
+    → in_tree k.0 o.state.keys ≡ false → count ≡ o.quota → Answers o o t (Add k) Full
 add_full o t k count read h full = record {
   reply_is = sym (cond-false (has_key k.0 o.state.keys) False _ (has_key_tree k.0 o.state.keys ∙ h)
       ∙ cond-true (get_or o.state.counts t 0 == o.quota) Full True (eq-eqb _ _ (sym read ∙ full)));
@@ -45,8 +44,7 @@ add_full o t k count read h full = record {
 }
 
 pub add_new : (quota : ℕ) (s : SetState) (t : ℕ) (k : Key) (count : ℕ) → count ≡ get_or s.counts t 0
-    → in_tree k.0 s.keys ≡ false → count ≢ quota
-    → Answers (set_of quota s.keys s.counts)
+    → in_tree k.0 s.keys ≡ false → count ≢ quota → Answers (set_of quota s.keys s.counts)
     (set_of quota (insert_key nat_cmp s.keys k.0) (set s.counts t (count + 1)))
     t (Add k) True
 add_new quota s t k count read h room =
@@ -58,13 +56,11 @@ add_new quota s t k count read h room =
     }
 
 pub puts_in : (quota : ℕ) (s : SetState) (t : ℕ) (k : Key) (count : ℕ) → count ≡ get_or s.counts t 0
-    → in_tree k.0 s.keys ≡ false → count ≢ quota
-    → PutsIn (set_of quota s.keys s.counts) t (Add k)
+    → in_tree k.0 s.keys ≡ false → count ≢ quota → PutsIn (set_of quota s.keys s.counts) t (Add k)
 puts_in quota s t k count read h room = sym (add_new quota s t k count read h room).reply_is
 
 pub removed : (quota : ℕ) (s : SetState) (t : ℕ) (k : Key) (found : Bool) → found ≡ in_tree k.0 s.keys
-    → IsStrictlyIncreasing s.keys
-    → Answers (set_of quota s.keys s.counts)
+    → IsStrictlyIncreasing s.keys → Answers (set_of quota s.keys s.counts)
     (set_of quota (remove_key (is_at (nat_cmp k.0)) s.keys) s.counts)
     t (Remove k) (cond found True False)
 removed quota s t k true e rising = record {
@@ -132,7 +128,4 @@ ceiling_nowhere o t k found is none = record {
 pub keeps_add : (quota : ℕ) (s : SetState) (t count : ℕ) (keys : List ℕ) → KeepsCounts quota s
     → IsStrictlySortedBy nat_cmp keys → count ≤ quota → count ≢ quota
     → KeepsCounts quota (record { keys = keys; counts = set s.counts t (count + 1) })
-keeps_add quota s t count keys kept sorted low room = record {
-  rising = IsStrictlyIncreasing-from_sorted keys sorted;
-  few = All-set (λ c. c ≤ quota) s.counts t (count + 1) (omega arith) kept.few;
-}
+keeps_add quota s t count keys kept sorted low room = search (rules, IsStrictlyIncreasing-from_sorted, All-set)

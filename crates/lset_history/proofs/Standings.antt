@@ -1,10 +1,12 @@
 -- The calls of a run that stand in the order of placement: each has its number, its trace and its moment.
-use Rattle.std.proofs.Common.{◌≡◌, ℕ, zero, suc, ◌+◌, ◌<◌, ◌≤◌, true, false, inl, inr, List, [], ◌∷◌, length, sym, refl, subst, ◌∙◌, arith}
+use Rattle.std.proofs.Common.{◌≡◌, ℕ, zero, suc, ◌+◌, ◌<◌, ◌≤◌, true, false, inl, inr, List, [], ◌∷◌, length, sym, refl, subst}
+use Rattle.std.proofs.Common.{◌∙◌, arith}
 use Rattle.std.specs.Prelude.{Option, Some, None, IfSome}
 use Rattle.std.specs.List.{AllByRecursion}
 use Rattle.lset_words.specs.declared.Reply.{Reply}
 use Rattle.lset_words.specs.Log.{TracedCall}
-use Rattle.lset_words.specs.Placement.{StandsBy, StandsAt, IsLeastFit, Standing, makes_change, reply_by, standing, traced_at, place_at}
+use Rattle.lset_words.specs.Placement.{StandsBy, StandsAt, IsLeastFit, Standing, makes_change, reply_by, standing, traced_at}
+use Rattle.lset_words.specs.Placement.{place_at}
 use Rattle.lset_history.proofs.Lists.{Pairs, SomeOf, all_imply, all_at}
 use Rattle.lset_history.proofs.Calls.{Run, ChangeAt, ChangedBy, EndedBy, Traced, Later, Calls}
 
@@ -94,17 +96,10 @@ during_of r last m x (Some c) (Some end) s b d =
     let e : m ≡ c = cc in let l : c ≤ last = b.0 in let k : x.begun < c = b.1.later in let u : c ≤ end.0 = d.1.right.0 in
     record { from = omega arith; upto = omega arith; in_call = omega arith }
 during_of r last m x None None s b d = absurd (cc)
-during_of r last m x None (Some end) s b d =
-    let e : m ≡ s.0 = some_is m s.0 s.1 in
-    let k : x.begun ≤ s.0 = s.2.from in let u : s.0 ≤ end.0 = s.2.upto in let l : end.0 ≤ last = d.0 in
-    record { from = omega arith; upto = omega arith; in_call = omega arith }
-  where
-    some_is : (a b : ℕ) → Some a ≡ Some b → a ≡ b
-    some_is a b f = cc
+during_of r last m x None (Some end) s b d = grind arith
 
 pub during : (r : Run) (last : ℕ) (calls : List TracedCall) (places : List (Option ℕ)) (s : Standing)
-    → Stood r last calls places s
-    → During last s.traced.begun s.moment s.traced.ended
+    → Stood r last calls places s → During last s.traced.begun s.moment s.traced.ended
 during r last calls places s h =
     during_of r last s.moment s.traced s.traced.changed s.traced.ended h.stands h.trace.changes h.trace.ends
 
@@ -126,8 +121,7 @@ ended_by_change r last x None end place b d s =
 ended_by_change r last x (Some c) end place b d s = record { moment = c; is = s; upto = b.0; reply_is = sym d.1.right.1 }
 
 pub ended_place : (r : Run) (last : ℕ) (x : TracedCall) (end : ℕ × Reply) (place : Option ℕ) → x.ended ≡ Some end
-    → Traced r last x
-    → StandsAt r.quota r.contents r.counts x place → EndedPlace last x.changed x.ended end.1 place
+    → Traced r last x → StandsAt r.quota r.contents r.counts x place → EndedPlace last x.changed x.ended end.1 place
 ended_place r last x end place e t s =
     let d : EndedBy r last x.thread x.call x.begun x.changed (Some end) =
     subst (EndedBy r last x.thread x.call x.begun x.changed) e t.ends in
@@ -141,8 +135,7 @@ pub record Changing (r : Run) (s : Standing) : Type 0 where
   pub change : ChangeAt r s.traced.thread s.traced.call s.traced.begun s.moment
 
 pub changing : (r : Run) (last : ℕ) (calls : List TracedCall) (places : List (Option ℕ)) (s : Standing)
-    → Stood r last calls places s
-    → makes_change s ≡ true → Changing r s
+    → Stood r last calls places s → makes_change s ≡ true → Changing r s
 changing r last calls places s h t = by_cases s.traced.changed refl
   where
     by_cases : (o : Option ℕ) → s.traced.changed ≡ o → Changing r s
@@ -166,8 +159,7 @@ pub record Reading (r : Run) (s : Standing) : Type 0 where
   pub fit : IsLeastFit r.quota r.contents r.counts s.traced end.0 end.1 s.moment
 
 pub reading : (r : Run) (last : ℕ) (calls : List TracedCall) (places : List (Option ℕ)) (s : Standing)
-    → Stood r last calls places s
-    → makes_change s ≡ false → Reading r s
+    → Stood r last calls places s → makes_change s ≡ false → Reading r s
 reading r last calls places s h t = by_change s.traced.changed refl
   where
     by_end : s.traced.changed ≡ None → (o : Option (ℕ × Reply)) → s.traced.ended ≡ o

@@ -1,11 +1,12 @@
 -- The sequential set along a log: its keys and counts at every moment, which are those of the account.
-use Rattle.std.proofs.Common.{◌≡◌, ◌≢◌, ℕ, zero, suc, ◌+◌, ◌<◌, ◌≤◌, true, false, inl, inr, List, length, sym, refl, ap, subst, ◌∙◌, arith}
+use Rattle.std.proofs.Common.{rules, ◌≡◌, ◌≢◌, ℕ, zero, suc, ◌+◌, ◌<◌, ◌≤◌, true, false, inl, inr, List, length, sym, refl, subst}
+use Rattle.std.proofs.Common.{◌∙◌, arith}
 use Rattle.std.specs.Prelude.{Contains, Option, Some, None, slice_index, slice_set}
-use Rattle.std.proofs.lemmas.List.{get_or-set_same, get_or-set_other, length-set, length-replicate, get_or-replicate}
+use Rattle.std.proofs.lemmas.List.{length-set, length-replicate, get_or-replicate}
 use Rattle.lset_words.specs.SequentialSet.{SetState, opening_set, with_key, without_key}
 use Rattle.lset_words.specs.Log.{Log, Entry, Change}
 use Rattle.lset_words.specs.Log.Entry.{began, stepped}
-use Rattle.lset_words.specs.Account.{Content, Contents, Counts, Same, Changes, count_after, Enters, Account}
+use Rattle.lset_words.specs.Account.{Content, Contents, Counts, Same, Changes, Enters, Account}
 use Rattle.lset_words.proofs.Numbers.{same_or_not}
 use Rattle.lset_words.proofs.RisingLists.{RisesFrom, rises_from_increasing}
 use Rattle.lset_history.proofs.Keys.{with_keeps, with_from, without_keeps, without_from, with_rises, without_rises}
@@ -81,18 +82,6 @@ long_on t None counts = refl
 long_on t (Some (k, true)) counts = length-set counts t (slice_index counts t + 1)
 long_on t (Some (k, false)) counts = refl
 
-number_own : (t : ℕ) (change : Option Change) (counts : List ℕ) (n : ℕ) → t < length counts → slice_index counts t ≡ n
-    → slice_index (counts_after t change counts) t ≡ count_after change n
-number_own t None counts n l e = e
-number_own t (Some (k, true)) counts n l e = get_or-set_same counts t (slice_index counts t + 1) 0 l ∙ ap (λ z. z + 1) e
-number_own t (Some (k, false)) counts n l e = e
-
-number_other : (t u : ℕ) (change : Option Change) (counts : List ℕ) → u ≢ t
-    → slice_index (counts_after t change counts) u ≡ slice_index counts u
-number_other t u None counts n = refl
-number_other t u (Some (k, true)) counts n = get_or-set_other counts t u (slice_index counts t + 1) 0 n
-number_other t u (Some (k, false)) counts n = refl
-
 shows_on : (threads quota : ℕ) (log : Log) (contents : Contents) (counts : Counts) (k : ℕ) (e : Entry) (s : SetState)
     → Enters threads quota log contents counts k e → Shows threads (contents k) (counts k) s
     → Shows threads (contents (suc k)) (counts (suc k)) (set_after e s)
@@ -110,17 +99,11 @@ shows_on threads quota log contents counts k (stepped t change reply) s h w = re
 }
   where
     numbers : (u : ℕ) → u < threads → slice_index (counts_after t change s.counts) u ≡ counts (suc k) u
-    numbers u l = elim (same_or_not u t) [
-      | inl e ↦ subst (λ z. slice_index (counts_after t change s.counts) z ≡ counts (suc k) z) (sym e)
-          (let m : t < threads = h.of_a_thread in let n : length s.counts ≡ threads = w.long in
-          number_own t change s.counts (counts k t) (omega arith) (w.numbers t h.of_a_thread) ∙ sym h.own_count)
-      | inr n ↦ number_other t u change s.counts n ∙ w.numbers u l ∙ sym (h.other_counts u l n)
-    ]
+    numbers u l = search rules
 
 -- AT EVERY MOMENT the state shows contents and counts
 pub shows_at : (op : Opening) (last : ℕ) (log : Log) (contents : Contents) (counts : Counts)
-    → Account op last log contents counts
-    → (k : ℕ) → k ≤ last → Shows op.threads (contents k) (counts k) (set_at op log k)
+    → Account op last log contents counts → (k : ℕ) → k ≤ last → Shows op.threads (contents k) (counts k) (set_at op log k)
 shows_at op last log contents counts a zero l = record {
   keys = a.opens;
   rising = rises_from_increasing op.keys a.rising;

@@ -1,6 +1,7 @@
 -- What the single checks of an order come to: its faults, and that it explains the history.
-use Rattle.std.proofs.Common.{◌≡◌, ◌≢◌, ℕ, ◌<◌, ◌==◌, Bool, true, false, List, [], length, get_or, Option, Some, None, is_some}
-use Rattle.std.proofs.Common.{refl, sym, ap, ◌∙◌, subst, ⊎_elim, inl, inr, ◌⊎◌, arith}
+use Rattle.std.proofs.Common.{rules, ◌≡◌, ◌≢◌, ℕ, ◌<◌, ◌==◌, Bool, true, false, List, [], length, get_or, Option, Some, None}
+use Rattle.std.proofs.Common.{refl, sym, ap, ◌∙◌, subst, inl, inr, ◌⊎◌, arith}
+use Rattle.std.proofs.lemmas.Grind.{common_steps}
 use Rattle.std.specs.List.{All, AllPairs, Contains}
 use Rattle.std.specs.List.Sorted.{IsStrictlyIncreasing}
 use Rattle.std.specs.Option.{IfSome, IsSomeAnd, IsSome}
@@ -15,12 +16,13 @@ use Rattle.lset_words.specs.History.{call_numbered, Precedes, Linearizes, IsHist
 use Rattle.lset_history.specs.History.{HistoryValue}
 use Rattle.lset_history.specs.Oracle.{OracleValue, set_opened}
 use Rattle.lset_history.specs.declared.fault.OrderFault.{OrderFault}
-use Rattle.lset_history.specs.declared.fault.OrderFault.TheVariants.{Unknown, Twice, Missing, WrongReply, TooEarly, WrongSet, Memory}
+use Rattle.lset_history.specs.declared.fault.OrderFault.TheVariants.{Unknown, Twice, Missing, WrongReply, TooEarly, WrongSet}
+use Rattle.lset_history.specs.declared.fault.OrderFault.TheVariants.{Memory}
 use Rattle.lset_history.specs.Faults.{Explains, IsFault, Passes, RefusesFirst, MissesNone, MissesFirst, IsMissing, IsUnknown}
 use Rattle.lset_history.specs.Faults.{IsTwice, HasWrongReply, IsTooEarly, place_at, set_left_by}
 use Rattle.lset_history.specs.Checks.{HasKnownCalls, stands, MarksCalls, IsLeftOut, HasReplies, after_order}
-use Rattle.lset_history.proofs.Histories.{IsCall, calls_of}
-use Rattle.lset_history.proofs.Places.{stands_earlier, stands_nowhere, legal_at, passes_replies}
+use Rattle.lset_history.proofs.Histories.{calls_of}
+use Rattle.lset_history.proofs.Places.{stands_earlier, legal_at, passes_replies}
 
 -- a place, read with any default
 read_place : (order : List Placed) (i : ℕ) (d : Placed) → i < length order → get_or order i d ≡ place_at order i
@@ -36,11 +38,7 @@ absent_stands : (order : List Placed) (n : ℕ) → All (λ (p : Placed). p.call
 absent_stands order n absent = list_any_none (λ (p : Placed). p.call == n) order (λ k d low. ne_eqb _ n (absent k d low))
 
 stands_absent : (order : List Placed) (n : ℕ) → stands order n ≡ false → All (λ (p : Placed). p.call ≢ n) order
-stands_absent order n h k d low =
-    let P : Placed → Type 0 = λ p. p.call ≢ n in
-    let Q : List Placed → Type 0 = λ ps. stands ps n ≡ false in
-    let whole = subst Q (sym (take_all (length order) order (omega arith))) h in
-    subst P (sym (read_place order k d low)) (stands_nowhere order (length order) n whole k low low)
+stands_absent order n h k d low = grind (arith, common_steps)
 
 left_out : (calls : List CallRecord) (order : List Placed) (marks : List Bool) (n : ℕ) → MarksCalls marks order
     → IsMissing calls order n → IsLeftOut calls marks n
@@ -79,8 +77,7 @@ placed_as p number reply e f =
 
 pub linearizes : (o : OracleValue) (calls : List CallRecord) (order : List Placed)
     → HasKnownCalls calls order → Passes (IsTwice order) order → MissesNone calls order → HasReplies o calls order → Passes
-    (IsTooEarly calls order) order
-    → Linearizes o.quota o.state calls order
+    (IsTooEarly calls order) order → Linearizes o.quota o.state calls order
 linearizes o calls order known once none replies early = record {
   known = known;
   once = pairs_of_places (λ (p r : Placed). p.call ≢ r.call) order (λ i j low inside e. once j inside (i, low, e));
@@ -90,20 +87,11 @@ linearizes o calls order known once none replies early = record {
       (λ i j low inside w. early i (omega arith) (j, low, inside, w));
 }
   where
-    ended_is : (number end : ℕ) (reply : Reply) → (call_numbered calls number).ended ≡ Some (end, reply)
-        → is_some (call_numbered calls number).ended ≡ true
-    ended_is number end reply e = ap is_some e
-
     stands_there : (number end : ℕ) (reply : Reply) → number < length calls
         → (call_numbered calls number).ended ≡ Some (end, reply)
         → (stands order number ≡ true) ⊎ (stands order number ≡ false) → Contains order (record { call = number; reply = reply })
     stands_there number end reply low e (inr absent) =
-        absurd (none number (record {
-          known = low;
-          ended = ended_is number end reply e;
-          absent = stands_absent order number
-              absent;
-        }))
+        absurd (grind (arith, common_steps))
     stands_there number end reply low e (inl there) =
         let Q : List Placed → Type 0 = λ ps. stands ps number ≡ true in
         let at : (k : ℕ) × (k < length order) × (k < length order) × ((place_at order k).call ≡ number) =
@@ -139,8 +127,7 @@ pub stands_once : (h : HistoryValue) (calls : List CallRecord) (order : List Pla
 stands_once h calls order marks e known once holds = record { calls_are = e; known = known; once = once; holds = holds }
 
 pub leaves_none_out : (h : HistoryValue) (calls : List CallRecord) (order : List Placed) (marks : List Bool)
-    (oracle : OracleValue)
-    → StandsOnce h calls order marks → ((number : ℕ) → IsLeftOut calls marks number → ⊥)
+    (oracle : OracleValue) → StandsOnce h calls order marks → ((number : ℕ) → IsLeftOut calls marks number → ⊥)
     → oracle ≡ set_opened h.opening → LeavesNoneOut h calls order marks oracle
 leaves_none_out h calls order marks oracle once none opens =
     record { stands_once = once; none_out = none; opens = opens }
@@ -149,20 +136,14 @@ leaves_none_out h calls order marks oracle once none opens =
 pub threads_below : (h : HistoryValue) (calls : List CallRecord) (oracle : OracleValue) → calls ≡ h.calls
     → IsHistory h.opening.threads h.calls → oracle ≡ set_opened h.opening
     → All (λ (x : CallRecord). x.thread < oracle.threads) calls
-threads_below h calls oracle e history opens k d low =
-    let P : List CallRecord → Type 0 = λ xs. All (IsCall h.opening.threads) xs in
-    let call : IsCall h.opening.threads (get_or calls k d) = subst P (sym e) (calls_of h.opening.threads h.calls history) k d low
-    in
-    let own : (get_or calls k d).thread < h.opening.threads = call.of_a_thread in
-    rw opens own
+threads_below h calls oracle e history opens k d low = grind (arith, calls_of)
 
 none_missing : (h : HistoryValue) (order : List Placed) (marks : List Bool) (oracle : OracleValue)
     → LeavesNoneOut h h.calls order marks oracle → MissesNone h.calls order
 none_missing h order marks oracle l = misses_none h.calls order marks l.stands_once.holds l.none_out
 
 pub missing_fault : (h : HistoryValue) (calls : List CallRecord) (order : List Placed) (keys : List ℕ) (marks : List Bool)
-    (number : ℕ)
-    → StandsOnce h calls order marks
+    (number : ℕ) → StandsOnce h calls order marks
     → IsLeftOut calls marks number × ((smaller : ℕ) → smaller < number → IsLeftOut calls marks smaller → ⊥)
     → IsFault h order keys (Missing number)
 missing_fault h calls order keys marks number s out =
@@ -209,10 +190,8 @@ own_replies h calls order marks oracle l r =
     subst Q l.stands_once.calls_are (subst P l.opens r)
 
 pub too_early_fault : (h : HistoryValue) (calls : List CallRecord) (order : List Placed) (keys : List ℕ) (marks : List Bool)
-    (oracle : OracleValue) (number : ℕ)
-    → LeavesNoneOut h calls order marks oracle → HasReplies oracle calls order
-    → RefusesFirst (IsTooEarly calls order) order number
-    → IsFault h order keys (TooEarly number)
+    (oracle : OracleValue) (number : ℕ) → LeavesNoneOut h calls order marks oracle → HasReplies oracle calls order
+    → RefusesFirst (IsTooEarly calls order) order number → IsFault h order keys (TooEarly number)
 too_early_fault h calls order keys marks oracle number l r e =
     let own = settled h calls order marks oracle l in
     let Q : List CallRecord → Type 0 = λ xs. RefusesFirst (IsTooEarly xs order) order number in (
@@ -234,8 +213,7 @@ keys_after h calls order marks oracle l =
 pub wrong_set_fault : (h : HistoryValue) (calls : List CallRecord) (order : List Placed) (keys : List ℕ) (marks : List Bool)
     (oracle now : OracleValue)
     → LeavesNoneOut h calls order marks oracle → HasReplies oracle calls order → Passes (IsTooEarly calls order) order
-    → now ≡ after_order oracle calls order → now.state.keys ≢ keys
-    → IsFault h order keys WrongSet
+    → now ≡ after_order oracle calls order → now.state.keys ≢ keys → IsFault h order keys WrongSet
 wrong_set_fault h calls order keys marks oracle now l r e after other =
     let own = settled h calls order marks oracle l in
     let Q : List CallRecord → Type 0 = λ xs. Passes (IsTooEarly xs order) order in (
@@ -250,8 +228,7 @@ wrong_set_fault h calls order keys marks oracle now l r e after other =
 pub explained : (h : HistoryValue) (calls : List CallRecord) (order : List Placed) (keys : List ℕ) (marks : List Bool)
     (oracle now : OracleValue)
     → LeavesNoneOut h calls order marks oracle → HasReplies oracle calls order → Passes (IsTooEarly calls order) order
-    → now ≡ after_order oracle calls order → now.state.keys ≡ keys → IsStrictlyIncreasing now.state.keys
-    → Explains h order keys
+    → now ≡ after_order oracle calls order → now.state.keys ≡ keys → IsStrictlyIncreasing now.state.keys → Explains h order keys
 explained h calls order keys marks oracle now l r e after same rising =
     let own = settled h calls order marks oracle l in
     let P : List CallRecord → Type 0 = λ xs. Passes (IsTooEarly xs order) order in
@@ -291,16 +268,12 @@ never_wrong quota start calls order i inside l (inl w) =
     let p = place_at order i in
     let end = other_ended (call_numbered calls p.call).ended p.reply w in
     let x : Placed = record { call = p.call; reply = end.0.1 } in
-    let at : Contains order x = l.ended p.call end.0.0 end.0.1 (l.known i (place_at [] 0) inside) end.1 in
-    let there : place_at order at.0 ≡ x = sym (read_place order at.0 x at.1) ∙ at.2 in
-    let apart = pair_of_places (λ (q r : Placed). q.call ≢ r.call) order in
-    ⊎_elim
-    (λ (e : at.0 ≡ i). end.2 (ap (λ (q : Placed). q.reply) (sym there ∙ ap (place_at order) e)))
-    (λ (side : (at.0 < i) ⊎ (i < at.0)). ⊎_elim
-    (λ (b : at.0 < i). apart at.0 i l.once b inside (ap (λ (q : Placed). q.call) there))
-    (λ (a : i < at.0). apart i at.0 l.once a at.1 (ap (λ (q : Placed). q.call) (sym there)))
-    side)
-    (cases_order at.0 i)
+    let at : Contains order x = l.ended p.call end.0.0 end.0.1 (l.known i (place_at [] 0) inside) end.1 in grind (
+      arith,
+      read_place,
+      pair_of_places,
+      cases_order,
+    )
 
 pub not_explained : (h : HistoryValue) (order : List Placed) (keys : List ℕ) (fault : OrderFault)
     → IsFault h order keys fault → fault ≢ Memory → Explains h order keys → ⊥
@@ -313,9 +286,6 @@ not_explained h order keys (Twice number) f ne x =
 not_explained h order keys (Missing number) f ne x = never_missing h.opening.quota _ h.calls order number x.linearizes f.2.missing
 not_explained h order keys (WrongReply number) f ne x =
     never_wrong h.opening.quota _ h.calls order f.3.place f.3.inside x.linearizes f.3.refused
-not_explained h order keys (TooEarly number) f ne x =
-    let early = f.4.refused in
-    pair_of_places (λ (p r : Placed). Precedes (call_numbered h.calls r.call) (call_numbered h.calls p.call) → ⊥) order
-    f.4.place early.0 x.linearizes.in_time early.1 early.2 early.3
+not_explained h order keys (TooEarly number) f ne x = search rules
 not_explained h order keys WrongSet f ne x = f.5 x.keys_left
 not_explained h order keys Memory f ne x = ne refl

@@ -1,6 +1,6 @@
 -- What the single checks of an order tell.
-use Rattle.std.specs.Prelude.{◌≡◌, ◌≢◌, ℕ, ◌<◌, ◌==◌, ◌⊎◌, Bool, true, false, List, map, length, get_or, min, Option, Some, None, take}
-use Rattle.std.specs.Prelude.{is_some, All, IfSome, IsSomeAnd}
+use Rattle.std.specs.Prelude.{◌≡◌, ◌≢◌, ℕ, ◌<◌, ◌==◌, ◌⊎◌, Bool, true, false, List, map, length, get_or, min, Option, Some, None}
+use Rattle.std.specs.Prelude.{take, is_some, All, IfSome, IsSomeAnd}
 use Rattle.std.specs.List.{list_any}
 use Rattle.lset_words.specs.declared.Reply.{Reply}
 use Rattle.lset_words.specs.declared.history.CallRecord.{CallRecord}
@@ -66,7 +66,8 @@ abbrev pub PutsInSome : OracleValue → List CallRecord → List Placed → Type
 PutsInSome o calls order = (place : ℕ) × (place < length order)
     × PutsIn (after_order o calls (take place order)) (placed_call calls order place).thread (placed_call calls order place).call
 
--- the smaller of an end and the smallest end so far
-abbrev pub least_with : Option ℕ → ℕ → ℕ
-least_with None end = end
-least_with (Some least) end = min least end
+-- the least end, with that of one more call
+abbrev pub least_with : Option ℕ → Option (ℕ × Reply) → Option ℕ
+least_with least None = least
+least_with None (Some end) = Some end.0
+least_with (Some least) (Some end) = Some (min least end.0)

@@ -8,7 +8,8 @@ use Rattle.lset_words.specs.declared.history.Placed.{Placed}
 use Rattle.lset_words.specs.SequentialSet.{SetState, opening_set, reply_to, set_left}
 use Rattle.lset_words.specs.History.{call_numbered, Precedes, answered, Linearizes}
 use Rattle.lset_history.specs.declared.fault.OrderFault.{OrderFault}
-use Rattle.lset_history.specs.declared.fault.OrderFault.TheVariants.{Unknown, Twice, Missing, WrongReply, TooEarly, WrongSet, Memory}
+use Rattle.lset_history.specs.declared.fault.OrderFault.TheVariants.{Unknown, Twice, Missing, WrongReply, TooEarly, WrongSet}
+use Rattle.lset_history.specs.declared.fault.OrderFault.TheVariants.{Memory}
 use Rattle.lset_history.specs.History.{HistoryValue}
 
 -- the set that an order of calls leaves

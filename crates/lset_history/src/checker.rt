@@ -105,10 +105,15 @@ fn is_below(end: Option<u32>, moment: u32) -> bool
     end.is_some_and(|end| end < moment)
 }
 
-fn lesser(least: Option<u32>, end: u32) -> u32
-    ensures { result ≡ least_with least end }
+/// The lesser of the least end so far and the end of a call, if it has ended.
+fn lesser(least: Option<u32>, ended: Option<(u32, Reply)>) -> Option<u32>
+    ensures { result ≡ least_with least ended }
 {
-    least.map_or(end, |least| least.min(end))
+    match (least, ended) {
+        (Some(least), Some((end, _))) => Some(least.min(end)),
+        (None, Some((end, _))) => Some(end),
+        (_, None) => least,
+    }
 }
 
 /// The first place whose call began after a call had ended that has a later place.
@@ -126,9 +131,7 @@ fn first_too_early(calls: &[CallRecord], order: &[Placed]) -> Option<u32>
         if is_below(least_end, record.begun) {
             early = Some(number);
         }
-        if let Some((end, _)) = record.ended {
-            least_end = Some(lesser(least_end, end));
-        }
+        least_end = lesser(least_end, record.ended);
     }
     early
 }

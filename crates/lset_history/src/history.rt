@@ -1,12 +1,12 @@
 ghost use Rattle.std.specs.Prelude.{◌≡◌, ◌<◌, ◌^◌, length, IfOk, OnOk, IfErr, OnErr, [], None, All};
 ghost use Rattle.std.specs.List.Sorted.{IsStrictlyIncreasing};
 ghost use Rattle.lset_words.specs.Words.{IsWithin, Opens, empty};
-ghost use Rattle.lset_words.specs.History.{IsHistory};
+ghost use Rattle.lset_words.specs.History.{IsHistory, MayFollow};
 ghost use Rattle.lset_history.specs.History.{MayBegin, CannotBegin, with_begun, MayEnd, CannotEnd, with_ended, last_moment};
 
 use crate::HistoryFault;
 use lset_words::{Call, CallRecord, MOST_THREADS, Reply};
-use std::alloc::Global;
+use std::alloc::{AllocError, Global};
 use std::fmt;
 use std::marker::Model;
 
@@ -97,40 +97,32 @@ impl History {
         }
     }
 
-    /// Returns the history of the given calls. They must be listed by their numbers, and each must be one that may follow
-    /// those before it. The set opens with the keys `opening`, which must be at most 1,048,576 and in strictly increasing
-    /// order. `threads` must be 1 to 64, `quota` 0 to 16,384. Does not allocate: it takes over the vectors.
-    pub fn from_calls(
-        threads: u32,
-        quota: u32,
-        opening: Vec<u32>,
-        calls: Vec<CallRecord>,
-    ) -> History
-        requires within { IsWithin (record { threads = threads; quota = quota; opening = length opening.items }) }
+    /// Lets the set open with the keys `opening` in place of those with which it opened so far. They must be at most 1,048,576
+    /// and in strictly increasing order. Does not allocate: it takes over the vector.
+    pub fn reopen(&mut self, opening: Vec<u32>)
+        requires within { IsWithin (record {
+          threads = self.old.opening.threads;
+          quota = self.old.opening.quota;
+          opening = length opening.items;
+        }) }
         requires rising { IsStrictlyIncreasing opening.items }
-        requires history { IsHistory threads calls.items }
-        ensures { result ≡ record {
-          opening = record { threads = threads; quota = quota; keys = opening.items };
-          calls = calls.items;
-        } }
+        ensures { self.new ≡ record self.old { opening = record self.old.opening { keys = opening.items } } }
     {
         keys_are_small(&opening);
-        let mut busy = [false; MOST_THREADS as usize];
-        let mut latest = 0u32;
-        for call_record in &calls {
-            latest = latest.max(last_moment(call_record));
-            if call_record.ended.is_none() {
-                busy[call_record.thread as usize] = true;
-            }
-        }
-        History {
-            threads,
-            quota,
-            opening,
-            calls,
-            busy,
-            latest,
-        }
+        self.opening = opening;
+    }
+
+    /// Adds a call that may follow those of the history, with its end if it has ended; its number is one more than the last
+    /// one's. May allocate; `AllocError` if that fails, and the history is then as it was.
+    pub fn push(&mut self, call_record: CallRecord) -> Result<(), AllocError>
+        requires { MayFollow self.old.opening.threads self.old.calls call_record }
+        ensures pushed { OnOk result (self.new ≡ with_begun self.old call_record) }
+        ensures unchanged { OnErr result (self.new ≡ self.old) }
+    {
+        self.calls.push(call_record)?;
+        self.busy[call_record.thread as usize] = call_record.ended.is_none();
+        self.latest = self.latest.max(last_moment(&call_record));
+        Ok(())
     }
 
     /// Records that thread `thread` begins a call at the moment `at`. Returns the call's number: 0 for the first call of the
@@ -167,11 +159,9 @@ impl History {
             begun: at,
             ended: None,
         };
-        let Ok(()) = self.calls.push(record) else {
+        let Ok(()) = self.push(record) else {
             return Err(HistoryFault::Memory);
         };
-        self.busy[thread as usize] = true;
-        self.latest = at;
         Ok(number)
     }
 

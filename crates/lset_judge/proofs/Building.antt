@@ -1,5 +1,5 @@
 -- From the rule's success on each key to an order of the calls: what is placed so far, and a call placed next.
-use Rattle.std.proofs.Common.{◌≡◌, ◌≢◌, ℕ, zero, suc, ◌+◌, ◌<◌, ◌≤◌, ◌⊎◌, List, [], ◌∷◌, ◌++◌, Bool, true, false, inl, inr, refl, sym, ap, ◌∙◌, arith}
+use Rattle.std.proofs.Common.{◌≡◌, ◌≢◌, ℕ, zero, suc, ◌<◌, ◌≤◌, ◌⊎◌, List, [], ◌∷◌, ◌++◌, Bool, true, false, inl, inr, refl, sym, ap, ◌∙◌, arith}
 use Rattle.std.proofs.Common.{subst, length, get_or, map}
 use Rattle.std.specs.Prelude.{◌==◌, not, nat_lt, Option, Some, None, is_some, All, AllPairs, Contains, IfSome, IsSomeAnd}
 use Rattle.std.proofs.lemmas.Bool.{cases_Bool, true≢false}
@@ -14,16 +14,16 @@ use Rattle.lset_words.specs.SequentialSet.{SetState, has_key, reply_to, after_ca
 use Rattle.lset_words.specs.History.{IsHistory, call_numbered, no_call, answered, Precedes, Linearizes}
 use Rattle.lset_words.proofs.Numbers.{same_number, equal_test, below_or_not, same_or_not}
 use Rattle.lset_history.specs.History.{latest_moment}
-use Rattle.lset_judge.specs.Rule.{Event, begins, ends, looks, leaves, idle, State, same, options, not_before, fits, enters, put_in, take_out, turned_by, settled, nearest, turned_if}
-use Rattle.lset_judge.specs.Rule.{found, entered, ruled, open_changes, opened}
-use Rattle.lset_judge.specs.Events.{Kind, changes, sees, nothing, kind_of, kind_if, event_at, begin_event, end_event, events_on}
+use Rattle.lset_judge.specs.Rule.{Event, begins, ends, looks, leaves, idle, State, same, changes_to, options, not_before, fits, entering, enters, put_in, take_out, turned_by, settled, nearest, turned_if}
+use Rattle.lset_judge.specs.Rule.{found, entered, stepped, state_after, may_leave, open_changes, opened}
+use Rattle.lset_judge.specs.Events.{Kind, changes, sees, nothing, kind_of, kind_if, event_at, begin_event, end_event}
 use Rattle.lset_judge.specs.Verdict.{is_plain}
 use Rattle.lset_judge.proofs.EventLemmas.{kind, until, Begins, told, begins_at, ends_there, end_below, none_or_some}
 use Rattle.lset_history.proofs.Histories.{pairs_of}
 use Rattle.lset_judge.proofs.Leading.{at, at_once, later}
 use Rattle.lset_judge.proofs.Counts.{nearest_stands}
-use Rattle.lset_judge.proofs.Ruled.{no_state, settled_none, ruled_none, some_or_none}
-use Rattle.lset_judge.proofs.Orders.{does_own, other_stays, untils_differ, begins_told, never_left, is_call}
+use Rattle.lset_judge.proofs.Ruled.{no_state, settled_none, some_or_none}
+use Rattle.lset_judge.proofs.Orders.{does_own, other_stays, untils_differ, begins_told, is_call}
 use Rattle.lset_judge.proofs.Placing.{becomes, NoTwice, not_both, left_in, others_stay, gone, no_twice_left, has_head, has_tail, has_split, has_put, no_twice_put, until_of}
 use Rattle.lset_judge.proofs.Placed.{legal_push, left_push, map_push, IsPlaced, placed_or_not, placed_at, placed_still}
 use Rattle.lset_judge.proofs.Placed.{placed_new, placed_split, change_replies, look_replies, open_sees_not, same_flips}
@@ -97,8 +97,7 @@ module _ (threads : ℕ) (calls : List CallRecord) (history : IsHistory threads 
 
   pub record Link (k m : ℕ) (s : State) (o : List Placed) : Type 0 where
     pub there : has_key k (set o).keys ≡ s.there
-    pub puts : OpenList true k m s.puts o
-    pub takes : OpenList false k m s.takes o
+    pub lists : (w : Bool) → OpenList w k m (changes_to w s) o
     pub looks : (n : ℕ) (w : Bool) → n < length calls → key n ≡ k → kind (x_ n) ≡ sees w → (x_ n).begun ≤ m → (IsPlaced n o → ⊥)
         → (same w s.there ≡ true) ⊎ (s.turned < (x_ n).begun)
     pub now : s.turned ≤ m
@@ -132,8 +131,7 @@ module _ (threads : ℕ) (calls : List CallRecord) (history : IsHistory threads 
   link_other : (k m : ℕ) (s : State) (o : List Placed) (n : ℕ) (r : Reply) → key n ≢ k → Link k m s o → Link k m s (o ++ put n r ∷ [])
   link_other k m s o n r ne l = record {
     there = ap (λ (q : SetState). has_key k q.keys) (set_put o n r) ∙ other_stays k (x_ n).thread (set o) (x_ n).call r ne ∙ l.there;
-    puts = list_put true k m s.puts o n r (λ e _. ne e) l.puts;
-    takes = list_put false k m s.takes o n r (λ e _. ne e) l.takes;
+    lists = λ w. list_put w k m (changes_to w s) o n r (λ e _. ne e) (l.lists w);
     looks = λ i w low own is begun new. l.looks i w low own is begun (λ q. new (placed_still i o (put n r) q));
     now = l.now;
   }
@@ -165,8 +163,7 @@ module _ (threads : ℕ) (calls : List CallRecord) (history : IsHistory threads 
             link = record {
               there = ap (λ (q : SetState). has_key k q.keys) (set_put o n r)
                   ∙ subst (λ j. has_key j (after_call (set o) (x_ n).thread (x_ n).call r).keys ≡ has_key j (set o).keys) own stays ∙ l.there;
-              puts = list_put true k m s.puts o n r (other true) l.puts;
-              takes = list_put false k m s.takes o n r (other false) l.takes;
+              lists = λ v. list_put v k m (changes_to v s) o n r (other v) (l.lists v);
               looks = λ i v low own is begun new. l.looks i v low own is begun (λ q. new (placed_still i o (put n r) q));
               now = l.now;
             };
@@ -274,47 +271,36 @@ module _ (threads : ℕ) (calls : List CallRecord) (history : IsHistory threads 
             ∙ subst (λ j. has_key j (after_call (set o) (x_ n).thread (x_ n).call True).keys ≡ w) own now,
       )
 
-  pub turn : (k m : ℕ) (b : Bool) (t : ℕ) (ps ks : List ℕ) (o : List Placed) (u : ℕ) → Built m o → Link k m (at b t ps ks) o
-      → Swept (length calls) k m (at b t ps ks) o → has_key u (options (at b t ps ks)) ≡ true
-      → (q : Moved k m (turned_by m u (at b t ps ks)) o) × (length calls ≡ length calls)
-  turn k m false t ps ks o u built l swept h =
-      let c = l.puts.open_call u h in
-      let one = change_put k m o c.0 true built c.1 c.2 c.3 c.5 c.6 l.there in (
-        record {
-          order = o ++ put c.0 True ∷ [];
-          built = one.0;
-          link = record {
-            there = one.1;
-            puts = list_taken true k m u ps o c.0 True c.1 c.4 l.puts;
-            takes = list_put false k m ks o c.0 True (λ _ f. let g : changes true ≡ changes false = sym c.3 ∙ f in cc) l.takes;
-            looks = λ n w known own is begun new.
-                inl (same_flips w false (swept n w known known own is begun (λ q. new (placed_still n o (put c.0 True) q))));
-            now = omega arith;
-          };
-          others = λ j ne y y_link. link_other j m y o c.0 True (λ q. ne (sym q ∙ c.2)) y_link;
-          grows = λ i q. placed_still i o (put c.0 True) q;
-        },
-        refl,
-      )
-  turn k m true t ps ks o u built l swept h =
-      let c = l.takes.open_call u h in
-      let one = change_put k m o c.0 false built c.1 c.2 c.3 c.5 c.6 l.there in (
-        record {
-          order = o ++ put c.0 True ∷ [];
-          built = one.0;
-          link = record {
-            there = one.1;
-            puts = list_put true k m ps o c.0 True (λ _ f. let g : changes false ≡ changes true = sym c.3 ∙ f in cc) l.puts;
-            takes = list_taken false k m u ks o c.0 True c.1 c.4 l.takes;
-            looks = λ n w known own is begun new.
-                inl (same_flips w true (swept n w known known own is begun (λ q. new (placed_still n o (put c.0 True) q))));
-            now = omega arith;
-          };
-          others = λ j ne y y_link. link_other j m y o c.0 True (λ q. ne (sym q ∙ c.2)) y_link;
-          grows = λ i q. placed_still i o (put c.0 True) q;
-        },
-        refl,
-      )
+  turn : (k m : ℕ) (b : Bool) (t : ℕ) (ps ks : List ℕ) (o : List Placed) (u : ℕ) → Built m o → Link k m (at b t ps ks) o
+      → Swept (length calls) k m (at b t ps ks) o → has_key u (options (at b t ps ks)) ≡ true → Moved k m (turned_by m u (at b t ps ks)) o
+  turn k m b t ps ks o u built l swept h =
+      let c = (l.lists (not b)).open_call u h in
+      let one = change_put k m o c.0 (not b) built c.1 c.2 c.3 c.5 c.6 (l.there ∙ twice b) in record {
+        order = o ++ put c.0 True ∷ [];
+        built = one.0;
+        link = record {
+          there = one.1;
+          lists = λ v. lists b v c.0 c.1 c.3 c.4 l;
+          looks = λ n w known own is begun new.
+              inl (same_flips w b (swept n w known known own is begun (λ q. new (placed_still n o (put c.0 True) q))));
+          now = omega arith;
+        };
+        others = λ j ne y y_link. link_other j m y o c.0 True (λ q. ne (sym q ∙ c.2)) y_link;
+        grows = λ i q. placed_still i o (put c.0 True) q;
+      }
+    where
+      twice : (b : Bool) → b ≡ not (not b)
+      twice true = refl
+      twice false = refl
+
+      lists : (b v : Bool) (n : ℕ) → n < length calls → kind (x_ n) ≡ changes (not b) → until last (x_ n) ≡ u → Link k m (at b t ps ks) o
+          → OpenList v k m (changes_to v (turned_by m u (at b t ps ks))) (o ++ put n True ∷ [])
+      lists true true n low is at_end l =
+          list_put true k m ps o n True (λ _ f. let g : changes false ≡ changes true = sym is ∙ f in cc) (l.lists true)
+      lists true false n low is at_end l = list_taken false k m u ks o n True low at_end (l.lists false)
+      lists false true n low is at_end l = list_taken true k m u ps o n True low at_end (l.lists true)
+      lists false false n low is at_end l =
+          list_put false k m ks o n True (λ _ f. let g : changes true ≡ changes false = sym is ∙ f in cc) (l.lists false)
 
   -- THE RULE SETTLES a key
   pub record Settled (k m : ℕ) (v : Event) (t : State) (o : List Placed) : Type 0 where
@@ -328,16 +314,13 @@ module _ (threads : ℕ) (calls : List CallRecord) (history : IsHistory threads 
     finds = subst (λ s. fits (suc m) v s ≡ true) e f;
   }
 
-  settled_after : (k m : ℕ) (v : Event) (g t : State) (o : List Placed) (q : Moved k m g o) → Settled k m v t q.order → Settled k m v t o
-  settled_after k m v g t o q s = record {
-    moved = record {
-      order = s.moved.order;
-      built = s.moved.built;
-      link = s.moved.link;
-      others = λ j ne y h. s.moved.others j ne y (q.others j ne y h);
-      grows = λ i p. s.moved.grows i (q.grows i p);
-    };
-    finds = s.finds;
+  moved_on : (k m : ℕ) (g t : State) (o : List Placed) (q : Moved k m g o) → Moved k m t q.order → Moved k m t o
+  moved_on k m g t o q r = record {
+    order = r.order;
+    built = r.built;
+    link = r.link;
+    others = λ j ne y h. r.others j ne y (q.others j ne y h);
+    grows = λ i p. r.grows i (q.grows i p);
   }
 
   abbrev state_or : State → Option State → State
@@ -347,43 +330,39 @@ module _ (threads : ℕ) (calls : List CallRecord) (history : IsHistory threads 
   none_at_zero : (m : ℕ) (v : Event) (g : State) → fits (suc m) v g ≡ false → settled 0 m v (Some g) ≡ None
   none_at_zero m v g f = rw f refl
 
-  pub settle : (n k m : ℕ) (v : Event) (b : Bool) (u : ℕ) (ps ks : List ℕ) (t : State) (o : List Placed)
-      → settled n m v (Some (at b u ps ks)) ≡ Some t → Built m o → Link k m (at b u ps ks) o → Settled k m v t o
-  settle zero k m v b u ps ks t o e built l = elim (cases_Bool (fits (suc m) v (at b u ps ks))) [
-    | inl f ↦ settled_now k m v (at b u ps ks) t o (ap (state_or t) (sym (at_once 0 m v (at b u ps ks) f) ∙ e)) f built l
-    | inr f ↦ no_state t (sym (none_at_zero m v (at b u ps ks) f) ∙ e) (Settled k m v t o)
+  -- the rule turns a key, once all looks that its state fits are placed
+  turn_now : (k m : ℕ) (g t : State) (o : List Placed) → turned_if m g (options g) ≡ Some t → Built m o → Link k m g o → Moved k m t o
+  turn_now k m g t o is built l = by (options g) refl is
+    where
+      by : (us : List ℕ) → options g ≡ us → turned_if m g us ≡ Some t → Moved k m t o
+      by [] e is = no_state t is (Moved k m t o)
+      by (u ∷ us) e is =
+          let s = sweep (length calls) k m g o (omega arith) built l in
+          let there : has_key (nearest u us) (options g) ≡ true = ap (has_key (nearest u us)) e ∙ nearest_stands u us in
+          let one = turn k m g.there g.turned g.puts g.takes s.0.order (nearest u us) s.0.built s.0.link s.1 there in
+          let same : turned_by m (nearest u us) g ≡ t = ap (state_or t) is in
+          subst (λ q. Moved k m q o) same (moved_on k m g (turned_by m (nearest u us) g) o s.0 one)
+
+  pub settle : (n k m : ℕ) (v : Event) (g t : State) (o : List Placed) → settled n m v (Some g) ≡ Some t → Built m o → Link k m g o → Settled k m v t o
+  settle zero k m v g t o e built l = elim (cases_Bool (fits (suc m) v g)) [
+    | inl f ↦ settled_now k m v g t o (ap (state_or t) (sym (at_once 0 m v g f) ∙ e)) f built l
+    | inr f ↦ no_state t (sym (none_at_zero m v g f) ∙ e) (Settled k m v t o)
   ]
-  settle (suc n) k m v true u ps [] t o e built l = elim (cases_Bool (fits (suc m) v (at true u ps []))) [
-    | inl f ↦ settled_now k m v (at true u ps []) t o (ap (state_or t) (sym (at_once (suc n) m v (at true u ps []) f) ∙ e)) f built l
-    | inr f ↦ no_state t (sym (settled_none n m v) ∙ sym (later n m v (at true u ps []) f) ∙ e) (Settled k m v t o)
-  ]
-  settle (suc n) k m v true u ps (x ∷ xs) t o e built l = elim (cases_Bool (fits (suc m) v (at true u ps (x ∷ xs)))) [
-    | inl f ↦ settled_now k m v (at true u ps (x ∷ xs)) t o (ap (state_or t) (sym (at_once (suc n) m v (at true u ps (x ∷ xs)) f) ∙ e)) f built l
-    | inr f ↦ (let end : ℕ = nearest x xs in
-        let s = sweep (length calls) k m (at true u ps (x ∷ xs)) o (omega arith) built l in
-        let one = turn k m true u ps (x ∷ xs) s.0.order end s.0.built s.0.link s.1 (nearest_stands x xs) in
-        let rest = settle n k m v false m ps (take_out end (x ∷ xs)) t one.0.order (sym (later n m v (at true u ps (x ∷ xs)) f) ∙ e)
-        one.0.built one.0.link in
-        settled_after k m v (at true u ps (x ∷ xs)) t o s.0 (settled_after k m v (at false m ps (take_out end (x ∷ xs))) t s.0.order one.0 rest))
-  ]
-  settle (suc n) k m v false u [] ks t o e built l = elim (cases_Bool (fits (suc m) v (at false u [] ks))) [
-    | inl f ↦ settled_now k m v (at false u [] ks) t o (ap (state_or t) (sym (at_once (suc n) m v (at false u [] ks) f) ∙ e)) f built l
-    | inr f ↦ no_state t (sym (settled_none n m v) ∙ sym (later n m v (at false u [] ks) f) ∙ e) (Settled k m v t o)
-  ]
-  settle (suc n) k m v false u (x ∷ xs) ks t o e built l = elim (cases_Bool (fits (suc m) v (at false u (x ∷ xs) ks))) [
-    | inl f ↦ settled_now k m v (at false u (x ∷ xs) ks) t o (ap (state_or t) (sym (at_once (suc n) m v (at false u (x ∷ xs) ks) f) ∙ e)) f built l
-    | inr f ↦ (let end : ℕ = nearest x xs in
-        let s = sweep (length calls) k m (at false u (x ∷ xs) ks) o (omega arith) built l in
-        let one = turn k m false u (x ∷ xs) ks s.0.order end s.0.built s.0.link s.1 (nearest_stands x xs) in
-        let rest = settle n k m v true m (take_out end (x ∷ xs)) ks t one.0.order (sym (later n m v (at false u (x ∷ xs) ks) f) ∙ e)
-        one.0.built one.0.link in
-        settled_after k m v (at false u (x ∷ xs) ks) t o s.0 (settled_after k m v (at true m (take_out end (x ∷ xs)) ks) t s.0.order one.0 rest))
+  settle (suc n) k m v g t o e built l = elim (cases_Bool (fits (suc m) v g)) [
+    | inl f ↦ settled_now k m v g t o (ap (state_or t) (sym (at_once (suc n) m v g f) ∙ e)) f built l
+    | inr f ↦ elim (some_or_none (turned_if m g (options g))) [
+      | inl none ↦ no_state t (sym (settled_none n m v) ∙ sym (ap (settled n m v) none) ∙ sym (later n m v g f) ∙ e) (Settled k m v t o)
+      | inr next ↦ (let one = turn_now k m g next.0 o next.1 built l in
+          let rest = settle n k m v next.0 t one.order (sym (ap (settled n m v) next.1) ∙ sym (later n m v g f) ∙ e) one.built one.link in
+          record { moved = moved_on k m next.0 t o one rest.moved; finds = rest.finds })
+    ]
   ]
 
-  -- EACH KEY at a moment: the event that it meets next, and those after it
-  module _ (m : ℕ) (v : ℕ → Event) (vs : ℕ → List Event) where
+  -- EACH KEY at a moment: the event that it meets next, and the state in which it was
+  module _ (m : ℕ) (v : ℕ → Event) (was : ℕ → State) (live : (k : ℕ) → is_some (stepped m (v k) (Some (was k))) ≡ true) where
+    -- the state is on the way to the one that the event finds
     abbrev Lives : ℕ → State → Type 0
-    Lives k s = is_some (ruled m (Some s) (v k ∷ vs k)) ≡ true
+    Lives k s = found m (v k) s ≡ found m (v k) (was k)
 
     pub record Calm (k : ℕ) (o : List Placed) (s : State) : Type 0 where
       pub finds : fits (suc m) (v k) s ≡ true
@@ -393,19 +372,13 @@ module _ (threads : ℕ) (calls : List CallRecord) (history : IsHistory threads 
     Each b o = (k : ℕ) → (s : State) × Link k m s o × Lives k s × ((n : ℕ) → n < b → key n ≡ k → Calm k o s)
 
     found_there : (k : ℕ) (s : State) → Lives k s → (t : State) × (found m (v k) s ≡ Some t)
-    found_there k s live = elim (some_or_none (found m (v k) s)) [
-      | inl fails ↦ (let P : Option State → Type 0 = λ o. is_some (ruled (suc m) (entered (v k) o) (vs k)) ≡ true in
-          let h : P None = subst P fails live in absurd (true≢false (sym h ∙ ap is_some (ruled_none (suc m) (vs k)))))
-      | inr is ↦ is
+    found_there k s lives = elim (some_or_none (found m (v k) (was k))) [
+      | inl fails ↦ absurd (true≢false (sym (live k) ∙ ap (λ o. is_some (entered (v k) o)) fails))
+      | inr is ↦ (is.0, lives ∙ is.1)
     ]
 
-    goes_on_from : (k : ℕ) (s t : State) → Lives k s → found m (v k) s ≡ Some t
-        → is_some (ruled (suc m) (Some (enters (v k) t)) (vs k)) ≡ true
-    goes_on_from k s t live e = subst (λ o. is_some (ruled (suc m) (entered (v k) o) (vs k)) ≡ true) e live
-
-    lives_settled : (k : ℕ) (s t : State) → Lives k s → found m (v k) s ≡ Some t → fits (suc m) (v k) t ≡ true → Lives k t
-    lives_settled k s t live e f =
-        subst (λ o. is_some (ruled (suc m) (entered (v k) o) (vs k)) ≡ true) (sym (at_once (open_changes t) m (v k) t f)) (goes_on_from k s t live e)
+    finds_itself : (k : ℕ) (s : State) → fits (suc m) (v k) s ≡ true → found m (v k) s ≡ Some s
+    finds_itself k s f = at_once (open_changes s) m (v k) s f
 
     each_key : (b : ℕ) (o : List Placed) → b ≤ length calls → Built m o → Each 0 o → (p : List Placed) × Built m p × Each b p
     each_key zero o low built each = (o, built, each)
@@ -415,14 +388,14 @@ module _ (threads : ℕ) (calls : List CallRecord) (history : IsHistory threads 
         let mine = first.2 k in
         let s : State = mine.0 in
         let t = found_there k s mine.2 in
-        let one = settle (open_changes s) k m (v k) s.there s.turned s.puts s.takes t.0 first.0 t.1 first.1 mine.1 in
+        let one = settle (open_changes s) k m (v k) s t.0 first.0 t.1 first.1 mine.1 in
         let two = sweep (length calls) k m t.0 one.moved.order (omega arith) one.moved.built one.moved.link in
         let calm : Calm k two.0.order t.0 = record { finds = one.finds; swept = two.1 } in (
           two.0.order,
           two.0.built,
           λ j. elim (same_or_not j k) [
             | inl e ↦ subst (λ i. (s : State) × Link i m s two.0.order × Lives i s × ((n : ℕ) → n < suc b → key n ≡ i → Calm i two.0.order s))
-                (sym e) (t.0, two.0.link, lives_settled k s t.0 mine.2 t.1 one.finds, λ n low own. calm)
+                (sym e) (t.0, two.0.link, finds_itself k t.0 one.finds ∙ sym t.1 ∙ mine.2, λ n low own. calm)
             | inr ne ↦ (let its = first.2 j in (
               its.0,
               two.0.others j ne its.0 (one.moved.others j ne its.0 its.1),
@@ -440,48 +413,38 @@ module _ (threads : ℕ) (calls : List CallRecord) (history : IsHistory threads 
         )
 
     -- a key that no call has finds what it asks, too
-    calm_at_all : (k : ℕ) (o : List Placed) (b : Bool) (u : ℕ) (ps ks : List ℕ) → Link k m (at b u ps ks) o → Lives k (at b u ps ks)
-        → ((n : ℕ) → n < length calls → key n ≡ k → Calm k o (at b u ps ks)) → fits (suc m) (v k) (at b u ps ks) ≡ true
-    calm_at_all k o b u ps ks l live calm = elim (cases_Bool (fits (suc m) (v k) (at b u ps ks))) [
+    calm_at_all : (k : ℕ) (o : List Placed) (s : State) → Link k m s o → Lives k s → ((n : ℕ) → n < length calls → key n ≡ k → Calm k o s)
+        → fits (suc m) (v k) s ≡ true
+    calm_at_all k o s l lives calm = elim (cases_Bool (fits (suc m) (v k) s)) [
       | inl f ↦ f
-      | inr f ↦ absurd (by b ps ks l calm f (found_there k (at b u ps ks) live))
+      | inr f ↦ absurd (by (options s) refl f)
     ]
       where
-        stuck : (n : ℕ) (g t : State) → fits (suc m) (v k) g ≡ false → turned_if m g (options g) ≡ None
-            → settled n m (v k) (Some g) ≡ Some t → ⊥
-        stuck zero g t f no_turn e = no_state t (sym (none_at_zero m (v k) g f) ∙ e) ⊥
-        stuck (suc n) g t f no_turn e =
-            no_state t (sym (settled_none n m (v k)) ∙ sym (ap (settled n m (v k)) no_turn) ∙ sym (later n m (v k) g f) ∙ e) ⊥
+        stuck : (n : ℕ) (t : State) → fits (suc m) (v k) s ≡ false → turned_if m s (options s) ≡ None → settled n m (v k) (Some s) ≡ Some t → ⊥
+        stuck zero t f no_turn e = no_state t (sym (none_at_zero m (v k) s f) ∙ e) ⊥
+        stuck (suc n) t f no_turn e =
+            no_state t (sym (settled_none n m (v k)) ∙ sym (ap (settled n m (v k)) no_turn) ∙ sym (later n m (v k) s f) ∙ e) ⊥
 
-        by : (b : Bool) (ps ks : List ℕ) → Link k m (at b u ps ks) o
-            → ((n : ℕ) → n < length calls → key n ≡ k → Calm k o (at b u ps ks)) → fits (suc m) (v k) (at b u ps ks) ≡ false
-            → (t : State) × (found m (v k) (at b u ps ks) ≡ Some t) → ⊥
-        by false [] ks l calm f t = stuck (open_changes (at false u [] ks)) (at false u [] ks) t.0 f refl t.1
-        by true ps [] l calm f t = stuck (open_changes (at true u ps [])) (at true u ps []) t.0 f refl t.1
-        by false (x ∷ xs) ks l calm f t =
-            let c = l.puts.open_call x (has_head x xs) in not_both _ (calm c.0 c.1 c.2).finds f
-        by true ps (x ∷ xs) l calm f t =
-            let c = l.takes.open_call x (has_head x xs) in not_both _ (calm c.0 c.1 c.2).finds f
+        by : (us : List ℕ) → options s ≡ us → fits (suc m) (v k) s ≡ false → ⊥
+        by [] e f = let t = found_there k s lives in stuck (open_changes s) t.0 f (ap (turned_if m s) e) t.1
+        by (u ∷ us) e f =
+            let c = (l.lists (not s.there)).open_call u (ap (has_key u) e ∙ has_head u us) in not_both _ (calm c.0 c.1 c.2).finds f
 
     pub record Met (o : List Placed) : Type 0 where
       pub order : List Placed
       pub built : Built m order
-      pub each : (k : ℕ) → (s : State) × Link k m s order × (fits (suc m) (v k) s ≡ true)
-          × (is_some (ruled (suc m) (Some (enters (v k) s)) (vs k)) ≡ true)
+      pub each : (k : ℕ) → (s : State) × Link k m s order × (fits (suc m) (v k) s ≡ true) × (found m (v k) (was k) ≡ Some s)
           × ((n : ℕ) → n < length calls → key n ≡ k → Calm k order s)
 
-    pub meet : (o : List Placed) → Built m o
-        → ((k : ℕ) → (s : State) × Link k m s o × (is_some (ruled m (Some s) (v k ∷ vs k)) ≡ true)) → Met o
+    pub meet : (o : List Placed) → Built m o → ((k : ℕ) → Link k m (was k) o) → Met o
     meet o built each =
-        let all = each_key (length calls) o (omega arith) built
-        (λ k. let a = each k in (a.0, a.1, a.2, λ n low own. absurd (omega (arith, low)))) in
+        let all = each_key (length calls) o (omega arith) built (λ k. (was k, each k, refl, λ n low own. absurd (omega (arith, low)))) in
         record {
           order = all.0;
           built = all.1;
           each = λ k.
-              let a = all.2 k in let s : State = a.0 in
-              let f = calm_at_all k all.0 s.there s.turned s.puts s.takes a.1 a.2 a.3 in
-              (s, a.1, f, goes_on_from k s s a.2 (at_once (open_changes s) m (v k) s f), a.3);
+              let a = all.2 k in let f = calm_at_all k all.0 a.0 a.1 a.2 a.3 in
+              (a.0, a.1, f, sym a.2 ∙ finds_itself k a.0 f, a.3);
         }
 
   -- AN EVENT
@@ -552,44 +515,25 @@ module _ (threads : ℕ) (calls : List CallRecord) (history : IsHistory threads 
     | inr late ↦ (let t = l.now in inr (omega (arith, late, t)))
   ]
 
+  list_past : (w : Bool) (k m : ℕ) (v : Event) (xs : List ℕ) (o : List Placed) → ev k (suc m) ≡ v → Built m o → OpenList w k m xs o
+      → OpenList w k (suc m) (entering w v xs) o
+  list_past true k m (begins true u) xs o e built l = list_begun true k m u xs o e built l
+  list_past false k m (begins false u) xs o e built l = list_begun false k m u xs o e built l
+  list_past true k m (begins false u) xs o e built l = list_later true k m xs o (λ y f. let g : begins false u ≡ begins true y = sym e ∙ f in cc) l
+  list_past false k m (begins true u) xs o e built l = list_later false k m xs o (λ y f. let g : begins true u ≡ begins false y = sym e ∙ f in cc) l
+  list_past w k m (ends x) xs o e built l = list_later w k m xs o (λ y f. let g : ends x ≡ begins w y = sym e ∙ f in cc) l
+  list_past w k m (looks x i) xs o e built l = list_later w k m xs o (λ y f. let g : looks x i ≡ begins w y = sym e ∙ f in cc) l
+  list_past w k m (leaves x) xs o e built l = list_later w k m xs o (λ y f. let g : leaves x ≡ begins w y = sym e ∙ f in cc) l
+  list_past w k m idle xs o e built l = list_later w k m xs o (λ y f. let g : idle ≡ begins w y = sym e ∙ f in cc) l
+
   link_past : (k m : ℕ) (v : Event) (s : State) (o : List Placed) → ev k (suc m) ≡ v → Built m o → Link k m s o
       → Link k (suc m) (enters v s) o
-  link_past k m (begins true u) s o e built l = let t = l.now in record {
-    there = l.there;
-    puts = list_begun true k m u s.puts o e built l.puts;
-    takes = list_later false k m s.takes o (λ y f. let g : begins true u ≡ begins false y = sym e ∙ f in cc) l.takes;
-    looks = looks_later k m s o l;
-    now = omega (arith, t);
-  }
-  link_past k m (begins false u) s o e built l = let t = l.now in record {
-    there = l.there;
-    puts = list_later true k m s.puts o (λ y f. let g : begins false u ≡ begins true y = sym e ∙ f in cc) l.puts;
-    takes = list_begun false k m u s.takes o e built l.takes;
-    looks = looks_later k m s o l;
-    now = omega (arith, t);
-  }
-  link_past k m (ends w) s o e built l = let t = l.now in record {
-    there = l.there;
-    puts = list_later true k m s.puts o (λ y f. let g : ends w ≡ begins true y = sym e ∙ f in cc) l.puts;
-    takes = list_later false k m s.takes o (λ y f. let g : ends w ≡ begins false y = sym e ∙ f in cc) l.takes;
-    looks = looks_later k m s o l;
-    now = omega (arith, t);
-  }
-  link_past k m (looks w i) s o e built l = let t = l.now in record {
-    there = l.there;
-    puts = list_later true k m s.puts o (λ y f. let g : looks w i ≡ begins true y = sym e ∙ f in cc) l.puts;
-    takes = list_later false k m s.takes o (λ y f. let g : looks w i ≡ begins false y = sym e ∙ f in cc) l.takes;
-    looks = looks_later k m s o l;
-    now = omega (arith, t);
-  }
-  link_past k m (leaves w) s o e built l = absurd (never_left threads calls history last upto k (ev k (suc m)) (suc m) w e (told last k (suc m) calls))
-  link_past k m idle s o e built l = let t = l.now in record {
-    there = l.there;
-    puts = list_later true k m s.puts o (λ y f. let g : idle ≡ begins true y = sym e ∙ f in cc) l.puts;
-    takes = list_later false k m s.takes o (λ y f. let g : idle ≡ begins false y = sym e ∙ f in cc) l.takes;
-    looks = looks_later k m s o l;
-    now = omega (arith, t);
-  }
+  link_past k m v s o e built l =
+      let t = l.now in record { there = l.there; lists = λ w. lists w; looks = looks_later k m s o l; now = omega (arith, t) }
+    where
+      lists : (w : Bool) → OpenList w k (suc m) (changes_to w (enters v s)) o
+      lists true = list_past true k m v s.puts o e built (l.lists true)
+      lists false = list_past false k m v s.takes o e built (l.lists false)
 
   -- a call that ends at the next moment has its place, where its key finds what the event asks
   ended_placed : (k m : ℕ) (s : State) (o : List Placed) → Link k m s o → fits (suc m) (ev k (suc m)) s ≡ true
@@ -619,8 +563,7 @@ module _ (threads : ℕ) (calls : List CallRecord) (history : IsHistory threads 
           let b = same_number _ _ f in omega (arith, a, b)
 
       by : (d : Kind) → kind (x_ n) ≡ d → ⊥
-      by (changes true) is = due s.puts (l.puts.all n low own is begun_low new) (finds_it (changes true) is)
-      by (changes false) is = due s.takes (l.takes.all n low own is begun_low new) (finds_it (changes false) is)
+      by (changes w) is = due (changes_to w s) ((l.lists w).all n low own is begun_low new) (finds_it (changes w) is)
       by (sees w) is =
           let f = swept n w low low own is begun_low new in
           elim (l.looks n w low own is begun_low new) [
@@ -646,38 +589,27 @@ module _ (threads : ℕ) (calls : List CallRecord) (history : IsHistory threads 
   }
 
   module _ (left : ℕ → Bool) where
-    pub run : (n m : ℕ) (o : List Placed) → m + n ≡ last → Built m o
-        → ((k : ℕ) → (s : State) × Link k m s o × (is_some (ruled m (Some s) (events_on (ev k) (left k) n m)) ≡ true))
-        → (p : List Placed) × Built last p × ((k : ℕ) → has_key k (set p).keys ≡ left k)
-    run zero m o e built each =
-        let all = meet m (λ k. leaves (left k)) (λ k. []) o built each in
-        let at : m ≡ last = omega (arith, e) in
-        (all.order, subst (λ j. Built j all.order) at all.built, λ k. let a = all.each k in a.1.there ∙ same_is (left k) a.0.there a.2)
-    run (suc n) m o e built each =
-        let all = meet m (λ k. ev k (suc m)) (λ k. events_on (ev k) (left k) n (suc m)) o built each in
-        let next : Built (suc m) all.order = built_past m all.order all.built (λ i f low s at. elim (placed_or_not i all.order) [
-          | inl p ↦ p
-          | inr new ↦ (let a = all.each (key i) in
-              absurd (ended_placed (key i) m a.0 all.order a.1 a.2 (a.4 i low refl).swept i f low refl s at new))
-        ]) in
-        run n (suc m) all.order (omega (arith, e)) next
-        (λ k. let a = all.each k in (enters (ev k (suc m)) a.0, link_past k m (ev k (suc m)) a.0 all.order refl all.built a.1, a.3))
+    abbrev after : ℕ → ℕ → Option State
+    after k m = state_after (ev k) (has_key k start.keys) m
 
     first_link : (k : ℕ) → Link k 0 (opened (has_key k start.keys)) []
     first_link k = record {
       there = refl;
-      puts = none true;
-      takes = none false;
+      lists = none;
       looks = λ n w low own is begun new. let c = (is_call threads calls history last upto n low).counted in absurd (omega (arith, c, begun));
       now = omega arith;
     }
       where
-        none : (w : Bool) → OpenList w k 0 [] []
-        none w = record {
+        empty : (w : Bool) → OpenList w k 0 [] []
+        empty w = record {
           open_call = λ u h. absurd (true≢false (sym h));
           all = λ n low own is begun new. let c = (is_call threads calls history last upto n low).counted in absurd (omega (arith, c, begun));
           once = tt;
         }
+
+        none : (w : Bool) → OpenList w k 0 (changes_to w (opened (has_key k start.keys))) []
+        none true = empty true
+        none false = empty false
 
     first_built : Built 0 []
     first_built = record {
@@ -693,9 +625,39 @@ module _ (threads : ℕ) (calls : List CallRecord) (history : IsHistory threads 
           absurd (omega (arith, a, q));
     }
 
-    pub order_found : ((k : ℕ) → is_some (ruled 0 (Some (opened (has_key k start.keys))) (events_on (ev k) (left k) last 0)) ≡ true)
+    was_some : (m : ℕ) (v : Event) (o : Option State) → is_some (stepped m v o) ≡ true → is_some o ≡ true
+    was_some m v None e = e
+    was_some m v (Some s) e = refl
+
+    run : (m : ℕ) → m ≤ last → ((k : ℕ) → is_some (after k m) ≡ true)
+        → (o : List Placed) × Built m o × ((k : ℕ) → (s : State) × Link k m s o × (after k m ≡ Some s))
+    run zero low each = ([], first_built, λ k. (opened (has_key k start.keys), first_link k, refl))
+    run (suc m) low each =
+        let v : ℕ → Event = λ k. ev k (suc m) in
+        let first = run m (omega (arith, low)) (λ k. was_some m (v k) (after k m) (each k)) in
+        let was : ℕ → State = λ k. (first.2 k).0 in
+        let live : (k : ℕ) → is_some (stepped m (v k) (Some (was k))) ≡ true = λ k. sym (ap (λ o. is_some (stepped m (v k) o)) (first.2 k).2) ∙ each k in
+        let all = meet m v was live first.0 first.1 (λ k. (first.2 k).1) in
+        let next : Built (suc m) all.order = built_past m all.order all.built (λ i f low s at. elim (placed_or_not i all.order) [
+          | inl p ↦ p
+          | inr new ↦ (let a = all.each (key i) in
+              absurd (ended_placed (key i) m a.0 all.order a.1 a.2 (a.4 i low refl).swept i f low refl s at new))
+        ]) in (
+          all.order,
+          next,
+          λ k. let a = all.each k in
+              (enters (v k) a.0, link_past k m (v k) a.0 all.order refl all.built a.1, ap (stepped m (v k)) (first.2 k).2 ∙ ap (entered (v k)) a.3),
+        )
+
+    pub order_found : ((k : ℕ) → may_leave (ev k) (has_key k start.keys) (left k) last ≡ true)
         → (p : List Placed) × Built last p × ((k : ℕ) → has_key k (set p).keys ≡ left k)
-    order_found each = run last 0 [] (omega arith) first_built (λ k. (opened (has_key k start.keys), first_link k, each k))
+    order_found each =
+        let first = run last (omega arith) (λ k. was_some last (leaves (left k)) (after k last) (each k)) in
+        let was : ℕ → State = λ k. (first.2 k).0 in
+        let live : (k : ℕ) → is_some (stepped last (leaves (left k)) (Some (was k))) ≡ true =
+        λ k. sym (ap (λ o. is_some (stepped last (leaves (left k)) o)) (first.2 k).2) ∙ each k in
+        let all = meet last (λ k. leaves (left k)) was live first.0 first.1 (λ k. (first.2 k).1) in
+        (all.order, all.built, λ k. let a = all.each k in a.1.there ∙ same_is (left k) a.0.there a.2)
 
   -- an order in which each ended call has its place linearizes
   contains_placed : (n : ℕ) (r : Reply) (ps : List Placed) → All (λ (p : Placed). p.call ≡ n → p.reply ≡ r) ps → IsPlaced n ps

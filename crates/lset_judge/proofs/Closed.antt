@@ -1,9 +1,9 @@
 -- The verdict on a stream, when all has happened that its calls tell.
-use Rattle.std.proofs.Common.{◌≡◌, ℕ, zero, suc, ◌<◌, ◌≤◌, ◌⊎◌, Bool, true, false, List, [], ◌∷◌, refl, sym, ap, ◌∙◌, arith, subst}
+use Rattle.std.proofs.Common.{◌≡◌, ℕ, zero, suc, ◌<◌, ◌≤◌, Bool, true, false, List, [], ◌∷◌, refl, sym, ap, ◌∙◌, arith, subst}
 use Rattle.std.proofs.Common.{inl, inr, length, get_or}
-use Rattle.std.specs.Prelude.{◌==◌, ◌&&◌, ◌||◌, not, Option, Some, None, is_some, IfSome, MatchOption, All}
+use Rattle.std.specs.Prelude.{◌==◌, ◌&&◌, ◌||◌, Option, Some, None, is_some, IfSome, MatchOption, All}
 use Rattle.std.specs.List.Sorted.{IsStrictlyIncreasing}
-use Rattle.std.proofs.lemmas.Bool.{cases_Bool, true≢false}
+use Rattle.std.proofs.lemmas.Bool.{cases_Bool, or_left}
 use Rattle.std.proofs.lemmas.List.{get_or_default}
 use Rattle.std.proofs.lemmas.List.Elements.{All-head, All-tail}
 use Rattle.std.proofs.lemmas.List.Sums.{count_by-le-length}
@@ -15,16 +15,15 @@ use Rattle.lset_history.specs.History.{HistoryValue, latest_moment, moment_of}
 use Rattle.lset_judge.specs.declared.stream.Failed.{Failed}
 use Rattle.lset_judge.specs.declared.stream.Pending.{Pending}
 use Rattle.lset_judge.specs.declared.stream.Stream.{Stream}
-use Rattle.lset_judge.specs.Rule.{State, leaves, same, options, nearest, turned_by, turned_if, settled, open_changes, found, entered, ruled, state_after}
-use Rattle.lset_judge.specs.Events.{event_at, rule_explains, RulePasses, FailsBy}
-use Rattle.lset_judge.specs.Leaving.{has_any, may_be_left, keys_left}
+use Rattle.lset_judge.specs.Rule.{State, leaves, same, options, nearest, turned_by, turned_if, settled, open_changes, found, entered, stepped, state_after, may_leave}
+use Rattle.lset_judge.specs.Events.{event_at, rule_explains}
+use Rattle.lset_judge.specs.Leaving.{has_any, may_be_left}
 use Rattle.lset_judge.specs.Stream.{stream_history, behind_all, state_for, pending_of, verdict_of_key, IsStreamOf}
 use Rattle.lset_judge.specs.Stream.{IsStreamVerdict}
-use Rattle.lset_judge.specs.Verdict.{IsExplained, IsUnexplained, IsRefusedBy, with_quota, may_add}
-use Rattle.lset_judge.proofs.After.{judged_after, failed_by}
-use Rattle.lset_judge.proofs.Deciding.{explained, unexplained}
+use Rattle.lset_judge.specs.Verdict.{IsExplained, IsJudged, IsUnexplained, IsRefusedBy, with_quota, may_add}
+use Rattle.lset_judge.proofs.After.{stays_after, failed_by}
+use Rattle.lset_judge.proofs.Deciding.{explained, explained_so, unexplained}
 use Rattle.lset_judge.proofs.Leading.{at_once}
-use Rattle.lset_judge.proofs.Leaving.{passes_with, unknown_rise, has_itself}
 use Rattle.lset_judge.proofs.Placed.{same_flips}
 use Rattle.lset_judge.proofs.Refused.{refused_by, refused_left}
 use Rattle.lset_judge.proofs.Ruled.{settled_none}
@@ -41,32 +40,20 @@ module _ (m : ℕ) (w : Bool) where
   one_turn (suc n) s [] f e low = rw f (ap (λ (os : List ℕ). is_some (settled n m (leaves w) (turned_if m s os))) e ∙ ap is_some (settled_none n m (leaves w)))
   one_turn (suc n) s (x ∷ xs) f e low =
       rw f (ap (λ (os : List ℕ). is_some (settled n m (leaves w) (turned_if m s os))) e
-      ∙ ap is_some (at_once n m (leaves w) (turned_by m (nearest x xs) s) (turns (cases_Bool s.there))))
-    where
-      turns : (s.there ≡ true) ⊎ (s.there ≡ false) → same w (turned_by m (nearest x xs) s).there ≡ true
-      turns (inl t) = rw t (ap (same w) (sym (ap not t)) ∙ same_flips w s.there f)
-      turns (inr t) = rw t (ap (same w) (sym (ap not t)) ∙ same_flips w s.there f)
+      ∙ ap is_some (at_once n m (leaves w) (turned_by m (nearest x xs) s) (same_flips w s.there f)))
 
   few : (s : State) → length (options s) ≤ open_changes s
   few s = elim (cases_Bool s.there) [ inl t ↦ rw t (omega arith) | inr t ↦ rw t (omega arith) ]
 
-  pub leaves_so : (s : State) → is_some (ruled m (Some s) (leaves w ∷ [])) ≡ may_be_left w s
+  pub leaves_so : (s : State) → is_some (stepped m (leaves w) (Some s)) ≡ may_be_left w s
   leaves_so s = kept (found m (leaves w) s) ∙ elim (cases_Bool (same w s.there)) [
-    | inl t ↦ ap is_some (at_once (open_changes s) m (leaves w) s t) ∙ sym (either (same w s.there) (has_any (options s)) t)
-    | inr f ↦ one_turn (open_changes s) s (options s) f refl (few s) ∙ sym (neither (same w s.there) (has_any (options s)) f)
+    | inl t ↦ ap is_some (at_once (open_changes s) m (leaves w) s t) ∙ sym (or_left (same w s.there) (has_any (options s)) t)
+    | inr f ↦ one_turn (open_changes s) s (options s) f refl (few s) ∙ sym (rw f refl)
   ]
     where
-      kept : (o : Option State) → is_some (ruled (suc m) (entered (leaves w) o) []) ≡ is_some o
+      kept : (o : Option State) → is_some (entered (leaves w) o) ≡ is_some o
       kept None = refl
       kept (Some t) = refl
-
-      either : (a b : Bool) → a ≡ true → (a || b) ≡ true
-      either true b e = refl
-      either false b e = absurd (true≢false (sym e))
-
-      neither : (a b : Bool) → a ≡ false → (a || b) ≡ b
-      neither true b e = absurd (true≢false e)
-      neither false b e = refl
 
 pub as_it_is : (s : State) → may_be_left s.there s ≡ true
 as_it_is s = of s.there (has_any (options s))
@@ -122,26 +109,26 @@ module _ (threads : ℕ) (opening : List ℕ) (calls : List CallRecord) (s : Str
   upto = let b = is.moment in omega (arith, b)
 
   module _ (judged : (k : ℕ) → state_after (event_at behind_all k calls) (has_key k opening) s.moment ≡ Some (state_for s.states k)) where
-    pub left_judged : (keys : List ℕ) (k : ℕ) → rule_explains behind_all h keys k ≡ may_be_left (has_key k keys) (state_for s.states k)
-    left_judged keys k =
-        judged_after h behind_all behind k keys s.moment latest upto
-        ∙ ap (λ (o : Option State). is_some (ruled behind_all o (leaves (has_key k keys) ∷ []))) (judged k)
-        ∙ leaves_so behind_all (has_key k keys) (state_for s.states k)
+    pub left_judged : (left : Bool) (k : ℕ) → may_leave (event_at behind_all k calls) (has_key k opening) left behind_all ≡ may_be_left left (state_for s.states k)
+    left_judged left k =
+        ap (λ (o : Option State). is_some (stepped behind_all (leaves left) o))
+        (stays_after calls behind_all behind k (has_key k opening) s.moment latest upto ∙ judged k)
+        ∙ leaves_so behind_all left (state_for s.states k)
 
-    explained_by : (keys : List ℕ) → IsStrictlyIncreasing keys → RulePasses behind_all h keys → IsExplained h keys
-    explained_by keys rise passes = explained behind_all h keys behind is.history is.opens (record {
+    is_judged : IsJudged h
+    is_judged = record {
       plain = is.plain;
       room = λ t. count_by-le-length (λ (x : CallRecord). may_add x.call x.ended && x.thread == t) calls;
-    }) rise passes
+    }
 
     stream_explained : (keys : List ℕ) → IsStrictlyIncreasing keys → ((k : ℕ) → may_be_left (has_key k keys) (state_for s.states k) ≡ true)
         → IsExplained h keys
-    stream_explained keys rise may = explained_by keys rise (λ k. left_judged keys k ∙ may k)
+    stream_explained keys rise may = explained behind_all h keys behind is.history is.opens is_judged rise (λ k. left_judged (has_key k keys) k ∙ may k)
 
     stream_left : (keys : List ℕ) (k : ℕ) → may_be_left (has_key k keys) (state_for s.states k) ≡ false
         → ((quota : ℕ) → IsUnexplained (with_quota quota h) keys) × IsRefusedBy h keys k None
     stream_left keys k wrong =
-        let fails : rule_explains behind_all h keys k ≡ false = left_judged keys k ∙ wrong in (
+        let fails : rule_explains behind_all h keys k ≡ false = left_judged (has_key k keys) k ∙ wrong in (
           (λ quota. unexplained behind_all (with_quota quota h) keys behind is.history k fails),
           refused_left behind_all h is.history behind k (latest_moment calls) keys refl fails,
         )
@@ -154,20 +141,14 @@ module _ (threads : ℕ) (opening : List ℕ) (calls : List CallRecord) (s : Str
     stream_closed keys rise (Some k) wrong = stream_left keys k wrong
 
     pub stream_cut_off : (keys : List ℕ) × IsExplained h keys
-    stream_cut_off = (keys_left behind_all h, explained_by (keys_left behind_all h) (unknown_rise behind_all h) (λ k. passes k (cases_Bool (state_for s.states k).there)))
-      where
-        passes : (k : ℕ) → ((state_for s.states k).there ≡ true) ⊎ ((state_for s.states k).there ≡ false) → rule_explains behind_all h (keys_left behind_all h) k ≡ true
-        passes k (inl t) = passes_with behind_all h (k ∷ []) k (left_judged (k ∷ []) k
-            ∙ ap (λ b. may_be_left b (state_for s.states k)) (has_itself behind_all h k ∙ sym t) ∙ as_it_is (state_for s.states k))
-        passes k (inr f) = passes_with behind_all h [] k (left_judged [] k
-            ∙ ap (λ b. may_be_left b (state_for s.states k)) (sym f) ∙ as_it_is (state_for s.states k))
+    stream_cut_off =
+        let so = explained_so behind_all h (λ k. (state_for s.states k).there) behind is.history is.opens is_judged
+        (λ k. left_judged (state_for s.states k).there k ∙ as_it_is (state_for s.states k)) in (so.0, so.1)
 
   pub stream_refused : (f : Failed) → state_after (event_at behind_all f.key.0 calls) (has_key f.key.0 opening) f.moment ≡ None
       → (keys : List ℕ) → ((quota : ℕ) → IsUnexplained (with_quota quota h) keys) × IsRefusedBy h keys f.key.0 (Some f.moment)
-  stream_refused f none keys =
-      let by : FailsBy behind_all h f.key.0 f.moment = failed_by h behind_all behind f.key.0 f.moment none in
-      let fails : rule_explains behind_all h keys f.key.0 ≡ false =
-      ap is_some (by (event_at behind_all f.key.0 calls) (has_key f.key.0 keys) (λ m low. refl)) in (
-        (λ quota. unexplained behind_all (with_quota quota h) keys behind is.history f.key.0 fails),
-        (λ quota left. refused_by behind_all h is.history behind f.key.0 f.moment by quota left),
-      )
+  stream_refused f none keys = (
+    (λ quota. unexplained behind_all (with_quota quota h) keys behind is.history f.key.0
+        (failed_by calls behind_all behind f.key.0 (has_key f.key.0 opening) (has_key f.key.0 keys) f.moment none)),
+    (λ quota left. refused_by behind_all h is.history behind f.key.0 f.moment none quota left),
+  )

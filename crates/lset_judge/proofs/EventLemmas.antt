@@ -1,10 +1,13 @@
 -- The events of a key, and the calls that they tell of.
-use Rattle.std.proofs.Common.{◌≡◌, ◌≢◌, ◌⊎◌, ℕ, zero, suc, ◌<◌, ◌≤◌, List, [], ◌∷◌, true, false, inl, inr, refl, sym, ap, arith}
+use Rattle.std.proofs.Common.{◌≡◌, ◌≢◌, ◌⊎◌, ℕ, zero, suc, ◌<◌, ◌≤◌, List, [], ◌∷◌, Bool, true, false, inl, inr, refl, sym, ap, ◌∙◌, arith}
 use Rattle.std.proofs.Common.{subst, length, get_or}
-use Rattle.std.specs.Prelude.{◌==◌, Option, Some, None, AllPairs, IfSome}
+use Rattle.std.specs.Prelude.{◌==◌, if◌then◌else◌, Option, Some, None, AllPairs, IfSome, filter}
+use Rattle.std.specs.List.{AllByRecursion}
 use Rattle.std.proofs.lemmas.Bool.{cases_Bool, true≢false}
+use Rattle.std.proofs.lemmas.List.Elements.{recursion_from_All}
 use Rattle.lset_words.specs.declared.Reply.{Reply}
 use Rattle.lset_words.specs.declared.history.CallRecord.{CallRecord}
+use Rattle.lset_words.specs.SequentialSet.{has_key}
 use Rattle.lset_words.specs.Words.{key_of}
 use Rattle.lset_words.specs.History.{no_call}
 use Rattle.lset_words.proofs.Numbers.{same_number, equal_test, unequal_test}
@@ -100,6 +103,53 @@ pub ends_not : (m : ℕ) (o : Option (ℕ × Reply)) → IfSome o (λ (e : ℕ �
 ends_not m None h = refl
 ends_not m (Some e) h = unequal_test e.0 m h
 
+pub opens_so : (there : Bool) (k : ℕ) → has_key k (if there then k ∷ [] else []) ≡ there
+opens_so true k = rw (equal_test k k refl) refl
+opens_so false k = refl
+
+-- a call tells nothing of a key at a moment
+abbrev pub IsSilent : ℕ → ℕ → CallRecord → Type 0
+IsSilent k m x = ((key_of x.call).0 == k) ≡ true → ((x.begun == m) ≡ false) × (ends_at m x.ended ≡ false)
+
+pub passed_over : (last k m : ℕ) (x : CallRecord) (xs : List CallRecord) → IsSilent k m x → event_at last k (x ∷ xs) m ≡ event_at last k xs m
+passed_over last k m x xs s = elim (cases_Bool ((key_of x.call).0 == k)) [ inl t ↦ (let n = s t in rw (t, n.0, n.1) refl) | inr f ↦ rw f refl ]
+
+-- one more call, before calls of which the same happens
+pub one_before : (last k m : ℕ) (x : CallRecord) (xs ys : List CallRecord) → event_at last k xs m ≡ event_at last k ys m
+    → event_at last k (x ∷ xs) m ≡ event_at last k (x ∷ ys) m
+one_before last k m x xs ys e =
+    ap (λ v. if (key_of x.call).0 == k then (
+    if x.begun == m then begin_event (kind x) (until last x) else if ends_at m x.ended then end_event (kind x) x.begun else v
+    ) else v) e
+
+pub event_none : (last k m : ℕ) (xs : List CallRecord) → AllByRecursion (IsSilent k m) xs → event_at last k xs m ≡ idle
+event_none last k m [] a = refl
+event_none last k m (x ∷ xs) a = passed_over last k m x xs a.0 ∙ event_none last k m xs a.1
+
+-- of the calls that a test takes the same happens, if those that it does not tell nothing
+pub event_filter : (last k m : ℕ) (test : CallRecord → Bool) (xs : List CallRecord)
+    → AllByRecursion (λ (x : CallRecord). test x ≡ false → IsSilent k m x) xs → event_at last k (filter test xs) m ≡ event_at last k xs m
+event_filter last k m test [] a = refl
+event_filter last k m test (x ∷ xs) a =
+    let rest = event_filter last k m test xs a.1 in
+    elim (cases_Bool (test x)) [
+      | inl t ↦ rw t (one_before last k m x (filter test xs) xs rest)
+      | inr f ↦ rw f (rest ∙ sym (passed_over last k m x xs (a.0 f)))
+    ]
+
+pub latest_filter : (test : CallRecord → Bool) (xs : List CallRecord) → latest_moment (filter test xs) ≤ latest_moment xs
+latest_filter test [] = omega arith
+latest_filter test (x ∷ xs) =
+    let rest = latest_filter test xs in elim (cases_Bool (test x)) [ inl t ↦ rw t (omega (arith, rest)) | inr t ↦ rw t (omega (arith, rest)) ]
+
+-- nothing happens behind the moments of all
+pub event_idle : (k m last : ℕ) (xs : List CallRecord) → latest_moment xs < m → event_at last k xs m ≡ idle
+event_idle k m last xs late = event_none last k m xs (recursion_from_All (IsSilent k m) xs (λ i d low own. (
+  unequal_test (get_or xs i d).begun m (λ e. let b = begun_below xs i d low in omega (arith, b, e, late)),
+  ends_not m (get_or xs i d).ended (for_some (λ (e : ℕ × Reply). e.0 ≢ m) (get_or xs i d).ended (λ e is same.
+      let b = end_below xs i d e low is in omega (arith, b, same, late))),
+)))
+
 pub begins_at : (last k n : ℕ) (xs : List CallRecord) → n < length xs → AllPairs Follows xs
     → (key_of (get_or xs n no_call).call).0 ≡ k
     → event_at last k xs (get_or xs n no_call).begun ≡ begin_event (kind (get_or xs n no_call)) (until last (get_or xs n no_call))
@@ -109,13 +159,8 @@ begins_at last k (suc n) (x ∷ xs) l pairs own =
     let y : CallRecord = get_or xs n no_call in
     let f : Follows x y = pairs_head Follows x xs pairs n no_call (omega arith) in
     let low = f.rising in
-    let b : (x.begun == y.begun) ≡ false = unequal_test x.begun y.begun (omega (arith, low)) in
-    let e : ends_at y.begun x.ended ≡ false = ends_not y.begun x.ended f.begins_alone in
-    let rest = begins_at last k n xs (omega arith) (pairs_tail Follows x xs pairs) own in
-    elim (cases_Bool ((key_of x.call).0 == k)) [
-      | inl t ↦ rw (t, b, e) rest
-      | inr t ↦ rw t rest
-    ]
+    passed_over last k y.begun x xs (λ t. (unequal_test x.begun y.begun (omega (arith, low)), ends_not y.begun x.ended f.begins_alone))
+    ∙ begins_at last k n xs (omega arith) (pairs_tail Follows x xs pairs) own
 
 -- ---- the event at which a call ends
 
@@ -137,10 +182,5 @@ ends_there last k (suc n) (x ∷ xs) e l pairs own s later =
     let y : CallRecord = get_or xs n no_call in
     let f : Follows x y = pairs_head Follows x xs pairs n no_call (omega arith) in
     let apart = if_some (λ g. (g.0 ≢ x.begun) × IfSome x.ended (λ (d : ℕ × Reply). g.0 ≢ d.0)) y.ended e s f.ends_alone in
-    let b : (x.begun == e.0) ≡ false = unequal_test x.begun e.0 (λ q. apart.0 (sym q)) in
-    let g : ends_at e.0 x.ended ≡ false = no_end e.0 x.ended apart.1 in
-    let rest = ends_there last k n xs e (omega arith) (pairs_tail Follows x xs pairs) own s later in
-    elim (cases_Bool ((key_of x.call).0 == k)) [
-      | inl t ↦ rw (t, b, g) rest
-      | inr t ↦ rw t rest
-    ]
+    passed_over last k e.0 x xs (λ t. (unequal_test x.begun e.0 (λ q. apart.0 (sym q)), no_end e.0 x.ended apart.1))
+    ∙ ends_there last k n xs e (omega arith) (pairs_tail Follows x xs pairs) own s later

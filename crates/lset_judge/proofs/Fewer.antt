@@ -6,7 +6,8 @@ use Rattle.lset_judge.specs.declared.stream.StreamVerdict.TheVariants.{NotLinear
 use Rattle.lset_judge.specs.declared.stream.Refusal.{Refusal}
 use Rattle.lset_judge.specs.declared.stream.Stream.{Stream}
 use Rattle.lset_judge.specs.Rest.{key_if, alone}
-use Rattle.lset_judge.specs.Stream.{stream_history, IsStreamOf, IsStreamVerdict, IsStreamVerdictCutOff}
+use Rattle.lset_judge.specs.Log.{IsStreamKept}
+use Rattle.lset_judge.specs.Stream.{stream_history, IsStreamVerdict, IsStreamVerdictCutOff}
 use Rattle.lset_judge.specs.Verdict.{IsUnexplained}
 use Rattle.lset_judge.specs.Window.{records, HaveNone}
 
@@ -25,4 +26,4 @@ none_left threads key there l calls r v quota keys is =
 
 -- a stream that took all calls, if there is one
 abbrev pub TookAll : ℕ → Bool → List StreamCall → Option Stream → Type 0
-TookAll key there calls o = IfSome o (λ s. (threads : ℕ) → All (λ (x : StreamCall). x.thread < threads) calls → IsStreamOf threads (key_if there key) (records calls) s)
+TookAll key there calls o = IfSome o (λ s. (threads : ℕ) → All (λ (x : StreamCall). x.thread < threads) calls → IsStreamKept threads (key_if there key) (records calls) s)

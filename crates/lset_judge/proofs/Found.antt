@@ -1,14 +1,13 @@
 -- What a binary search finds: whether keys have a key.
-use Rattle.std.proofs.Common.{◌≡◌, ℕ, ◌<◌, ◌≤◌, List, true, false, inl, inr, sym, ◌∙◌, ap, arith, length, get_or}
-use Rattle.std.specs.Prelude.{Result, Ok, Err, is_ok, MatchResult, ◌==◌, nat_lt}
-use Rattle.std.specs.List.Sorted.{IsStrictlyIncreasing, IsBinarySearchResult, IsPartitionPoint, IsNonDecreasingBy}
+use Rattle.std.proofs.Common.{◌≡◌, ℕ, ◌<◌, ◌≤◌, List, inl, inr, sym, ◌∙◌, ap, arith, length, get_or}
+use Rattle.std.specs.Prelude.{Result, Ok, Err, is_ok, MatchResult}
+use Rattle.std.specs.List.Sorted.{IsStrictlyIncreasing, IsBinarySearchResult}
 use Rattle.std.specs.Ordering.{nat_cmp}
 use Rattle.std.proofs.lemmas.List.{get_or_default}
-use Rattle.std.proofs.lemmas.List.Folds.{list_any_none, list_any_at}
 use Rattle.std.proofs.lemmas.List.Kept.{AllPairs-from_increasing}
 use Rattle.std.proofs.lemmas.List.Sorted.{searched}
 use Rattle.lset_words.specs.SequentialSet.{has_key}
-use Rattle.lset_words.proofs.Numbers.{below_or_not, same_or_not, equal_test, unequal_test, lower_number, not_lower_number}
+use Rattle.lset_words.proofs.Numbers.{below_or_not}
 use Rattle.lset_history.proofs.Keys.{has_true, has_false}
 
 rising : (keys : List ℕ) → IsStrictlyIncreasing keys → (i j : ℕ) → i ≤ j → j < length keys → get_or keys i 0 ≤ get_or keys j 0

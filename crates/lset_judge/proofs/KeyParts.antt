@@ -1,6 +1,6 @@
 -- The rule on a key, in the part to which it goes and in the whole; and so what explains the whole, and the parts.
-use Rattle.std.proofs.Common.{◌≡◌, ℕ, ◌+◌, ◌-◌, ◌<◌, ◌≤◌, Bool, true, false, List, refl, sym, ap, ◌∙◌, arith, inl, inr}
-use Rattle.std.specs.Prelude.{◌==◌, ◌&&◌, cond, not, Some, is_some, IfSome}
+use Rattle.std.proofs.Common.{◌≡◌, ℕ, ◌<◌, ◌≤◌, Bool, true, false, List, refl, sym, ap, ◌∙◌, arith, inl, inr}
+use Rattle.std.specs.Prelude.{◌==◌, ◌&&◌, cond, not, IfSome}
 use Rattle.std.specs.List.Sorted.{IsStrictlyIncreasing}
 use Rattle.std.proofs.lemmas.List.Elements.{All-filter}
 use Rattle.std.proofs.lemmas.List.Filters.{sum_by-filter_both}
@@ -13,14 +13,15 @@ use Rattle.lset_words.specs.Words.{key_of}
 use Rattle.lset_words.proofs.Numbers.{same_or_not}
 use Rattle.lset_history.specs.History.{HistoryValue, latest_moment}
 use Rattle.lset_history.proofs.Histories as history
-use Rattle.lset_judge.specs.Rule.{Event, opened, ruled}
-use Rattle.lset_judge.specs.Events.{event_at, events_on, rule_explains, RulePasses}
+use Rattle.lset_judge.specs.Rule.{Event, may_leave}
+use Rattle.lset_judge.specs.Events.{event_at, rule_explains, RulePasses}
 use Rattle.lset_judge.specs.Verdict.{IsExplained, IsJudged, is_plain, may_add, adds_of}
-use Rattle.lset_judge.proofs.After.{events_alike, idle_key}
+use Rattle.lset_judge.proofs.After.{left_alike, idle_key}
 use Rattle.lset_judge.proofs.Deciding.{explained}
 use Rattle.lset_judge.proofs.Orders.{rule_refutes}
 use Rattle.lset_judge.specs.Locality.{keys_in, calls_in, part_of}
-use Rattle.lset_judge.proofs.InMoments.{latest_in, event_in_part, key_in_part, no_event, no_key}
+use Rattle.lset_judge.proofs.EventLemmas.{latest_filter}
+use Rattle.lset_judge.proofs.InMoments.{event_in_part, key_in_part, no_event, no_key}
 
 module _ (h : HistoryValue) (keys : List ℕ) (part : ℕ → ℕ) (i : ℕ) (told : IsHistory h.opening.threads h.calls) where
   abbrev own : List CallRecord
@@ -53,18 +54,15 @@ module _ (h : HistoryValue) (keys : List ℕ) (part : ℕ → ℕ) (i : ℕ) (to
   pub key_alike : (last k : ℕ) → part k ≡ i → rule_explains last h keys k ≡ rule_explains last (part_of part i h) (keys_in part i keys) k
   key_alike last k of_part =
       let ev : ℕ → Event = event_at last k own in
-      ap (λ vs. is_some (ruled 0 (Some (opened (has_key k h.opening.keys))) vs)) (events_alike (event_at last k h.calls) ev (has_key k keys) last 0
-      (λ m low. sym (event_in_part part i k of_part last m h.calls)))
-      ∙ ap (λ (b : Bool). is_some (ruled 0 (Some (opened b)) (events_on ev (has_key k keys) last 0))) (sym (key_in_part part i k of_part h.opening.keys))
-      ∙ ap (λ (b : Bool). is_some (ruled 0 (Some (opened (has_key k (keys_in part i h.opening.keys)))) (events_on ev b last 0)))
-      (sym (key_in_part part i k of_part keys))
+      left_alike (event_at last k h.calls) ev (has_key k h.opening.keys) (has_key k keys) last (λ m low. sym (event_in_part part i k of_part last m h.calls))
+      ∙ ap (λ (b : Bool). may_leave ev b (has_key k keys) last) (sym (key_in_part part i k of_part h.opening.keys))
+      ∙ ap (λ (b : Bool). may_leave ev (has_key k (keys_in part i h.opening.keys)) b last) (sym (key_in_part part i k of_part keys))
 
   -- a key that goes to another part
   no_key_passes : (last k : ℕ) → (part k ≡ i → ⊥) → rule_explains last (part_of part i h) (keys_in part i keys) k ≡ true
   no_key_passes last k other =
-      ap (λ (b : Bool). is_some (ruled 0 (Some (opened b)) (events_on (event_at last k own) (has_key k (keys_in part i keys)) last 0)))
-      (no_key part i k other h.opening.keys)
-      ∙ ap (λ (b : Bool). is_some (ruled 0 (Some (opened false)) (events_on (event_at last k own) b last 0))) (no_key part i k other keys)
+      ap (λ (b : Bool). may_leave (event_at last k own) b (has_key k (keys_in part i keys)) last) (no_key part i k other h.opening.keys)
+      ∙ ap (λ (b : Bool). may_leave (event_at last k own) false b last) (no_key part i k other keys)
       ∙ idle_key (event_at last k own) false false last (λ m l. no_event part i k other last m h.calls)
 
   pub part_passes : (last : ℕ) → RulePasses last h keys → RulePasses last (part_of part i h) (keys_in part i keys)
@@ -80,14 +78,14 @@ pub apart : (h : HistoryValue) (keys : List ℕ) (part : ℕ → ℕ) (parts : �
     × (((i : ℕ) → i < parts → IsExplained (part_of part i h) (keys_in part i keys)) → IsExplained h keys)
 apart h keys part parts told opens left judged known =
     let last : ℕ = latest_moment h.calls in (
-      (λ E i l. explained last (part_of part i h) (keys_in part i keys) (latest_in part i h.calls) (part_told h keys part i told)
+      (λ E i l. explained last (part_of part i h) (keys_in part i keys) (latest_filter (λ (x : CallRecord). part (key_of x.call).0 == i) h.calls) (part_told h keys part i told)
           (IsStrictlyIncreasing-filter (λ (k : ℕ). part k == i) h.opening.keys opens) (part_judged h keys part i told judged)
           (IsStrictlyIncreasing-filter (λ (k : ℕ). part k == i) keys left)
           (part_passes h keys part i told last (rule_refutes last h keys E.0 (omega arith) told E.1))),
       (λ each. explained last h keys (omega arith) told opens judged left (λ k.
           let E = each (part k) (known k) in
           key_alike h keys part (part k) told last k refl
-          ∙ rule_refutes last (part_of part (part k) h) (keys_in part (part k) keys) E.0 (latest_in part (part k) h.calls)
+          ∙ rule_refutes last (part_of part (part k) h) (keys_in part (part k) keys) E.0 (latest_filter (λ (x : CallRecord). part (key_of x.call).0 == part k) h.calls)
           (part_told h keys part (part k) told) E.1 k)),
     )
 

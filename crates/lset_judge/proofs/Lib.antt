@@ -1,5 +1,4 @@
 pub mod Counts
-pub mod Timelines
 pub mod Ruled
 pub mod Leading
 pub mod Placing
@@ -14,7 +13,6 @@ pub mod Heaped
 pub mod Found
 pub mod Adding
 pub mod Scanned
-pub mod Leaving
 pub mod InMoments
 pub mod KeyParts
 pub mod Refused

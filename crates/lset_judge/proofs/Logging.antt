@@ -18,7 +18,7 @@ use Rattle.lset_judge.specs.Rest.{has_ended, may_turn, IsAtRest}
 use Rattle.lset_judge.specs.Stream.{record_of, call_of, pending_of, key_in, ArePending}
 use Rattle.lset_judge.specs.Window.{makes_so}
 use Rattle.lset_judge.specs.Log.{Logged, pushed, unquiet, with_pending, stays_after, cut_to, calls_in, waiting_of, is_over}
-use Rattle.lset_judge.specs.Log.{IsOverBy, IsEntry, IsHeld, IsLog, IsRestIn, IsMadeBy, StaysLog}
+use Rattle.lset_judge.specs.Log.{IsOverBy, Rests, IsEntry, IsHeld, IsLog, IsRestIn, IsMadeBy, StaysLog}
 use Rattle.lset_judge.proofs.Keeping.{rest_more, known_more, before_more}
 
 -- ---- elements of lists
@@ -131,10 +131,8 @@ module _ (threads : ℕ) (opening : List ℕ) (calls : List CallRecord) (key upt
       rest_quiet : (r.since ≤ upto) × (IsOverBy key r.since calls → IsAtRest threads opening calls key r.since r.there)
       rest_quiet =
           let e = All-contains Entry l.ended rest.entry is.entries rest.known in
-          some_of (λ (d : ℕ × Reply). (d.0 ≤ upto) × (IsOverBy key d.0 calls → IsAtRest threads opening calls key d.0 r.there))
-          rest.entry.call.ended (r.since, rest.reply) rest.ends
-          (some_of (λ (there : Bool). IfSome rest.entry.call.ended (λ (d : ℕ × Reply). (d.0 ≤ upto) × (IsOverBy key d.0 calls → IsAtRest threads opening calls key d.0 there)))
-          rest.entry.quiet r.there rest.quiet e.quiet)
+          subst (λ o. Rests threads opening calls key upto o (Some (r.since, rest.reply))) rest.quiet
+          (subst (Rests threads opening calls key upto rest.entry.quiet) rest.ends e.quiet)
 
       pub over_then : IsOverBy key r.since calls
       over_then n d low = subst (λ (x : CallRecord). (key_of x.call).0 ≡ key → may_turn x ≡ true → x.begun ≤ r.since → has_ended r.since x.ended ≡ true)
@@ -221,18 +219,12 @@ of_entry key r l i x low is makes = record {
 
 module _ (threads : ℕ) (opening : List ℕ) (calls : List CallRecord) (key m n : ℕ) (later : m ≤ n) where
   entry_later : (x : Ended) → IsEntry threads opening calls key m x → IsEntry threads opening calls key n x
-  entry_later x e = record { known = e.known; own = e.own; quiet = quiet x.quiet e.quiet }
+  entry_later x e = record { known = e.known; own = e.own; quiet = later_so x.quiet x.call.ended e.quiet }
     where
-      ends : (there : Bool) (o : Option (ℕ × Reply)) → IfSome o (λ (d : ℕ × Reply). (d.0 ≤ m) × (IsOverBy key d.0 calls → IsAtRest threads opening calls key d.0 there))
-          → IfSome o (λ (d : ℕ × Reply). (d.0 ≤ n) × (IsOverBy key d.0 calls → IsAtRest threads opening calls key d.0 there))
-      ends there None h = tt
-      ends there (Some d) h = ((let low = h.0 in omega (arith, low, later)), h.1)
-
-      quiet : (o : Option Bool)
-          → IfSome o (λ (there : Bool). IfSome x.call.ended (λ (d : ℕ × Reply). (d.0 ≤ m) × (IsOverBy key d.0 calls → IsAtRest threads opening calls key d.0 there)))
-          → IfSome o (λ (there : Bool). IfSome x.call.ended (λ (d : ℕ × Reply). (d.0 ≤ n) × (IsOverBy key d.0 calls → IsAtRest threads opening calls key d.0 there)))
-      quiet None h = tt
-      quiet (Some there) h = ends there x.call.ended h
+      later_so : (q : Option Bool) (o : Option (ℕ × Reply)) → Rests threads opening calls key m q o → Rests threads opening calls key n q o
+      later_so None o h = tt
+      later_so (Some there) None h = tt
+      later_so (Some there) (Some d) h = ((let low = h.0 in omega (arith, low, later)), h.1)
 
   base_later : (since : ℕ) (o : Option Bool) → IfSome o (λ (there : Bool). (since ≤ m) × IsAtRest threads opening calls key since there)
       → IfSome o (λ (there : Bool). (since ≤ n) × IsAtRest threads opening calls key since there)
@@ -337,23 +329,16 @@ module _ (threads : ℕ) (opening : List ℕ) (calls : List CallRecord) (x : Cal
     entry_more y e = record {
       known = known_more threads opening calls x ends y.call e.known;
       own = e.own;
-      quiet = quiet y.quiet e.quiet;
+      quiet = quiet y.quiet y.call.ended e.quiet;
     }
       where
-        ended : (there : Bool) (o : Option (ℕ × Reply))
-            → IfSome o (λ (d : ℕ × Reply). (d.0 ≤ upto) × (IsOverBy key d.0 calls → IsAtRest threads opening calls key d.0 there))
-            → IfSome o (λ (d : ℕ × Reply). (d.0 ≤ n) × (IsOverBy key d.0 more → IsAtRest threads opening more key d.0 there))
-        ended there None h = tt
-        ended there (Some d) h = (
+        quiet : (q : Option Bool) (o : Option (ℕ × Reply)) → Rests threads opening calls key upto q o → Rests threads opening more key n q o
+        quiet None o h = tt
+        quiet (Some there) None h = tt
+        quiet (Some there) (Some d) h = (
           (let low = h.0 in omega (arith, low, later)),
           (λ over. rest_more threads opening calls x ends key d.0 there (let low = h.0 in omega (arith, low, early)) (h.1 (fewer_over d.0 over))),
         )
-
-        quiet : (o : Option Bool)
-            → IfSome o (λ (there : Bool). IfSome y.call.ended (λ (d : ℕ × Reply). (d.0 ≤ upto) × (IsOverBy key d.0 calls → IsAtRest threads opening calls key d.0 there)))
-            → IfSome o (λ (there : Bool). IfSome y.call.ended (λ (d : ℕ × Reply). (d.0 ≤ n) × (IsOverBy key d.0 more → IsAtRest threads opening more key d.0 there)))
-        quiet None h = tt
-        quiet (Some there) h = ended there y.call.ended h
 
     base_more : (o : Option Bool) → IfSome o (λ (there : Bool). (l.since ≤ upto) × IsAtRest threads opening calls key l.since there)
         → IfSome o (λ (there : Bool). (l.since ≤ n) × IsAtRest threads opening more key l.since there)

@@ -18,9 +18,8 @@ use Rattle.lset_judge.specs.Rule.{Event, State, fits, settled, found, entered, o
 use Rattle.lset_judge.specs.Events.{Kind, changes, sees, nothing, kind_if, until_if, begin_event}
 use Rattle.lset_judge.specs.Rest.{IsAtRest}
 use Rattle.lset_judge.specs.Stream.{behind_all, record_of, pending_of, key_in, event_of, state_for, IsMetBy, IsJudgedTo, IsStreamOf, MayCome}
-use Rattle.lset_judge.specs.Log.{log_for, log_opened, pushed, unquiet, IsEntry, IsOverBy, IsLog, LoggedBy, IsQuiet, LogsEnd}
+use Rattle.lset_judge.specs.Log.{log_for, log_opened, pushed, unquiet, IsEntry, IsOverBy, IsLog, Rests, LoggedBy, IsQuiet, LogsEnd}
 use Rattle.lset_judge.specs.Pending.{IsNext}
-use Rattle.lset_judge.proofs.EventLemmas.{for_some}
 use Rattle.lset_judge.proofs.Resting.{at_rest}
 use Rattle.lset_judge.proofs.Streamed.{first_or_later, later_too}
 use Rattle.lset_judge.proofs.Logging.{log_same, log_pushed, log_frozen, log_more}
@@ -75,16 +74,16 @@ module _ (threads : ℕ) (opening : List ℕ) (calls : List CallRecord) (s t : S
 
   entry : (quiet : Option Bool) → IfSome quiet (λ (there : Bool). IsOverBy key t.moment calls → IsAtRest threads opening calls key t.moment there)
       → IsEntry threads opening calls key t.moment (record { call = p.call; quiet = quiet })
-  entry quiet told = record { known = is_known; own = refl; quiet = ended quiet told }
+  entry quiet told = record { known = is_known; own = refl; quiet = ended quiet told p.call.ended refl }
     where
       ended : (o : Option Bool) → IfSome o (λ (there : Bool). IsOverBy key t.moment calls → IsAtRest threads opening calls key t.moment there)
-          → IfSome o (λ (there : Bool). IfSome p.call.ended (λ (e : ℕ × Reply). (e.0 ≤ t.moment) × (IsOverBy key e.0 calls → IsAtRest threads opening calls key e.0 there)))
-      ended None h = tt
-      ended (Some there) h = for_some (λ (e : ℕ × Reply). (e.0 ≤ t.moment) × (IsOverBy key e.0 calls → IsAtRest threads opening calls key e.0 there)) p.call.ended
-          (λ e at. (
-            (let m = ends_at e at in omega (arith, m)),
-            subst (λ m. IsOverBy key m calls → IsAtRest threads opening calls key m there) (sym (ends_at e at)) h,
-          ))
+          → (q : Option (ℕ × Reply)) → p.call.ended ≡ q → Rests threads opening calls key t.moment o q
+      ended None h q at = tt
+      ended (Some there) h None at = tt
+      ended (Some there) h (Some e) at = (
+        (let m = ends_at e at in omega (arith, m)),
+        subst (λ m. IsOverBy key m calls → IsAtRest threads opening calls key m there) (sym (ends_at e at)) h,
+      )
 
   now_pushed : (quiet : Option Bool) → IfSome quiet (λ (there : Bool). IsOverBy key t.moment calls → IsAtRest threads opening calls key t.moment there)
       → IsLog threads opening calls key s.moment s.pending (log_for s.states key)

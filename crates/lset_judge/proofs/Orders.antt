@@ -18,13 +18,12 @@ use Rattle.lset_history.specs.History.{HistoryValue, latest_moment}
 use Rattle.lset_history.specs.Faults.{Explains, set_left_by}
 use Rattle.lset_history.proofs.Pairs.{pairs_head, pairs_tail}
 use Rattle.lset_history.proofs.Histories.{Follows, IsCall, calls_of, pairs_of}
-use Rattle.lset_judge.specs.Rule.{Event, begins, looks, leaves, idle, opened}
+use Rattle.lset_judge.specs.Rule.{Event, begins, looks, leaves, idle, opened, changes_to}
 use Rattle.lset_judge.specs.Events.{Kind, changes, sees, nothing, kind_of, open_kind, kind_if, until_if, begin_event, end_event, event_at}
-use Rattle.lset_judge.specs.Events.{events_on, RulePasses}
+use Rattle.lset_judge.specs.Events.{RulePasses}
 use Rattle.lset_judge.proofs.EventLemmas.{kind, until, begun_below, end_below, Begins, Ends, Told, of_nothing, of_begin, of_end, told, begins_at, if_some, none_or_some}
 use Rattle.lset_judge.proofs.KeyTests.{has_with, has_with_other, has_without, has_without_other}
-use Rattle.lset_judge.proofs.Placing.{In, AllOf, Pairs, Act, act, suits, becomes, TakeTurns, Apart, IsAct, AreEvents, Lists, Ready, timeline, one_of}
-use Rattle.lset_judge.proofs.Leading.{succeeds}
+use Rattle.lset_judge.proofs.Placing.{In, AllOf, Pairs, Act, act, suits, becomes, TakeTurns, Apart, IsAct, AreEvents, Lists, Ready, succeeds, one_of}
 
 -- ---- what an answered call does to a key
 
@@ -329,8 +328,7 @@ module _ (threads : ℕ) (calls : List CallRecord) (history : IsHistory threads 
         take_turns = turns_map quota left order start l.legal e;
         acts = acts_are;
         pairs = pairs_map order l.known l.once l.in_time;
-        puts = none true;
-        takes = none false;
+        lists = none;
         begins_to_come = λ i w u f late low.
             let b = begins_told (ev i) i w u f (told last k i calls) in
             let n : ℕ = b.0.number in
@@ -351,20 +349,23 @@ module _ (threads : ℕ) (calls : List CallRecord) (history : IsHistory threads 
             (subst (λ q. In (act (x_ n).begun b.0.end.0 q) (map act_of order)) b.1 at)));
       }
         where
-          none : (w : Bool) → Lists ev last left are_events w 0 [] (map act_of order)
-          none w = record {
+          nothing_open : (w : Bool) → [] ≡ changes_to w (opened (has_key k start.keys))
+          nothing_open true = refl
+          nothing_open false = refl
+
+          none : (w : Bool) → Lists ev last left are_events w 0 (changes_to w (opened (has_key k start.keys))) (map act_of order)
+          none w = subst (λ xs. Lists ev last left are_events w 0 xs (map act_of order)) (nothing_open w) (record {
             from_event = λ u h. absurd (true≢false (sym h));
             needed = λ u h low. absurd (true≢false (sym h));
             holds = λ a i d low. let c = (one_of (IsAct ev last) a (map act_of order) acts_are i).counted in absurd (omega (arith, c, low));
             once = tt;
-          }
+          })
 
 -- THE RULE SUCCEEDS on each key where an order explains the history.
 pub rule_refutes : (last : ℕ) (h : HistoryValue) (keys : List ℕ) (order : List Placed) → latest_moment h.calls ≤ last
     → IsHistory h.opening.threads h.calls → Explains h order keys → RulePasses last h keys
 rule_refutes last h keys order upto history e k =
     let left : has_key k (set_left_by (opening_set h.opening) h.calls order).keys ≡ has_key k keys = ap (has_key k) (sym e.keys_left) in
-    let f = timeline (ev h.opening.threads h.calls history last upto k) last (has_key k keys)
-    (are_events h.opening.threads h.calls history last upto k) last 0 (opened (has_key k h.opening.keys)) _ (omega arith)
-    (ready h.opening.threads h.calls history last upto k h.opening.quota (opening_set h.opening) order e.linearizes (has_key k keys) left) in
-    succeeds (has_key k h.opening.keys) (events_on (event_at last k h.calls) (has_key k keys) last 0) f
+    let ev = event_at last k h.calls in let are = are_events h.opening.threads h.calls history last upto k in
+    succeeds ev last (has_key k keys) are (has_key k h.opening.keys) _
+    (ready h.opening.threads h.calls history last upto k h.opening.quota (opening_set h.opening) order e.linearizes (has_key k keys) left)

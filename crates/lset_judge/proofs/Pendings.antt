@@ -1,5 +1,5 @@
 -- The pending calls as the code keeps them: what is found of a moment and of a thread.
-use Rattle.std.proofs.Common.{◌≡◌, ◌≢◌, ℕ, ◌<◌, ◌≤◌, Bool, true, false, List, [], ◌∷◌, ◌++◌, refl, sym, ap, ◌∙◌, arith, subst, inl, inr, length, get_or, map, ◌+◌, ◌-◌, ◌^◌, length-append, append_assoc, append-nil, cond, Ordering, Bor}
+use Rattle.std.proofs.Common.{◌≡◌, ◌≢◌, ℕ, ◌<◌, ◌≤◌, Bool, true, false, List, [], ◌∷◌, ◌++◌, refl, sym, ap, ◌∙◌, arith, subst, inl, inr, length, get_or, map, ◌+◌, ◌-◌, ◌^◌, length-append, append_assoc, cond, Ordering}
 use Rattle.std.specs.Prelude.{◌==◌, All, Contains, Option, Some, None, IfSome, MatchOption, is_some, swap_remove, not, filter}
 use Rattle.std.specs.Bool.{nat_eq}
 use Rattle.std.specs.BTreeMap.{BTreeMap, is_at, IsOrdered, insert_entry}
@@ -10,8 +10,7 @@ use Rattle.std.specs.HashMap.{HashMap}
 use Rattle.std.specs.HashMap as hash
 use Rattle.std.specs.List.{AllByRecursion, slice_get}
 use Rattle.std.specs.List.Sorted.{IsPermutation}
-use Rattle.std.specs.Map.{lookup}
-use Rattle.std.specs.Map.Iter.{deref_pair}
+use Rattle.std.specs.Map.{lookup, values_of}
 use Rattle.std.specs.Ordering.{nat_cmp, is_eq}
 use Rattle.std.specs.declared.cmp.Ordering.TheVariants.{Less, Equal, Greater}
 use Rattle.std.proofs.lemmas.Bool.{cases_Bool, true≢false}
@@ -313,22 +312,12 @@ told_of_few P Q few others all (Some f) is e told = λ a b.
 abbrev of_key : ℕ → StreamCall → Bool
 of_key key c = (key_of c.call).0 == key
 
-abbrev seen : ℕ → List (Bor ℕ × Bor StreamCall) → List StreamCall
-seen key ys = waiting_of key (map pending_at (map deref_pair ys))
-
-module _ (key : ℕ) (ys : List (Bor ℕ × Bor StreamCall)) (k : Bor ℕ) (v : Bor StreamCall) (first own : List StreamCall) (so : own ≡ first ++ seen key ys) where
-  seen_more : seen key (ys ++ (k, v) ∷ []) ≡ seen key ys ++ filter (of_key key) (v.now ∷ [])
-  seen_more =
-      ap (λ (es : List (ℕ × StreamCall)). waiting_of key (map pending_at es)) (map-append deref_pair ys ((k, v) ∷ []))
-      ∙ ap (waiting_of key) (map-append pending_at (map deref_pair ys) (deref_pair (k, v) ∷ []))
-      ∙ ap (filter (of_key key)) (map-append (λ (p : Pending). p.call) (map pending_at (map deref_pair ys)) (pending_at (deref_pair (k, v)) ∷ []))
-      ∙ filter-append (of_key key) (map (λ (p : Pending). p.call) (map pending_at (map deref_pair ys))) (v.now ∷ [])
-
-  pub seen_out : of_key key v.now ≡ false → own ≡ first ++ seen key (ys ++ (k, v) ∷ [])
-  seen_out f = so ∙ ap (λ (xs : List StreamCall). first ++ xs) (sym (seen_more ∙ ap (λ (xs : List StreamCall). seen key ys ++ xs) (rw f refl)
-      ∙ append-nil (seen key ys)))
+calls_of_many : (many : List (ℕ × StreamCall)) → values_of many ≡ map (λ (p : Pending). p.call) (map pending_at many)
+calls_of_many [] = refl
+calls_of_many (e ∷ es) = ap (λ cs. e.1 ∷ cs) (calls_of_many es)
 
 pub of_key_split : (key : ℕ) (few : List Pending) (many : List (ℕ × StreamCall))
-    → waiting_of key few ++ waiting_of key (map pending_at many) ≡ waiting_of key (all_pending few many)
-of_key_split key few many = sym (ap (filter (of_key key)) (map-append (λ (p : Pending). p.call) few (map pending_at many))
+    → waiting_of key few ++ filter (of_key key) (values_of many) ≡ waiting_of key (all_pending few many)
+of_key_split key few many = ap (λ cs. waiting_of key few ++ filter (of_key key) cs) (calls_of_many many)
+    ∙ sym (ap (filter (of_key key)) (map-append (λ (p : Pending). p.call) few (map pending_at many))
     ∙ filter-append (of_key key) (map (λ (p : Pending). p.call) few) (map (λ (p : Pending). p.call) (map pending_at many)))

@@ -1,17 +1,16 @@
 -- From an order of what calls do to one key, to a right timeline of its events.
-use Rattle.std.proofs.Common.{◌≡◌, ◌≢◌, ℕ, zero, suc, ◌+◌, ◌<◌, ◌≤◌, ◌⊎◌, List, [], ◌∷◌, Bool, true, false, inl, inr, refl, sym, ap, ◌∙◌, arith}
+use Rattle.std.proofs.Common.{◌≡◌, ◌≢◌, ℕ, zero, suc, ◌<◌, ◌≤◌, ◌⊎◌, List, [], ◌∷◌, Bool, true, false, inl, inr, refl, sym, ap, ◌∙◌, arith}
 use Rattle.std.proofs.Common.{subst, length}
-use Rattle.std.specs.Prelude.{◌==◌, ◌||◌, not, nat_lt}
-use Rattle.std.proofs.lemmas.Bool.{cases_Bool, true≢false}
+use Rattle.std.specs.Prelude.{◌==◌, ◌||◌, not, nat_lt, Some, is_some}
+use Rattle.std.proofs.lemmas.Bool.{cases_Bool, true≢false, or_right}
 use Rattle.std.proofs.lemmas.Bool.Decides.{nat_tests}
 use Rattle.lset_words.specs.SequentialSet.{has_key}
 use Rattle.lset_words.proofs.Numbers.{same_number, equal_test, below_or_not}
-use Rattle.lset_judge.specs.Rule.{Event, begins, ends, looks, leaves, idle, State, same, options, not_before, fits, enters}
-use Rattle.lset_judge.specs.Rule.{put_in, take_out, turned_by}
-use Rattle.lset_judge.proofs.Timelines.{meets, turns, Follows}
-use Rattle.lset_judge.specs.Events.{Kind, changes, sees, nothing, events_on}
+use Rattle.lset_judge.specs.Rule.{Event, begins, ends, looks, leaves, idle, State, same, changes_to, options, not_before, fits, entering, enters, entered}
+use Rattle.lset_judge.specs.Rule.{put_in, take_out, turned_by, open_changes, opened, stepped, state_after, may_leave}
+use Rattle.lset_judge.specs.Events.{Kind, changes, sees, nothing}
 use Rattle.lset_judge.proofs.Counts.{counts_one}
-use Rattle.lset_judge.proofs.Leading.{at}
+use Rattle.lset_judge.proofs.Leading.{at, Leads, leads_at_first, leads_past, settles, timeline_turns}
 
 -- ---- lists
 
@@ -174,9 +173,9 @@ until_of idle = 0
 changes_apart : (w v : Bool) → changes w ≡ changes v → w ≡ v
 changes_apart w v e = cc
 
-not_own : (w : Bool) → w ≡ not w → ⊥
-not_own true e = true≢false e
-not_own false e = true≢false (sym e)
+pub same_self : (w b : Bool) → b ≡ w → same w b ≡ true
+same_self true b e = e
+same_self false b e = rw e refl
 
 module _ (ev : ℕ → Event) (last : ℕ) (left : Bool) (are : AreEvents ev) where
   -- one of the two lists of open changes
@@ -190,8 +189,7 @@ module _ (ev : ℕ → Event) (last : ℕ) (left : Bool) (are : AreEvents ev) wh
     pub take_turns : TakeTurns left s.there ys
     pub acts : AllOf (IsAct ev last) ys
     pub pairs : Pairs Apart ys
-    pub puts : Lists true m s.puts ys
-    pub takes : Lists false m s.takes ys
+    pub lists : (w : Bool) → Lists w m (changes_to w s) ys
     pub begins_to_come : (i : ℕ) (w : Bool) (u : ℕ) → ev i ≡ begins w u → m < i → u ≤ last → In (act i u (changes w)) ys
     pub looks_to_come : (j : ℕ) (w : Bool) (i : ℕ) → ev j ≡ looks w i → m < j → j ≤ last
         → In (act i j (sees w)) ys ⊎ ((i ≤ m) × ((s.there ≡ w) ⊎ (i ≤ s.turned)))
@@ -238,8 +236,7 @@ module _ (ev : ℕ → Event) (last : ℕ) (left : Bool) (are : AreEvents ev) wh
     take_turns = goes p.does n r.take_turns.0 r.take_turns.1;
     acts = r.acts.1;
     pairs = r.pairs.1;
-    puts = lists_kept true m s.puts p ys (n true) r.puts;
-    takes = lists_kept false m s.takes p ys (n false) r.takes;
+    lists = λ w. lists_kept w m (changes_to w s) p ys (n w) (r.lists w);
     begins_to_come = begins_kept m p ys begun r.begins_to_come;
     looks_to_come = λ j w i e late low. elim (r.looks_to_come j w i e late low) [
       | inl (inl q) ↦ inr (
@@ -257,10 +254,6 @@ module _ (ev : ℕ → Event) (last : ℕ) (left : Bool) (are : AreEvents ev) wh
       goes (sees w) n t h = h
       goes nothing n t h = h
 
-  record Turned (m : ℕ) (s : State) (p : Act) (ys : List Act) : Type 0 where
-    pub may : has_key p.until (options s) ≡ true
-    pub ready : Ready m (turned_by m p.until s) ys
-
   looks_kept : (m : ℕ) (s : State) (b : Bool) (p : Act) (ys : List Act) (v : Bool) → p.does ≡ changes v
       → Ready m s (p ∷ ys) → (j : ℕ) (w : Bool) (i : ℕ) → ev j ≡ looks w i → m < j → j ≤ last
       → In (act i j (sees w)) ys ⊎ ((i ≤ m) × ((b ≡ w) ⊎ (i ≤ m)))
@@ -269,47 +262,32 @@ module _ (ev : ℕ → Event) (last : ℕ) (left : Bool) (are : AreEvents ev) wh
     | inr q ↦ inr (q.0, inr q.0)
   ]
 
-  turned_put : (m t : ℕ) (ps ks : List ℕ) (p : Act) (ys : List Act) → p.begun ≤ m → p.does ≡ changes true
-      → TakeTurns left true ys → Ready m (at false t ps ks) (p ∷ ys) → Turned m (at false t ps ks) p ys
-  turned_put m t ps ks p ys begun d goes r = record {
-    may = r.puts.holds p (inl refl) d begun;
-    ready = record {
-      take_turns = goes;
-      acts = r.acts.1;
-      pairs = r.pairs.1;
-      puts = lists_taken true m ps p ys r.pairs.0 r.puts;
-      takes = lists_kept false m ks p ys (λ e. true≢false (changes_apart true false (sym d ∙ e))) r.takes;
-      begins_to_come = begins_kept m p ys begun r.begins_to_come;
-      looks_to_come = looks_kept m (at false t ps ks) true p ys true d r;
-    };
-  }
-
-  turned_take : (m t : ℕ) (ps ks : List ℕ) (p : Act) (ys : List Act) → p.begun ≤ m → p.does ≡ changes false
-      → TakeTurns left false ys → Ready m (at true t ps ks) (p ∷ ys) → Turned m (at true t ps ks) p ys
-  turned_take m t ps ks p ys begun d goes r = record {
-    may = r.takes.holds p (inl refl) d begun;
-    ready = record {
-      take_turns = goes;
-      acts = r.acts.1;
-      pairs = r.pairs.1;
-      puts = lists_kept true m ps p ys (λ e. true≢false (changes_apart true false (sym e ∙ d))) r.puts;
-      takes = lists_taken false m ks p ys r.pairs.0 r.takes;
-      begins_to_come = begins_kept m p ys begun r.begins_to_come;
-      looks_to_come = looks_kept m (at true t ps ks) false p ys false d r;
-    };
-  }
-
   turned : (m : ℕ) (b : Bool) (t : ℕ) (ps ks : List ℕ) (p : Act) (ys : List Act) (w : Bool) → p.begun ≤ m → p.does ≡ changes w
-      → Ready m (at b t ps ks) (p ∷ ys) → Turned m (at b t ps ks) p ys
-  turned m b t ps ks p ys w begun d r =
-      by b w d (subst (suits b) d r.take_turns.0) (subst (λ k. TakeTurns left (becomes b k) ys) d r.take_turns.1) r
+      → Ready m (at b t ps ks) (p ∷ ys) → (has_key p.until (options (at b t ps ks)) ≡ true) × Ready m (turned_by m p.until (at b t ps ks)) ys
+  turned m b t ps ks p ys w begun d r = (
+    (r.lists (not b)).holds p (inl refl) to begun,
+    record {
+      take_turns = subst (λ k. TakeTurns left (becomes b k) ys) to r.take_turns.1;
+      acts = r.acts.1;
+      pairs = r.pairs.1;
+      lists = λ v. lists b v to r;
+      begins_to_come = begins_kept m p ys begun r.begins_to_come;
+      looks_to_come = looks_kept m (at b t ps ks) (not b) p ys w d r;
+    },
+  )
     where
-      by : (b w : Bool) → p.does ≡ changes w → b ≡ not w → TakeTurns left w ys → Ready m (at b t ps ks) (p ∷ ys)
-          → Turned m (at b t ps ks) p ys
-      by false true d e goes r = turned_put m t ps ks p ys begun d goes r
-      by true false d e goes r = turned_take m t ps ks p ys begun d goes r
-      by true true d e goes r = absurd (not_own true e)
-      by false false d e goes r = absurd (not_own false e)
+      other : (b w : Bool) → b ≡ not w → changes w ≡ changes (not b)
+      other b true e = rw e refl
+      other b false e = rw e refl
+
+      to : p.does ≡ changes (not b)
+      to = d ∙ other b w (subst (suits b) d r.take_turns.0)
+
+      lists : (b v : Bool) → p.does ≡ changes (not b) → Ready m (at b t ps ks) (p ∷ ys) → Lists v m (changes_to v (turned_by m p.until (at b t ps ks))) ys
+      lists true true to r = lists_kept true m ps p ys (λ e. true≢false (changes_apart true false (sym e ∙ to))) (r.lists true)
+      lists true false to r = lists_taken false m ks p ys r.pairs.0 (r.lists false)
+      lists false true to r = lists_taken true m ps p ys r.pairs.0 (r.lists true)
+      lists false false to r = lists_kept false m ks p ys (λ e. true≢false (changes_apart true false (sym to ∙ e))) (r.lists false)
 
   -- AN EVENT, where the next act begins later
   abbrev Waits : ℕ → List Act → Type 0
@@ -372,59 +350,32 @@ module _ (ev : ℕ → Event) (last : ℕ) (left : Bool) (are : AreEvents ev) wh
     | inr q ↦ (let a = q.0 in inr (omega (arith, a), q.1))
   ]
 
+  lists_past : (w : Bool) (m : ℕ) (v : Event) (s : State) (xs : List ℕ) (ys : List Act) → ev (suc m) ≡ v → Ready m s ys → Lists w m xs ys
+      → Lists w (suc m) (entering w v xs) ys
+  lists_past true m (begins true u) s xs ys e r l = lists_begun true m u xs ys e r.acts (λ low. r.begins_to_come (suc m) true u e (omega arith) low) l
+  lists_past false m (begins false u) s xs ys e r l = lists_begun false m u xs ys e r.acts (λ low. r.begins_to_come (suc m) false u e (omega arith) low) l
+  lists_past true m (begins false u) s xs ys e r l = lists_later true m xs ys (λ y f. let g : begins false u ≡ begins true y = sym e ∙ f in cc) r.acts l
+  lists_past false m (begins true u) s xs ys e r l = lists_later false m xs ys (λ y f. let g : begins true u ≡ begins false y = sym e ∙ f in cc) r.acts l
+  lists_past w m (ends v) s xs ys e r l = lists_later w m xs ys (λ y f. let g : ends v ≡ begins w y = sym e ∙ f in cc) r.acts l
+  lists_past w m (looks v j) s xs ys e r l = lists_later w m xs ys (λ y f. let g : looks v j ≡ begins w y = sym e ∙ f in cc) r.acts l
+  lists_past w m (leaves v) s xs ys e r l = absurd (are.not_left (suc m) v e)
+  lists_past w m idle s xs ys e r l = lists_later w m xs ys (λ y f. let g : idle ≡ begins w y = sym e ∙ f in cc) r.acts l
+
   event_past : (m : ℕ) (v : Event) (s : State) (ys : List Act) → ev (suc m) ≡ v → Ready m s ys → Ready (suc m) (enters v s) ys
-  event_past m (begins true u) s ys e r = record {
+  event_past m v s ys e r = record {
     take_turns = r.take_turns;
     acts = r.acts;
     pairs = r.pairs;
-    puts = lists_begun true m u s.puts ys e r.acts (λ low. r.begins_to_come (suc m) true u e (omega arith) low) r.puts;
-    takes = lists_later false m s.takes ys (λ y f. let g : begins true u ≡ begins false y = sym e ∙ f in cc) r.acts r.takes;
+    lists = λ w. lists w;
     begins_to_come = λ i w y f late low. r.begins_to_come i w y f (omega (arith, late)) low;
     looks_to_come = looks_later m s ys r;
   }
-  event_past m (begins false u) s ys e r = record {
-    take_turns = r.take_turns;
-    acts = r.acts;
-    pairs = r.pairs;
-    puts = lists_later true m s.puts ys (λ y f. let g : begins false u ≡ begins true y = sym e ∙ f in cc) r.acts r.puts;
-    takes = lists_begun false m u s.takes ys e r.acts (λ low. r.begins_to_come (suc m) false u e (omega arith) low) r.takes;
-    begins_to_come = λ i w y f late low. r.begins_to_come i w y f (omega (arith, late)) low;
-    looks_to_come = looks_later m s ys r;
-  }
-  event_past m (ends v) s ys e r = record {
-    take_turns = r.take_turns;
-    acts = r.acts;
-    pairs = r.pairs;
-    puts = lists_later true m s.puts ys (λ y f. let g : ends v ≡ begins true y = sym e ∙ f in cc) r.acts r.puts;
-    takes = lists_later false m s.takes ys (λ y f. let g : ends v ≡ begins false y = sym e ∙ f in cc) r.acts r.takes;
-    begins_to_come = λ i w y f late low. r.begins_to_come i w y f (omega (arith, late)) low;
-    looks_to_come = looks_later m s ys r;
-  }
-  event_past m (looks v j) s ys e r = record {
-    take_turns = r.take_turns;
-    acts = r.acts;
-    pairs = r.pairs;
-    puts = lists_later true m s.puts ys (λ y f. let g : looks v j ≡ begins true y = sym e ∙ f in cc) r.acts r.puts;
-    takes = lists_later false m s.takes ys (λ y f. let g : looks v j ≡ begins false y = sym e ∙ f in cc) r.acts r.takes;
-    begins_to_come = λ i w y f late low. r.begins_to_come i w y f (omega (arith, late)) low;
-    looks_to_come = looks_later m s ys r;
-  }
-  event_past m (leaves v) s ys e r = absurd (are.not_left (suc m) v e)
-  event_past m idle s ys e r = record {
-    take_turns = r.take_turns;
-    acts = r.acts;
-    pairs = r.pairs;
-    puts = lists_later true m s.puts ys (λ y f. let g : idle ≡ begins true y = sym e ∙ f in cc) r.acts r.puts;
-    takes = lists_later false m s.takes ys (λ y f. let g : idle ≡ begins false y = sym e ∙ f in cc) r.acts r.takes;
-    begins_to_come = λ i w y f late low. r.begins_to_come i w y f (omega (arith, late)) low;
-    looks_to_come = looks_later m s ys r;
-  }
+    where
+      lists : (w : Bool) → Lists w (suc m) (changes_to w (enters v s)) ys
+      lists true = lists_past true m v s s.puts ys e r (r.lists true)
+      lists false = lists_past false m v s s.takes ys e r (r.lists false)
 
   -- what the event asks
-  pub same_self : (w b : Bool) → b ≡ w → same w b ≡ true
-  same_self true b e = e
-  same_self false b e = rw e refl
-
   none_due : (w : Bool) (m : ℕ) (xs : List ℕ) (ys : List Act) → suc m ≤ last → Waits m ys → AllOf (IsAct ev last) ys → Pairs Apart ys
       → Lists w m xs ys → not_before (suc (suc m)) xs ≡ length xs
   none_due w m xs ys low waits acts pairs l = all_late (suc (suc m)) xs (λ u h. elim (below_or_not u (suc (suc m))) [
@@ -438,8 +389,7 @@ module _ (ev : ℕ → Event) (last : ℕ) (left : Bool) (are : AreEvents ev) wh
   event_fits m (begins w u) s ys e low waits r = refl
   event_fits m idle s ys e low waits r = refl
   event_fits m (leaves w) s ys e low waits r = absurd (are.not_left (suc m) w e)
-  event_fits m (ends true) s ys e low waits r = equal_test _ _ (none_due true m s.puts ys low waits r.acts r.pairs r.puts)
-  event_fits m (ends false) s ys e low waits r = equal_test _ _ (none_due false m s.takes ys low waits r.acts r.pairs r.takes)
+  event_fits m (ends w) s ys e low waits r = equal_test _ _ (none_due w m (changes_to w s) ys low waits r.acts r.pairs (r.lists w))
   event_fits m (looks w i) s ys e low waits r = elim (r.looks_to_come (suc m) w i e (omega arith) low) [
     | inl q ↦ (let late = none_early m (act i (suc m) (sees w)) ys waits r.acts r.pairs q in absurd (omega (arith, late)))
     | inr q ↦ elim q.1 [
@@ -448,48 +398,56 @@ module _ (ev : ℕ → Event) (last : ℕ) (left : Bool) (are : AreEvents ev) wh
     ]
   ]
     where
-      or_right : (a b : Bool) → b ≡ true → (a || b) ≡ true
-      or_right true b h = refl
-      or_right false b h = h
-
       is_not : (t i : ℕ) → i ≤ t → not (nat_lt t i) ≡ true
       is_not t i l = grind (arith, nat_tests)
 
-  -- THE TIMELINE
-  place : (m : ℕ) (vs : List Event) (p : Act) (ys : List Act) (s : State) → ((t : State) → Ready m t ys → Follows m t vs)
-      → p.begun ≤ m → Ready m s (p ∷ ys) → (k : Kind) → p.does ≡ k → Follows m s vs
-  place m vs p ys s next begun r (changes w) d =
+  -- THE TIMELINE, beside the rule: what begins by a moment turns the key
+  place : (m : ℕ) (p : Act) (ys : List Act) (g s : State) → p.begun ≤ m → Leads m g s → Ready m s (p ∷ ys) → (k : Kind) → p.does ≡ k
+      → (t : State) × Leads m g t × Ready m t ys
+  place m p ys g s begun l r (changes w) d =
       let t = turned m s.there s.turned s.puts s.takes p ys w begun d r in
-      let rest = next (turned_by m p.until s) t.ready in
-      (turns p.until ∷ rest.0, rest.1, (t.may, rest.2))
-  place m vs p ys s next begun r (sees w) d =
-      next s (done_seen m s p ys begun (λ v e. let f : sees w ≡ changes v = sym d ∙ e in cc) r)
-  place m vs p ys s next begun r nothing d =
-      next s (done_seen m s p ys begun (λ v e. let f : nothing ≡ changes v = sym d ∙ e in cc) r)
+      (turned_by m p.until s, timeline_turns g.there s.there m g.turned s.turned p.until g.puts g.takes s.puts s.takes l t.0, t.1)
+  place m p ys g s begun l r (sees w) d = (s, l, done_seen m s p ys begun (λ v e. let f : sees w ≡ changes v = sym d ∙ e in cc) r)
+  place m p ys g s begun l r nothing d = (s, l, done_seen m s p ys begun (λ v e. let f : nothing ≡ changes v = sym d ∙ e in cc) r)
 
-  place_now : (m : ℕ) (vs : List Event) → ((s : State) (ys : List Act) → Ready m s ys → Waits m ys → Follows m s vs)
-      → (ys : List Act) (s : State) → Ready m s ys → Follows m s vs
-  place_now m vs next [] s r = next s [] r tt
-  place_now m vs next (p ∷ ys) s r = elim (below_or_not m p.begun) [
-    | inl late ↦ next s (p ∷ ys) r late
-    | inr begun ↦ place m vs p ys s (λ t q. place_now m vs next ys t q) begun r p.does refl
+  record Placed (m : ℕ) (g : State) : Type 0 where
+    pub state : State
+    pub acts : List Act
+    pub leads : Leads m g state
+    pub ready : Ready m state acts
+    pub waits : Waits m acts
+
+  place_now : (m : ℕ) (g : State) (ys : List Act) (s : State) → Leads m g s → Ready m s ys → Placed m g
+  place_now m g [] s l r = record { state = s; acts = []; leads = l; ready = r; waits = tt }
+  place_now m g (p ∷ ys) s l r = elim (below_or_not m p.begun) [
+    | inl late ↦ record { state = s; acts = p ∷ ys; leads = l; ready = r; waits = late }
+    | inr begun ↦ (let one = place m p ys g s begun l r p.does refl in place_now m g ys one.0 one.1 one.2)
   ]
 
-  final : (m : ℕ) → last ≤ m → (s : State) (ys : List Act) → Ready m s ys → Waits m ys → Follows m s (leaves left ∷ [])
-  final m e s [] r w = (meets (leaves left) ∷ [], refl, (same_self left s.there r.take_turns, tt))
-  final m e s (p ∷ ys) r w = let low = r.acts.0.inside in absurd (omega (arith, low, w, e))
+  module _ (b : Bool) (first : List Act) (ready : Ready 0 (opened b) first) where
+    -- THE RULE GOES ON to each moment, and has turned the key no more often than it had to
+    goes_on : (m : ℕ) → m ≤ last → (g s : State) × (ys : List Act) × (state_after ev b m ≡ Some g) × Leads m g s × Ready m s ys
+    goes_on zero low = (opened b, opened b, first, refl, leads_at_first b, ready)
+    goes_on (suc m) low =
+        let was = goes_on m (omega (arith, low)) in let v : Event = ev (suc m) in
+        let now = place_now m was.0 was.2 was.1 was.4 was.5 in
+        let t = settles (open_changes was.0) m v was.0 now.state now.leads (event_fits m v now.state now.acts refl low now.waits now.ready) (omega arith) in (
+          enters v t.state,
+          enters v now.state,
+          now.acts,
+          ap (stepped m v) was.3 ∙ ap (entered v) t.is,
+          leads_past m v t.state now.state t.leads,
+          event_past m v now.state now.acts refl now.ready,
+        )
 
-  event_first : (n m : ℕ) → suc m ≤ last
-      → ((s : State) (ys : List Act) → Ready (suc m) s ys → Follows (suc m) s (events_on ev left n (suc m)))
-      → (s : State) (ys : List Act) → Ready m s ys → Waits m ys → Follows m s (ev (suc m) ∷ events_on ev left n (suc m))
-  event_first n m low next s ys r w =
-      let rest = next (enters (ev (suc m)) s) ys (event_past m (ev (suc m)) s ys refl r) in (
-        meets (ev (suc m)) ∷ rest.0,
-        ap (λ vs. ev (suc m) ∷ vs) rest.1,
-        (event_fits m (ev (suc m)) s ys refl low w r, rest.2),
-      )
+    none_left : (s : State) (ys : List Act) → Ready last s ys → Waits last ys → s.there ≡ left
+    none_left s [] r w = r.take_turns
+    none_left s (p ∷ ys) r w = absurd (let low = r.acts.0.inside in omega (arith, low, w))
 
-  pub timeline : (n m : ℕ) (s : State) (ys : List Act) → m + n ≡ last → Ready m s ys → Follows m s (events_on ev left n m)
-  timeline zero m s ys e r = place_now m (leaves left ∷ []) (final m (omega (arith, e))) ys s r
-  timeline (suc n) m s ys e r = place_now m (ev (suc m) ∷ events_on ev left n (suc m))
-      (event_first n m (omega (arith, e)) (λ t zs q. timeline n (suc m) t zs (omega (arith, e)) q)) ys s r
+    -- THE RULE SUCCEEDS where there is a right timeline.
+    pub succeeds : may_leave ev b left last ≡ true
+    succeeds =
+        let was = goes_on last (omega arith) in let now = place_now last was.0 was.2 was.1 was.4 was.5 in
+        let t = settles (open_changes was.0) last (leaves left) was.0 now.state now.leads
+        (same_self left now.state.there (none_left now.state now.acts now.ready now.waits)) (omega arith) in
+        ap is_some (ap (stepped last (leaves left)) was.3 ∙ ap (entered (leaves left)) t.is)

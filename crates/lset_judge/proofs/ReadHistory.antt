@@ -6,7 +6,7 @@ use Rattle.std.proofs.lemmas.List.Elements.{All-map}
 use Rattle.lset_words.specs.declared.Call.{Call}
 use Rattle.lset_words.specs.declared.Call.TheVariants.{Add, Remove, Contains, Ceiling}
 use Rattle.lset_words.specs.declared.Reply.{Reply}
-use Rattle.lset_words.specs.declared.Reply.TheVariants.{True, False, Full, At, Nothing}
+use Rattle.lset_words.specs.declared.Reply.TheVariants.{Full}
 use Rattle.lset_words.specs.declared.history.CallRecord.{CallRecord}
 use Rattle.lset_words.specs.History.{IsHistory, ContinuesHistory, no_call}
 use Rattle.lset_history.proofs.Histories.{Follows, IsCall, calls_of, pairs_of, history_of}
@@ -67,26 +67,11 @@ history_upto threads n calls history =
 
 -- each of them is plain
 plain_as : (c : Call) (r : Reply) → is_plain (call_as c r) (reply_as c r) ≡ true
-plain_as (Add k) True = refl
-plain_as (Add k) False = refl
 plain_as (Add k) Full = refl
-plain_as (Add k) (At x) = refl
-plain_as (Add k) Nothing = refl
-plain_as (Remove k) True = refl
-plain_as (Remove k) False = refl
 plain_as (Remove k) Full = refl
-plain_as (Remove k) (At x) = refl
-plain_as (Remove k) Nothing = refl
-plain_as (Contains k) True = refl
-plain_as (Contains k) False = refl
 plain_as (Contains k) Full = refl
-plain_as (Contains k) (At x) = refl
-plain_as (Contains k) Nothing = refl
-plain_as (Ceiling k) True = refl
-plain_as (Ceiling k) False = refl
 plain_as (Ceiling k) Full = refl
-plain_as (Ceiling k) (At x) = refl
-plain_as (Ceiling k) Nothing = refl
+plain_as c r = refl
 
 pub read_plain : (x : CallRecord) → IfSome (read_as x).ended (λ (e : ℕ × Reply). is_plain (read_as x).call e.1 ≡ true)
 read_plain x = of x.call x.ended

@@ -1,5 +1,5 @@
 -- If no order explains the calls as read, none explains the calls.
-use Rattle.std.proofs.Common.{inl, inr, ◌≡◌, ◌≢◌, ◌⊎◌, ℕ, Bool, true, false, List, [], ◌∷◌, refl, sym, ap, arith}
+use Rattle.std.proofs.Common.{inl, inr, ◌≡◌, ◌⊎◌, ℕ, Bool, true, false, List, [], ◌∷◌, refl, ap, arith, subst}
 use Rattle.std.specs.Prelude.{◌==◌, nat_lt, if◌then◌else◌}
 use Rattle.std.proofs.lemmas.Bool.{cases_Bool}
 use Rattle.std.proofs.lemmas.Bool.Decides.{nat_tests}
@@ -46,46 +46,27 @@ ceiling_other k (y ∷ ys) e = elim (cases_Bool (nat_lt y k)) [
 abbrev Fits : ℕ → SetState → ℕ → Call → Reply → Type 0
 Fits quota s t c r = (reply_to quota s t (call_as c r) ≡ reply_as c r) × (after_call s t (call_as c r) (reply_as c r) ≡ after_call s t c r)
 
-found : (b : Bool) (r : Reply) → (if b then True else False) ≡ r → (r ≡ True) ⊎ (r ≡ False)
-found true r e = inl (sym e)
-found false r e = inr (sym e)
+-- what the set replies, as it is read
+add_fits : (quota : ℕ) (s : SetState) (t : ℕ) (k : Key) (b c : Bool) → has_key k.0 s.keys ≡ b → (count_of s t == quota) ≡ c
+    → Fits quota s t (Add k) (reply_to quota s t (Add k))
+add_fits quota s t k true c h f = rw h (rw h refl, refl)
+add_fits quota s t k false true h f = rw (h, f) (rw h refl, refl)
+add_fits quota s t k false false h f = rw (h, f) (rw (h, f) refl, refl)
 
-full : (b c : Bool) → (if b then False else if c then Full else True) ≡ Full → b ≡ false
-full true c e = absurd cc
-full false c e = refl
+remove_fits : (quota : ℕ) (s : SetState) (t : ℕ) (k : Key) (b : Bool) → has_key k.0 s.keys ≡ b → Fits quota s t (Remove k) (reply_to quota s t (Remove k))
+remove_fits quota s t k true h = rw h (refl, refl)
+remove_fits quota s t k false h = rw h (refl, refl)
 
-added : (b c : Bool) (r : Reply) → (if b then False else if c then Full else True) ≡ r → (r ≡ True) ⊎ (r ≡ False) ⊎ (r ≡ Full)
-added true c r e = inr (inl (sym e))
-added false true r e = inr (inr (sym e))
-added false false r e = inl (sym e)
-
-no_add : (r : Reply) → (r ≡ True) ⊎ (r ≡ False) ⊎ (r ≡ Full) → ((x : Key) → r ≢ At x) × (r ≢ Nothing)
-no_add r (inl e) = (λ x f. cc (e, f), λ f. cc (e, f))
-no_add r (inr (inl e)) = (λ x f. cc (e, f), λ f. cc (e, f))
-no_add r (inr (inr e)) = (λ x f. cc (e, f), λ f. cc (e, f))
-
-no_look : (r : Reply) → (r ≡ True) ⊎ (r ≡ False) → ((x : Key) → r ≢ At x) × (r ≢ Nothing) × (r ≢ Full)
-no_look r (inl e) = (λ x f. cc (e, f), λ f. cc (e, f), λ f. cc (e, f))
-no_look r (inr e) = (λ x f. cc (e, f), λ f. cc (e, f), λ f. cc (e, f))
+look_fits : (quota : ℕ) (s : SetState) (t : ℕ) (k : Key) (b : Bool) → has_key k.0 s.keys ≡ b → Fits quota s t (Contains k) (reply_to quota s t (Contains k))
+look_fits quota s t k true h = rw h (refl, refl)
+look_fits quota s t k false h = rw h (refl, refl)
 
 pub fits : (quota : ℕ) (s : SetState) (t : ℕ) (c : Call) (r : Reply) → reply_to quota s t c ≡ r → Fits quota s t c r
-fits quota s t (Add k) True e = (e, refl)
-fits quota s t (Add k) False e = (e, refl)
-fits quota s t (Add k) Full e = (ap (λ (b : Bool). if b then True else False) (full (has_key k.0 s.keys) (count_of s t == quota) e), refl)
-fits quota s t (Add k) (At x) e = absurd ((no_add (At x) (added (has_key k.0 s.keys) (count_of s t == quota) (At x) e)).0 x refl)
-fits quota s t (Add k) Nothing e = absurd ((no_add Nothing (added (has_key k.0 s.keys) (count_of s t == quota) Nothing e)).1 refl)
-fits quota s t (Remove k) True e = (e, refl)
-fits quota s t (Remove k) False e = (e, refl)
-fits quota s t (Remove k) Full e = absurd ((no_look Full (found (has_key k.0 s.keys) Full e)).2 refl)
-fits quota s t (Remove k) (At x) e = absurd ((no_look (At x) (found (has_key k.0 s.keys) (At x) e)).0 x refl)
-fits quota s t (Remove k) Nothing e = absurd ((no_look Nothing (found (has_key k.0 s.keys) Nothing e)).1 refl)
-fits quota s t (Contains k) True e = (e, refl)
-fits quota s t (Contains k) False e = (e, refl)
-fits quota s t (Contains k) Full e = absurd ((no_look Full (found (has_key k.0 s.keys) Full e)).2 refl)
-fits quota s t (Contains k) (At x) e = absurd ((no_look (At x) (found (has_key k.0 s.keys) (At x) e)).0 x refl)
-fits quota s t (Contains k) Nothing e = absurd ((no_look Nothing (found (has_key k.0 s.keys) Nothing e)).1 refl)
+fits quota s t (Add k) r e = subst (Fits quota s t (Add k)) e (add_fits quota s t k (has_key k.0 s.keys) (count_of s t == quota) refl refl)
+fits quota s t (Remove k) r e = subst (Fits quota s t (Remove k)) e (remove_fits quota s t k (has_key k.0 s.keys) refl)
+fits quota s t (Contains k) r e = subst (Fits quota s t (Contains k)) e (look_fits quota s t k (has_key k.0 s.keys) refl)
+fits quota s t (Ceiling k) (At x) e = (ap (λ (b : Bool). if b then True else False) (ceiling_found k.0 x s.keys e), refl)
+fits quota s t (Ceiling k) Nothing e = (ap (λ (b : Bool). if b then True else False) (ceiling_none k.0 s.keys e), refl)
 fits quota s t (Ceiling k) True e = absurd (ceiling_other k.0 s.keys (inl e))
 fits quota s t (Ceiling k) False e = absurd (ceiling_other k.0 s.keys (inr (inl e)))
 fits quota s t (Ceiling k) Full e = absurd (ceiling_other k.0 s.keys (inr (inr e)))
-fits quota s t (Ceiling k) (At x) e = (ap (λ (b : Bool). if b then True else False) (ceiling_found k.0 x s.keys e), refl)
-fits quota s t (Ceiling k) Nothing e = (ap (λ (b : Bool). if b then True else False) (ceiling_none k.0 s.keys e), refl)

@@ -5,9 +5,9 @@ use Rattle.std.specs.List.{AllByRecursion}
 use Rattle.std.proofs.lemmas.List.{get_or_default, get_or-map, length-map}
 use Rattle.std.proofs.lemmas.List.Elements.{recursion_from_All}
 use Rattle.lset_words.specs.declared.Call.{Call}
-use Rattle.lset_words.specs.declared.Call.TheVariants.{Add, Remove, Contains, Ceiling}
+use Rattle.lset_words.specs.declared.Call.TheVariants.{Add, Remove, Contains}
 use Rattle.lset_words.specs.declared.Reply.{Reply}
-use Rattle.lset_words.specs.declared.Reply.TheVariants.{True, False, Full, At, Nothing}
+use Rattle.lset_words.specs.declared.Reply.TheVariants.{True, False}
 use Rattle.lset_words.specs.declared.history.CallRecord.{CallRecord}
 use Rattle.lset_words.specs.declared.history.Placed.{Placed}
 use Rattle.lset_words.specs.SequentialSet.{SetState, opening_set, reply_to, after_call, IsLegal, set_left}
@@ -166,20 +166,11 @@ read_explains o cs order keys e = record {
 plain_call : (c : Call) (r : Reply) → is_plain c r ≡ true → (call_as c r ≡ c) × (reply_as c r ≡ r)
 plain_call (Add k) True e = (refl, refl)
 plain_call (Add k) False e = (refl, refl)
-plain_call (Add k) Full e = absurd (true≢false (sym e))
-plain_call (Add k) (At x) e = absurd (true≢false (sym e))
-plain_call (Add k) Nothing e = absurd (true≢false (sym e))
 plain_call (Remove k) True e = (refl, refl)
 plain_call (Remove k) False e = (refl, refl)
-plain_call (Remove k) Full e = absurd (true≢false (sym e))
-plain_call (Remove k) (At x) e = absurd (true≢false (sym e))
-plain_call (Remove k) Nothing e = absurd (true≢false (sym e))
 plain_call (Contains k) True e = (refl, refl)
 plain_call (Contains k) False e = (refl, refl)
-plain_call (Contains k) Full e = absurd (true≢false (sym e))
-plain_call (Contains k) (At x) e = absurd (true≢false (sym e))
-plain_call (Contains k) Nothing e = absurd (true≢false (sym e))
-plain_call (Ceiling k) r e = absurd (true≢false (sym e))
+plain_call c r e = absurd (true≢false (sym e))
 
 plain_if : (c : Call) (o : Option (ℕ × Reply)) → IfSome o (λ (e : ℕ × Reply). is_plain c e.1 ≡ true) → (call_if c o ≡ c) × (end_as c o ≡ o)
 plain_if c None h = (refl, refl)

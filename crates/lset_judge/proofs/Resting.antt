@@ -3,7 +3,7 @@ use Rattle.std.proofs.Common.{◌≡◌, ◌≢◌, ℕ, ◌<◌, ◌≤◌, Boo
 use Rattle.std.specs.Prelude.{◌==◌, ◌&&◌, ◌||◌, nat_le, Option, Some, None, is_some, IfSome, All, AllPairs, filter}
 use Rattle.std.specs.List.{AllByRecursion}
 use Rattle.std.specs.List.Sorted.{IsStrictlyIncreasing}
-use Rattle.std.proofs.lemmas.Bool.{cases_Bool, true≢false}
+use Rattle.std.proofs.lemmas.Bool.{cases_Bool, true≢false, and_parts, both_ways}
 use Rattle.std.proofs.lemmas.Bool.Decides.{nat_tests}
 use Rattle.std.proofs.lemmas.List.Elements.{All-filter, filter_passes, recursion_from_All}
 use Rattle.std.proofs.lemmas.List.Kept.{AllPairs-filter}
@@ -13,30 +13,24 @@ use Rattle.lset_words.specs.declared.history.CallRecord.{CallRecord}
 use Rattle.lset_words.specs.SequentialSet.{has_key}
 use Rattle.lset_words.specs.Words.{key_of}
 use Rattle.lset_words.specs.History.{IsHistory}
-use Rattle.lset_words.proofs.Numbers.{equal_test, unequal_test, same_number, same_or_not}
+use Rattle.lset_words.proofs.Numbers.{unequal_test, same_number, same_or_not}
 use Rattle.lset_history.specs.History.{HistoryValue, latest_moment}
 use Rattle.lset_history.proofs.Histories.{Follows, IsCall, calls_of, pairs_of, history_of}
 use Rattle.lset_history.proofs.Pairs.{pairs_head, pairs_tail}
 use Rattle.lset_judge.specs.declared.stream.Stream.{Stream}
-use Rattle.lset_judge.specs.Rule.{State, idle, leaves, same, ruled, state_after}
+use Rattle.lset_judge.specs.Rule.{State, idle, leaves, same, stepped, state_after, may_leave}
 use Rattle.lset_judge.specs.Events.{Kind, changes, sees, nothing, kind_if, until_if, ends_at, begin_event, event_at, rule_explains, RulePasses}
 use Rattle.lset_judge.specs.Leaving.{may_be_left}
 use Rattle.lset_judge.specs.Rest.{turns, may_turn, has_ended, ended_by, key_if, alone, IsAtRest}
 use Rattle.lset_judge.specs.Stream.{behind_all, state_for, IsStreamOf}
 use Rattle.lset_judge.specs.Verdict.{may_add, is_plain}
-use Rattle.lset_judge.proofs.After.{same_after, judged_after, idle_key}
+use Rattle.lset_judge.proofs.After.{same_after, stays_after, idle_key}
 use Rattle.lset_judge.proofs.Closed.{leaves_so, latest_upto}
 use Rattle.lset_judge.proofs.Deciding.{explained}
-use Rattle.lset_judge.proofs.EventLemmas.{ends_not, if_some, for_some}
+use Rattle.lset_judge.proofs.EventLemmas.{IsSilent, ends_not, event_none, if_some, for_some, one_before, opens_so}
+use Rattle.lset_judge.proofs.Placed.{same_is}
+use Rattle.lset_judge.proofs.Placing.{same_self}
 use Rattle.lset_judge.proofs.Orders.{rule_refutes}
-
-second_true : (a b : Bool) → (a && b) ≡ true → b ≡ true
-second_true true b e = e
-second_true false b e = absurd (true≢false (sym e))
-
-opens : (there : Bool) (k : ℕ) → has_key k (key_if there k) ≡ there
-opens true k = rw (equal_test k k refl) refl
-opens false k = refl
 
 other : (there : Bool) (k j : ℕ) → j ≢ k → has_key j (key_if there k) ≡ false
 other true k j e = rw (unequal_test k j (λ q. e (sym q))) refl
@@ -50,17 +44,6 @@ rises false k = λ i l. absurd (omega (arith, l))
 
 abbrev kept : ℕ → ℕ → CallRecord → Bool
 kept k S x = (key_of x.call).0 == k && has_ended S x.ended
-
-no_event_at : (last k j : ℕ) (xs : List CallRecord) → AllByRecursion (λ (y : CallRecord). (y.begun ≢ j) × IfSome y.ended (λ (e : ℕ × Reply). e.0 ≢ j)) xs
-    → event_at last k xs j ≡ idle
-no_event_at last k j [] a = refl
-no_event_at last k j (x ∷ xs) a =
-    let b : (x.begun == j) ≡ false = unequal_test x.begun j a.0.0 in
-    let e : ends_at j x.ended ≡ false = ends_not j x.ended a.0.1 in
-    elim (cases_Bool ((key_of x.call).0 == k)) [
-      | inl t ↦ rw (t, b, e) (no_event_at last k j xs a.1)
-      | inr f ↦ rw f (no_event_at last k j xs a.1)
-    ]
 
 not_ended : (S j : ℕ) (o : Option (ℕ × Reply)) → j ≤ S → has_ended S o ≡ false → ends_at j o ≡ false
 not_ended S j None l e = refl
@@ -86,42 +69,32 @@ event_kept : (last k S j : ℕ) (xs : List CallRecord) → j ≤ S → AllPairs 
     → event_at last k (filter (kept k S) xs) j ≡ event_at last k xs j
 event_kept last k S j [] l pairs over = refl
 event_kept last k S j (x ∷ xs) l pairs over =
-    let rest : event_at last k (filter (kept k S) xs) j ≡ event_at last k xs j = event_kept last k S j xs l (pairs_tail Follows x xs pairs) over.1 in
-    elim (cases_Bool ((key_of x.call).0 == k)) [
-      | inr f ↦ rw f rest
-      | inl t ↦ elim (cases_Bool (has_ended S x.ended)) [
-        | inl o ↦ elim (cases_Bool (x.begun == j)) [
-          | inl b ↦ rw (t, o, t, b) refl
-          | inr b ↦ elim (cases_Bool (ends_at j x.ended)) [ inl e ↦ rw (t, o, t, b, e) refl | inr e ↦ rw (t, o, t, b, e) rest ]
-        ]
-        | inr o ↦ elim (cases_Bool (x.begun == j)) [
-          | inl b ↦ (let at : x.begun ≡ j = same_number x.begun j b in
-              let none : event_at last k xs j ≡ idle = no_event_at last k j xs
-              (recursion_from_All (λ (y : CallRecord). (y.begun ≢ j) × IfSome y.ended (λ (e : ℕ × Reply). e.0 ≢ j)) xs
-              (λ i d low. subst (λ m. ((get_or xs i d).begun ≢ m) × IfSome (get_or xs i d).ended (λ (e : ℕ × Reply). e.0 ≢ m)) at
-              (apart_from x (get_or xs i d) (pairs_head Follows x xs pairs i d low)))) in
-              let still : turns (kind_if x.call x.ended) ≡ false = elim (cases_Bool (turns (kind_if x.call x.ended))) [
-                | inl y ↦ absurd (true≢false (sym (over.0 (same_number (key_of x.call).0 k t) y (omega (arith, at, l))) ∙ o))
-                | inr n ↦ n
-              ] in
-              rw (t, o, b) (rest ∙ none ∙ sym (no_turn (kind_if x.call x.ended) (until_if last x.begun x.ended) still)))
-          | inr b ↦ rw (t, o, b, not_ended S j x.ended l o) rest
-        ]
-      ]
+    let rest = event_kept last k S j xs l (pairs_tail Follows x xs pairs) over.1 in
+    elim (cases_Bool (kept k S x)) [
+      | inl t ↦ rw t (one_before last k j x (filter (kept k S) xs) xs rest)
+      | inr f ↦ rw f (rest ∙ sym (elim (cases_Bool ((key_of x.call).0 == k)) [
+        | inr n ↦ rw n refl
+        | inl t ↦ (let o : has_ended S x.ended ≡ false = rw t at f in elim (cases_Bool (x.begun == j)) [
+          | inr b ↦ rw (t, b, not_ended S j x.ended l o) refl
+          | inl b ↦ rw (t, b) (no_turn (kind_if x.call x.ended) (until_if last x.begun x.ended) (still t b o) ∙ sym (none (same_number x.begun j b)))
+        ])
+      ]))
+    ]
+  where
+    none : x.begun ≡ j → event_at last k xs j ≡ idle
+    none at = subst (λ m. event_at last k xs m ≡ idle) at (event_none last k x.begun xs (recursion_from_All (IsSilent k x.begun) xs (λ i d low t.
+        let a = apart_from x (get_or xs i d) (pairs_head Follows x xs pairs i d low) in
+        (unequal_test (get_or xs i d).begun x.begun a.0, ends_not x.begun (get_or xs i d).ended a.1))))
+
+    still : ((key_of x.call).0 == k) ≡ true → (x.begun == j) ≡ true → has_ended S x.ended ≡ false → turns (kind_if x.call x.ended) ≡ false
+    still t b o = elim (cases_Bool (turns (kind_if x.call x.ended))) [
+      | inl y ↦ absurd (both_ways _ o (over.0 (same_number (key_of x.call).0 k t) y (let at = same_number x.begun j b in omega (arith, at, l))))
+      | inr n ↦ n
     ]
 
 event_other : (last k S j m : ℕ) (xs : List CallRecord) → j ≢ k → event_at last j (filter (kept k S) xs) m ≡ idle
-event_other last k S j m [] e = refl
-event_other last k S j m (x ∷ xs) e =
-    let rest : event_at last j (filter (kept k S) xs) m ≡ idle = event_other last k S j m xs e in
-    elim (cases_Bool ((key_of x.call).0 == k)) [
-      | inr f ↦ rw f rest
-      | inl t ↦ elim (cases_Bool (has_ended S x.ended)) [
-        | inl o ↦ (let is = same_number (key_of x.call).0 k t in
-            let f : ((key_of x.call).0 == j) ≡ false = unequal_test (key_of x.call).0 j (λ q. e (sym q ∙ is)) in rw (t, o, f) rest)
-        | inr o ↦ rw (t, o) rest
-      ]
-    ]
+event_other last k S j m xs e = event_none last j m (filter (kept k S) xs) (recursion_from_All (IsSilent j m) (filter (kept k S) xs) (λ i d low t.
+    absurd (e (sym (same_number _ j t) ∙ same_number _ k (and_parts _ _ (filter_passes (kept k S) xs i d low)).0))))
 
 -- ---- how the key may be left
 
@@ -135,21 +108,9 @@ quiet_left w s p t = elim (cases_Bool s.there) [
     none true = refl
     none false = refl
 
-alike : (a b : Bool) → same a b ≡ true → a ≡ b
-alike true b e = sym e
-alike false true e = e
-alike false false e = refl
-
-same_itself : (w : Bool) → same w w ≡ true
-same_itself true = refl
-same_itself false = refl
-
-ended_at : (S : ℕ) (o : Option (ℕ × Reply)) → has_ended S o ≡ true → (e : ℕ × Reply) × (o ≡ Some e) × (e.0 ≤ S)
+pub ended_at : (S : ℕ) (o : Option (ℕ × Reply)) → has_ended S o ≡ true → (e : ℕ × Reply) × (o ≡ Some e) × (e.0 ≤ S)
 ended_at S None t = absurd (true≢false (sym t))
 ended_at S (Some e) t = (e, refl, (let l : e.0 ≤ S = grind (arith, nat_tests) in l))
-
-is_ended : (S : ℕ) (o : Option (ℕ × Reply)) (e : ℕ × Reply) → o ≡ Some e → e.0 ≤ S → has_ended S o ≡ true
-is_ended S o e is low = rw is (let l : nat_le e.0 S ≡ true = grind (arith, nat_tests) in l)
 
 -- ---- THE KEY AT REST
 
@@ -175,8 +136,8 @@ module _ (threads : ℕ) (opening : List ℕ) (calls : List CallRecord) (s : Str
 
   latest : latest_moment own ≤ S
   latest = latest_upto S own (λ i d low.
-      let e = ended_at S (get_or own i d).ended (second_true ((key_of (get_or own i d).call).0 == k) (has_ended S (get_or own i d).ended)
-      (filter_passes (kept k S) calls i d low)) in
+      let e = ended_at S (get_or own i d).ended (and_parts ((key_of (get_or own i d).call).0 == k) (has_ended S (get_or own i d).ended)
+      (filter_passes (kept k S) calls i d low)).1 in
       let c = calls_of threads own told i d low in
       let b = if_some (λ (z : ℕ × Reply). (get_or own i d).begun < z.0) (get_or own i d).ended e.0 e.1 c.ends_later in
       let f = e.2 in (
@@ -193,22 +154,21 @@ module _ (threads : ℕ) (opening : List ℕ) (calls : List CallRecord) (s : Str
 
   state_is : state_after (event_at behind_all k own) (has_key k (key_if (has_key k opening) k)) S ≡ Some state
   state_is =
-      ap (λ b. state_after (event_at behind_all k own) b S) (opens (has_key k opening) k)
+      ap (λ b. state_after (event_at behind_all k own) b S) (opens_so (has_key k opening) k)
       ∙ same_after (event_at behind_all k own) (event_at behind_all k calls) (has_key k opening) S
       (λ j l. event_kept behind_all k S j calls l (pairs_of threads calls is.history) (recursion_from_All (Over k S) calls over))
       ∙ judged k
 
-  left_as : (quota : ℕ) (keys : List ℕ) → rule_explains behind_all (h quota) keys k ≡ same (has_key k keys) state.there
-  left_as quota keys =
-      judged_after (h quota) behind_all behind k keys S latest upto
-      ∙ ap (λ (o : Option State). is_some (ruled behind_all o (leaves (has_key k keys) ∷ []))) state_is
-      ∙ leaves_so behind_all (has_key k keys) state
-      ∙ quiet_left (has_key k keys) state puts takes
+  left_as : (left : Bool) → may_leave (event_at behind_all k own) (has_key k (key_if (has_key k opening) k)) left behind_all ≡ same left state.there
+  left_as left =
+      ap (λ (o : Option State). is_some (stepped behind_all (leaves left) o))
+      (stays_after own behind_all behind k (has_key k (key_if (has_key k opening) k)) S latest upto ∙ state_is)
+      ∙ leaves_so behind_all left state ∙ quiet_left left state puts takes
 
   passes : (quota : ℕ) → RulePasses behind_all (h quota) (key_if state.there k)
   passes quota j = elim (same_or_not j k) [
     | inl e ↦ subst (λ i. rule_explains behind_all (h quota) (key_if state.there k) i ≡ true) (sym e)
-        (left_as quota (key_if state.there k) ∙ ap (λ b. same b state.there) (opens state.there k) ∙ same_itself state.there)
+        (left_as (has_key k (key_if state.there k)) ∙ ap (λ b. same b state.there) (opens_so state.there k) ∙ same_self state.there state.there refl)
     | inr n ↦ uncalled behind_all j n
   ]
     where
@@ -224,5 +184,5 @@ module _ (threads : ℕ) (opening : List ℕ) (calls : List CallRecord) (s : Str
       room = λ t. count_by-le-length (λ (x : CallRecord). may_add x.call x.ended && x.thread == t) own;
     }) (rises state.there k) (passes (length own));
     forced = λ quota order keys e.
-        alike (has_key k keys) state.there (sym (left_as quota keys) ∙ rule_refutes behind_all (h quota) keys order behind told e k);
+        sym (same_is (has_key k keys) state.there (sym (left_as (has_key k keys)) ∙ rule_refutes behind_all (h quota) keys order behind told e k));
   }

@@ -7,7 +7,7 @@ use Rattle.std.proofs.lemmas.List.Folds.{list_any_more, list_any_at}
 use Rattle.lset_words.specs.SequentialSet.{has_key}
 use Rattle.lset_words.proofs.Numbers.{same_number, equal_test}
 
-any_key : (k : ℕ) (xs : List ℕ) → has_key k xs ≡ list_any (λ x. x == k) xs
+pub any_key : (k : ℕ) (xs : List ℕ) → has_key k xs ≡ list_any (λ x. x == k) xs
 any_key k [] = refl
 any_key k (x ∷ xs) = ap (λ b. (x == k) || b) (any_key k xs)
 

@@ -1,5 +1,5 @@
 -- The calls of a stream: what happens up to the next pending end, at it, and at the next begin.
-use Rattle.std.proofs.Common.{◌≡◌, ◌≢◌, ℕ, suc, ◌+◌, ◌-◌, ◌<◌, ◌≤◌, false, List, [], ◌∷◌, ◌++◌, refl, sym, ap, ◌∙◌, arith, subst}
+use Rattle.std.proofs.Common.{◌≡◌, ◌≢◌, ℕ, suc, ◌+◌, ◌-◌, ◌<◌, ◌≤◌, List, [], ◌∷◌, ◌++◌, refl, sym, ap, ◌∙◌, arith, subst}
 use Rattle.std.proofs.Common.{◌⊎◌, Bool, zero, inl, inr, length, get_or}
 use Rattle.std.specs.Prelude.{◌==◌, if◌then◌else◌, Option, Some, None, IfSome, All, AllPairs, Contains}
 use Rattle.std.specs.List.{AllByRecursion}
@@ -17,15 +17,14 @@ use Rattle.lset_words.specs.History.{IsHistory, call_numbered, no_call}
 use Rattle.lset_words.proofs.Numbers.{below_or_not, same_or_not, equal_test, unequal_test, same_number, other_number}
 use Rattle.lset_history.proofs.Histories.{calls_of, pairs_of}
 use Rattle.lset_history.proofs.Pairs.{pairs_head, pairs_tail}
-use Rattle.lset_judge.specs.declared.rule.KeyState.{KeyState}
 use Rattle.lset_judge.specs.declared.stream.Failed.{Failed}
 use Rattle.lset_judge.specs.declared.stream.Pending.{Pending}
 use Rattle.lset_judge.specs.Rule.{Event, State, idle, found, entered, stepped, state_after}
-use Rattle.lset_judge.specs.Events.{kind_if, until_if, ends_at, begin_event, event_at}
+use Rattle.lset_judge.specs.Events.{kind_if, until_if, begin_event, event_at}
 use Rattle.lset_judge.specs.Stream.{States, behind_all, state_for, pending_of, key_in, event_of, no_pending, IsBefore, ArePending, IsJudgedTo}
 use Rattle.lset_judge.specs.Stream.{IsMetBy, MayCome}
 use Rattle.lset_judge.proofs.After.{idle_step, quiet_until}
-use Rattle.lset_judge.proofs.EventLemmas.{Told, of_nothing, of_begin, of_end, told, ends_there, if_some, for_some, none_or_some, ends_not}
+use Rattle.lset_judge.proofs.EventLemmas.{Told, of_nothing, of_begin, of_end, told, ends_there, if_some, for_some, none_or_some, ends_not, one_before, passed_over}
 
 -- ---- ends
 
@@ -40,20 +39,12 @@ until_end last begun o e s = ap (until_if last begun) s
 -- what happens before it begins
 pub event_before : (last k j : ℕ) (xs : List CallRecord) (x : CallRecord) → j < x.begun → IfSome x.ended (λ (e : ℕ × Reply). x.begun < e.0)
     → event_at last k (xs ++ x ∷ []) j ≡ event_at last k xs j
-event_before last k j [] x low later =
-    let b : (x.begun == j) ≡ false = unequal_test x.begun j (λ q. omega arith) in
-    let e : ends_at j x.ended ≡ false = ends_not j x.ended (for_some (λ (e : ℕ × Reply). e.0 ≢ j) x.ended
-    (λ e s q. let l : x.begun < e.0 = if_some (λ (e : ℕ × Reply). x.begun < e.0) x.ended e s later in omega (arith, l, q, low))) in
-    elim (cases_Bool ((key_of x.call).0 == k)) [ inl t ↦ rw (t, b, e) refl | inr f ↦ rw f refl ]
-event_before last k j (y ∷ ys) x low later =
-    let rest : event_at last k (ys ++ x ∷ []) j ≡ event_at last k ys j = event_before last k j ys x low later in
-    elim (cases_Bool ((key_of y.call).0 == k)) [
-      | inr f ↦ rw f rest
-      | inl t ↦ elim (cases_Bool (y.begun == j)) [
-        | inl b ↦ rw (t, b) refl
-        | inr b ↦ elim (cases_Bool (ends_at j y.ended)) [ inl e ↦ rw (t, b, e) refl | inr e ↦ rw (t, b, e) rest ]
-      ]
-    ]
+event_before last k j [] x low later = passed_over last k j x [] (λ t. (
+  unequal_test x.begun j (λ q. omega arith),
+  ends_not j x.ended (for_some (λ (e : ℕ × Reply). e.0 ≢ j) x.ended
+      (λ e s q. let l : x.begun < e.0 = if_some (λ (e : ℕ × Reply). x.begun < e.0) x.ended e s later in omega (arith, l, q, low))),
+))
+event_before last k j (y ∷ ys) x low later = one_before last k j y (ys ++ x ∷ []) ys (event_before last k j ys x low later)
 
 -- and where it begins
 pub event_begun : (last k : ℕ) (xs : List CallRecord) (x : CallRecord)
@@ -65,10 +56,7 @@ event_begun last k [] x a = elim (cases_Bool ((key_of x.call).0 == k)) [
   | inr f ↦ rw f refl
 ]
 event_begun last k (y ∷ ys) x a =
-    let b : (y.begun == x.begun) ≡ false = unequal_test y.begun x.begun a.0.0 in
-    let e : ends_at x.begun y.ended ≡ false = ends_not x.begun y.ended a.0.1 in
-    let rest = event_begun last k ys x a.1 in
-    elim (cases_Bool ((key_of y.call).0 == k)) [ inl t ↦ rw (t, b, e) rest | inr f ↦ rw f rest ]
+    passed_over last k x.begun y (ys ++ x ∷ []) (λ t. (unequal_test y.begun x.begun a.0.0, ends_not x.begun y.ended a.0.1)) ∙ event_begun last k ys x a.1
 
 -- ---- the rule goes on by the event of a moment
 

@@ -1,10 +1,9 @@
 -- The window of a key, by what is kept of it.
 use Rattle.std.proofs.Common.{inl, inr, ◌≡◌, ◌⊎◌, ℕ, suc, ◌+◌, ◌<◌, ◌≤◌, Bool, true, false, List, [], ◌∷◌, refl, sym, ap, ◌∙◌, arith, subst, length, get_or, take, ◌++◌}
 use Rattle.std.specs.Prelude.{◌||◌, nat_lt, All, Option, Some, None, IfSome, filter, Contains, map}
-use Rattle.std.specs.Prelude.{Result, Ok, Err, OnOk}
 use Rattle.std.specs.List.{AllByRecursion}
 use Rattle.std.specs.List.Sorted.{IsPermutation}
-use Rattle.std.proofs.lemmas.Bool.{cases_Bool, true≢false}
+use Rattle.std.proofs.lemmas.Bool.{cases_Bool}
 use Rattle.std.proofs.lemmas.Bool.Decides.{nat_tests}
 use Rattle.std.proofs.lemmas.List.{get_or_default, take_more, map-append}
 use Rattle.std.proofs.lemmas.List.Elements.{All-map, All-contains, All-weaker, All-from_recursion, filter_passes}
@@ -24,11 +23,12 @@ use Rattle.lset_judge.specs.declared.asked.Part.{Part}
 use Rattle.lset_judge.specs.declared.log.Ended.{Ended}
 use Rattle.lset_judge.specs.declared.log.Rest.{Rest}
 use Rattle.lset_judge.specs.declared.window.Window.{Window}
-use Rattle.lset_judge.specs.Rest.{has_ended, may_turn, IsAtRest}
+use Rattle.lset_judge.specs.Rest.{may_turn, IsAtRest}
 use Rattle.lset_judge.specs.Stream.{record_of, call_of, IsStreamOf, IsToldBy}
-use Rattle.lset_judge.specs.Log.{Logged, calls_in, calls_after, log_for, log_upto, IsEntry, IsLog, IsMadeBy, IsRestIn, LoggedBy, AreLogged}
-use Rattle.lset_judge.specs.Window.{records, is_asked, asked_as, asked_of, calls_of, shown_of, hidden_between, HaveNoneOf, HaveNone, IsMaker, IsAfter, IsSame, IsOpened, IsReached, IsRestOf, IsWindow}
+use Rattle.lset_judge.specs.Log.{Logged, calls_in, calls_after, log_for, log_upto, IsEntry, IsLog, IsMadeBy, IsRestIn, IsRestFrom, IsStreamKept, LoggedBy, TellsOf, TellsStream}
+use Rattle.lset_judge.specs.Window.{records, is_asked, asked_as, asked_of, calls_of, shown_of, hidden_between, HaveNoneOf, IsMaker, IsAfter, IsSame, IsOpened, IsReached, IsRestOf, IsWindow, IsWindowOf}
 use Rattle.lset_judge.proofs.EventLemmas.{if_some}
+use Rattle.lset_judge.proofs.Resting.{ended_at}
 use Rattle.lset_judge.proofs.Logging.{contains_map, contains_from_map, contains_filter, contains_from_filter, all_of, made_known, rest_so, log_frozen}
 
 -- ---- a number above all threads
@@ -52,10 +52,6 @@ shown_so p t = record { call = refl; begun = refl; ended = rw t refl }
 
 opened_so : (p : Part) → p.is_shown ≡ false → IsOpened (record_of p.call) (record_of (asked_as p))
 opened_so p f = record { call = refl; begun = refl; ended = rw f refl }
-
-has_ended_at : (S : ℕ) (o : Option (ℕ × Reply)) → has_ended S o ≡ true → (e : ℕ × Reply) × (o ≡ Some e) × (e.0 ≤ S)
-has_ended_at S None t = absurd (true≢false (sym t))
-has_ended_at S (Some e) t = (e, refl, (let l : e.0 ≤ S = grind (arith, nat_tests) in l))
 
 pub hidden_calls : (first last : ℕ) (ps : List Part) → calls_of (map (hidden_between first last) ps) ≡ calls_of ps
 hidden_calls first last [] = refl
@@ -154,7 +150,7 @@ module _ (threads upto : ℕ) (opening : List ℕ) (calls : List CallRecord) (ke
         → (y : CallRecord) × Contains (records (asked_of parts)) y × (IsSame x y ⊎ IsOpened x y)) (sym (get_or_default calls n d no_call low))
         (λ own turn begins by. elim (is.all n low own by) [
           | inl e ↦ absurd (
-              let o = has_ended_at l.since (call_numbered calls n).ended e in
+              let o = ended_at l.since (call_numbered calls n).ended e in
               let ends = if_some (λ (z : ℕ × Reply). (call_numbered calls n).begun < z.0) (call_numbered calls n).ended o.0 o.1
               (histories.calls_of threads calls history n no_call low).ends_later in
               let end = o.2 in omega (arith, ends, end, after, begins))
@@ -170,80 +166,41 @@ pub is_maker : (threads upto : ℕ) (opening : List ℕ) (calls : List CallRecor
 is_maker threads upto opening calls key l r is None h = tt
 is_maker threads upto opening calls key l r is (Some b) h = record { known = made_known threads opening calls key upto [] l is r b h; makes = h.makes }
 
-pub window_is : (threads upto : ℕ) (opening : List ℕ) (calls : List CallRecord) (moment : Option ℕ) (l : Logged) (r : Rest) (cs : List StreamCall) (parts : List Part)
-    (w : Window) (left : Option Bool) → IsHistory threads calls → IsLog threads opening calls w.key.0 upto [] l → IsReached moment calls upto
-    → IsRestOf threads opening calls w.key.0 l.since r → IsPermutation (calls_after r.since l) cs → calls_of parts ≡ cs
-    → ((bound : ℕ) → HaveNoneOf bound w.key.0 r.there left (asked_of parts)) → w.since ≡ r.since → w.there ≡ r.there → w.calls.items ≡ shown_of parts
-    → IfSome w.before (IsMadeBy w.key.0 r l) → IsWindow threads opening calls left moment w
-window_is threads upto opening calls moment l r cs parts w left history is reached rest moved are none since there calls_are made =
+pub window_is : (threads upto : ℕ) (opening : List ℕ) (calls : List CallRecord) (moment : Option ℕ) (key : ℕ) (l : Logged) (r : Rest) (cs : List StreamCall)
+    (parts : List Part) (before : Option StreamCall) (left : Option Bool) → IsHistory threads calls → IsLog threads opening calls key upto [] l
+    → IsReached moment calls upto → IsRestOf threads opening calls key l.since r → IsPermutation (calls_after r.since l) cs → calls_of parts ≡ cs
+    → ((bound : ℕ) → HaveNoneOf bound key r.there left (asked_of parts)) → IfSome before (IsMadeBy key r l)
+    → IsWindowOf threads opening calls left moment key r.since r.there before (shown_of parts)
+window_is threads upto opening calls moment key l r cs parts before left history is reached rest moved are none made =
     let asked = none (above (asked_of parts)) (All-from_recursion (λ (x : StreamCall). x.thread < above (asked_of parts)) (asked_of parts) (below (asked_of parts))) in
     record {
-      rest = subst (λ m. IsAtRest threads opening calls w.key.0 m w.there) (sym since) (subst (IsAtRest threads opening calls w.key.0 r.since) (sym there) rest.1);
-      made = subst (λ m. IfSome w.before (IsMaker calls w.key.0 m w.there)) (sym since)
-          (subst (λ b. IfSome w.before (IsMaker calls w.key.0 r.since b)) (sym there) (is_maker threads upto opening calls w.key.0 l r is w.before made));
+      rest = rest.1;
+      made = is_maker threads upto opening calls key l r is before made;
       upto = upto;
       reached = reached;
       bound = above (asked_of parts);
       asked = records (asked_of parts);
       history = asked.0;
-      none = subst (λ b. HaveNone (above (asked_of parts)) w.key.0 b left (records (asked_of parts))) (sym there) asked.1;
-      shown = subst (λ xs. All (λ (c : StreamCall). IsAfter calls w.key.0 w.since (record_of c)
-          × ((y : CallRecord) × Contains (records (asked_of parts)) y × IsSame (record_of c) y)) xs) (sym calls_are)
-          (subst (λ m. All (λ (c : StreamCall). IsAfter calls w.key.0 m (record_of c)
-          × ((y : CallRecord) × Contains (records (asked_of parts)) y × IsSame (record_of c) y)) (shown_of parts)) (sym since)
-          (all_shown threads upto opening calls w.key.0 l r cs parts history is moved are));
-      others = subst (λ xs. All (λ (y : CallRecord). ((c : StreamCall) × Contains xs c × IsSame (record_of c) y)
-          ⊎ ((x : CallRecord) × IsAfter calls w.key.0 w.since x × (may_turn x ≡ true) × IsOpened x y)) (records (asked_of parts))) (sym calls_are)
-          (subst (λ m. All (λ (y : CallRecord). ((c : StreamCall) × Contains (shown_of parts) c × IsSame (record_of c) y)
-          ⊎ ((x : CallRecord) × IsAfter calls w.key.0 m x × (may_turn x ≡ true) × IsOpened x y)) (records (asked_of parts))) (sym since)
-          (all_others threads upto opening calls w.key.0 l r cs parts history is moved are));
-      changes = subst (λ m. All (λ (x : CallRecord). (key_of x.call).0 ≡ w.key.0 → may_turn x ≡ true → m < x.begun → x.begun ≤ upto
-          → (y : CallRecord) × Contains (records (asked_of parts)) y × (IsSame x y ⊎ IsOpened x y)) calls) (sym since)
-          (all_changes threads upto opening calls w.key.0 l r cs parts history is moved are rest.0);
+      none = asked.1;
+      shown = all_shown threads upto opening calls key l r cs parts history is moved are;
+      others = all_others threads upto opening calls key l r cs parts history is moved are;
+      changes = all_changes threads upto opening calls key l r cs parts history is moved are rest.0;
     }
 
 -- how the key is at rest where it was so
-pub rest_of_entry : (threads upto : ℕ) (opening : List ℕ) (calls : List CallRecord) (key : ℕ) (l : Logged) (r : Rest) → IsLog threads opening calls key upto [] l
-    → IsRestIn l [] r → IsRestOf threads opening calls key l.since r
-rest_of_entry threads upto opening calls key l r is rest = (rest.after, (rest_so threads opening calls key upto [] l is r rest).1)
+pub rest_of_entry : (key : ℕ) (l : Logged) (r : Rest) → IsRestIn l [] r → IsRestFrom key l r
+rest_of_entry key l r rest threads upto opening calls is = (rest.after, (rest_so threads opening calls key upto [] l is r rest).1)
 
-pub rest_of_base : (threads upto : ℕ) (opening : List ℕ) (calls : List CallRecord) (key : ℕ) (l : Logged) (r : Rest) → IsLog threads opening calls key upto [] l
-    → l.since ≡ r.since → l.there ≡ Some r.there → IsRestOf threads opening calls key l.since r
-rest_of_base threads upto opening calls key l r is since there =
+pub rest_of_base : (key : ℕ) (l : Logged) (r : Rest) → (l.since ≡ r.since) × (l.there ≡ Some r.there) → IsRestFrom key l r
+rest_of_base key l r same threads upto opening calls is =
     let base : (l.since ≤ upto) × IsAtRest threads opening calls key l.since r.there =
-    subst (λ o. IfSome o (λ (t : Bool). (l.since ≤ upto) × IsAtRest threads opening calls key l.since t)) there is.base in
-    (omega (arith, since), subst (λ m. IsAtRest threads opening calls key m r.there) since base.1)
+    subst (λ o. IfSome o (λ (t : Bool). (l.since ≤ upto) × IsAtRest threads opening calls key l.since t)) same.1 is.base in
+    let since = same.0 in (omega (arith, since), subst (λ m. IsAtRest threads opening calls key m r.there) since base.1)
 
--- ---- what the functions say of a window
+-- ---- by what the stream keeps
 
--- from a moment at rest
-abbrev pub TellsFrom : Key → Option Bool → Logged → Rest → Window → Type 0
-TellsFrom key left l r w = (w.key ≡ key) × (w.left ≡ left) × ((threads upto : ℕ) (opening : List ℕ) (calls : List CallRecord) (moment : Option ℕ) → IsHistory threads calls
-    → IsLog threads opening calls key.0 upto [] l → IsReached moment calls upto → IsRestOf threads opening calls key.0 l.since r
-    → IsWindow threads opening calls left moment w)
-
-abbrev pub TellsOf : Key → Option Bool → Logged → Window → Type 0
-TellsOf key left l w = (w.key ≡ key) × (w.left ≡ left) × ((threads upto : ℕ) (opening : List ℕ) (calls : List CallRecord) (moment : Option ℕ) → IsHistory threads calls
-    → IsLog threads opening calls key.0 upto [] l → IsReached moment calls upto → IsWindow threads opening calls left moment w)
-
-pub tells_of : (key : Key) (left : Option Bool) (l : Logged) (r : Rest) (o : Option Window) → IfSome o (TellsFrom key left l r)
-    → ((threads upto : ℕ) (opening : List ℕ) (calls : List CallRecord) → IsLog threads opening calls key.0 upto [] l → IsRestOf threads opening calls key.0 l.since r)
-    → IfSome o (TellsOf key left l)
-tells_of key left l r None h rest = tt
-tells_of key left l r (Some w) h rest = (
-  h.0,
-  h.1,
-  λ threads upto opening calls moment history is reached.
-      h.2 threads upto opening calls moment history is reached (rest threads upto opening calls is),
-)
-
--- by what the stream keeps
 module _ (s : Stream) (refusal : Refusal) (left : Option Bool) (l : Logged) (told : IsToldBy s.failed (NotLinearizable refusal))
     (kept : l ≡ log_upto s.failed refusal.key.0 s.pending (log_for s.states refusal.key.0)) where
-  abbrev TellsStream : Window → Type 0
-  TellsStream w = (w.key ≡ refusal.key) × (w.left ≡ left) × ((threads : ℕ) (opening : List ℕ) (calls : List CallRecord) → IsStreamOf threads opening calls s
-      → AreLogged threads opening calls s → IsWindow threads opening calls left refusal.moment w)
-
   module _ (w : Window) (h : TellsOf refusal.key left l w) (threads : ℕ) (opening : List ℕ) (calls : List CallRecord) (is : IsStreamOf threads opening calls s) where
     window_by : (failed : Option Failed) → IsToldBy failed (NotLinearizable refusal)
         → l ≡ log_upto failed refusal.key.0 s.pending (log_for s.states refusal.key.0)
@@ -260,24 +217,16 @@ module _ (s : Stream) (refusal : Refusal) (left : Option Bool) (l : Logged) (tol
         (subst (λ (q : Key). IsLog threads opening calls q.0 f.moment [] (log_for s.states q.0)) key logged))
         (subst (λ m. IsReached m calls f.moment) at refl)
 
-  pub tells_stream : (o : Option Window) → IfSome o (TellsOf refusal.key left l) → IfSome o TellsStream
+  pub tells_stream : (o : Option Window) → IfSome o (TellsOf refusal.key left l) → IfSome o (TellsStream refusal left s)
   tells_stream None h = tt
-  tells_stream (Some w) h = (h.0, h.1, λ threads opening calls is logged. window_by w h threads opening calls is s.failed told kept logged)
+  tells_stream (Some w) h = (h.0, h.1, λ threads opening calls is. window_by w h threads opening calls is.stream s.failed told kept is.logged)
 
-pub tells_now : (s : Stream) (refusal : Refusal) (left other : Option Bool) (o : Option Window) → left ≡ other
-    → IfSome o (λ (w : Window). (w.key ≡ refusal.key) × (w.left ≡ left) × ((threads : ℕ) (opening : List ℕ) (calls : List CallRecord)
-    → IsStreamOf threads opening calls s → AreLogged threads opening calls s → IsWindow threads opening calls left refusal.moment w))
-    → (threads : ℕ) (opening : List ℕ) (calls : List CallRecord) → IsStreamOf threads opening calls s → AreLogged threads opening calls s
+pub tells_now : (s : Stream) (refusal : Refusal) (left other : Option Bool) (o : Option Window) → left ≡ other → IfSome o (TellsStream refusal left s)
+    → (threads : ℕ) (opening : List ℕ) (calls : List CallRecord) → IsStreamKept threads opening calls s
     → IfSome o (λ (w : Window). (w.key ≡ refusal.key) × (w.left ≡ other) × IsWindow threads opening calls other refusal.moment w)
-tells_now s refusal left other None e h threads opening calls is logged = tt
-tells_now s refusal left other (Some w) e h threads opening calls is logged =
-    (h.0, h.1 ∙ e, subst (λ q. IsWindow threads opening calls q refusal.moment w) e (h.2 threads opening calls is logged))
-
--- ---- a call that succeeded
-
-pub on_ok_both : {X E P Q R : Type 0} (r : Result X E) → OnOk r P → OnOk r Q → (P → Q → R) → OnOk r R
-on_ok_both (Ok x) p q f = f p q
-on_ok_both (Err e) p q f = tt
+tells_now s refusal left other None e h threads opening calls is = tt
+tells_now s refusal left other (Some w) e h threads opening calls is =
+    (h.0, h.1 ∙ e, subst (λ q. IsWindow threads opening calls q refusal.moment w) e (h.2 threads opening calls is))
 
 -- ---- one more call
 

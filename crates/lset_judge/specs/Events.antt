@@ -1,5 +1,5 @@
 -- What a history tells of one key: the events of the key at its moments.
-use Rattle.std.specs.Prelude.{◌≡◌, ℕ, zero, suc, ◌+◌, ◌≤◌, ◌==◌, Bool, true, false, if◌then◌else◌, List, [], ◌∷◌, Option, Some, None}
+use Rattle.std.specs.Prelude.{◌≡◌, ℕ, ◌+◌, ◌==◌, Bool, true, false, if◌then◌else◌, List, [], ◌∷◌, Option, Some, None}
 use Rattle.lset_words.specs.declared.Call.{Call}
 use Rattle.lset_words.specs.declared.Call.TheVariants.{Add, Remove, Contains, Ceiling}
 use Rattle.lset_words.specs.declared.Reply.{Reply}
@@ -8,7 +8,7 @@ use Rattle.lset_words.specs.declared.history.CallRecord.{CallRecord}
 use Rattle.lset_words.specs.SequentialSet.{has_key}
 use Rattle.lset_words.specs.Words.{key_of}
 use Rattle.lset_history.specs.History.{HistoryValue}
-use Rattle.lset_judge.specs.Rule.{Event, begins, ends, looks, leaves, idle, rule_succeeds, ruled, opened}
+use Rattle.lset_judge.specs.Rule.{Event, begins, ends, looks, idle, may_leave}
 -- WHAT A CALL DOES to its key: it turns it, to there or not there; it sees it there or not there; or nothing is told
 pub use Rattle.lset_judge.specs.declared.event.Kind.{Kind}
 pub use Rattle.lset_judge.specs.declared.event.Kind.TheVariants.{Changes as changes, Sees as sees, Nothing as nothing}
@@ -61,11 +61,6 @@ end_event (changes w) begun = ends w
 end_event (sees w) begun = looks w begun
 end_event nothing begun = idle
 
--- what a call is to its key at the moment at which it begins, or else ends
-abbrev pub event_in : ℕ → CallRecord → ℕ → Event
-event_in last x m = if x.begun == m then begin_event (kind_if x.call x.ended) (until_if last x.begun x.ended)
-    else end_event (kind_if x.call x.ended) x.begun
-
 -- the event of a key at a moment
 abbrev pub event_at : ℕ → ℕ → List CallRecord → ℕ → Event
 event_at last k [] m = idle
@@ -75,20 +70,10 @@ event_at last k (x ∷ xs) m =
     else (if ends_at m x.ended then end_event (kind_if x.call x.ended) x.begun else event_at last k xs m)
     ) else event_at last k xs m
 
--- the events after a moment, so many, and then how the key is left
-abbrev pub events_on : (ℕ → Event) → Bool → ℕ → ℕ → List Event
-events_on ev left zero m = leaves left ∷ []
-events_on ev left (suc n) m = ev (suc m) ∷ events_on ev left n (suc m)
-
 -- THE RULE, for a key of a history and of the keys left; where the moments end
 abbrev pub rule_explains : ℕ → HistoryValue → List ℕ → ℕ → Bool
-rule_explains last h keys k = rule_succeeds (has_key k h.opening.keys) (events_on (event_at last k h.calls) (has_key k keys) last 0)
+rule_explains last h keys k = may_leave (event_at last k h.calls) (has_key k h.opening.keys) (has_key k keys) last
 
 -- THE RULE FAILS ON NO KEY
 abbrev pub RulePasses : ℕ → HistoryValue → List ℕ → Type 0
 RulePasses last h keys = (k : ℕ) → rule_explains last h keys k ≡ true
-
--- THE RULE FAILS on a key by a moment, whatever happens after it
-abbrev pub FailsBy : ℕ → HistoryValue → ℕ → ℕ → Type 0
-FailsBy last h key moment = (other : ℕ → Event) (left : Bool) → ((m : ℕ) → m ≤ moment → other m ≡ event_at last key h.calls m)
-    → ruled 0 (Some (opened (has_key key h.opening.keys))) (events_on other left last 0) ≡ None

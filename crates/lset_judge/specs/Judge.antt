@@ -2,18 +2,17 @@
 use Rattle.std.specs.Prelude.{◌≡◌, ℕ, List, None, IfSome}
 use Rattle.lset_words.specs.declared.history.CallRecord.{CallRecord}
 use Rattle.lset_judge.specs.declared.stream.StreamVerdict.TheVariants.{Linearizable, NotLinearizable}
-use Rattle.lset_judge.specs.Stream.{stream_history, IsStreamOf, IsStreamVerdict, IsStreamVerdictCutOff}
+use Rattle.lset_judge.specs.Stream.{stream_history, IsStreamVerdict, IsStreamVerdictCutOff}
 use Rattle.lset_judge.specs.declared.judging.Verdict.{Verdict}
 use Rattle.lset_judge.specs.declared.judging.Verdict.TheVariants as verdict
 use Rattle.lset_judge.specs.declared.judging.Judge.{Judge}
 use Rattle.lset_judge.specs.declared.window.Window.{Window}
-use Rattle.lset_judge.specs.Log.{AreLogged}
+use Rattle.lset_judge.specs.Log.{IsStreamKept}
 use Rattle.lset_judge.specs.Window.{left_by, IsWindow}
 
 -- THE CALLS OF THE JUDGE so far are these, of a set that opens with these keys
-pub record IsJudgeOf (threads : ℕ) (opening : List ℕ) (calls : List CallRecord) (j : Judge) : Type 0 where
-  pub stream : IsStreamOf threads opening calls j.stream
-  pub logged : AreLogged threads opening calls j.stream
+abbrev pub IsJudgeOf : ℕ → List ℕ → List CallRecord → Judge → Type 0
+IsJudgeOf threads opening calls j = IsStreamKept threads opening calls j.stream
 
 -- ---- WHAT THE ANSWER SAYS
 

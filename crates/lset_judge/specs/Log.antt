@@ -6,19 +6,22 @@ use Rattle.std.specs.HashMap.{get}
 use Rattle.lset_words.specs.declared.Reply.{Reply}
 use Rattle.lset_words.specs.declared.history.CallRecord.{CallRecord}
 use Rattle.lset_words.specs.Words.{key_of}
-use Rattle.lset_words.specs.History.{call_numbered}
+use Rattle.lset_words.specs.History.{call_numbered, IsHistory}
+use Rattle.lset_words.specs.declared.Key.{Key}
 use Rattle.lset_judge.specs.declared.stream.StreamCall.{StreamCall}
 use Rattle.lset_judge.specs.declared.stream.Pending.{Pending}
 use Rattle.lset_judge.specs.declared.stream.Failed.{Failed}
 use Rattle.lset_judge.specs.declared.stream.Stream.{Stream}
+use Rattle.lset_judge.specs.declared.stream.Refusal.{Refusal}
+use Rattle.lset_judge.specs.declared.window.Window.{Window}
 use Rattle.lset_judge.specs.declared.rule.KeyState.{KeyState}
 use Rattle.lset_judge.specs.declared.log.Ended.{Ended}
 use Rattle.lset_judge.specs.declared.log.Rest.{Rest}
 use Rattle.lset_judge.specs.declared.log.Log.{Log}
 use Rattle.lset_judge.specs.Rule.{State}
 use Rattle.lset_judge.specs.Rest.{has_ended, may_turn, IsAtRest}
-use Rattle.lset_judge.specs.Stream.{States, record_of, call_of, pending_of, state_for}
-use Rattle.lset_judge.specs.Window.{makes_so}
+use Rattle.lset_judge.specs.Stream.{States, record_of, call_of, pending_of, state_for, IsStreamOf}
+use Rattle.lset_judge.specs.Window.{makes_so, IsReached, IsRestOf, IsWindow}
 
 -- the calls that ended after a moment; how the key was then, if it is known that it was at rest; and a change that made it so
 pub record Logged : Type 0 where
@@ -71,12 +74,17 @@ waiting_of key pending = filter (λ (c : StreamCall). (key_of c.call).0 == key) 
 abbrev pub IsOverBy : ℕ → ℕ → List CallRecord → Type 0
 IsOverBy key moment calls = All (λ (x : CallRecord). (key_of x.call).0 ≡ key → may_turn x ≡ true → x.begun ≤ moment → has_ended moment x.ended ≡ true) calls
 
--- a call of the recording and of the key; and how the key is at rest after its end, if each change that began by then has ended by then
+-- how the key is at rest after an end, if that is known, and if each change that began by then has ended by then
+abbrev pub Rests : ℕ → List ℕ → List CallRecord → ℕ → ℕ → Option Bool → Option (ℕ × Reply) → Type 0
+Rests threads opening calls key upto None ended = Unit {0}
+Rests threads opening calls key upto (Some there) None = Unit {0}
+Rests threads opening calls key upto (Some there) (Some e) = (e.0 ≤ upto) × (IsOverBy key e.0 calls → IsAtRest threads opening calls key e.0 there)
+
+-- a call of the recording and of the key, and how the key is at rest after its end
 pub record IsEntry (threads : ℕ) (opening : List ℕ) (calls : List CallRecord) (key upto : ℕ) (x : Ended) : Type 0 where
   pub known : Contains calls (record_of x.call)
   pub own : (key_of x.call.call).0 ≡ key
-  pub quiet : IfSome x.quiet (λ (there : Bool). IfSome x.call.ended (λ (e : ℕ × Reply). (e.0 ≤ upto)
-      × (IsOverBy key e.0 calls → IsAtRest threads opening calls key e.0 there)))
+  pub quiet : Rests threads opening calls key upto x.quiet x.call.ended
 
 -- the call ended by the moment from which calls are kept, or is kept, or is pending
 abbrev pub IsHeld : Logged → List Pending → CallRecord → Type 0
@@ -97,6 +105,11 @@ LoggedBy threads opening calls moment pending states (Some f) = IsLog threads op
 
 abbrev pub AreLogged : ℕ → List ℕ → List CallRecord → Stream → Type 0
 AreLogged threads opening calls s = LoggedBy threads opening calls s.moment s.pending s.states s.failed
+
+-- THE CALLS OF THE STREAM so far are these, and of each key those are kept that explain a refusal
+pub record IsStreamKept (threads : ℕ) (opening : List ℕ) (calls : List CallRecord) (s : Stream) : Type 0 where
+  pub stream : IsStreamOf threads opening calls s
+  pub logged : AreLogged threads opening calls s
 
 -- ---- what the functions on the way say
 
@@ -146,3 +159,20 @@ LogsEnd before pending call after None (Some f) = log_for after (key_of call.cal
 abbrev pub log_upto : Option Failed → ℕ → List Pending → Logged → Logged
 log_upto None key pending l = with_pending (waiting_of key pending) l
 log_upto (Some f) key pending l = l
+
+-- ---- what the functions say of a window
+
+-- a key at rest at a moment no earlier than what is kept
+abbrev pub IsRestFrom : ℕ → Logged → Rest → Type 0
+IsRestFrom key l r = (threads upto : ℕ) (opening : List ℕ) (calls : List CallRecord) → IsLog threads opening calls key upto [] l
+    → IsRestOf threads opening calls key l.since r
+
+-- by what is kept of a key
+abbrev pub TellsOf : Key → Option Bool → Logged → Window → Type 0
+TellsOf key left l w = (w.key ≡ key) × (w.left ≡ left) × ((threads upto : ℕ) (opening : List ℕ) (calls : List CallRecord) (moment : Option ℕ)
+    → IsHistory threads calls → IsLog threads opening calls key.0 upto [] l → IsReached moment calls upto → IsWindow threads opening calls left moment w)
+
+-- by what the stream keeps
+abbrev pub TellsStream : Refusal → Option Bool → Stream → Window → Type 0
+TellsStream refusal left s w = (w.key ≡ refusal.key) × (w.left ≡ left) × ((threads : ℕ) (opening : List ℕ) (calls : List CallRecord)
+    → IsStreamKept threads opening calls s → IsWindow threads opening calls left refusal.moment w)

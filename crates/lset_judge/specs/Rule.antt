@@ -28,7 +28,7 @@ changes_to w s = if w then s.puts else s.takes
 
 -- the changes by which the key can turn now
 abbrev pub options : State → List ℕ
-options s = if s.there then s.takes else s.puts
+options s = changes_to (not s.there) s
 
 -- how many of these moments are not before one
 abbrev pub not_before : ℕ → List ℕ → ℕ
@@ -49,12 +49,16 @@ abbrev pub put_in : ℕ → List ℕ → List ℕ
 put_in e [] = e ∷ []
 put_in e (x ∷ xs) = if nat_lt e x then e ∷ x ∷ xs else x ∷ put_in e xs
 
+-- the changes to there, or to not there, where one may begin
+abbrev pub entering : Bool → Event → List ℕ → List ℕ
+entering w (begins v end) xs = if same w v then put_in end xs else xs
+entering w (ends v) xs = xs
+entering w (looks v since) xs = xs
+entering w (leaves v) xs = xs
+entering w idle xs = xs
+
 abbrev pub enters : Event → State → State
-enters (begins w end) s = if w then record s { puts = put_in end s.puts } else record s { takes = put_in end s.takes }
-enters (ends w) s = s
-enters (looks w since) s = s
-enters (leaves w) s = s
-enters idle s = s
+enters v s = record { there = s.there; turned = s.turned; puts = entering true v s.puts; takes = entering false v s.takes }
 
 abbrev pub take_out : ℕ → List ℕ → List ℕ
 take_out e [] = []
@@ -62,8 +66,12 @@ take_out e (x ∷ xs) = if x == e then xs else x ∷ take_out e xs
 
 -- the key turns by the change with that end, after the event of a moment
 abbrev pub turned_by : ℕ → ℕ → State → State
-turned_by m e s = if s.there then record { there = false; turned = m; puts = s.puts; takes = take_out e s.takes }
-    else record { there = true; turned = m; puts = take_out e s.puts; takes = s.takes }
+turned_by m e s = record {
+  there = not s.there;
+  turned = m;
+  puts = if s.there then s.puts else take_out e s.puts;
+  takes = if s.there then take_out e s.takes else s.takes;
+}
 
 -- THE RULE: nothing turns before an event asks for it; then turns that change whose end is nearest.
 abbrev pub nearest : ℕ → List ℕ → ℕ
@@ -90,12 +98,6 @@ abbrev pub entered : Event → Option State → Option State
 entered v None = None
 entered v (Some t) = Some (enters v t)
 
--- the state after the events from a moment on, or none where the rule fails
-abbrev pub ruled : ℕ → Option State → List Event → Option State
-ruled m None vs = None
-ruled m (Some s) [] = Some s
-ruled m (Some s) (v ∷ vs) = ruled (suc m) (entered v (found m v s)) vs
-
 -- what happens at the moment after one, to the state up to it; none if the rule has failed
 abbrev pub stepped : ℕ → Event → Option State → Option State
 stepped m v None = None
@@ -106,5 +108,6 @@ abbrev pub state_after : (ℕ → Event) → Bool → ℕ → Option State
 state_after ev opening zero = Some (opened opening)
 state_after ev opening (suc m) = stepped m (ev (suc m)) (state_after ev opening m)
 
-abbrev pub rule_succeeds : Bool → List Event → Bool
-rule_succeeds opening events = is_some (ruled 0 (Some (opened opening)) events)
+-- whether the key may be left so after a moment
+abbrev pub may_leave : (ℕ → Event) → Bool → Bool → ℕ → Bool
+may_leave ev opening left last = is_some (stepped last (leaves left) (state_after ev opening last))

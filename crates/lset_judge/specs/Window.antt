@@ -98,24 +98,28 @@ IsReached (Some moment) calls upto = moment ≡ upto
 
 -- THE WINDOW: at its moment the key is at rest, and there or not; and from there calls have no order that are the shown ones, and of the other
 -- changes of the key that begin after that moment, up to the refusal's, each as pending: whatever became of them
-pub record IsWindow (threads : ℕ) (opening : List ℕ) (calls : List CallRecord) (left : Option Bool) (moment : Option ℕ) (w : Window) : Type 0 where
-  pub rest : IsAtRest threads opening calls w.key.0 w.since w.there
-  pub made : IfSome w.before (IsMaker calls w.key.0 w.since w.there)
+pub record IsWindowOf (threads : ℕ) (opening : List ℕ) (calls : List CallRecord) (left : Option Bool) (moment : Option ℕ)
+    (key since : ℕ) (there : Bool) (before : Option StreamCall) (calls_shown : List StreamCall) : Type 0 where
+  pub rest : IsAtRest threads opening calls key since there
+  pub made : IfSome before (IsMaker calls key since there)
   pub upto : ℕ
   pub reached : IsReached moment calls upto
   -- the calls that are asked are a history by itself, and have no order from there
   pub bound : ℕ
   pub asked : List CallRecord
   pub history : IsHistory bound asked
-  pub none : HaveNone bound w.key.0 w.there left asked
+  pub none : HaveNone bound key there left asked
   -- each call that is shown is one of the recording, and is asked;
-  pub shown : All (λ (c : StreamCall). IsAfter calls w.key.0 w.since (record_of c) × ((y : CallRecord) × Has asked y × IsSame (record_of c) y)) w.calls.items
+  pub shown : All (λ (c : StreamCall). IsAfter calls key since (record_of c) × ((y : CallRecord) × Has asked y × IsSame (record_of c) y)) calls_shown
   -- each call that is asked is one that is shown, or a change of the recording, as pending;
-  pub others : All (λ (y : CallRecord). ((c : StreamCall) × Has w.calls.items c × IsSame (record_of c) y)
-      ⊎ ((x : CallRecord) × IsAfter calls w.key.0 w.since x × (may_turn x ≡ true) × IsOpened x y)) asked
+  pub others : All (λ (y : CallRecord). ((c : StreamCall) × Has calls_shown c × IsSame (record_of c) y)
+      ⊎ ((x : CallRecord) × IsAfter calls key since x × (may_turn x ≡ true) × IsOpened x y)) asked
   -- and each change of the key is asked
-  pub changes : All (λ (x : CallRecord). (key_of x.call).0 ≡ w.key.0 → may_turn x ≡ true → w.since < x.begun → x.begun ≤ upto
+  pub changes : All (λ (x : CallRecord). (key_of x.call).0 ≡ key → may_turn x ≡ true → since < x.begun → x.begun ≤ upto
       → (y : CallRecord) × Has asked y × (IsSame x y ⊎ IsOpened x y)) calls
+
+abbrev pub IsWindow : ℕ → List ℕ → List CallRecord → Option Bool → Option ℕ → Window → Type 0
+IsWindow threads opening calls left moment w = IsWindowOf threads opening calls left moment w.key.0 w.since w.there w.before w.calls.items
 
 -- a key at rest at a moment no earlier than another
 abbrev pub IsRestOf : ℕ → List ℕ → List CallRecord → ℕ → ℕ → Rest → Type 0

@@ -3,7 +3,7 @@
 ghost use Rattle.std.specs.Prelude.{◌≡◌, ◌<◌, ℕ, All, IfOk, OnOk, IfSome, IsTrue, filter, map};
 ghost use Rattle.std.specs.List.Sorted.{IsStrictlyIncreasing};
 ghost use Rattle.lset_judge.specs.Rest.{key_if};
-ghost use Rattle.lset_judge.specs.Stream.{IsStreamOf};
+ghost use Rattle.lset_judge.specs.Log.{IsStreamKept};
 ghost use Rattle.lset_judge.specs.Window.{records, asked_as, asked_of, calls_of, hidden_between, is_asked, HaveNoneOf};
 
 use crate::log::may_turn;
@@ -77,7 +77,7 @@ fn stream_of(
     calls: &[StreamCall],
 ) -> Result<Option<Stream>, AllocError>
     ensures { IfOk result (λ found. IfSome found (λ s. (threads : ℕ) → All (λ x. x.thread < threads) calls.now
-        → IsStreamOf threads (key_if there key) (records calls.now) s)) }
+        → IsStreamKept threads (key_if there key) (records calls.now) s)) }
 {
     let opening = key_if(alloc, there, key)?;
     let mut stream = Stream::new(alloc, &opening)?;

@@ -1,9 +1,9 @@
 //! What the calls of a key do to it, and what happens of it at a moment.
 
-ghost use Rattle.std.specs.Prelude.{◌≡◌, ◌+◌};
-ghost use Rattle.lset_judge.specs.Events.{kind_of, open_kind, kind_if, until_if, begin_event, end_event, event_in};
+ghost use Rattle.std.specs.Prelude.{◌≡◌};
+ghost use Rattle.lset_judge.specs.Events.{kind_of, open_kind, begin_event, end_event};
 
-use lset_words::{Call, CallRecord, Reply};
+use lset_words::{Call, Reply};
 
 /// What a call does to its key.
 #[derive(Clone, Copy, Debug, PartialEq, Eq)]
@@ -57,27 +57,6 @@ pub(crate) fn open_kind(call: Call) -> Kind
     }
 }
 
-/// What a call does to its key; an open one may change it.
-pub(crate) fn kind_of(call_record: &CallRecord) -> Kind
-    ensures { result ≡ kind_if call_record.now.call call_record.now.ended }
-{
-    match call_record.ended {
-        None => open_kind(call_record.call),
-        Some((_, reply)) => ended_kind(call_record.call, reply),
-    }
-}
-
-/// Before which moment a call takes effect: an open one behind all others that have begun before it, where `latest` is the latest
-/// moment.
-fn until(call_record: &CallRecord, latest: u32) -> u64
-    ensures { result ≡ until_if latest call_record.now.begun call_record.now.ended }
-{
-    match call_record.ended {
-        None => u64::from(latest) + u64::from(call_record.begun),
-        Some((end, _)) => u64::from(end),
-    }
-}
-
 /// What a call is to its key as it begins: before which moment it takes effect.
 pub(crate) fn begin_event(kind: Kind, until: u64) -> Event
     ensures { result ≡ begin_event kind until }
@@ -95,20 +74,6 @@ pub(crate) fn end_event(kind: Kind, begun: u64) -> Event
     match kind {
         Kind::Changes(to) => Event::Ends(to),
         Kind::Sees(there) => Event::Looks(there, begun),
-        Kind::Nothing => Event::Idle,
-    }
-}
-
-/// What a call is to its key at the moment at which it begins, or else ends.
-pub(crate) fn event_of(call_record: &CallRecord, moment: u32, latest: u32) -> Event
-    ensures { result ≡ event_in latest call_record.now moment }
-{
-    let begins = call_record.begun == moment;
-    match kind_of(call_record) {
-        Kind::Changes(to) if begins => Event::Begins(to, until(call_record, latest)),
-        Kind::Changes(to) => Event::Ends(to),
-        Kind::Sees(_) if begins => Event::Idle,
-        Kind::Sees(there) => Event::Looks(there, u64::from(call_record.begun)),
         Kind::Nothing => Event::Idle,
     }
 }

@@ -1,6 +1,6 @@
 //! Which histories the judge decides.
 
-ghost use Rattle.std.specs.Prelude.{slice_index, length, ◌≡◌, ◌≤◌, ◌<◌, ◌^◌, ℕ, IsTrue, ◌↔◌, All, IfSome, true};
+ghost use Rattle.std.specs.Prelude.{◌≡◌, ◌≤◌, ℕ, IsTrue, ◌↔◌, All, IfSome, true};
 ghost use Rattle.lset_judge.specs.Verdict.{is_plain, may_add, adds_of, IsPlain, IsJudged};
 
 use lset_history::History;
@@ -44,33 +44,28 @@ fn all_plain(calls: &[CallRecord]) -> bool
     calls.iter().all(|call_record| ends_plain(call_record))
 }
 
-/// The adds of each thread that put their keys in, or may.
-fn counted_adds(calls: &[CallRecord]) -> [u32; MOST_THREADS as usize]
-    requires threads { All (λ x. x.thread < MOST_THREADS) calls.now }
-    requires few { length calls.now < 2 ^ 32 }
-    ensures { (thread : ℕ) → thread < MOST_THREADS → slice_index result thread ≡ adds_of thread calls.now }
+/// How many adds of a thread put their keys in, or may.
+fn adds_of(calls: &[CallRecord], thread: u32) -> usize
+    ensures { result ≡ adds_of thread calls.now }
 {
-    let mut adds = [0u32; MOST_THREADS as usize];
-    for call_record in calls {
-        if may_add(call_record) {
-            adds[call_record.thread as usize] += 1;
-        }
-    }
-    adds
-}
-
-fn are_within(counts: &[u32], quota: u32) -> bool
-    ensures { IsTrue result ↔ All (λ n. n ≤ quota) counts.now }
-{
-    counts.iter().all(|count| *count <= quota)
+    calls
+        .iter()
+        .filter(|call_record| may_add(call_record) && call_record.thread == thread)
+        .count()
 }
 
 /// Whether each thread has quota for its adds that put their keys in, and for an open one.
 fn has_room(history: &History) -> bool
     ensures { IsTrue result ↔ ((thread : ℕ) → adds_of thread history.now.calls ≤ history.now.opening.quota) }
 {
-    let quota = history.quota();
-    are_within(&counted_adds(history.calls()), quota)
+    let quota = history.quota() as usize;
+    let calls = history.calls();
+    for thread in 0..MOST_THREADS {
+        if adds_of(calls, thread) > quota {
+            return false;
+        }
+    }
+    true
 }
 
 /// Whether each call of a history that has ended answered true or false, and none of them is a `ceiling`: the judge decides it, if each

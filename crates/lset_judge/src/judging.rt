@@ -3,10 +3,10 @@
 ghost use Rattle.std.specs.Prelude.{◌≡◌, ◌<◌, ◌++◌, ◌∷◌, ◌≢◌, [], ℕ, IfErr, IfOk, IfSome, List, OnOk};
 ghost use Rattle.std.specs.List.Sorted.{IsStrictlyIncreasing};
 ghost use Rattle.lset_words.specs.declared.history.CallRecord.{CallRecord as RecordedCall};
-ghost use Rattle.lset_judge.specs.Stream.{record_of, moment_of, pending_in, IsToldBy, MayCome, IsStreamOf};
-ghost use Rattle.lset_judge.specs.Log.{AreLogged};
+ghost use Rattle.lset_judge.specs.Stream.{record_of, moment_of, pending_in, IsToldBy, MayCome};
+ghost use Rattle.lset_judge.specs.Log.{TellsStream};
 ghost use Rattle.lset_judge.specs.Judge.{IsJudgeOf, IsVerdict, IsVerdictCutOff};
-ghost use Rattle.lset_judge.specs.Window.{left_by, IsWindow};
+ghost use Rattle.lset_judge.specs.Window.{left_by};
 ghost use Rattle.lset_judge.specs.declared.stream.StreamVerdict.TheVariants.{NotLinearizable};
 
 use crate::keys::is_among;
@@ -52,9 +52,7 @@ fn window_for(
     left: Option<bool>,
 ) -> Result<Option<Window>, AllocError>
     requires { IsToldBy stream.failed (NotLinearizable refusal) }
-    ensures { IfOk result (λ found. IfSome found (λ w. (w.key ≡ refusal.key) × (w.left ≡ left)
-        × ((threads : ℕ) (opening : List ℕ) (calls : List RecordedCall) → IsStreamOf threads opening calls stream
-        → AreLogged threads opening calls stream → IsWindow threads opening calls left refusal.moment w))) }
+    ensures { IfOk result (λ found. IfSome found (TellsStream refusal left stream)) }
 {
     let log = stream.into_log(refusal.key.0)?;
     let window = window_of(alloc, refusal.key, left, &log)?;

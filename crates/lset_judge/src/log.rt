@@ -15,7 +15,7 @@ use std::alloc::{AllocError, Global};
 const MOST_KEPT: usize = 1 << 10;
 
 /// How many calls of a key are kept before it is looked at which of them are needed.
-const FIRST_LOOK: usize = 8;
+const FIRST_LOOK: usize = 24;
 
 /// How many pending calls may be walked for each call that is kept.
 const WALKED_FOR_ONE: usize = 16;

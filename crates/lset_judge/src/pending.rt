@@ -1,6 +1,6 @@
 //! The calls of a stream that are pending.
 
-ghost use Rattle.std.specs.Prelude.{◌≡◌, ◌≢◌, ◌↔◌, ◌<◌, ◌≤◌, ◌∷◌, ◌++◌, [], ◌^◌, ◌-◌, IsTrue, IsSome, is_some, All, IfSome, MatchOption, OnOk, length, map, slice_index_or, Some, slice_get, IfOk};
+ghost use Rattle.std.specs.Prelude.{◌==◌, filter, ◌≡◌, ◌≢◌, ◌↔◌, ◌<◌, ◌≤◌, ◌∷◌, ◌++◌, [], ◌^◌, ◌-◌, IsTrue, IsSome, is_some, All, IfSome, MatchOption, OnOk, length, map, slice_index_or, Some, slice_get, IfOk};
 ghost use Rattle.std.specs.Bool.{nat_eq};
 ghost use Rattle.std.specs.BTreeMap.{IsOrdered};
 ghost use Rattle.std.specs.BTreeMap as tree;
@@ -8,6 +8,7 @@ ghost use Rattle.std.specs.HashMap.{get};
 ghost use Rattle.std.specs.List.Sorted.{IsPermutation};
 ghost use Rattle.std.specs.Ordering.{nat_cmp};
 ghost use Rattle.lset_judge.specs.Log.{waiting_of};
+ghost use Rattle.lset_words.specs.Words.{key_of};
 ghost use Rattle.lset_judge.specs.Pending.{pending_at, end_or, IsFirst, IsNext};
 
 use crate::stream::{Pending, StreamCall, StreamFault};
@@ -66,7 +67,9 @@ fn clash(few: &[Pending], call: StreamCall) -> Option<StreamFault>
         if it.end == call.begun || it.end == end {
             return Some(StreamFault::Taken);
         }
-        is_busy |= it.call.thread == call.thread && call.begun < it.end;
+        if it.call.thread == call.thread && call.begun < it.end {
+            is_busy = true;
+        }
     }
     if is_busy {
         Some(StreamFault::Busy)
@@ -190,20 +193,18 @@ fn few_of_key(alloc: Global, few: &[Pending], key: u32) -> Result<Vec<StreamCall
     Ok(own)
 }
 
-/// Puts those of a key behind other calls.
-fn add_of_key(
+/// Those of a key.
+fn many_of_key(
+    alloc: Global,
     many: &BTreeMap<u64, StreamCall>,
     key: u32,
-    own: &mut Vec<StreamCall>,
-) -> Result<(), AllocError>
-    ensures { OnOk result (own.new.items ≡ own.old.items ++ waiting_of key (map pending_at many.now.entries)) }
+) -> Result<Vec<StreamCall>, AllocError>
+    ensures { IfOk result (λ calls. calls.items ≡ filter (λ c. (key_of c.call).0 == key) (tree.values many.now)) }
 {
-    for (_, call) in many {
-        if call.is_of(key) {
-            own.push(*call)?;
-        }
-    }
-    Ok(())
+    many.values()
+        .copied()
+        .filter(|call| call.is_of(key))
+        .collect(alloc)
 }
 
 impl PendingCalls {
@@ -286,7 +287,7 @@ impl PendingCalls {
         ensures { IfOk result (λ calls. calls.items ≡ waiting_of key self.now) }
     {
         let mut own = few_of_key(alloc, &self.few, key)?;
-        add_of_key(&self.many, key, &mut own)?;
+        own.extend_from_slice(&many_of_key(alloc, &self.many, key)?)?;
         Ok(own)
     }
 }

@@ -11,7 +11,7 @@ ghost use Rattle.lset_words.specs.Words.{key_of};
 ghost use Rattle.lset_judge.specs.Rule.{entered, found, opened};
 ghost use Rattle.lset_judge.specs.Events.{kind_if, until_if, begin_event, end_event};
 ghost use Rattle.lset_judge.specs.Leaving.{may_be_left};
-ghost use Rattle.lset_judge.specs.Log.{log_of, log_for, log_opened, log_upto, waiting_of, with_pending, IsKept, LogsEnd, StaysLog, AreLogged};
+ghost use Rattle.lset_judge.specs.Log.{log_of, log_for, log_opened, log_upto, waiting_of, with_pending, IsKept, IsStreamKept, LogsEnd, StaysLog};
 ghost use Rattle.lset_judge.specs.Stream.{record_of, stream_history, behind_all, state_for, pending_of, key_in, event_of, IsBefore, IsMet, IsStreamOf, MayCome, failed_verdict, verdict_of_key, moment_of, pending_in, IsStreamVerdict, IsStreamVerdictCutOff, IsMetBy, IsToldBy};
 ghost use Rattle.lset_judge.specs.Verdict.{is_plain};
 ghost use Rattle.lset_judge.specs.declared.stream.StreamFault.TheVariants.{Memory};
@@ -351,8 +351,7 @@ impl Stream {
     /// No calls yet, of a set that opens with these keys; they rise.
     pub fn new(alloc: Global, opening: &[u32]) -> Result<Stream, AllocError>
         requires { IsStrictlyIncreasing opening.now }
-        ensures opened { IfOk result (λ s. (threads : ℕ) → IsStreamOf threads opening.now [] s) }
-        ensures logged { IfOk result (λ s. (threads : ℕ) → AreLogged threads opening.now [] s) }
+        ensures opened { IfOk result (λ s. (threads : ℕ) → IsStreamKept threads opening.now [] s) }
         ensures moment { IfOk result (λ s. moment_of s ≡ 0) }
     {
         Ok(Stream {
@@ -455,10 +454,8 @@ impl Stream {
     /// Lets all happen that happens before a moment.
     fn meet_before(&mut self, moment: u64) -> Result<(), AllocError>
         requires { moment ≤ behind_all }
-        ensures kept { OnOk result ((threads : ℕ) (opening : List ℕ) (calls : List RecordedCall) → IsStreamOf threads opening calls self.old
-            → IsStreamOf threads opening calls self.new) }
-        ensures logged { OnOk result ((threads : ℕ) (opening : List ℕ) (calls : List RecordedCall) → IsStreamOf threads opening calls self.old
-            → AreLogged threads opening calls self.old → AreLogged threads opening calls self.new) }
+        ensures kept { OnOk result ((threads : ℕ) (opening : List ℕ) (calls : List RecordedCall) → IsStreamKept threads opening calls self.old
+            → IsStreamKept threads opening calls self.new) }
         ensures before { OnOk result (self.old.moment < moment → self.new.moment < moment) }
         ensures met { OnOk result (All (λ p. moment ≤ p.end) self.new.pending) }
         ensures some { OnOk result (All (Contains self.old.pending) self.new.pending) }
@@ -475,9 +472,7 @@ impl Stream {
         requires met { All (λ p. call.begun ≤ p.end) self.old.pending }
         ensures moment { OnOk result (self.new.moment ≡ call.begun) }
         ensures begun { OnOk result ((threads : ℕ) (opening : List ℕ) (calls : List RecordedCall) → call.thread < threads
-            → IsStreamOf threads opening calls self.old → IsStreamOf threads opening (calls ++ record_of call ∷ []) self.new) }
-        ensures logged { OnOk result ((threads : ℕ) (opening : List ℕ) (calls : List RecordedCall) → IsStreamOf threads opening calls self.old
-            → AreLogged threads opening calls self.old → AreLogged threads opening (calls ++ record_of call ∷ []) self.new) }
+            → IsStreamKept threads opening calls self.old → IsStreamKept threads opening (calls ++ record_of call ∷ []) self.new) }
     {
         let pending = call.pending();
         self.pending.insert(pending)?;
@@ -493,9 +488,7 @@ impl Stream {
         requires { MayCome self.old.pending self.old.moment (record_of call) }
         ensures moment { OnOk result (self.new.moment ≡ call.begun) }
         ensures taken { OnOk result ((threads : ℕ) (opening : List ℕ) (calls : List RecordedCall) → call.thread < threads
-            → IsStreamOf threads opening calls self.old → IsStreamOf threads opening (calls ++ record_of call ∷ []) self.new) }
-        ensures logged { OnOk result ((threads : ℕ) (opening : List ℕ) (calls : List RecordedCall) → IsStreamOf threads opening calls self.old
-            → AreLogged threads opening calls self.old → AreLogged threads opening (calls ++ record_of call ∷ []) self.new) }
+            → IsStreamKept threads opening calls self.old → IsStreamKept threads opening (calls ++ record_of call ∷ []) self.new) }
     {
         self.meet_before(call.begun)?;
         self.begin(call)?;
@@ -507,9 +500,7 @@ impl Stream {
     /// An error but `Memory` says why the call cannot come next, and changes nothing. After `Memory` the stream is of no more use.
     pub fn add(&mut self, call: StreamCall) -> Result<(), StreamFault>
         ensures added { OnOk result ((threads : ℕ) (opening : List ℕ) (calls : List RecordedCall) → call.thread < threads
-            → IsStreamOf threads opening calls self.old → IsStreamOf threads opening (calls ++ record_of call ∷ []) self.new) }
-        ensures logged { OnOk result ((threads : ℕ) (opening : List ℕ) (calls : List RecordedCall) → IsStreamOf threads opening calls self.old
-            → AreLogged threads opening calls self.old → AreLogged threads opening (calls ++ record_of call ∷ []) self.new) }
+            → IsStreamKept threads opening calls self.old → IsStreamKept threads opening (calls ++ record_of call ∷ []) self.new) }
         // It has come to the begin of the call.
         ensures moment { OnOk result (moment_of self.new ≡ call.begun) }
         ensures refused { IfErr result (λ fault. fault ≢ StreamFault.Memory
@@ -565,10 +556,8 @@ impl Stream {
 
     /// Lets all happen that is left to happen.
     pub(crate) fn come_to_end(&mut self) -> Result<(), AllocError>
-        ensures kept { OnOk result ((threads : ℕ) (opening : List ℕ) (calls : List RecordedCall) → IsStreamOf threads opening calls self.old
-            → IsStreamOf threads opening calls self.new) }
-        ensures logged { OnOk result ((threads : ℕ) (opening : List ℕ) (calls : List RecordedCall) → IsStreamOf threads opening calls self.old
-            → AreLogged threads opening calls self.old → AreLogged threads opening calls self.new) }
+        ensures kept { OnOk result ((threads : ℕ) (opening : List ℕ) (calls : List RecordedCall) → IsStreamKept threads opening calls self.old
+            → IsStreamKept threads opening calls self.new) }
         ensures met { OnOk result (All (λ p. behind_all ≤ p.end) (pending_in self.new)) }
     {
         self.meet_before(BEHIND_ALL)

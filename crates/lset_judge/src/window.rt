@@ -1,10 +1,8 @@
 //! The few calls that show why no order explains a recording.
 
-ghost use Rattle.std.specs.Prelude.{◌≡◌, ℕ, [], IfOk, IfSome, List, Option};
-ghost use Rattle.lset_words.specs.declared.history.CallRecord.{CallRecord as RecordedCall};
-ghost use Rattle.lset_words.specs.History.{IsHistory};
-ghost use Rattle.lset_judge.specs.Log.{log_of, IsLog};
-ghost use Rattle.lset_judge.specs.Window.{calls_of, shown_of, IsReached, IsRestOf, IsWindow};
+ghost use Rattle.std.specs.Prelude.{◌≡◌, IfOk, IfSome};
+ghost use Rattle.lset_judge.specs.Log.{log_of, IsRestFrom, TellsOf};
+ghost use Rattle.lset_judge.specs.Window.{calls_of, shown_of};
 
 use crate::asked::{Part, parts_have_none, shorten};
 use crate::log::{Log, Rest};
@@ -102,10 +100,8 @@ fn window_at(
     log: &Log,
     rest: Rest,
 ) -> Result<Option<Window>, AllocError>
-    ensures { IfOk result (λ found. IfSome found (λ w. (w.key ≡ key) × (w.left ≡ left)
-        × ((threads upto : ℕ) (opening : List ℕ) (calls : List RecordedCall) (moment : Option ℕ) → IsHistory threads calls
-        → IsLog threads opening calls key.0 upto [] (log_of log.now) → IsReached moment calls upto
-        → IsRestOf threads opening calls key.0 (log_of log.now).since rest → IsWindow threads opening calls left moment w))) }
+    requires { IsRestFrom key.0 (log_of log.now) rest }
+    ensures { IfOk result (λ found. IfSome found (TellsOf key left (log_of log.now))) }
 {
     let calls = log.calls_after(alloc, rest.since)?;
     let mut parts = parts_of(alloc, &calls)?;
@@ -133,9 +129,7 @@ pub(crate) fn window_of(
     left: Option<bool>,
     log: &Log,
 ) -> Result<Option<Window>, AllocError>
-    ensures { IfOk result (λ found. IfSome found (λ w. (w.key ≡ key) × (w.left ≡ left)
-        × ((threads upto : ℕ) (opening : List ℕ) (calls : List RecordedCall) (moment : Option ℕ) → IsHistory threads calls
-        → IsLog threads opening calls key.0 upto [] (log_of log.now) → IsReached moment calls upto → IsWindow threads opening calls left moment w))) }
+    ensures { IfOk result (λ found. IfSome found (TellsOf key left (log_of log.now))) }
 {
     for place in (0..log.len()).rev() {
         if let Some(rest) = log.rest_at(place) {

@@ -1,6 +1,8 @@
 //! The five lists in one place: which machine belongs to which kind. What is done on the list of a kind that is known
-//! only as the program runs is a `Task`, and goes through `on_list`.
+//! only as the program runs is a `Task`, and goes through `on_list`. And the theorem of every machine: its runs are linearizable.
 #![tactic(auto)]
+
+mod theorem;
 
 ghost use Rattle.std.specs.Prelude.{◌≡◌};
 ghost use Rattle.lset_words.specs.declared.Kind.{Kind};
@@ -14,6 +16,7 @@ use lset_lock_free::LockFreeList;
 use lset_optimistic::OptimisticList;
 use lset_steps::Machine;
 use lset_words::Kind;
+pub use theorem::{placement_explains_runs, runs_are_linearizable};
 
 /// One of the five lists: a machine, with the table of its kind.
 pub trait List: Machine {

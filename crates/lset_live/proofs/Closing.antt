@@ -12,7 +12,7 @@ use Rattle.lset_words.specs.declared.history.Placed.{Placed}
 use Rattle.lset_words.specs.History.{answered, no_call}
 use Rattle.lset_words.specs.SequentialSet.{Answered, opening_set, set_left}
 use Rattle.lset_words.proofs.Bounds.{nodes_within}
-use Rattle.lset_linearizable.specs.Headline.{RunsAreLinearizable}
+use Rattle.lset_lists.specs.Headline.{RunsAreLinearizable}
 use Rattle.lset_steps.specs.Steps.{Table, State}
 use Rattle.lset_steps.specs.Laws.{Lawful, StateLaws, used_in}
 use Rattle.lset_steps.specs.Chain.{View as ChainView, Segment, view}

@@ -17,7 +17,7 @@ use Rattle.lset_words.specs.declared.history.Placed.{Placed}
 use Rattle.lset_words.specs.History.{Precedes, answered, call_numbered, no_call}
 use Rattle.lset_words.specs.SequentialSet.{SetState, Answered, IsLegal, opening_set, reply_to, after_call, has_key}
 use Rattle.lset_history.proofs.Histories.{IsPart, part_of}
-use Rattle.lset_linearizable.specs.Headline.{ExplainsRun, RunsAreLinearizable}
+use Rattle.lset_lists.specs.Headline.{ExplainsRun, RunsAreLinearizable}
 use Rattle.lset_steps.specs.declared.Event.{Event}
 use Rattle.lset_steps.specs.declared.Event.TheVariants.{Begin, Go}
 use Rattle.lset_steps.specs.Steps.{Table, State, Enabled, state_at, event_at, local_of, entry_of}
@@ -36,7 +36,7 @@ use Rattle.lset_rule.proofs.Stepped.{Tied, tied}
 use Rattle.lset_words.specs.Records.{Keeps, called, thread_of}
 use Rattle.lset_live.specs.Dated.{call_of, record_of}
 use Rattle.lset_live.specs.Explained.{HasAnswered, IsAnswered, SeenIsLinearizable}
-use Rattle.lset_live.specs.Seats.{SeatValue, SetValue, reply_of, is_true}
+use Rattle.lset_live.specs.Seats.{SeatValue, SetValue}
 use Rattle.lset_live.proofs.Dated.{root_is, said_by}
 use Rattle.lset_live.proofs.Histories.{of_thread, ended_record, thread_records, MayBegin, thread_calls}
 use Rattle.lset_live.proofs.Orders.{keeps}
@@ -194,40 +194,3 @@ module _ (T : Table) (law : Lawful T) (linear : RunsAreLinearizable T) (c : Call
   has_answered set old is of_set =
       let sets : (seat_at s').set ≡ set = same_set ∙ (ap (λ (z : SeatValue). z.set) is ∙ of_set) in
       subst (λ (z : SetValue × SeatValue). HasAnswered T z.0 z.1 c r (seat_at s')) (λ i. (sets i, is i)) at_seat
-
--- A `contains` answers True or False.
-abbrev IsTruth : Reply → Type 0
-IsTruth True = Unit {0}
-IsTruth False = Unit {0}
-IsTruth Full = ⊥
-IsTruth (reply.At k) = ⊥
-IsTruth reply.Nothing = ⊥
-
-pub legal_at : (q : ℕ) (s : SetState) (xs : List Answered) (a : Answered) (ys : List Answered) → IsLegal q s (xs ++ a ∷ ys) →
-    (z : SetState) × (reply_to q z a.thread a.call ≡ a.reply)
-legal_at q s [] a ys l = (s, l.0)
-legal_at q s (x ∷ xs) a ys l = legal_at q (after_call s x.thread x.call x.reply) xs a ys l.1
-
-is_truth : (b : Bool) (r : Reply) → (if b then True else False) ≡ r → IsTruth r
-is_truth true r e = subst (λ r. IsTruth r) e tt
-is_truth false r e = subst (λ r. IsTruth r) e tt
-
-read_is_truth : (T : Table) (law : Lawful T) → RunsAreLinearizable T → (key : Key) (v : View) (r : Reply) (w : View)
-    → Makes T (Contains key) v r w → IsTruth r
-read_is_truth T law linear key v r w m =
-    let call : OwnCall = record { call = Contains key; reply = r; begun = length m.log + 1; ended = length w.seen } in
-    let ex : SeenIsLinearizable T w.shape w.seen (called (record_of v.past) (call_of call)) =
-    subst (λ p. SeenIsLinearizable T w.shape w.seen p) (ap record_of m.past) (made_explained T law linear (Contains key) v r w m) in
-    let at = ex.keeps.1.1 in
-    let l = legal_at w.shape.quota (opening_set w.shape) at.before (said_by (thread_of (record_of v.past)) call) at.after
-    (subst (λ o. IsLegal w.shape.quota (opening_set w.shape) o) at.is ex.linearizes.legal) in
-    is_truth (has_key key.0 l.0.keys) r l.1
-
-pub as_bool : (T : Table) (law : Lawful T) → RunsAreLinearizable T → (key : Key) (v : View) (r : Reply) (w : View) →
-    Makes T (Contains key) v r w
-    → (b : Bool) → b ≡ is_true r → Makes T (Contains key) v (reply_of b) w
-as_bool T law linear key v True w m b e = subst (λ z. Makes T (Contains key) v (reply_of z) w) (sym e) m
-as_bool T law linear key v False w m b e = subst (λ z. Makes T (Contains key) v (reply_of z) w) (sym e) m
-as_bool T law linear key v Full w m b e = absurd (read_is_truth T law linear key v Full w m)
-as_bool T law linear key v (reply.At k) w m b e = absurd (read_is_truth T law linear key v (reply.At k) w m)
-as_bool T law linear key v reply.Nothing w m b e = absurd (read_is_truth T law linear key v reply.Nothing w m)

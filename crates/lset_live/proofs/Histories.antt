@@ -2,6 +2,7 @@
 use Rattle.std.proofs.Common.{◌≡◌, ◌≢◌, ⊎_elim, ℕ, zero, suc, ◌<◌, ◌≤◌, ◌==◌, Bool, true, false, cond, List, [], ◌∷◌, ◌++◌, map}
 use Rattle.std.proofs.Common.{Option, Some, None, refl, sym, ap, ◌∙◌, arith, append-nil, if◌then◌else◌}
 use Rattle.std.specs.Prelude.{filter, ◌&&◌, is_none}
+use Rattle.std.proofs.lemmas.List.{map-append}
 use Rattle.lset_words.proofs.Numbers.{same_or_not, equal_test, unequal_test, same_number}
 use Rattle.lset_words.specs.declared.Reply.{Reply}
 use Rattle.lset_words.specs.declared.history.CallRecord.{CallRecord}
@@ -35,10 +36,6 @@ filter-append p (x ∷ xs) ys = by_test (p x) (filter-append p xs ys)
         cond b (x ∷ filter p (xs ++ ys)) (filter p (xs ++ ys)) ≡ cond b (x ∷ filter p xs) (filter p xs) ++ filter p ys
     by_test true ih = ap (λ l. x ∷ l) ih
     by_test false ih = ih
-
-map-append : {X Y : Type 0} (f : X → Y) (xs ys : List X) → map f (xs ++ ys) ≡ map f xs ++ map f ys
-map-append f [] ys = refl
-map-append f (x ∷ xs) ys = ap (λ l. f x ∷ l) (map-append f xs ys)
 
 module _ (m : ℕ) (ch : Option Change) (a : Option Reply) where
   abbrev on : ℕ → TracedCall → TracedCall

@@ -4,7 +4,7 @@ use Rattle.std.proofs.Common.{◌≡◌, ◌⊎◌, ⊎_elim, ℕ, zero, suc, �
 use Rattle.std.proofs.Common.{◌++◌, map, length, get_or, Option, Some, None, refl, sym, ap, ◌∙◌, subst, arith, length-append}
 use Rattle.std.proofs.Common.{append_assoc, if◌then◌else◌}
 use Rattle.std.specs.Prelude.{◌&&◌, is_none, Contains, IsSomeAnd}
-use Rattle.std.proofs.lemmas.List.{map-append}
+use Rattle.std.proofs.lemmas.List.{map-append, get_or_default}
 use Rattle.std.proofs.lemmas.Bool.{cases_order}
 use mathlib.Core.Option.{some, some-injective, some-ne-none}
 use lib.ListN.{get_elem?}
@@ -105,11 +105,6 @@ split_two (x ∷ P) (suc i) zero p q lt few a b = absurd (omega arith)
 split_two (x ∷ P) (suc i) (suc j) p q lt few a b =
     let r = split_two P i j p q (omega arith) (omega arith) a b in (x ∷ r.0, r.1, r.2, ap (λ l. x ∷ l) r.3)
 
-get_or_other : (P : List Placed) (j : ℕ) (a b : Placed) → j < length P → get_or P j a ≡ get_or P j b
-get_or_other [] j a b lt = absurd (omega arith)
-get_or_other (x ∷ P) zero a b lt = refl
-get_or_other (x ∷ P) (suc j) a b lt = get_or_other P j a b (omega arith)
-
 some_end : (o : Option (ℕ × Reply)) (a b : ℕ × Reply) → o ≡ Some a → o ≡ Some b → a.0 ≡ b.0
 some_end o a b ea eb = ap moment (sym ea ∙ eb)
   where
@@ -143,7 +138,7 @@ module _ (q : ℕ) (s : SetState) (H : List CallRecord) (P : List Placed) (L : L
   in_turn : has_one.0 < has_other.0
   in_turn = ⊎_elim
       (λ (same : has_one.0 ≡ has_other.0).
-      let number : i ≡ j = ap (λ (z : Placed). z.call) (sym has_one.2 ∙ (get_or_other P has_one.0 one other has_one.1
+      let number : i ≡ j = ap (λ (z : Placed). z.call) (sym has_one.2 ∙ (get_or_default P has_one.0 one other has_one.1
       ∙ (ap (λ k. get_or P k other) same ∙ has_other.2))) in
       let both : x ≡ y = sym x_is ∙ (ap (call_numbered H) number ∙ y_is) in
       let times : d.0 ≡ e.0 = some_end x.ended d e x_ended (ap (λ (z : CallRecord). z.ended) both ∙ y_ended) in
@@ -151,7 +146,7 @@ module _ (q : ℕ) (s : SetState) (H : List CallRecord) (P : List Placed) (L : L
       (λ (ne : (has_one.0 < has_other.0) ⊎ (has_other.0 < has_one.0)). ⊎_elim (λ l. l)
       (λ (l : has_other.0 < has_one.0). absurd (L.in_time has_other.0 has_one.0 other l has_one.1
       (subst (λ (z : Placed × Placed). Precedes (call_numbered H z.0.call) (call_numbered H z.1.call))
-      (λ k. (sym (get_or_other P has_one.0 other one has_one.1 ∙ has_one.2) k, sym has_other.2 k)) precedes)))
+      (λ k. (sym (get_or_default P has_one.0 other one has_one.1 ∙ has_one.2) k, sym has_other.2 k)) precedes)))
       ne) (cases_order has_one.0 has_other.0)
 
   pub in_order : StandsBefore (map (answered H) P) (record { thread = x.thread; call = x.call; reply = d.1 }) (record {

@@ -1,18 +1,22 @@
 -- Which replies a call of a running set has: those that the sequential set gives.
-use Rattle.std.proofs.Common.{◌≡◌, ℕ, ◌==◌, Bool, true, false, List, [], ◌∷◌, subst, sym}
+use Rattle.std.proofs.Common.{◌≡◌, ℕ, ◌==◌, Bool, true, false, List, [], ◌∷◌, ◌++◌, subst, sym}
 use Rattle.std.specs.Prelude.{if◌then◌else◌, nat_lt}
 use Rattle.lset_words.specs.declared.Key.{Key}
 use Rattle.lset_words.specs.declared.Call.{Call}
 use Rattle.lset_words.specs.declared.Call.TheVariants.{Add, Remove, Contains, Ceiling}
 use Rattle.lset_words.specs.declared.Reply.{Reply}
 use Rattle.lset_words.specs.declared.Reply.TheVariants.{True, False, Full, At}
-use Rattle.lset_words.specs.SequentialSet.{SetState, IsLegal, opening_set, reply_to, has_key, count_of, ceiling_in}
+use Rattle.lset_words.specs.SequentialSet.{SetState, Answered, IsLegal, opening_set, reply_to, after_call, has_key, count_of, ceiling_in}
 use Rattle.lset_words.specs.Records.{CallMade, called, placed_by, thread_of}
 use Rattle.lset_steps.specs.Steps.{Table}
 use Rattle.lset_live.specs.Explained.{HasAnswered, SeenIsLinearizable}
 use Rattle.lset_live.specs.Seats.{SeatValue, SetValue}
 use Rattle.lset_live.specs.Typed.{IsAddReply, IsCeilingReply, IsTruth}
-use Rattle.lset_live.proofs.Explained.{legal_at}
+
+legal_at : (q : ℕ) (s : SetState) (xs : List Answered) (a : Answered) (ys : List Answered) → IsLegal q s (xs ++ a ∷ ys) →
+    (z : SetState) × (reply_to q z a.thread a.call ≡ a.reply)
+legal_at q s [] a ys l = (s, l.0)
+legal_at q s (x ∷ xs) a ys l = legal_at q (after_call s x.thread x.call x.reply) xs a ys l.1
 
 -- the reply is that of the sequential set in some state
 given : (T : Table) (set : SetValue) (old : SeatValue) (c : Call) (r : Reply) (new : SeatValue) → HasAnswered T set old c r new →

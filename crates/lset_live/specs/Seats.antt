@@ -60,13 +60,6 @@ abbrev pub reply_of : Bool → Reply
 reply_of true = True
 reply_of false = False
 
-abbrev pub is_true : Reply → Bool
-is_true True = true
-is_true False = false
-is_true Full = false
-is_true (reply.At k) = false
-is_true reply.Nothing = false
-
 -- the records of some seats, gathered one after the other into the first
 abbrev pub gather_onto : Option Record → List Record → Option Record
 gather_onto r [] = r

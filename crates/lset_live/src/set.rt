@@ -12,14 +12,15 @@ ghost use Rattle.lset_rule.specs.Rule.{left_view, right_view};
 ghost use Rattle.lset_live.specs.Closes.{HasKeys, most_keys};
 ghost use Rattle.lset_live.specs.Explained.{HasMadeAtMost, IsOneLegalOrder, IsOneOrderInTime, HasAnswered};
 ghost use Rattle.lset_words.specs.Records.{gathered, thread_of};
-ghost use Rattle.lset_live.specs.Seats.{is_true, reply_of};
+ghost use Rattle.lset_live.specs.Seats.{reply_of};
 
 use crate::bounded::Bounded;
 use crate::closed::Closed;
 use crate::running::{Running, RunningReads};
 use crate::seat::Seat;
+use crate::typed::truth_of;
 use atomic_table::Table;
-use lset_linearizable::runs_are_linearizable;
+use lset_lists::runs_are_linearizable;
 use lset_rule::{Cutting, Follows, Learning, Opened, Pause, Rounds, Spin, TableSeat, Taking, View};
 use lset_steps::Machine;
 use lset_words::{Call, Key, Reply};
@@ -317,12 +318,6 @@ impl<M: RunningReads> LiveSet<M> {
             key,
         );
         seat.slots = slots;
-        is_true(reply)
+        truth_of(reply)
     }
-}
-
-fn is_true(reply: Reply) -> bool
-    ensures { result ≡ is_true reply }
-{
-    reply == Reply::True
 }

@@ -115,7 +115,7 @@ fn added_of(reply: Reply) -> Added
 }
 
 /// The answer to a `remove` or a `contains` that has this reply.
-fn truth_of(reply: Reply) -> bool
+pub(crate) fn truth_of(reply: Reply) -> bool
     requires { IsTruth reply }
     ensures { reply_of result ≡ reply }
 {

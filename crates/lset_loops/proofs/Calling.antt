@@ -1,5 +1,5 @@
 -- From step to step of a call under way.
-use Rattle.std.proofs.Common.{◌≡◌, ◌≢◌, ℕ, ◌+◌, ◌<◌, ◌≤◌, Option, Some, None, IfSome, MatchOption, refl, sym, ap, ◌∙◌, subst, arith}
+use Rattle.std.proofs.Common.{◌≡◌, ◌≢◌, ℕ, ◌+◌, ◌<◌, ◌≤◌, List, ◌∷◌, Option, Some, None, IfSome, MatchOption, refl, sym, ap, ◌∙◌, subst, arith}
 use Rattle.atomic_table.specs.Seated.{TableId}
 use Rattle.lset_words.specs.declared.Call.{Call}
 use Rattle.lset_words.specs.declared.Reply.{Reply}
@@ -22,7 +22,7 @@ use Rattle.lset_rule.proofs.Calls.{comes_first, comes_next, is_mid, mid_open}
 use Rattle.lset_rule.proofs.Keeps.{stands_at, in_words}
 use Rattle.lset_loops.specs.Begun.{Begun, begun_at, IsCall}
 use Rattle.lset_loops.specs.Calling.{Holds, MayStep, HasStepped, MayLock, MayAnswer, Answered, HasTold, MayBegin, first, Rest, row}
-use Rattle.lset_loops.specs.Calling.{HasAnswered}
+use Rattle.lset_loops.specs.Calling.{HasAnswered, MayStore, Stores}
 
 module _ (m : Table) (b : Begun) where
   -- the seat of a step
@@ -227,37 +227,44 @@ pub to_slots : {m : Table} {b : Begun} {d : Call} {own own' : OwnSlots} {pc p x 
     → own' ≡ own → Holds m b (row own d pc r p x j) s → Holds m b (row own' d pc r p x j) s
 to_slots {d = d} {pc = pc} {p = p} {x = x} {r = r} {j = j} is h = moved h (ap (λ o. row o d pc r p x j) (sym is))
 
+-- the next steps, from registers that are known
+pub step : {m : Table} {b : Begun} {l : Local} {a : Action} {s : TableSeat} → Holds m b l s → a ≡ m.next l
+    → ((n : ℕ) → (m.feed l n).answer ≡ None) → MayStep m b a s
+step h acts on = record { held = _; holds = h; acts = acts; goes_on = on }
+
+pub asks : {m : Table} {b : Begun} {l : Local} {a : Action} {s : TableSeat} → Holds m b l s → a ≡ m.next l → MayAnswer m b a s
+asks h acts = record { held = _; holds = h; acts = acts }
+
+pub stores : {m : Table} {b : Begun} {l : Local} {s : TableSeat} {word key key' : ℕ} {more : List (ℕ × ℕ)} → Holds m b l s
+    → key ≡ key' → Stores m l ((word, key') ∷ more) → MayStore m b ((word, key) ∷ more) s
+stores {m = m} {b = b} {s = s} {word = word} {more = more} h is all =
+    subst (λ k. MayStore m b ((word, k) ∷ more) s) (sym is) (record { held = _; holds = h; stores = all })
+
 abbrev pub no_rest : Rest
 no_rest = record { succ = 0; node = 0; pkey = 0; ckey = 0 }
 
--- A WHOLE CALL
-pub may_begin : {m : Table} {z : TableId} {k : Opening} {own : OwnSlots} {s : TableSeat} (c : Call) → MayCall m z k own s →
-    MayBegin m (begun_at c s) own s
-may_begin c may = record {
-  now = refl;
-  may = record {
-    place = (
-      refl,
-      refl,
-      ap (λ (t : TableId). t.words) may.place.0
-          ∙ (may.place.2 ∙ ap (λ k. word_count (sizes k)) (sym may.place.1)),
-    );
-    idle = may.idle;
-    stands = may.stands;
-    slots = may.slots;
-  };
-}
+-- A WHOLE CALL, that began at the seat s
+module _ (c : Call) (b : Begun) (s : TableSeat) (began : b ≡ begun_at c s) where
+  pub may_begin : {m : Table} {z : TableId} {k : Opening} {own : OwnSlots} → MayCall m z k own s → MayBegin m b own s
+  may_begin may = rw began record {
+    now = refl;
+    may = record {
+      place = (
+        refl,
+        refl,
+        ap (λ (t : TableId). t.words) may.place.0
+            ∙ (may.place.2 ∙ ap (λ k. word_count (sizes k)) (sym may.place.1)),
+      );
+      idle = may.idle;
+      stands = may.stands;
+      slots = may.slots;
+    };
+  }
 
-pub is_call : {m : Table} {z : TableId} {k : Opening} {own : OwnSlots} {s : TableSeat} (c : Call) → MayCall m z k own s →
-    IsCall (begun_at c s) c z k
-is_call c may = (refl, may.place.0, may.place.1)
+  pub is_call : {m : Table} {z : TableId} {k : Opening} {own : OwnSlots} → MayCall m z k own s → IsCall b c z k
+  is_call may = rw began (refl, may.place.0, may.place.1)
 
-pub called : {m : Table} {c : Call} {s s' : TableSeat} {answer : OwnSlots × Reply} → HasAnswered m (begun_at c s) answer s' →
-    HasCalled m c s answer s'
-called e = record { place = e.1.seat; slots = e.2 ∙ ap slots_of (sym e.1.local); made = e.1.makes }
-
--- or a call that has given up
-pub ended : (m : Table) (c : Call) (s s' : TableSeat) (answer : Option (OwnSlots × Reply)) →
-    IfSome answer (λ r. HasAnswered m (begun_at c s) r s') → IfSome answer (λ r. HasCalled m c s r s')
-ended m c s s' None e = tt
-ended m c s s' (Some r) e = called e
+  pub called : {m : Table} {s' : TableSeat} {answer : OwnSlots × Reply} → HasAnswered m b answer s' → HasCalled m c s answer s'
+  called {m = m} {s' = s'} {answer = answer} answered =
+      let e : HasAnswered m (begun_at c s) answer s' = rw began at answered in
+      record { place = e.1.seat; slots = e.2 ∙ ap slots_of (sym e.1.local); made = e.1.makes }

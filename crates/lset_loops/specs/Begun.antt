@@ -1,11 +1,9 @@
 -- WHICH CALL is under way, and the seat as it was when the call began.
-use Rattle.std.specs.Prelude.{◌≡◌, ℕ, List, []}
+use Rattle.std.specs.Prelude.{◌≡◌, ℕ, List}
 use Rattle.atomic_table.specs.Seated.{TableId}
 use Rattle.lset_words.specs.declared.Call.{Call}
-use Rattle.lset_words.specs.declared.Call.TheVariants.{Contains}
 use Rattle.lset_words.specs.Words.{Opening}
 use Rattle.lset_rule.specs.declared.view.View.{View}
-use Rattle.lset_rule.specs.Rule.{nobody}
 use Rattle.lset_rule.specs.Seats.{TableSeat}
 
 pub record Begun : Type 0 where
@@ -16,14 +14,6 @@ pub record Begun : Type 0 where
 
 abbrev pub begun_at : Call → TableSeat → Begun
 begun_at c s = record { call = c; table_id = s.table_id; id = s.id; me = s.me }
-
-abbrev pub no_call : Begun
-no_call = record {
-  call = Contains (record { 0 = 0 });
-  table_id = record { words = 0; slots = 0; views_name = 0; atom = 0; block = 0; offset = 0; slot_names = [] };
-  id = 0;
-  me = (nobody, []);
-}
 
 -- It is the call c, on a table of this name, whose set opened so.
 abbrev pub IsCall : Begun → Call → TableId → Opening → Type 0

@@ -4,4 +4,5 @@ pub mod Coarse
 pub mod Fine
 pub mod Lazy
 pub mod LockFree
+pub mod Nodes
 pub mod Optimistic

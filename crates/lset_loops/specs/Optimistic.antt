@@ -5,7 +5,7 @@ use Rattle.lset_steps.specs.Rows.{decided_on}
 use Rattle.lset_optimistic.specs.Optimistic.{optimistic, targets, at_locks}
 use Rattle.lset_rule.specs.declared.slots.OwnSlots.{OwnSlots}
 use Rattle.lset_rule.specs.Seats.{TableSeat}
-use Rattle.lset_loops.specs.declared.caller.Node.{Node}
+use Rattle.lset_loops.specs.declared.node.Node.{Node}
 use Rattle.lset_loops.specs.declared.decision.Found.{Found}
 use Rattle.lset_loops.specs.Begun.{Begun}
 use Rattle.lset_loops.specs.Calling.{Holds, Rest, row}

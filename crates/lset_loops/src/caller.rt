@@ -1,57 +1,74 @@
-//! Who makes a call that is under way, and the nodes that it names.
-ghost use Rattle.std.specs.Prelude.{◌≡◌, ◌/◌, ◌<◌, ◌^◌};
+//! Who makes a call that is under way.
+ghost use Rattle.std.specs.Prelude.{◌≡◌, ◌<◌};
 ghost use Rattle.std.proofs.Props.{props};
 ghost use Rattle.lset_words.specs.Words.{tail_word, target};
-ghost use Rattle.lset_loops.specs.Begun.{Begun, IsCall, no_call};
+ghost use Rattle.lset_rule.specs.Seats.{MayCall};
+ghost use Rattle.lset_loops.specs.Begun.{IsCall, begun_at};
+ghost use Rattle.lset_loops.specs.Calling.{MayBegin};
 
-use lset_rule::{OwnSlots, Pause, Words};
+use lset_rule::{OwnSlots, Pause, TableSeat, Words};
 use lset_steps::Machine;
 use lset_words::Call;
-use std::marker::{Brand, PhantomData};
+use std::marker::Model;
+use std::snapshot::Snapshot;
 
-/// Which call is under way, and the seat as it was when the call began. The call of a function picks it.
-pub trait Origin {
-    ghost begun: { Begun };
+/// Which call is under way, and the seat as it was when the call began.
+#[derive(Drop)]
+pub struct Origin {
+    call: Call,
+    place: Snapshot<TableSeat>,
 }
 
-impl Origin for Brand {
-    ghost begun = { no_call };
-}
+impl Model for Origin {
+    ghost use Rattle.std.specs.Coded.{codes};
+    ghost use Rattle.lset_rule.specs.contracts.view.Past as past;
+    ghost use Rattle.lset_loops.specs.Begun.{Begun, begun_at};
 
-/// A node, by its number, which half a link word can hold.
-#[derive(Clone, Copy)]
-pub struct Node {
-    pub number: u64,
-    ghost small: { number < 2 ^ 63 },
-}
+    ghost Value = { Begun };
 
-impl Node {
-    /// The head.
-    pub fn head() -> Node
-        ensures { result.number ≡ 0 }
-    {
-        Node { number: 0 }
-    }
+    ghost coded = { Prim.hlevel (codes, past.the_row.coded) };
 
-    /// The node to which a link word leads.
-    pub fn behind(link: u64) -> Node
-        ensures { result.number ≡ link / 2 }
-    {
-        Node { number: link / 2 }
-    }
+    ghost view = { λ o. begun_at o.call o.place.value };
 }
 
 /// The thread that makes a call: the words of its list, whom it asks between two steps, its slots, the call and the key word
 /// of the call's key.
 #[derive(Drop)]
-pub struct Caller<'a, M: Machine, O: Origin, P: Pause> {
+pub struct Caller<'a, M: Machine, P: Pause> {
     pub table: &'a Words<M>,
     pub pause: &'a P,
     pub slots: OwnSlots,
     pub call: Call,
     pub key: u64,
-    pub origin: PhantomData<O>,
-    ghost is_call: { IsCall O.begun call table.now.table_id table.now.key } by { Prim.hlevel props },
-    ghost is_key: { key ≡ target O.begun.call },
+    origin: Origin,
+    ghost is_call: { IsCall origin call table.now.table_id table.now.key } by { Prim.hlevel props },
+    ghost is_key: { key ≡ target origin.call },
     ghost is_low: { target call < tail_word },
+}
+
+impl<'a, M: Machine, P: Pause> Caller<'a, M, P> {
+    /// The caller of `call` from this place, at its first step.
+    pub fn new(
+        table: &'a Words<M>,
+        place: &TableSeat,
+        slots: OwnSlots,
+        call: Call,
+        pause: &'a P,
+    ) -> Caller<'a, M, P>
+        requires { MayCall M.table table.now.table_id table.now.key slots place.now }
+        ensures origin { result.origin ≡ begun_at call place.now }
+        ensures begins { MayBegin M.table result.origin result.slots place.now }
+    {
+        Caller {
+            table,
+            pause,
+            slots,
+            call,
+            key: call.key().word(),
+            origin: Origin {
+                call,
+                place: Snapshot::of(place),
+            },
+        }
+    }
 }

@@ -2,24 +2,20 @@
 ghost use Rattle.std.specs.Prelude.{IfSome};
 ghost use Rattle.lset_coarse.specs.Coarse.{coarse};
 ghost use Rattle.lset_rule.specs.Seats.{HasCalled, MayCall};
-ghost use Rattle.lset_loops.specs.Begun.{IsCall};
-ghost use Rattle.lset_loops.specs.Calling.{HasAnswered, MayBegin};
 ghost use Rattle.lset_loops.specs.Coarse.{AtHead, Leaves, StopsAt};
 
-use crate::caller::{Caller, Node, Origin};
+use crate::caller::Caller;
 use crate::decision::{Decision, Found, decide, one_more};
+use crate::node::Node;
+use crate::parts::Link;
 use lset_coarse::CoarseList;
 use lset_rule::{OwnSlots, Pause, Rounds, TableSeat, Words};
 use lset_words::{Call, LOCK, Reply};
-use std::marker::{Brand, PhantomData};
 
 /// Walks from the head to the first key that is not below that of the call.
-fn walk<O: Origin, P: Pause, N: Rounds>(
-    caller: &Caller<CoarseList, O, P>,
-    place: &mut TableSeat,
-) -> Option<Found>
-    requires { AtHead O.begun caller.now.slots place.old }
-    ensures { IfSome result (λ f. StopsAt O.begun caller.now.slots f place.new) }
+fn walk<P: Pause, N: Rounds>(caller: &Caller<CoarseList, P>, place: &mut TableSeat) -> Option<Found>
+    requires { AtHead caller.now.origin caller.now.slots place.old }
+    ensures { IfSome result (λ f. StopsAt caller.now.origin caller.now.slots f place.new) }
 {
     let key = caller.key;
     let mut pred = Node::head();
@@ -37,13 +33,13 @@ fn walk<O: Origin, P: Pause, N: Rounds>(
 }
 
 /// Does what the call does at the key that was found.
-fn act<O: Origin, P: Pause>(
-    caller: &Caller<CoarseList, O, P>,
+fn act<P: Pause>(
+    caller: &Caller<CoarseList, P>,
     place: &mut TableSeat,
     found: Found,
 ) -> (OwnSlots, Reply)
-    requires { StopsAt O.begun caller.now.slots found place.old }
-    ensures { Leaves O.begun result place.new }
+    requires { StopsAt caller.now.origin caller.now.slots found place.old }
+    ensures { Leaves caller.now.origin result place.new }
 {
     match decide(caller.call, found.word, caller.slots) {
         Decision::PutIn => {
@@ -52,37 +48,11 @@ fn act<O: Origin, P: Pause>(
         }
         Decision::TakeOut => {
             let link = caller.load_link(place, found.curr); // row 8
-            caller.store_link(place, found.pred, Node::behind(link)); // row 9
+            caller.store_link(place, found.pred, Link::To(Node::behind(link))); // row 9
             (caller.slots, Reply::True)
         }
         Decision::Answer(reply) => (caller.slots, reply),
     }
-}
-
-fn make<O: Origin, P: Pause, N: Rounds>(
-    table: &Words<CoarseList>,
-    place: &mut TableSeat,
-    slots: OwnSlots,
-    call: Call,
-    pause: &P,
-) -> Option<(OwnSlots, Reply)>
-    requires begins { MayBegin coarse O.begun slots place.old }
-    requires call { IsCall O.begun call table.now.table_id table.now.key }
-    ensures { IfSome result (λ r. HasAnswered coarse O.begun r place.new) }
-{
-    let caller = Caller::<'_, CoarseList, O, P> {
-        table,
-        pause,
-        slots,
-        call,
-        key: call.key().word(),
-        origin: PhantomData,
-    };
-    caller.begin_locked::<N>(place, LOCK)?; // row 1
-    let found = walk::<O, P, N>(&caller, place)?;
-    let answer = act(&caller, place, found);
-    caller.release_last(place, LOCK); // row 10
-    Some(answer)
 }
 
 /// Makes a whole call: it takes the lock, walks to its key, acts there, and gives the lock back. (Herlihy and Shavit's
@@ -97,5 +67,10 @@ pub fn coarse_within<P: Pause, N: Rounds>(
     requires { MayCall coarse table.now.table_id table.now.key slots place.old }
     ensures { IfSome result (λ r. HasCalled coarse call place.old r place.new) }
 {
-    make::<Brand, P, N>(table, place, slots, call, pause)
+    let caller = Caller::new(table, place, slots, call, pause);
+    caller.begin_locked::<N>(place, LOCK)?; // row 1
+    let found = walk::<P, N>(&caller, place)?;
+    let answer = act(&caller, place, found);
+    caller.release_last(place, LOCK); // row 10
+    Some(answer)
 }

@@ -2,7 +2,9 @@
 ghost use Rattle.std.specs.Prelude.{◌≡◌, ◌<◌};
 ghost use Rattle.lset_loops.specs.Calling.{Decides, HasStored, MayStore, one_more, put_stores, slot, slot_stores};
 
-use crate::caller::{Caller, Node, Origin};
+use crate::caller::Caller;
+use crate::node::Node;
+use crate::parts::Link;
 use lset_rule::{OwnSlots, Pause, TableSeat};
 use lset_steps::Machine;
 use lset_steps::rows::ceiling_at;
@@ -53,28 +55,28 @@ pub fn one_more(slots: OwnSlots) -> OwnSlots
     }
 }
 
-impl<'a, M: Machine, O: Origin, P: Pause> Caller<'a, M, O, P> {
+impl<'a, M: Machine, P: Pause> Caller<'a, M, P> {
     /// Writes the key and the link of the thread's next slot, which is to lead to `next`, and answers its node.
     pub fn fill_slot(&self, place: &mut TableSeat, next: Node) -> Node
-        requires { MayStore M.table O.begun (slot_stores self.now.slots self.now.key next.number) place.old }
+        requires { MayStore M.table self.now.origin (slot_stores self.now.slots self.now.key next.number) place.old }
         ensures node { result.number ≡ slot self.now.slots }
-        ensures stored { HasStored M.table O.begun (slot_stores self.now.slots self.now.key next.number) place.old place.new }
+        ensures stored { HasStored M.table self.now.origin (slot_stores self.now.slots self.now.key next.number) place.old place.new }
     {
         let slots = self.slots;
         let node = Node {
             number: slot_node(slots.quota, slots.thread, slots.used),
         };
         self.store_key(place, node, self.key);
-        self.store_link(place, node, next);
+        self.store_link(place, node, Link::To(next));
         node
     }
 
     /// Fills the thread's next slot, and puts it in between `pred` and `curr`.
     pub fn put_in(&self, place: &mut TableSeat, found: Found)
-        requires { MayStore M.table O.begun (put_stores self.now.slots self.now.key found.pred.number found.curr.number) place.old }
-        ensures { HasStored M.table O.begun (put_stores self.now.slots self.now.key found.pred.number found.curr.number) place.old place.new }
+        requires { MayStore M.table self.now.origin (put_stores self.now.slots self.now.key found.pred.number found.curr.number) place.old }
+        ensures { HasStored M.table self.now.origin (put_stores self.now.slots self.now.key found.pred.number found.curr.number) place.old place.new }
     {
         let node = self.fill_slot(place, found.curr);
-        self.store_link(place, found.pred, node);
+        self.store_link(place, found.pred, Link::To(node));
     }
 }

@@ -2,25 +2,21 @@
 ghost use Rattle.std.specs.Prelude.{IfSome};
 ghost use Rattle.lset_fine.specs.Fine.{fine};
 ghost use Rattle.lset_rule.specs.Seats.{HasCalled, MayCall};
-ghost use Rattle.lset_loops.specs.Begun.{IsCall};
-ghost use Rattle.lset_loops.specs.Calling.{HasAnswered, MayBegin};
 ghost use Rattle.lset_loops.specs.Fine.{AtHead, Leaves, StopsAt};
 
-use crate::caller::{Caller, Node, Origin};
+use crate::caller::Caller;
 use crate::decision::{Decision, Found, decide, one_more};
+use crate::node::Node;
+use crate::parts::Link;
 use lset_fine::FineList;
 use lset_rule::{OwnSlots, Pause, Rounds, TableSeat, Words};
 use lset_steps::rows::lock_index;
 use lset_words::{Call, HEAD, Reply};
-use std::marker::{Brand, PhantomData};
 
 /// Walks hand over hand from the head, which is locked, to the first key that is not below that of the call.
-fn walk<O: Origin, P: Pause, N: Rounds>(
-    caller: &Caller<FineList, O, P>,
-    place: &mut TableSeat,
-) -> Option<Found>
-    requires { AtHead O.begun caller.now.slots place.old }
-    ensures { IfSome result (λ f. StopsAt O.begun caller.now.slots f place.new) }
+fn walk<P: Pause, N: Rounds>(caller: &Caller<FineList, P>, place: &mut TableSeat) -> Option<Found>
+    requires { AtHead caller.now.origin caller.now.slots place.old }
+    ensures { IfSome result (λ f. StopsAt caller.now.origin caller.now.slots f place.new) }
 {
     let key = caller.key;
     let mut pred = Node::head();
@@ -40,13 +36,13 @@ fn walk<O: Origin, P: Pause, N: Rounds>(
 }
 
 /// Does what the call does at the key that was found, between two nodes that it has locked.
-fn act<O: Origin, P: Pause>(
-    caller: &Caller<FineList, O, P>,
+fn act<P: Pause>(
+    caller: &Caller<FineList, P>,
     place: &mut TableSeat,
     found: Found,
 ) -> (OwnSlots, Reply)
-    requires { StopsAt O.begun caller.now.slots found place.old }
-    ensures { Leaves O.begun found result place.new }
+    requires { StopsAt caller.now.origin caller.now.slots found place.old }
+    ensures { Leaves caller.now.origin found result place.new }
 {
     match decide(caller.call, found.word, caller.slots) {
         Decision::PutIn => {
@@ -55,38 +51,11 @@ fn act<O: Origin, P: Pause>(
         }
         Decision::TakeOut => {
             let link = caller.load_link(place, found.curr); // row 10
-            caller.store_link(place, found.pred, Node::behind(link)); // row 11
+            caller.store_link(place, found.pred, Link::To(Node::behind(link))); // row 11
             (caller.slots, Reply::True)
         }
         Decision::Answer(reply) => (caller.slots, reply),
     }
-}
-
-fn make<O: Origin, P: Pause, N: Rounds>(
-    table: &Words<FineList>,
-    place: &mut TableSeat,
-    slots: OwnSlots,
-    call: Call,
-    pause: &P,
-) -> Option<(OwnSlots, Reply)>
-    requires begins { MayBegin fine O.begun slots place.old }
-    requires call { IsCall O.begun call table.now.table_id table.now.key }
-    ensures { IfSome result (λ r. HasAnswered fine O.begun r place.new) }
-{
-    let caller = Caller::<'_, FineList, O, P> {
-        table,
-        pause,
-        slots,
-        call,
-        key: call.key().word(),
-        origin: PhantomData,
-    };
-    caller.begin_locked::<N>(place, lock_index(HEAD))?; // row 1
-    let found = walk::<O, P, N>(&caller, place)?;
-    let answer = act(&caller, place, found);
-    caller.unlock(place, found.curr); // row 12
-    caller.unlock_last(place, found.pred); // row 13
-    Some(answer)
 }
 
 /// Makes a whole call: it walks to its key, locking each node before it gives up the one behind it, acts there, and gives
@@ -101,5 +70,11 @@ pub fn fine_within<P: Pause, N: Rounds>(
     requires { MayCall fine table.now.table_id table.now.key slots place.old }
     ensures { IfSome result (λ r. HasCalled fine call place.old r place.new) }
 {
-    make::<Brand, P, N>(table, place, slots, call, pause)
+    let caller = Caller::new(table, place, slots, call, pause);
+    caller.begin_locked::<N>(place, lock_index(HEAD))?; // row 1
+    let found = walk::<P, N>(&caller, place)?;
+    let answer = act(&caller, place, found);
+    caller.unlock(place, found.curr); // row 12
+    caller.unlock_last(place, found.pred); // row 13
+    Some(answer)
 }

@@ -4,26 +4,25 @@ ghost use Rattle.lset_steps.specs.ReadRows.{first_row};
 ghost use Rattle.std.specs.Prelude.{◌≡◌, IfSome};
 ghost use Rattle.lset_lazy.specs.Lazy.{lazy};
 ghost use Rattle.lset_rule.specs.Seats.{HasCalled, MayCall};
-ghost use Rattle.lset_loops.specs.Begun.{IsCall};
-ghost use Rattle.lset_loops.specs.Calling.{HasAnswered, MayBegin};
 ghost use Rattle.lset_loops.specs.Lazy.{AreNeighbours, AtKey, HasLocked, HasValidated, Leaves, StopsAt};
 
-use crate::caller::{Caller, Node, Origin};
+use crate::caller::Caller;
 use crate::decision::{Decision, Found, decide, one_more};
+use crate::node::Node;
+use crate::parts::Link;
 use lset_lazy::LazyList;
 use lset_rule::{OwnSlots, Pause, Rounds, TableSeat, Words};
 use lset_words::{Call, Reply};
-use std::marker::{Brand, PhantomData};
 
 /// Walks from the head, whose link led to `first`, to the first key that is not below that of the call.
 #[inline(always)]
-fn walk<O: Origin, P: Pause, N: Rounds>(
-    caller: &Caller<LazyList, O, P>,
+fn walk<P: Pause, N: Rounds>(
+    caller: &Caller<LazyList, P>,
     place: &mut TableSeat,
     first: Node,
 ) -> Option<Found>
-    requires { AtKey O.begun caller.now.slots 0 first.number place.old }
-    ensures { IfSome result (λ f. StopsAt O.begun caller.now.slots f place.new) }
+    requires { AtKey caller.now.origin caller.now.slots 0 first.number place.old }
+    ensures { IfSome result (λ f. StopsAt caller.now.origin caller.now.slots f place.new) }
 {
     let key = caller.key;
     let mut pred = Node::head();
@@ -41,13 +40,13 @@ fn walk<O: Origin, P: Pause, N: Rounds>(
 }
 
 /// Whether `pred` leads to `curr`, and neither has a mark: then the answer is the node behind `curr`.
-fn validate<O: Origin, P: Pause>(
-    caller: &Caller<LazyList, O, P>,
+fn validate<P: Pause>(
+    caller: &Caller<LazyList, P>,
     place: &mut TableSeat,
     found: Found,
 ) -> Option<Node>
-    requires { HasLocked O.begun caller.now.slots found place.old }
-    ensures { HasValidated O.begun caller.now.slots found result place.new }
+    requires { HasLocked caller.now.origin caller.now.slots found place.old }
+    ensures { HasValidated caller.now.origin caller.now.slots found result place.new }
 {
     let before = caller.load_link(place, found.pred); // row 6
     if before != 2 * found.curr.number {
@@ -61,14 +60,14 @@ fn validate<O: Origin, P: Pause>(
 }
 
 /// Does what the call does at the key that was found, between two nodes that it has locked.
-fn act<O: Origin, P: Pause>(
-    caller: &Caller<LazyList, O, P>,
+fn act<P: Pause>(
+    caller: &Caller<LazyList, P>,
     place: &mut TableSeat,
     found: Found,
     succ: Node,
 ) -> (OwnSlots, Reply)
-    requires { AreNeighbours O.begun caller.now.slots found succ place.old }
-    ensures { Leaves O.begun found result place.new }
+    requires { AreNeighbours caller.now.origin caller.now.slots found succ place.old }
+    ensures { Leaves caller.now.origin found result place.new }
 {
     match decide(caller.call, found.word, caller.slots) {
         Decision::PutIn => {
@@ -76,37 +75,32 @@ fn act<O: Origin, P: Pause>(
             (one_more(caller.slots), Reply::True)
         }
         Decision::TakeOut => {
-            caller.store_mark(place, found.curr, succ); // row 11
-            caller.store_link(place, found.pred, succ); // row 12
+            caller.store_link(place, found.curr, Link::Marked(succ)); // row 11
+            caller.store_link(place, found.pred, Link::To(succ)); // row 12
             (caller.slots, Reply::True)
         }
         Decision::Answer(reply) => (caller.slots, reply),
     }
 }
 
-fn make<O: Origin, P: Pause, N: Rounds>(
+/// Makes a whole `add` or `remove` on a LazyList: it walks to its place without a lock, locks the two nodes there, looks
+/// whether they are still neighbours in the list, and acts, or gives them back and starts over. (Herlihy and Shavit's lazy
+/// list, after Heller and others.) `None` where a loop of it has made `N::MOST` rounds.
+pub fn lazy_change_within<P: Pause, N: Rounds>(
     table: &Words<LazyList>,
     place: &mut TableSeat,
     slots: OwnSlots,
     call: Call,
     pause: &P,
 ) -> Option<(OwnSlots, Reply)>
-    requires begins { MayBegin lazy O.begun slots place.old }
-    requires call { IsCall O.begun call table.now.table_id table.now.key }
-    requires walks { first_row O.begun.call ≡ 1 }
-    ensures { IfSome result (λ r. HasAnswered lazy O.begun r place.new) }
+    requires may { MayCall lazy table.now.table_id table.now.key slots place.old }
+    requires changes { first_row call ≡ 1 }
+    ensures { IfSome result (λ r. HasCalled lazy call place.old r place.new) }
 {
-    let caller = Caller::<'_, LazyList, O, P> {
-        table,
-        pause,
-        slots,
-        call,
-        key: call.key().word(),
-        origin: PhantomData,
-    };
+    let caller = Caller::new(table, place, slots, call, pause);
     let mut link = caller.begin_at_head(place); // row 1
     for round in 0..N::MOST {
-        let found = walk::<O, P, N>(&caller, place, Node::behind(link))?;
+        let found = walk::<P, N>(&caller, place, Node::behind(link))?;
         caller.lock::<N>(place, found.pred)?; // row 4
         caller.lock::<N>(place, found.curr)?; // row 5
         match validate(&caller, place, found) {
@@ -124,21 +118,4 @@ fn make<O: Origin, P: Pause, N: Rounds>(
         }
     }
     None
-}
-
-/// Makes a whole `add` or `remove` on a LazyList: it walks to its place without a lock, locks the two nodes there, looks
-/// whether they are still neighbours in the list, and acts, or gives them back and starts over. (Herlihy and Shavit's lazy
-/// list, after Heller and others.) `None` where a loop of it has made `N::MOST` rounds.
-pub fn lazy_change_within<P: Pause, N: Rounds>(
-    table: &Words<LazyList>,
-    place: &mut TableSeat,
-    slots: OwnSlots,
-    call: Call,
-    pause: &P,
-) -> Option<(OwnSlots, Reply)>
-    requires may { MayCall lazy table.now.table_id table.now.key slots place.old }
-    requires changes { first_row call ≡ 1 }
-    ensures { IfSome result (λ r. HasCalled lazy call place.old r place.new) }
-{
-    make::<Brand, P, N>(table, place, slots, call, pause)
 }

@@ -14,7 +14,9 @@ mod decision;
 mod fine;
 mod lazy;
 mod lock_free;
+mod node;
 mod optimistic;
+mod parts;
 mod reads;
 mod steps;
 

@@ -2,16 +2,15 @@
 ghost use Rattle.std.specs.Prelude.{IfSome};
 ghost use Rattle.lset_optimistic.specs.Optimistic.{optimistic};
 ghost use Rattle.lset_rule.specs.Seats.{HasCalled, MayCall};
-ghost use Rattle.lset_loops.specs.Begun.{IsCall};
-ghost use Rattle.lset_loops.specs.Calling.{HasAnswered, MayBegin};
 ghost use Rattle.lset_loops.specs.Optimistic.{AreNeighbours, AtKey, HasLocked, HasReached, HasValidated, Leaves, StopsAt};
 
-use crate::caller::{Caller, Node, Origin};
+use crate::caller::Caller;
 use crate::decision::{Decision, Found, decide, one_more};
+use crate::node::Node;
+use crate::parts::Link;
 use lset_optimistic::OptimisticList;
 use lset_rule::{OwnSlots, Pause, Rounds, TableSeat, Words};
 use lset_words::{Call, HEAD, Reply};
-use std::marker::{Brand, PhantomData};
 
 /// Where the walk has stopped, and the key word that it saw at `pred`, or 0 at the head.
 #[derive(Clone, Copy)]
@@ -22,13 +21,13 @@ pub(crate) struct Stopped {
 
 /// Walks from the head, whose link led to `first`, to the first key that is not below that of the call.
 #[inline(always)]
-fn walk<O: Origin, P: Pause, N: Rounds>(
-    caller: &Caller<OptimisticList, O, P>,
+fn walk<P: Pause, N: Rounds>(
+    caller: &Caller<OptimisticList, P>,
     place: &mut TableSeat,
     first: Node,
 ) -> Option<Stopped>
-    requires { AtKey O.begun caller.now.slots 0 first.number 0 place.old }
-    ensures { IfSome result (λ f. StopsAt O.begun caller.now.slots f place.new) }
+    requires { AtKey caller.now.origin caller.now.slots 0 first.number 0 place.old }
+    ensures { IfSome result (λ f. StopsAt caller.now.origin caller.now.slots f place.new) }
 {
     let key = caller.key;
     let mut pred = Node::head();
@@ -51,13 +50,13 @@ fn walk<O: Origin, P: Pause, N: Rounds>(
 /// Walks a second time from the head, as far as `pred`. Answers whether it came there: not where it saw a key above that of
 /// `pred`.
 #[inline(always)]
-fn reaches<O: Origin, P: Pause, N: Rounds>(
-    caller: &Caller<OptimisticList, O, P>,
+fn reaches<P: Pause, N: Rounds>(
+    caller: &Caller<OptimisticList, P>,
     place: &mut TableSeat,
     stopped: Stopped,
 ) -> Option<bool>
-    requires { HasLocked O.begun caller.now.slots stopped place.old }
-    ensures { IfSome result (λ r. HasReached O.begun caller.now.slots stopped.found r place.new) }
+    requires { HasLocked caller.now.origin caller.now.slots stopped place.old }
+    ensures { IfSome result (λ r. HasReached caller.now.origin caller.now.slots stopped.found r place.new) }
 {
     let pred = stopped.found.pred.number;
     let before = stopped.before;
@@ -80,16 +79,16 @@ fn reaches<O: Origin, P: Pause, N: Rounds>(
 }
 
 /// Whether `pred` is still in the list and leads to `curr`, both of which are locked.
-fn validate<O: Origin, P: Pause, N: Rounds>(
-    caller: &Caller<OptimisticList, O, P>,
+fn validate<P: Pause, N: Rounds>(
+    caller: &Caller<OptimisticList, P>,
     place: &mut TableSeat,
     stopped: Stopped,
 ) -> Option<bool>
-    requires { HasLocked O.begun caller.now.slots stopped place.old }
-    ensures { IfSome result (λ r. HasValidated O.begun caller.now.slots stopped.found r place.new) }
+    requires { HasLocked caller.now.origin caller.now.slots stopped place.old }
+    ensures { IfSome result (λ r. HasValidated caller.now.origin caller.now.slots stopped.found r place.new) }
 {
     let found = stopped.found;
-    if !reaches::<O, P, N>(caller, place, stopped)? {
+    if !reaches::<P, N>(caller, place, stopped)? {
         return Some(false);
     }
     let link = caller.load_link(place, found.pred); // row 8
@@ -100,13 +99,13 @@ fn validate<O: Origin, P: Pause, N: Rounds>(
 }
 
 /// Does what the call does at the key that was found, between two nodes that it has locked.
-fn act<O: Origin, P: Pause>(
-    caller: &Caller<OptimisticList, O, P>,
+fn act<P: Pause>(
+    caller: &Caller<OptimisticList, P>,
     place: &mut TableSeat,
     found: Found,
 ) -> (OwnSlots, Reply)
-    requires { AreNeighbours O.begun caller.now.slots found place.old }
-    ensures { Leaves O.begun found result place.new }
+    requires { AreNeighbours caller.now.origin caller.now.slots found place.old }
+    ensures { Leaves caller.now.origin found result place.new }
 {
     match decide(caller.call, found.word, caller.slots) {
         Decision::PutIn => {
@@ -115,49 +114,11 @@ fn act<O: Origin, P: Pause>(
         }
         Decision::TakeOut => {
             let link = caller.load_link(place, found.curr); // row 12
-            caller.store_link(place, found.pred, Node::behind(link)); // row 13
+            caller.store_link(place, found.pred, Link::To(Node::behind(link))); // row 13
             (caller.slots, Reply::True)
         }
         Decision::Answer(reply) => (caller.slots, reply),
     }
-}
-
-fn make<O: Origin, P: Pause, N: Rounds>(
-    table: &Words<OptimisticList>,
-    place: &mut TableSeat,
-    slots: OwnSlots,
-    call: Call,
-    pause: &P,
-) -> Option<(OwnSlots, Reply)>
-    requires begins { MayBegin optimistic O.begun slots place.old }
-    requires call { IsCall O.begun call table.now.table_id table.now.key }
-    ensures { IfSome result (λ r. HasAnswered optimistic O.begun r place.new) }
-{
-    let caller = Caller::<'_, OptimisticList, O, P> {
-        table,
-        pause,
-        slots,
-        call,
-        key: call.key().word(),
-        origin: PhantomData,
-    };
-    let mut link = caller.begin_at_head(place); // row 1
-    for round in 0..N::MOST {
-        let stopped = walk::<O, P, N>(&caller, place, Node::behind(link))?;
-        let found = stopped.found;
-        caller.lock::<N>(place, found.pred)?; // row 4
-        caller.lock::<N>(place, found.curr)?; // row 5
-        if validate::<O, P, N>(&caller, place, stopped)? {
-            let answer = act(&caller, place, found);
-            caller.unlock(place, found.pred); // row 14
-            caller.unlock_last(place, found.curr); // row 15
-            return Some(answer);
-        }
-        caller.unlock(place, found.pred); // row 14
-        caller.unlock(place, found.curr); // row 15
-        link = caller.load_link(place, Node::head()); // row 1
-    }
-    None
 }
 
 /// Makes a whole call: it walks to its key without a lock, locks the two nodes there, looks by a second walk whether they
@@ -173,5 +134,22 @@ pub fn optimistic_within<P: Pause, N: Rounds>(
     requires { MayCall optimistic table.now.table_id table.now.key slots place.old }
     ensures { IfSome result (λ r. HasCalled optimistic call place.old r place.new) }
 {
-    make::<Brand, P, N>(table, place, slots, call, pause)
+    let caller = Caller::new(table, place, slots, call, pause);
+    let mut link = caller.begin_at_head(place); // row 1
+    for round in 0..N::MOST {
+        let stopped = walk::<P, N>(&caller, place, Node::behind(link))?;
+        let found = stopped.found;
+        caller.lock::<N>(place, found.pred)?; // row 4
+        caller.lock::<N>(place, found.curr)?; // row 5
+        if validate::<P, N>(&caller, place, stopped)? {
+            let answer = act(&caller, place, found);
+            caller.unlock(place, found.pred); // row 14
+            caller.unlock_last(place, found.curr); // row 15
+            return Some(answer);
+        }
+        caller.unlock(place, found.pred); // row 14
+        caller.unlock(place, found.curr); // row 15
+        link = caller.load_link(place, Node::head()); // row 1
+    }
+    None
 }

@@ -4,18 +4,16 @@ ghost use Rattle.lset_words.specs.declared.Call.TheVariants.{Contains};
 ghost use Rattle.lset_words.specs.declared.Reply.TheVariants.{True, False};
 ghost use Rattle.lset_steps.specs.RowLaws.{HasReading};
 ghost use Rattle.lset_rule.specs.Seats.{HasCalled, MayCall};
-ghost use Rattle.lset_loops.specs.Begun.{IsCall};
-ghost use Rattle.lset_loops.specs.Calling.{HasAnswered, MayBegin};
 ghost use Rattle.lset_lazy.proofs.Rows.{lazy_rows};
 ghost use Rattle.lset_lock_free.proofs.Rows.{lock_free_rows};
 
-use crate::caller::{Caller, Node, Origin};
+use crate::caller::Caller;
+use crate::node::Node;
 use lset_lazy::LazyList;
 use lset_lock_free::LockFreeList;
 use lset_rule::{OwnSlots, Pause, TableSeat, Words};
 use lset_steps::OpenReads;
 use lset_words::{Call, Key, Reply};
-use std::marker::{Brand, PhantomData};
 
 /// A list whose `contains` has the rows 20 to 22 of `lset_steps`.
 pub trait ReadsByRows: OpenReads {
@@ -41,43 +39,6 @@ fn reply_by_mark(link: u64) -> Reply
     }
 }
 
-fn make<M: ReadsByRows, O: Origin, P: Pause>(
-    table: &Words<M>,
-    place: &mut TableSeat,
-    slots: OwnSlots,
-    key: Key,
-    pause: &P,
-) -> (OwnSlots, Reply)
-    requires begins { MayBegin M.table O.begun slots place.old }
-    requires call { IsCall O.begun (Contains key) table.now.table_id table.now.key }
-    ensures { HasAnswered M.table O.begun result place.new }
-{
-    let target = key.word();
-    let caller = Caller::<'_, M, O, P> {
-        table,
-        pause,
-        slots,
-        call: Call::Contains(key),
-        key: target,
-        origin: PhantomData,
-    };
-    let mut curr = Node::behind(caller.begin_at_head(place)); // row 20
-    loop {
-        let word = caller.look_at_key(place, curr); // row 21
-        if word > target {
-            return (slots, Reply::False);
-        }
-        caller.goes_on();
-        if word == target {
-            let mark = caller.look_at_link(place, curr); // row 22
-            return (slots, reply_by_mark(mark));
-        }
-        let link = caller.look_at_link(place, curr); // row 20
-        caller.goes_on();
-        curr = Node::behind(link);
-    }
-}
-
 /// Makes a whole `contains` of `key`: it goes on to the first key that is not below its own, and asks for the mark of a node
 /// that has it. (Herlihy and Shavit's wait-free `contains`.)
 ///
@@ -93,7 +54,23 @@ pub fn contains_on<M: ReadsByRows, P: Pause>(
     requires { MayCall M.table table.now.table_id table.now.key slots place.old }
     ensures { HasCalled M.table (Contains key) place.old result place.new }
 {
-    make::<M, Brand, P>(table, place, slots, key, pause)
+    let caller = Caller::new(table, place, slots, Call::Contains(key), pause);
+    let target = caller.key;
+    let mut curr = Node::behind(caller.begin_at_head(place)); // row 20
+    loop {
+        let word = caller.look_at_key(place, curr); // row 21
+        if word > target {
+            return (caller.slots, Reply::False);
+        }
+        caller.goes_on();
+        if word == target {
+            let mark = caller.look_at_link(place, curr); // row 22
+            return (caller.slots, reply_by_mark(mark));
+        }
+        let link = caller.look_at_link(place, curr); // row 20
+        caller.goes_on();
+        curr = Node::behind(link);
+    }
 }
 
 /// Asks nobody between two steps.

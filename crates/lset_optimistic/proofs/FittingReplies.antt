@@ -58,28 +58,10 @@ module _ (sz : Sizes) (t : ℕ) (vs : ℕ → View) (first now : ℕ) (ws : List
         (decided_on targets l.ckey (record l { pc = 8 })) (record l { pc = 14; reply = None }))) ∙ y)
   ]
 
-  not_here : {A : Type 0} (p : ℕ) → l.pc ≡ p → p ≢ 8 → A
-  not_here p f d = absurd (d (sym f ∙ e))
-
   fits_row : At sz.quota t vs first now (view sz ws used) done l
       → (at_link (node_link ws l.pred) (record l { pc = 8 })).reply ≡ Some reply
       → (node_link ws l.pred / 2 ≡ l.curr) × FitsIn sz.quota (view sz ws used) t l.call reply
-  fits_row (at0 f) = not_here 0 f (omega arith)
-  fits_row (at1 f d) = not_here 1 f (omega arith)
-  fits_row (at2 f d x k) = not_here 2 f (omega arith)
-  fits_row (at3 f d c k b) = not_here 3 f (omega arith)
-  fits_row (at4 f d w) = not_here 4 f (omega arith)
-  fits_row (at5 f d w p) = not_here 5 f (omega arith)
-  fits_row (at6 f d w c k start g x) = not_here 6 f (omega arith)
-  fits_row (at7 f d w c start g x) = not_here 7 f (omega arith)
-  fits_row (at8 f d w c x a) = fits_link w c x
-  fits_row (at9 f d b a) = not_here 9 f (omega arith)
-  fits_row (at10 f d b a x) = not_here 10 f (omega arith)
-  fits_row (at11 f d b a x y) = not_here 11 f (omega arith)
-  fits_row (at12 f d b a) = not_here 12 f (omega arith)
-  fits_row (at13 f d b a x) = not_here 13 f (omega arith)
-  fits_row (at14 f p c x i o) = not_here 14 f (omega arith)
-  fits_row (at15 f c o) = not_here 15 f (omega arith)
+  fits_row at = fits_link (grind arith) (grind arith) (grind arith)
 
 -- what the load of pc 8 leaves
 link_row : (ws : List ℕ) (l : Local) → l.pc ≡ 8

@@ -43,10 +43,7 @@ module _ (q t : ℕ) (vs : ℕ → View) (first now : ℕ) (v : View) (done : Bo
       }
 
   no_walk : {A : Type 0} → (l.pc < 6) ⊎ (7 < l.pc) → IsWalking l → A
-  no_walk (inl a) (inl w) = absurd (omega arith)
-  no_walk (inl a) (inr w) = absurd (omega arith)
-  no_walk (inr a) (inl w) = absurd (omega arith)
-  no_walk (inr a) (inr w) = absurd (omega arith)
+  no_walk h w = absurd (grind arith)
 
   too_early : {A : Type 0} → l.pc < 7 → HasArrived l → A
   too_early low h = absurd (let from : 7 ≤ l.pc = h.from in omega arith)

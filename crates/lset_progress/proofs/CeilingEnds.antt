@@ -17,11 +17,11 @@ use Rattle.lset_steps.proofs.ReadBound.{read_row}
 use Rattle.lset_steps.proofs.ReadTables.{IsReadRow, in_each_read_row}
 use Rattle.lset_lazy.specs.Lazy.{lazy}
 use Rattle.lset_lazy.specs.Lawful.{lazy_lawful}
-use Rattle.lset_lazy.specs.Lawful.Outline.{has_read_rows}
+use Rattle.lset_lazy.specs.Lawful.Outline.{At, has_read_rows}
 use Rattle.lset_progress.specs.Progress.{IsPending, SomeEnds, counted, lazy_steps}
 use Rattle.lset_progress.specs.DeadlockFreedom.{IsFair, IsDeadlockFree, each_call, is_lock_word, unless_failed, moves}
-use Rattle.lset_progress.proofs.LazyAlone.{shape, shows, counts, uncounted_reads, lazy_deadlock_free}
-use Rattle.lset_progress.proofs.LazyMarks.{plain_then}
+use Rattle.lset_progress.proofs.LazyAlone.{follows, lazy_marks, shape, shows, counts, uncounted_reads, lazy_deadlock_free}
+use Rattle.lset_progress.proofs.Marks.{plain_then}
 use Rattle.lset_progress.proofs.LocksAlone.{IsFree, own_step}
 use Rattle.lset_progress.proofs.Rows.{Timed, no_time, at_row}
 use Rattle.lset_progress.proofs.Windows.{counted_or_not, ends_later}
@@ -127,7 +127,7 @@ module _ (op : Opening) (es : ℕ → Event) (fair : IsFair lazy op es) (t : ℕ
   mine m k again w ee none =
       let row = row_at k (suc m) w in
       let free = free_read (state_at lazy op es k).words (local_of (state_at lazy op es k) t) row in
-      let plain = plain_then op k es (fair.run k) (λ u un e.
+      let plain = plain_then lazy At follows lazy_marks op k es (fair.run k) (λ u un e.
       let one : counted true (local_of (state_at lazy op es k) u).call ≡ 1 =
       (counts true).late op k k u es (fair.run k) (omega arith) un
       (at_row (λ l. shape.late l) (local_of (state_at lazy op es k) u) 12 e (tt, tt)) in

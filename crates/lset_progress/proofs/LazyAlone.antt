@@ -1,12 +1,13 @@
 -- The rows of LazyList: a walk from the head that nobody disturbs is validated, and meets no mark.
-use Rattle.std.specs.Prelude.{◌≡◌, ◌≢◌, ℕ, ◌+◌, ◌*◌, ◌/◌, ◌%◌, ◌<◌, ◌≤◌, ◌⊎◌, ◌||◌, Bool, true, Option, Some, None}
+use Rattle.std.specs.Prelude.{◌≡◌, ◌≢◌, ℕ, ◌+◌, ◌*◌, ◌/◌, ◌%◌, ◌<◌, ◌≤◌, ◌⊎◌, ◌||◌, Bool, true, false, Option, Some, None, if◌then◌else◌, ◌==◌}
 use Rattle.std.specs.Prelude.{is_some, List, [], ◌∷◌, slice_index, refl}
 use Rattle.std.proofs.Common.{arith, get_or, inl, inr, sym, ◌∙◌, ap, subst}
-use Rattle.lset_words.proofs.Numbers.{if_other}
+use Rattle.lset_words.proofs.Numbers.{same_or_not, if_other}
 use Rattle.lset_words.specs.declared.Call.{Call}
 use Rattle.lset_words.specs.declared.Call.TheVariants.{Add, Remove, Contains, Ceiling}
 use Rattle.lset_words.specs.declared.Reply.{Reply}
-use Rattle.lset_words.specs.Words.{lock_index, node_count, target, Sizes}
+use Rattle.lset_words.specs.declared.Key.{Key}
+use Rattle.lset_words.specs.Words.{lock_index, node_count, target, key_of, Sizes}
 use Rattle.lset_steps.specs.declared.Fed.{Fed}
 use Rattle.lset_steps.specs.declared.Local.{Local}
 use Rattle.lset_steps.specs.Steps.{state_at, local_of, left_by}
@@ -21,7 +22,9 @@ use Rattle.lset_steps.proofs.ReadTables.{IsReadRow, in_each_read_row}
 use Rattle.lset_steps.proofs.UnlockedWalk.{Found}
 use Rattle.lset_lazy.specs.Lazy.{lazy, targets, released}
 use Rattle.lset_lazy.specs.Lawful.{lazy_lawful}
-use Rattle.lset_lazy.specs.Lawful.Outline.{At, has_read_rows}
+use Rattle.lset_steps.proofs.Discipline.{Discipline}
+use Rattle.lset_steps.proofs.Turns.{discipline_of, node_locks}
+use Rattle.lset_lazy.specs.Lawful.Outline.{At, lazy_follows, has_read_rows}
 use Rattle.lset_lazy.specs.Lawful.Outline.At.{at0, at1, at2, at3, at4, at5, at6, at7, at8, at9, at10, at11, at12, at13, at14}
 use Rattle.lset_lazy.specs.Lawful.Outline.At.{at_read}
 use Rattle.lset_progress.specs.DeadlockFreedom.{IsLivelockFree, IsDeadlockFree, lock_window}
@@ -30,7 +33,7 @@ use Rattle.lset_progress.proofs.LivelockFreedom.{Counts, is_livelock_free}
 use Rattle.lset_progress.proofs.Ahead.{ahead, ahead_less}
 use Rattle.lset_progress.proofs.Decided.{by_same, by_below, by_decision, some_or_none}
 use Rattle.lset_progress.proofs.DeadlockFreedom.{is_deadlock_free}
-use Rattle.lset_progress.proofs.LazyMarks.{follows, no_marks, unmarked_unless, ceiling_row}
+use Rattle.lset_progress.proofs.Marks.{Stands, Marking, no_marks, unmarked_unless, ceiling_row}
 use Rattle.lset_progress.proofs.LocksAlone.{Shows, calls_end, gets_on}
 use Rattle.lset_progress.proofs.Paths.{Path, no_steps, path_on}
 use Rattle.lset_progress.proofs.ReadAlone.{Plain, Along, Reads, ReadsAt, reads_left, reads_then, from_20, from_21, from_22}
@@ -40,6 +43,42 @@ use Rattle.lset_progress.proofs.Rows.{Shape, Loads, Stores, RowOf, NodeLocks, wi
 use Rattle.lset_progress.proofs.Rows.{pred_only, gave_pred, gave_curr, after_pred, again, goes, on, takes, timed, unlocks, writes}
 use Rattle.lset_progress.proofs.Standing.{Standing, stands}
 use Rattle.lset_progress.proofs.Windows.{counted_or_not}
+
+pub follows : Discipline lazy true At
+follows = discipline_of lazy (node_locks true) At lazy_follows
+
+-- what stands at row 12, and who at the rows of the reads
+what_stands : {q t : ℕ} {vs : ℕ → View} {first now : ℕ} {v : View} {done : Bool} {l : Local} → At q t vs first now v done l
+    → Stands v t l
+what_stands at = record { takes_out = λ h. (grind arith, grind arith); ceiling = λ h. grind arith }
+
+-- whether a change puts a key in
+abbrev puts_in : Option (Key × Bool) → Bool
+puts_in None = true
+puts_in (Some c) = c.1
+
+-- only row 11 takes a key out
+takes_out_at : (l : Local) (seen : ℕ) (k : Key) → lazy.effect l seen ≡ Some (k, false) → l.pc ≡ 11
+takes_out_at l seen k h = elim (same_or_not l.pc 11) [
+  | inl e ↦ e
+  | inr d ↦ absurd (elim (same_or_not l.pc 10) [
+    | inl e ↦ (let is : lazy.effect l seen ≡ Some (key_of l.call, true) = rw e refl in
+        let z : true ≡ false = ap puts_in (sym is ∙ h) in cc)
+    | inr d' ↦ (let other : Option (Key × Bool) = if l.pc == 11 then Some (key_of l.call, false) else None in
+        let is : lazy.effect l seen ≡ None = if_other l.pc 10 d' (Some (key_of l.call, true)) other
+        ∙ if_other l.pc 11 d (Some (key_of l.call, false)) None in
+        let z : true ≡ false = ap puts_in (sym is ∙ h) in cc)
+  ])
+]
+
+pub lazy_marks : Marking lazy At
+lazy_marks = record {
+  lists = refl;
+  stands = λ q t vs first now v done l at. what_stands at;
+  marks = λ l e. (rw e refl, λ seen. rw e refl);
+  takes_out = λ l e. rw e refl;
+  takes_at = takes_out_at;
+}
 
 -- HOW MANY STEPS are left behind the next one, row by row from row 0, of a walk that is validated. If there is no reply, both
 -- locks are given back, and the walk starts again.
@@ -202,10 +241,10 @@ module _ {sz : Sizes} {ws : List ℕ} {used : ℕ → ℕ} {t : ℕ} {vs : ℕ �
 pub shows : Shows lazy shape lazy_steps
 shows = record {
   rows = λ op last k t es r upto tn busy. row_of (stands lazy lazy_lawful At follows op last k t es r upto tn busy)
-      (unmarked_unless op last k t es r upto);
+      (unmarked_unless lazy At follows lazy_marks op last k t es r upto);
   rests = λ l x e m. no_lock (subst (λ n. shape.may (record l { pc = n }) x) e m);
   late_busy = λ l late e. subst (λ n. Only (within 8 14 n)) e late.0;
-  calm_alone = λ op last k t es r upto others high. no_marks op last k t es r upto others (λ e. omega arith);
+  calm_alone = λ op last k t es r upto others high. no_marks lazy At follows lazy_marks op last k t es r upto others (λ e. omega arith);
 }
 
 pub lazy_calls_end : CallsEndAlone lazy lazy_steps
@@ -254,7 +293,7 @@ counts reads = record {
       not_late (local_of (state_at lazy op es k) t) (read_row lazy lazy_lawful has_read_rows op last k t es r l tn
       (shows.late_busy (local_of (state_at lazy op es k) t) h) is_read) h);
   calm = λ op last k t es r l tn busy one free high. absurd (
-      let c = ceiling_row op last k t es r l tn high in
+      let c = ceiling_row lazy At follows lazy_marks op last k t es r l tn high in
       let none : counted reads (local_of (state_at lazy op es k) t).call ≡ 0 = ap (counted reads) c in omega arith);
 }
 

@@ -14,7 +14,7 @@ mod ReadAlone
 mod CoarseAlone
 mod FineAlone
 mod OptimisticAlone
-mod LazyMarks
+mod Marks
 mod LazyAlone
 mod CeilingEnds
 mod LockFreeSteps

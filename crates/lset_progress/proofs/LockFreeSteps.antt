@@ -89,40 +89,20 @@ place_of (at_read (reads25 e d c a)) = reads_marks (omega arith) d (subst IsCeil
 -- a call that has made its change
 changed_at : {v : View} {done : Bool} {l : Local} → done ≡ true → Place v done l
     → (l.pc ≡ 0) ⊎ ((l.pc ≡ 10) × (l.call ≡ Remove (key_of l.call)))
-changed_at y (idle e) = inl e
-changed_at y (begins e d) = absurd (not_both y d)
-changed_at y (walks a b d p c) = absurd (not_both y d)
-changed_at y (has_marked e r p c) = inr (e, r)
-changed_at y (reads a b d) = absurd (not_both y d)
-changed_at y (reads_marks a d c) = absurd (not_both y d)
+changed_at y p = grind arith
 
 -- row 10 is that of a remove
 remove_at : {v : View} {done : Bool} {l : Local} → Place v done l → l.pc ≡ 10 → l.call ≡ Remove (key_of l.call)
-remove_at (idle e) h = absurd (omega arith)
-remove_at (begins e d) h = absurd (omega arith)
-remove_at (walks a b d p c) h = absurd (omega arith)
-remove_at (has_marked e r p c) h = r
-remove_at (reads a b d) h = absurd (omega arith)
-remove_at (reads_marks a d c) h = absurd (omega arith)
+remove_at p h = grind arith
 
 -- a ceiling alone reads the marks
 pub ceiling_at_marks : {v : View} {done : Bool} {l : Local} → Place v done l → 23 ≤ l.pc → IsCeiling l.call
-ceiling_at_marks (idle e) h = absurd (omega arith)
-ceiling_at_marks (begins e d) h = absurd (omega arith)
-ceiling_at_marks (walks a b d p c) h = absurd (omega arith)
-ceiling_at_marks (has_marked e r p c) h = absurd (omega arith)
-ceiling_at_marks (reads a b d) h = absurd (omega arith)
-ceiling_at_marks (reads_marks a d c) h = c
+ceiling_at_marks p h = grind arith
 
 -- the nodes of a walk are nodes of the list
 pub walk_at : {v : View} {done : Bool} {l : Local} → Place v done l → 2 ≤ l.pc → l.pc ≤ 10
     → v.published l.pred × v.published l.curr
-walk_at (idle e) low high = absurd (omega arith)
-walk_at (begins e d) low high = absurd (omega arith)
-walk_at (walks a b d p c) low high = (p, c)
-walk_at (has_marked e r p c) low high = (p, c)
-walk_at (reads a b d) low high = absurd (omega arith)
-walk_at (reads_marks a d c) low high = absurd (omega arith)
+walk_at p low high = (grind arith, grind arith)
 
 -- an add or a remove
 abbrev pub IsUpdate : Call → Type 0

@@ -7,13 +7,14 @@ use Rattle.std.proofs.lemmas.List.Elements.{Contains-push}
 use Rattle.lset_words.specs.declared.Reply.{Reply}
 use Rattle.lset_words.specs.declared.history.CallRecord.{CallRecord}
 use Rattle.lset_words.specs.History.{MayFollow, IsHistory, call_numbered, no_call}
-use Rattle.lset_history.proofs.Histories.{IsCall, Follows, calls_of, pairs_of, may_follow}
+use Rattle.lset_history.proofs.Histories.{IsCall, Follows, calls_of, pairs_of, may_follow, follows_of}
 use Rattle.lset_judge.specs.declared.stream.Pending.{Pending}
 use Rattle.lset_judge.specs.declared.judging.Judge.{Judge}
 use Rattle.lset_judge.specs.Events.{until_if}
 use Rattle.lset_judge.specs.Verdict.{is_plain}
 use Rattle.lset_judge.specs.Stream.{behind_all, pending_of, IsBefore, ArePending, MayCome, moment_of}
 use Rattle.lset_judge.specs.Judge.{IsJudgeOf}
+use Rattle.lset_judge.proofs.Coming.{comes}
 use Rattle.lset_recording.specs.Texts.{all_threads}
 use Rattle.lset_recording.specs.Kept.{IsLatest, IsJudgeKept}
 
@@ -32,60 +33,20 @@ last_follows threads calls x h =
 
 -- ---- a call that may follow may come
 
-end_apart : (x : CallRecord) (begun : ℕ) (o : Option (ℕ × Reply)) → IsBefore x
-    → IfSome o (λ (e : ℕ × Reply). e.0 ≢ x.begun) → until_if behind_all begun o ≢ x.begun
-end_apart x begun None before alone = λ is. let low = before.0 in omega (arith, is, low)
-end_apart x begun (Some e) before alone = alone
+begun_after : (calls : List CallRecord) (moment : ℕ) → IsLatest calls moment → (x : CallRecord) → MayFollow all_threads calls x → moment < x.begun
+begun_after calls moment (inl none) x follows = let some = follows.counted in omega (arith, none, some)
+begun_after calls moment (inr last) x follows =
+    let c = last.1 in
+    let b = follows.rising c.0 last.0 c.1 in
+    let is = ap (λ (y : CallRecord). y.begun) c.2 in
+    let at = last.2 in
+    omega (arith, b, is, at)
 
-ends_apart : (x : CallRecord) (begun : ℕ) (o : Option (ℕ × Reply)) (p : Option (ℕ × Reply)) → IfSome p (λ (e : ℕ × Reply). e.0 < behind_all)
-    → IfSome p (λ (e : ℕ × Reply). IfSome o (λ (d : ℕ × Reply). e.0 ≢ d.0))
-    → IfSome p (λ (e : ℕ × Reply). until_if behind_all begun o ≢ e.0)
-ends_apart x begun o None before alone = tt
-ends_apart x begun None (Some e) before alone = λ is. omega (arith, is, before)
-ends_apart x begun (Some d) (Some e) before alone = λ is. alone (sym is)
-
-has_ended : (begun moment : ℕ) (o : Option (ℕ × Reply)) → IsSomeAnd o (λ (e : ℕ × Reply). e.0 < moment)
-    → until_if behind_all begun o ≤ moment
-has_ended begun moment None ended = absurd ended
-has_ended begun moment (Some e) ended = omega (arith, ended)
-
-end_beside : (o : Option (ℕ × Reply)) (calls : List CallRecord) (n : ℕ) → n < length calls
-    → IfSome o (λ (e : ℕ × Reply). All (λ (y : CallRecord). (e.0 ≢ y.begun) × IfSome y.ended (λ (d : ℕ × Reply). e.0 ≢ d.0)) calls)
-    → IfSome o (λ (e : ℕ × Reply). IfSome (call_numbered calls n).ended (λ (d : ℕ × Reply). e.0 ≢ d.0))
-end_beside None calls n low all = tt
-end_beside (Some e) calls n low all = (all n no_call low).1
-
-module _ (calls : List CallRecord) (moment : ℕ) (pending : List Pending) (are : ArePending calls moment pending)
-    (latest : IsLatest calls moment) (x : CallRecord) (before : IsBefore x)
-    (plain : IfSome x.ended (λ (end : ℕ × Reply). is_plain x.call end.1 ≡ true)) (follows : MayFollow all_threads calls x) where
-  of_call : (P : Pending → Type 0) → ((n : ℕ) → n < length calls → P (pending_of (call_numbered calls n))) → All P pending
-  of_call P each k d low = let known = are.known k d low in subst P (sym known.2) (each known.0 known.1)
-
-  begins : moment < x.begun
-  begins = elim latest [
-    | inl none ↦ (let some = follows.counted in omega (arith, none, some))
-    | inr last ↦ (
-        let c = last.1 in
-        let b = follows.rising c.0 last.0 c.1 in
-        let is = ap (λ (y : CallRecord). y.begun) c.2 in
-        let at = last.2 in
-        omega (arith, b, is, at))
-  ]
-
-  pub may_come : MayCome pending moment x
-  may_come = record {
-    begins = begins;
-    ends = follows.ends_later;
-    before = before;
-    plain = plain;
-    apart = of_call (λ (p : Pending). (p.end ≢ x.begun) × IfSome x.ended (λ (end : ℕ × Reply). p.end ≢ end.0)) (λ n low.
-        let y = call_numbered calls n in (
-          end_apart x y.begun y.ended before (follows.begins_alone n no_call low),
-          ends_apart x y.begun y.ended x.ended before.1 (end_beside x.ended calls n low follows.ends_alone),
-        ));
-    free = of_call (λ (p : Pending). p.call.thread ≡ x.thread → p.end ≤ x.begun) (λ n low same.
-        let y = call_numbered calls n in has_ended y.begun x.begun y.ended (follows.none_open n no_call low same));
-  }
+pub may_come : (calls : List CallRecord) (moment : ℕ) (pending : List Pending) → ArePending calls moment pending → IsLatest calls moment → (x : CallRecord)
+    → IsBefore x → IfSome x.ended (λ (end : ℕ × Reply). is_plain x.call end.1 ≡ true) → MayFollow all_threads calls x → MayCome pending moment x
+may_come calls moment pending are latest x before plain follows =
+    comes calls moment pending x are (begun_after calls moment latest x follows) follows.ends_later before plain
+    (λ n low. follows_of all_threads calls x follows n no_call low)
 
 -- ---- the judge of the calls so far
 
@@ -104,18 +65,8 @@ one_more opening calls x s t kept added of_thread at =
         → length (calls ++ x ∷ []) ≡ length calls + 1 → length (calls ++ x ∷ []) ≤ moment_of t.stream
     few is follows long =
         let so_far = kept.2 in
-        let latest = kept.1 in
-        let low = last_below latest in
+        let low = begun_after calls (moment_of s.stream) kept.1 x follows in
         omega (arith, long, so_far, low, at)
-      where
-        last_below : IsLatest calls (moment_of s.stream) → moment_of s.stream < x.begun
-        last_below (inl none) = let some = follows.counted in omega (arith, none, some)
-        last_below (inr last) =
-            let c = last.1 in
-            let b = follows.rising c.0 last.0 c.1 in
-            let is = ap (λ (y : CallRecord). y.begun) c.2 in
-            let l = last.2 in
-            omega (arith, b, is, l)
 
 -- a judge of no calls
 pub opened : {E : Type 0} (opening : List ℕ) (o : Option Judge) (r : Result Judge E) → o ≡ None

@@ -90,26 +90,18 @@ reaches_more c told.Cut next = tt
 
 finds : (s : Section) (c : Recording) (l : Line) → Comes s l → Reaches s c → Finds l c
 finds part.Title c told.Title comes reached = reached
-finds part.Title c l comes reached = absurd comes
-finds part.Opening c told.Title comes reached = absurd comes
 finds part.Opening c (told.Opening k) comes reached = reached
 finds part.Opening c (told.Call x) comes reached = (reached.1, reached.2)
 finds part.Opening c (told.Key k) comes reached = reached.2
 finds part.Opening c told.End comes reached = reached.2
 finds part.Opening c told.Cut comes reached = (reached.1, reached.2)
-finds part.Calls c told.Title comes reached = absurd comes
-finds part.Calls c (told.Opening k) comes reached = absurd comes
 finds part.Calls c (told.Call x) comes reached = reached
 finds part.Calls c (told.Key k) comes reached = reached.1
 finds part.Calls c told.End comes reached = reached.1
 finds part.Calls c told.Cut comes reached = reached
-finds part.Keys c told.Title comes reached = absurd comes
-finds part.Keys c (told.Opening k) comes reached = absurd comes
-finds part.Keys c (told.Call x) comes reached = absurd comes
 finds part.Keys c (told.Key k) comes reached = reached
 finds part.Keys c told.End comes reached = reached
-finds part.Keys c told.Cut comes reached = absurd comes
-finds part.Done c l comes reached = absurd comes
+finds s c l comes reached = absurd comes
 
 lines_above : (s : Section) (c : Recording) (l : Line) → Comes s l → above l c ≡ lines_at (record { section = s; told = c })
 lines_above part.Title c told.Title comes = refl

@@ -1,4 +1,6 @@
 -- The events of a schedule's lines: one line after another, and how many there are.
+use Rattle.std.proofs.Common.{rules}
+use Rattle.std.proofs.lemmas.Grind.{common_steps}
 use Rattle.std.proofs.Common.{◌≡◌, ℕ, zero, suc, drop, arith, ◌-◌, ◌+◌, ◌<◌, ◌≤◌, List, [], ◌∷◌, ◌++◌, replicate, length, get_or}
 use Rattle.std.proofs.Common.{refl, sym, ap, ◌∙◌, add-one, length-append, length-drop, drop-cons, drop_of_length-le}
 use Rattle.std.specs.List.{sum_by}
@@ -18,10 +20,7 @@ length_of_line n (line.Go t steps) = length-replicate steps _
 
 pub length_of_events : (n : ℕ) (ls : List Line) → length (events_from n ls) ≡ sum_by event_count ls
 length_of_events n [] = refl
-length_of_events n (l ∷ ls) = length-append (events_of_line n l) (events_from (n + 1) ls)
-    ∙ ap (λ x. x + length (events_from (n + 1) ls)) (length_of_line n l)
-    ∙ ap (λ x. event_count l + x) (length_of_events (n + 1) ls)
-    ∙ sym (sum_by-cons event_count l ls)
+length_of_events n (l ∷ ls) = search (rules, length-append, length_of_line, sum_by-cons, length_of_events (n + 1) ls)
 
 pub as_many : (es : List LineEvent) → length (only_events es) ≡ length es
 as_many es = length-map es event_in
@@ -72,10 +71,7 @@ module _ (n : ℕ) (ls : List Line) (i k times : ℕ) (next : LineEvent) where
         ∙ ap (λ es. es ++ events_from (n + i + 1) (drop (suc i) ls)) line
         ∙ (let e : n + i + 1 ≡ n + (i + 1) = omega arith in
         let f : suc i ≡ i + 1 = omega arith in
-        let t : times ≡ times - 0 = omega arith in
-        ap (λ z. replicate times next ++ events_from z (drop (suc i) ls)) e
-        ∙ ap (λ z. replicate times next ++ events_from (n + (i + 1)) (drop z ls)) f
-        ∙ ap (λ z. rest_of n ls i z next) t);
+        let t : times ≡ times - 0 = omega arith in cc (e, f, t));
   }
 
   -- of so many events of the line, j are behind
@@ -110,15 +106,10 @@ pub all_behind : (n : ℕ) (ls : List Line) (i k : ℕ) → length ls ≤ i
     → IsAhead (events_from n ls) k (events_from (n + i) (drop i ls)) → k ≡ length (events_from n ls)
 all_behind n ls i k past ahead =
     let a : k ≤ length (events_from n ls) = ahead.within in
-    let b : length (drop k (events_from n ls)) ≡ length (events_from n ls) - k = length-drop k (events_from n ls) in
-    let c : length (drop k (events_from n ls)) ≡ 0 = ap (λ (es : List LineEvent). length es) (ahead.rest_is
-    ∙ ap (λ ks. events_from (n + i) ks) (drop_of_length-le ls past)) in
-    omega arith
+    let b : length (drop k (events_from n ls)) ≡ length (events_from n ls) - k = length-drop k (events_from n ls) in grind
+    (arith, common_steps)
 
 -- and one that comes is one of few
 pub few_behind : (n : ℕ) (ls : List Line) (k most : ℕ) (next : LineEvent) → sum_by event_count ls ≤ most
     → ComesNext (events_from n ls) k next → k < most
-few_behind n ls k most next few there =
-    let below : k < length (events_from n ls) = there.known in
-    let all : length (events_from n ls) ≡ sum_by event_count ls = length_of_events n ls in
-    omega arith
+few_behind n ls k most next few there = grind (arith, length_of_events)

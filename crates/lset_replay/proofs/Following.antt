@@ -1,12 +1,14 @@
 -- What replay keeps after the first events of a run: the run's history, what each open call has seen, the places of the calls.
-use Rattle.std.proofs.Common.{◌≡◌, ◌≢◌, ℕ, suc, ◌+◌, ◌<◌, ◌≤◌, true, false, inl, inr, List, [], ◌∷◌, ◌++◌, length, map}
-use Rattle.std.proofs.Common.{sym, refl, subst, ap, ◌∙◌, arith, length-set, get_or-set_same, get_or-set_other}
+use Rattle.std.proofs.lemmas.Grind.{common_steps}
+use Rattle.std.proofs.Common.{◌≡◌, ◌≢◌, ℕ, suc, ◌+◌, ◌<◌, ◌≤◌, true, false, inl, inr, List, [], ◌∷◌, ◌++◌, length, map, sym, refl}
+use Rattle.std.proofs.Common.{subst, ap, ◌∙◌, arith, length-set, get_or-set_same, get_or-set_other}
 use Rattle.std.specs.Prelude.{All, Option, Some, None}
 use Rattle.std.proofs.lemmas.List.{length-map, length_push, get_or_push, get_or_append_left, map-append}
 use Rattle.lset_words.specs.declared.Call.{Call}
 use Rattle.lset_words.specs.declared.Reply.{Reply}
 use Rattle.lset_words.specs.declared.history.CallRecord.{CallRecord}
-use Rattle.lset_words.specs.Log.{Log, Entry, Change, TracedCall, calls_at, calls_after, history_at, record_of, is_open, has_changed}
+use Rattle.lset_words.specs.Log.{Log, Entry, Change, TracedCall, calls_at, calls_after, history_at, record_of, is_open}
+use Rattle.lset_words.specs.Log.{has_changed}
 use Rattle.lset_words.specs.Log.Entry.{began}
 use Rattle.lset_words.specs.Account.{Contents, Counts, Enters}
 use Rattle.lset_words.specs.Placement.{traced_at, no_traced, IsLeastFit}
@@ -16,7 +18,8 @@ use Rattle.lset_history.proofs.Calls.{open_is, changed_is, new_call}
 use Rattle.lset_replay.proofs.OpenCalls.{OpenNumber, open_new, open_began, length_began}
 use Rattle.lset_replay.specs.declared.places.OpenCall.{OpenCall}
 use Rattle.lset_replay.specs.declared.places.Linearized.{Linearized}
-use Rattle.lset_replay.specs.Trace.{Trace, open_call_at, place_at, number_of, fit, changed_at, settled, begun_on, changed_on, ended_on}
+use Rattle.lset_replay.specs.Trace.{Trace, open_call_at, place_at, number_of, fit, changed_at, settled, begun_on, changed_on}
+use Rattle.lset_replay.specs.Trace.{ended_on}
 use Rattle.lset_history.specs.Changes.{is_present, IsBounded}
 use Rattle.lset_history.proofs.ChangeLaws.{all_upto_later}
 use Rattle.lset_replay.proofs.KeyChanges.{Tells, changes_by, quiet_keys, last_or_before}
@@ -136,10 +139,7 @@ module _ (log : Log) (contents : Contents) (counts : Counts) (k u : ℕ) (o : Op
     (quiet : has_changed log u (suc k) ≡ false → (has_changed log u k ≡ false) × (counts (suc k) u ≡ counts k u))
     (w : IsWatched log contents counts k u o) where
   pub steady_next : has_changed log u (suc k) ≡ false → (m : ℕ) → o.begun ≤ m → m ≤ suc k → counts m u ≡ counts (suc k) u
-  steady_next f m a b = elim (last_or_before m k b) [
-    | inl e ↦ ap (λ z. counts z u) e
-    | inr y ↦ w.steady (quiet f).0 m a y ∙ sym (quiet f).1
-  ]
+  steady_next f m a b = grind arith
 
   pub watched_next : OpenNumber (calls_at log (suc k)) u o.number o.call o.begun → IsWatched log contents counts (suc k) u o
   watched_next here = let l : o.begun ≤ k = w.since in record { here = here; since = omega arith; steady = steady_next }
@@ -156,11 +156,7 @@ module _ (op : Opening) (log : Log) (contents : Contents) (counts : Counts) (k t
       ∙ sym (ap (λ xs. map record_of xs) (calls_are log k (began t call) at))
 
   begun_numbered : length (begun_on (suc k) t call s).places ≡ length (calls_at log (suc k))
-  begun_numbered =
-      let a : length (s.places ++ None ∷ []) ≡ length s.places + 1 = length_push s.places None in
-      let b : length s.places ≡ length (calls_at log k) = f.numbered in
-      let c : length (calls_at log (suc k)) ≡ suc (length (calls_at log k)) = length_began log k t call at in
-      omega arith
+  begun_numbered = grind (arith, common_steps)
 
   begun_keys : (j m : ℕ) → m ≤ suc k → Tells (is_present s.changes j m) (contents m j)
   begun_keys j m l = quiet_keys contents k s.changes f.upto f.keys j m l (en.content j).0 (en.content j).1
@@ -168,8 +164,7 @@ module _ (op : Opening) (log : Log) (contents : Contents) (counts : Counts) (k t
   begun_idle : (u : ℕ) → u < op.threads → is_open log u (suc k) ≡ false →
       open_call_at (begun_on (suc k) t call s).under_way u ≡ None
   begun_idle u l e = elim (same_or_not t u) [
-    | inl y ↦ absurd (let g : true ≡ false = sym (if_same t u y true (is_open log u k))
-        ∙ sym (open_is log k (began t call) at u) ∙ e in cc)
+    | inl y ↦ absurd (let g = sym (if_same t u y true (is_open log u k)) ∙ sym (open_is log k (began t call) at u) ∙ e in cc)
     | inr d ↦ (get_or-set_other s.under_way t u _ None (λ z. d (sym z))
         ∙ f.idle u l (sym (if_other t u d true (is_open log u k))
         ∙ sym (open_is log k (began t call) at u) ∙ e))
@@ -181,17 +176,11 @@ module _ (op : Opening) (log : Log) (contents : Contents) (counts : Counts) (k t
   begun_busy u l e = elim (same_or_not t u) [
     | inl y ↦ (let seats : length s.under_way ≡ op.threads = f.seats in (
       record { number = length s.calls; call = call; begun = suc k },
-      subst (λ z. open_call_at (begun_on (suc k) t call s).under_way z ≡ Some (record {
-        number = length s.calls;
-        call = call;
-        begun = suc k;
-      })) y
-          (get_or-set_same s.under_way t _ None (let th : t < op.threads = en.of_a_thread in omega arith)),
+      rw (← y) (get_or-set_same s.under_way t _ None (let th : t < op.threads = en.of_a_thread in omega arith)),
       record {
         here = subst (λ xs. OpenNumber xs u (length s.calls) call (suc k)) (sym (calls_are log k (began t call) at))
             (subst (λ z. OpenNumber (calls_at log k ++ new_call k t call ∷ []) u z call (suc k)) (sym count_calls)
-            (subst (λ z. OpenNumber (calls_at log k ++ new_call k t call ∷ []) z (length (calls_at log k)) call (suc k)) y
-            (open_new k t call (calls_at log k))));
+            (rw (← y) (open_new k t call (calls_at log k))));
         since = (let now : suc k ≤ suc k = omega arith in now);
         steady = λ g m a b. ap (λ z. counts z u) (let from : suc k ≤ m = a in let now : m ≡ suc k = omega arith in now);
       },
@@ -215,14 +204,11 @@ module _ (op : Opening) (log : Log) (contents : Contents) (counts : Counts) (k t
       let long : length (calls_at log (suc k)) ≡ suc (length (calls_at log k)) = length_began log k t call at in
       let b : length s.places ≡ length (calls_at log k) = f.numbered in
       elim (below_or_not i (length (calls_at log k))) [
-        | inr y ↦ subst (λ z. PlaceOf op.quota contents counts z (place_at (begun_on (suc k) t call s).places i))
-            (sym (ap (λ xs. traced_at xs i) (calls_are log k (began t call) at)
-            ∙ get_or_push (calls_at log k) (new_call k t call) no_traced i (omega arith)))
-            (get_or_push s.places None None i (omega arith))
-        | inl y ↦ subst (λ z. PlaceOf op.quota contents counts z (place_at (begun_on (suc k) t call s).places i))
-            (sym (ap (λ xs. traced_at xs i) (calls_are log k (began t call) at)
-            ∙ get_or_append_left (calls_at log k) (new_call k t call ∷ []) no_traced i y))
-            (subst (λ z. PlaceOf op.quota contents counts (traced_at (calls_at log k) i) z) (sym (get_or_append_left s.places
+        | inr y ↦ rw (ap (λ xs. traced_at xs i) (calls_are log k (began t call) at) ∙ get_or_push (calls_at log k)
+            (new_call k t call) no_traced i (omega arith)) (get_or_push s.places None None i (omega arith))
+        | inl y ↦ rw (ap (λ xs. traced_at xs i) (calls_are log k (began t call) at) ∙ get_or_append_left (calls_at log k)
+            (new_call k t call ∷ []) no_traced i y) (subst (λ z. PlaceOf op.quota contents counts (traced_at
+            (calls_at log k) i) z) (sym (get_or_append_left s.places
             (None ∷ []) None i (omega arith))) (f.placed i y))
       ]
 

@@ -57,8 +57,7 @@ module _ (contents : Contents) (k : ℕ) (changes : ℕ → List ℕ) (upto : (j
   pub quiet_keys : (j m : ℕ) → m ≤ suc k → (contents k j → contents (suc k) j) → (contents (suc k) j → contents k j)
       → Tells (is_present changes j m) (contents m j)
   quiet_keys j m l f g = elim (last_or_before m k l) [
-    | inl e ↦ subst (λ z. Tells (is_present changes j z) (contents z j)) (sym e)
-        (tells_same (is_present changes j (suc k)) (is_present_now changes j) (next_is j) (now_tells j) f g)
+    | inl e ↦ rw e (tells_same (is_present changes j (suc k)) (is_present_now changes j) (next_is j) (now_tells j) f g)
     | inr y ↦ keys j m y
   ]
 
@@ -79,12 +78,10 @@ module _ (contents : Contents) (k : ℕ) (changes : ℕ → List ℕ) (upto : (j
       → Tells (is_present (changes_by ch (suc k) changes) j m) (contents m j)
   changed_keys None c j m l = quiet_keys j m l (c j).0 (c j).1
   changed_keys (Some (x, present)) c j m l = elim (same_or_not j x.0) [
-    | inr d ↦ subst (λ b. Tells b (contents m j)) (sym (others_stay changes x.0 (suc k) j m d))
-        (let f = others x present c j d in quiet_keys j m l f.0 f.1)
+    | inr d ↦ rw (others_stay changes x.0 (suc k) j m d) (let f = others x present c j d in quiet_keys j m l f.0 f.1)
     | inl e ↦ elim (last_or_before m k l) [
       | inr y ↦ subst (λ b. Tells b (contents m j)) (sym (earlier_stays changes x.0 (suc k) j m (omega arith))) (keys j m y)
-      | inl z ↦ subst (λ w. Tells (is_present (with_change changes x.0 (suc k)) w m) (contents m w)) (sym e)
-          (subst (λ w. Tells (is_present (with_change changes x.0 (suc k)) x.0 w) (contents w x.0)) (sym z)
+      | inl z ↦ rw e (subst (λ w. Tells (is_present (with_change changes x.0 (suc k)) x.0 w) (contents w x.0)) (sym z)
           (here x present c (turns_there changes x.0 (suc k) (all_below (changes x.0) k (suc k) (omega arith) (upto x.0)))))
     ]
   ]

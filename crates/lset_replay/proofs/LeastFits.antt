@@ -109,8 +109,7 @@ pub least_of : (q : ℕ) (contents : Contents) (counts : Counts) (x : TracedCall
 least_of q contents counts x first last t c r k e f g l = record {
   from = subst (λ z. z ≤ k) (sym e) l.from;
   upto = l.upto;
-  fits = subst (λ z. Fits q (contents k) (counts k z) x.call r) (sym f) (subst
-      (λ z. Fits q (contents k) (counts k t) z r) (sym g) l.holds);
+  fits = subst (λ z. Fits q (contents k) (counts k z) x.call r) (sym f) (rw g l.holds);
   least = λ m a b h. l.least m (subst (λ z. z ≤ m) e a) b
       (subst (λ z. Fits q (contents m) (counts m t) z r) g (subst (λ z. Fits q (contents m) (counts m z) x.call r) f h));
 }

@@ -1,6 +1,7 @@
 -- How the list of calls changes at an entry: by a new call, or at the open one of a thread.
-use Rattle.std.proofs.Common.{◌≡◌, ◌≢◌, ℕ, zero, suc, ◌+◌, ◌<◌, ◌≤◌, ◌⊎◌, true, false, inl, inr, List, [], ◌∷◌, ◌++◌, length, map, set}
-use Rattle.std.proofs.Common.{sym, refl, subst, ap, ◌∙◌, arith}
+use Rattle.std.proofs.lemmas.Grind.{common_steps}
+use Rattle.std.proofs.Common.{◌≡◌, ◌≢◌, ℕ, zero, suc, ◌+◌, ◌<◌, ◌≤◌, ◌⊎◌, true, false, inl, inr, List, [], ◌∷◌, ◌++◌, length, map}
+use Rattle.std.proofs.Common.{set, sym, refl, subst, ap, ◌∙◌, arith}
 use Rattle.std.specs.Prelude.{Option, None, if◌then◌else◌, IsSomeAnd}
 use Rattle.std.proofs.lemmas.List.{length-append, length-map, get_or-map, get_or_append_left, get_or_push}
 use Rattle.lset_words.specs.declared.Call.{Call}
@@ -18,9 +19,7 @@ use Rattle.lset_words.specs.Words.{Opening}
 -- how many calls have begun
 pub length_began : (log : Log) (k t : ℕ) (call : Call) → log k ≡ began t call
     → length (calls_at log (suc k)) ≡ suc (length (calls_at log k))
-length_began log k t call e = ap (λ z. length (calls_after (suc k) z (calls_at log k))) e
-    ∙ length-append (calls_at log k) (new_call k t call ∷ [])
-    ∙ (omega arith)
+length_began log k t call e = grind (arith, common_steps)
 
 pub length_stepped : (log : Log) (k t : ℕ) (change : Option Change) (reply : Option Reply) → log k ≡ stepped t change reply
     → length (calls_at log (suc k)) ≡ length (calls_at log k)
@@ -41,8 +40,7 @@ open_new k t call xs =
     let long : length (xs ++ new_call k t call ∷ []) ≡ length xs + 1 = length-append xs (new_call k t call ∷ []) in
     record {
       below = omega arith;
-      open_call = subst (IsOpenAs t call (suc k)) (sym (get_or_push xs (new_call k t call) no_traced (length xs) refl))
-          (refl, refl, refl, refl);
+      open_call = rw (get_or_push xs (new_call k t call) no_traced (length xs) refl) (refl, refl, refl, refl);
     }
 
 -- it stays so where another call begins,
@@ -63,8 +61,7 @@ pub open_stepped : (k u t : ℕ) (change : Option Change) (reply : Option Reply)
 open_stepped k u t change reply xs number call begun c p =
     let low : number < length xs = p.below in
     let long : length (map (step_of k u change reply) xs) ≡ length xs = length-map xs (step_of k u change reply) in
-    let e : traced_at (map (step_of k u change reply) xs) number ≡ step_of k u change reply (traced_at xs number) =
-    get_or-map (step_of k u change reply) xs number no_traced no_traced low in
+    let e = get_or-map (step_of k u change reply) xs number no_traced no_traced low in
     record { below = omega arith; open_call = subst (IsOpenAs t call begun) (sym e) (still (traced_at xs number) p.open_call) }
   where
     still : (x : TracedCall) → IsOpenAs t call begun x → IsOpenAs t call begun (step_of k u change reply x)
@@ -97,8 +94,7 @@ map_sets : (t i : ℕ) (f : TracedCall → TracedCall) (xs : List TracedCall) �
     → map (λ x. if is_under_way t x then f x else x) xs ≡ set xs i (f (traced_at xs i))
 map_sets t i f [] l u n = absurd (omega arith)
 map_sets t zero f (x ∷ xs) l u n =
-    let e : map (λ x. if is_under_way t x then f x else x) xs ≡ xs = unchanged xs
-    (λ j m. n (suc j) (omega arith) (λ d. omega arith)) in
+    let e = unchanged xs (λ j m. n (suc j) (omega arith) (λ d. omega arith)) in
     rw (u, e) refl
   where
     unchanged : (ys : List TracedCall) → ((j : ℕ) → j < length ys → is_under_way t (traced_at ys j) ≡ false)
@@ -110,8 +106,7 @@ map_sets t zero f (x ∷ xs) l u n =
         rw (b, e) refl
 map_sets t (suc i) f (x ∷ xs) l u n =
     let b : is_under_way t x ≡ false = n 0 (omega arith) (λ d. omega arith) in
-    let e : map (λ x. if is_under_way t x then f x else x) xs ≡ set xs i (f (traced_at xs i)) =
-    map_sets t i f xs (omega arith) u (λ j m d. n (suc j) (omega arith) (λ g. d (omega arith))) in
+    let e = map_sets t i f xs (omega arith) u (λ j m d. n (suc j) (omega arith) (λ g. d (omega arith))) in
     rw (b, e) refl
 
 -- at one step of an account
@@ -122,8 +117,7 @@ pub step_sets : (op : Opening) (last : ℕ) (log : Log) (contents : Contents) (c
     → calls_after (suc k) (stepped t change reply) (calls_at log k)
     ≡ set (calls_at log k) number (traced_on (suc k) change reply (traced_at (calls_at log k) number))
 step_sets op last log contents counts a k t change reply l number call begun p =
-    let c : Calls (run_of op.threads op.quota log contents counts) k (calls_at log k) =
-    calls_of op last log contents counts a k l in
+    let c = calls_of op last log contents counts a k l in
     map_sets t number (traced_on (suc k) change reply) (calls_at log k) p.below
     (is_way t (traced_at (calls_at log k) number) p.open_call.0 p.open_call.1)
     (λ j m n. others j m n c.pairs (cases_Bool (is_under_way t (traced_at (calls_at log k) j))))
@@ -132,6 +126,5 @@ step_sets op last log contents counts a k t change reply l number call begun p =
         → (is_under_way t (traced_at (calls_at log k) j) ≡ true) ⊎ (is_under_way t (traced_at (calls_at log k) j) ≡ false)
         → is_under_way t (traced_at (calls_at log k) j) ≡ false
     others j m n q (inr b) = b
-    others j m n q (inl b) = absurd (let w : (t ≡ (traced_at (calls_at log k) j).thread)
-        × ((traced_at (calls_at log k) j).ended ≡ None) = way_of t (traced_at (calls_at log k) j) b in
+    others j m n q (inl b) = absurd (let w = way_of t (traced_at (calls_at log k) j) b in
         n (open_once (calls_at log k) t j number q m p.below (sym w.0, w.1) (p.open_call.0, p.open_call.1)))

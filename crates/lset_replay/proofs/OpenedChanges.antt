@@ -1,5 +1,6 @@
 -- What the opening keys are in a trace before its first event.
-use Rattle.std.proofs.Common.{◌≡◌, ℕ, zero, suc, ◌<◌, ◌≤◌, ◌^◌, Bool, true, false, List, [], ◌∷◌, get_or, sym, refl, subst, ap, ◌∙◌, arith}
+use Rattle.std.proofs.Common.{◌≡◌, ℕ, zero, suc, ◌<◌, ◌≤◌, ◌^◌, Bool, true, false, List, [], ◌∷◌, get_or, sym, refl, subst, ap}
+use Rattle.std.proofs.Common.{◌∙◌, arith}
 use Rattle.std.specs.Prelude.{All, if◌then◌else◌, Contains as InList}
 use Rattle.std.proofs.lemmas.List.Elements.{All-from_get_or}
 use Rattle.lset_words.specs.Account.{Contents}

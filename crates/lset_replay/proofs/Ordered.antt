@@ -1,11 +1,13 @@
 -- The order that is made of the places is [Placement].
-use Rattle.std.proofs.Common.{◌≡◌, ℕ, suc, ◌<◌, ◌≤◌, Bool, true, false, List, [], ◌∷◌, length, map, sym, refl, subst, ap, ◌∙◌, arith}
+use Rattle.std.proofs.Common.{◌≡◌, ℕ, suc, ◌<◌, ◌≤◌, Bool, true, false, List, [], ◌∷◌, length, map, sym, refl, subst, ap, ◌∙◌}
+use Rattle.std.proofs.Common.{arith}
 use Rattle.std.specs.Prelude.{Option, Some, None, IfSome}
 use Rattle.std.proofs.lemmas.List.{length-map, get_or-map}
 use Rattle.lset_words.specs.declared.Reply.{Reply}
 use Rattle.lset_words.specs.Log.{Log, TracedCall, calls_at}
 use Rattle.lset_words.specs.Account.{Contents, Counts, Account}
-use Rattle.lset_words.specs.Placement.{Standing, standing, makes_change, traced_at, no_traced, StandsBy, StandsAt, IsPlacement, reply_by}
+use Rattle.lset_words.specs.Placement.{Standing, standing, makes_change, traced_at, no_traced, StandsBy, StandsAt, IsPlacement}
+use Rattle.lset_words.specs.Placement.{reply_by}
 use Rattle.lset_words.specs.Words.{Opening}
 use Rattle.lset_history.proofs.Lists.{all_at}
 use Rattle.lset_history.proofs.Calls.{Traced, ChangedBy, EndedBy}
@@ -83,9 +85,8 @@ module _ (q : ℕ) (contents : Contents) (counts : Counts) where
     is_placement last = record {
       places = map moment_of ps;
       one_each = length-map ps moment_of ∙ l;
-      stands = λ i n. subst (λ z. StandsAt q contents counts (traced_at xs i) z) (sym (get_or-map moment_of ps i None None
-          (omega arith)))
-          (stands_there q contents counts (traced_at xs i) (traced_at xs i).changed (traced_at xs i).ended (place_at ps i)
+      stands = λ i n. rw (get_or-map moment_of ps i None None (omega arith)) (stands_there q contents counts
+          (traced_at xs i) (traced_at xs i).changed (traced_at xs i).ended (place_at ps i)
           (h i n));
       in_order = ap (λ zs. placed_in (by_points last zs)) (sym (pointed_each 0 xs ps l h))
           ∙ placed_by_moments last (standing 0 xs (map moment_of ps));
@@ -102,16 +103,14 @@ module _ (op : Opening) (last : ℕ) (log : Log) (contents : Contents) (counts :
       → IfSome p (λ (z : Linearized). z.moment ≤ last)
   upto x (Some m) ended p h c e = subst (λ y. IfSome y (λ (z : Linearized). z.moment ≤ last)) (sym h) c.0
   upto x None None p h c e = subst (λ y. IfSome y (λ (z : Linearized). z.moment ≤ last)) (sym h) tt
-  upto x None (Some end) p h c e = subst (λ y. IfSome y (λ (z : Linearized). z.moment ≤ last)) (sym h.1)
-      (let a : h.0 ≤ end.0 = h.2.upto in let b : end.0 ≤ last = e.0 in omega arith)
+  upto x None (Some end) p h c e = rw h.1 (let a : h.0 ≤ end.0 = h.2.upto in let b : end.0 ≤ last = e.0 in omega arith)
 
   pub stand_upto : StandUpTo last (trace_at op log last).places
   stand_upto i l =
-      let f : Follows op log contents counts last (trace_at op log last) =
-      follows op last log contents counts account low last (omega arith) in
+      let f = follows op last log contents counts account low last (omega arith) in
       let count : length (trace_at op log last).places ≡ length (calls_at log last) = f.numbered in
-      let t : Traced (run_of op.threads op.quota log contents counts) last (traced_at (calls_at log last) i) =
-      all_at (Traced (run_of op.threads op.quota log contents counts) last) (calls_at log last) no_traced i (omega arith)
+      let t = all_at (Traced (run_of op.threads op.quota log contents counts) last) (calls_at log last) no_traced i
+      (omega arith)
       (calls_of op last log contents counts account last (omega arith)).each in
       upto (traced_at (calls_at log last) i) (traced_at (calls_at log last) i).changed (traced_at (calls_at log last) i).ended
       (place_at (trace_at op log last).places i)
@@ -119,6 +118,5 @@ module _ (op : Opening) (last : ℕ) (log : Log) (contents : Contents) (counts :
 
   pub placement : IsPlacement op.quota last (calls_at log last) contents counts (blocks_upto (trace_at op log last).places last)
   placement =
-      let f : Follows op log contents counts last (trace_at op log last) =
-      follows op last log contents counts account low last (omega arith) in
+      let f = follows op last log contents counts account low last (omega arith) in
       is_placement op.quota contents counts (calls_at log last) (trace_at op log last).places f.numbered f.placed last

@@ -95,12 +95,7 @@ module _ (op : Opening) (last : ℕ) (log : Log) (contents : Contents) (counts :
         → is_under_way t x ≡ false
     shut t e x h = elim (cases_Bool (is_under_way t x)) [
       | inl y ↦ absurd (
-          let w : (t ≡ x.thread) × (x.ended ≡ None) = way_of t x y in
-          let o : OpenAt (run_of op.threads op.quota log contents counts) k x.thread x.call x.begun x.changed =
-          subst (EndedBy (run_of op.threads op.quota log contents counts) k x.thread x.call x.begun x.changed) w.1 h.ends in
-          let a : is_open log x.thread k ≡ true = o.is in
-          let b : is_open log x.thread k ≡ false = subst (λ z. is_open log z k ≡ false) w.0 e in
-          cc)
+          grind arith)
       | inr y ↦ y
     ]
 
@@ -123,32 +118,29 @@ module _ (op : Opening) (last : ℕ) (log : Log) (contents : Contents) (counts :
         → Enters op.threads op.quota log contents counts k (stepped t change reply)
         → MayStep r.history r.under_way.items r.places.items t (suc k) × MayChange (moments_of r.changes) (suc k) change
     may_step t change reply en =
-        let o : (o : OpenCall) × (open_call_at r.under_way.items t ≡ Some o) × IsWatched log contents counts k t o =
-        now.busy t en.of_a_thread en.under_way in
+        let o = now.busy t en.of_a_thread en.under_way in
         let number : OpenNumber (calls_at log k) t o.0.number o.0.call o.0.begun = o.2.here in
         let inside : o.0.number < length (calls_at log k) = number.below in
         let places : length r.places.items ≡ length (calls_at log k) = now.numbered in
-        let records : length r.history.calls ≡ length (calls_at log k) =
-        ap (λ (xs : List CallRecord). length xs) now.history ∙ length-map (calls_at log k) record_of in
+        let records = ap (λ (xs : List CallRecord). length xs) now.history ∙ length-map (calls_at log k) record_of in
         let seats : length r.under_way.items ≡ op.threads = now.seats in
         let th : t < op.threads = en.of_a_thread in
         let since : o.0.begun ≤ k = o.2.since in (
           record {
             of_a_thread = omega arith;
-            goes = subst (λ (z : Option OpenCall). IsSomeAnd z (λ y.
-                (y.number < length r.places.items) × (y.begun ≤ suc k) × MayEnd r.history y.number (suc k))) (sym o.1) (
-                  omega arith,
-                  omega arith,
-                  record {
-                    open_call = record {
-                      known = omega arith;
-                      not_ended = ap (λ (xs : List CallRecord). (call_numbered xs o.0.number).ended) now.history
-                          ∙ ap (λ (x : CallRecord). x.ended) (get_or_mapped record_of (calls_at log k) o.0.number no_traced)
-                          ∙ number.open_call.1;
-                    };
-                    later = later;
-                  },
-                );
+            goes = rw o.1 (
+              omega arith,
+              omega arith,
+              record {
+                open_call = record {
+                  known = omega arith;
+                  not_ended = ap (λ (xs : List CallRecord). (call_numbered xs o.0.number).ended) now.history
+                      ∙ ap (λ (x : CallRecord). x.ended) (get_or_mapped record_of (calls_at log k) o.0.number no_traced)
+                      ∙ number.open_call.1;
+                };
+                later = later;
+              },
+            );
           },
           may_change contents k (moments_of r.changes) now.upto now.keys change en.content,
         )
@@ -159,7 +151,5 @@ few_calls log zero = omega arith
 few_calls log (suc k) = at (log k) refl (few_calls log k)
   where
     at : (e : Entry) → log k ≡ e → length (calls_at log k) ≤ k → length (calls_at log (suc k)) ≤ suc k
-    at (began t call) h b = let a : length (calls_at log (suc k)) ≡ suc (length
-        (calls_at log k)) = length_began log k t call h in omega arith
-    at (stepped t change reply) h b = let a : length (calls_at log (suc k)) ≡ length
-        (calls_at log k) = length_stepped log k t change reply h in omega arith
+    at (began t call) h b = let a = length_began log k t call h in omega arith
+    at (stepped t change reply) h b = let a = length_stepped log k t change reply h in omega arith

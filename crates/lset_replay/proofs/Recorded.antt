@@ -10,7 +10,8 @@ use Rattle.lset_history.specs.Changes.{ChangesValue, moments_of, with_change}
 use Rattle.lset_replay.specs.declared.places.OpenCall.{OpenCall}
 use Rattle.lset_replay.specs.declared.places.Linearized.{Linearized}
 use Rattle.lset_replay.specs.declared.recorder.Recorder.{Recorder}
-use Rattle.lset_replay.specs.Trace.{Trace, trace_of, open_call_at, place_at, number_of, fit_of, settled, changed_at, changed_on, ended_by}
+use Rattle.lset_replay.specs.Trace.{Trace, trace_of, open_call_at, place_at, number_of, fit_of, settled, changed_at, changed_on}
+use Rattle.lset_replay.specs.Trace.{ended_by}
 
 same_trace : {a b : List CallRecord} {c d : List (Option OpenCall)} {e f : List (Option Linearized)} {g h : ℕ → List ℕ} → a ≡ b
     → c ≡ d → e ≡ f → g ≡ h

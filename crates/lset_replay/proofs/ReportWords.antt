@@ -10,7 +10,8 @@ use Rattle.lset_words.specs.declared.Reply.{Reply}
 use Rattle.lset_words.specs.declared.Reply.TheVariants as reply
 use Rattle.lset_words.specs.declared.history.CallRecord.{CallRecord}
 use Rattle.lset_words.specs.declared.history.Placed.{Placed}
-use Rattle.lset_words.specs.Log.{Log, Entry, Change, TracedCall, calls_at, calls_after, history_at, record_of, is_under_way, traced_on}
+use Rattle.lset_words.specs.Log.{Log, Entry, Change, TracedCall, calls_at, calls_after, history_at, record_of, is_under_way}
+use Rattle.lset_words.specs.Log.{traced_on}
 use Rattle.lset_words.specs.Log.Entry.{began, stepped}
 use Rattle.lset_words.specs.History.{Linearizes, no_call, call_numbered, answered}
 use Rattle.lset_words.specs.SequentialSet.{SetState, IsLegal, after_call, count_of, opening_set, has_key, reply_to}
@@ -178,14 +179,12 @@ words_in Two q s calls order h are = tt
 pub words_of_version : (T : Table) (p : Plan) (r : ReportValue) → IsReplay T p r → IsExplained r
     → plan.HasWordsOfVersion p → HasWordsOfVersion r
 words_of_version T p r is explained words =
-    let are : AllByRecursion (IsRecordIn p.version) r.history.calls =
-    subst (λ xs. AllByRecursion (IsRecordIn p.version) xs) (sym is.report.history_is)
-    (history_is_in p.version T (opening_in p) (length (only_events (events_of p))) (events_of p)
+    let are : AllByRecursion (IsRecordIn p.version) r.history.calls = rw is.report.history_is (history_is_in p.version T
+    (opening_in p) (length (only_events (events_of p))) (events_of p)
     (lines_begin p.version (first_event_line p) p.lines words.1)) in
     record {
-      opening = subst (λ (v : Version). HasOpening v r.history.opening.keys) (sym is.version_is)
-          (subst (HasOpening p.version) (sym (ap (λ (o : Opening). o.keys) is.opening_is)) words.0);
-      words = subst (λ v. HasWordsIn v r.history.calls r.order) (sym is.version_is)
-          (words_in p.version r.history.opening.quota (opening_set r.history.opening) r.history.calls r.order explained.linearizes
+      opening = rw is.version_is (subst (HasOpening p.version) (sym (ap (λ (o : Opening). o.keys) is.opening_is)) words.0);
+      words = rw is.version_is (words_in p.version r.history.opening.quota
+          (opening_set r.history.opening) r.history.calls r.order explained.linearizes
           are);
     }

@@ -13,7 +13,7 @@ use Rattle.lset_steps.specs.Chain.{View, contents_of, counts_of}
 use Rattle.lset_steps.specs.Laws.{view_of, views}
 use Rattle.lset_steps.specs.Worlds.{WorldState, IsContent, keys_in}
 use Rattle.lset_steps.proofs.Segments.{chain_once}
-use Rattle.lset_linearizable.specs.Headline.{history_of, keys_left, ExplainsRun, IsThePlacement, PlacementExplainsRuns}
+use Rattle.lset_lists.specs.Headline.{history_of, keys_left, ExplainsRun, IsThePlacement, PlacementExplainsRuns}
 use Rattle.lset_replay.specs.declared.events.LineEvent.{LineEvent}
 use Rattle.lset_replay.specs.declared.recorder.Recorder.{Recorder}
 use Rattle.lset_replay.specs.Events.{events_of, only_events}

@@ -4,8 +4,8 @@ use Rattle.std.proofs.Common.{subst, ap, ◌∙◌, arith, get_or-set_same, get_
 use Rattle.std.specs.Prelude.{All, ◌-◌, Option, Some, None, is_some}
 use Rattle.std.proofs.lemmas.List.{map-set, set-get_or}
 use Rattle.lset_words.specs.declared.Reply.{Reply}
-use Rattle.lset_words.specs.Log.{Log, Change, TracedCall, traced_on, changed_by, ended_by, calls_at, calls_after, history_at, record_of}
-use Rattle.lset_words.specs.Log.{last_call, begun_at, is_open, has_changed, is_change, open_after}
+use Rattle.lset_words.specs.Log.{Log, Change, TracedCall, traced_on, changed_by, ended_by, calls_at, calls_after, history_at}
+use Rattle.lset_words.specs.Log.{record_of, last_call, begun_at, is_open, has_changed, is_change, open_after}
 use Rattle.lset_words.specs.Log.Entry.{stepped}
 use Rattle.lset_words.specs.Account.{Contents, Counts, FitsSometime, RightReply, Enters, Account, count_after}
 use Rattle.lset_words.specs.Placement.{traced_at, no_traced, IsLeastFit}
@@ -19,8 +19,8 @@ use Rattle.lset_history.proofs.CallSteps.{run_of, calls_of}
 use Rattle.lset_replay.proofs.OpenCalls.{OpenNumber, open_stepped, length_stepped, step_sets}
 use Rattle.lset_replay.specs.declared.places.OpenCall.{OpenCall}
 use Rattle.lset_replay.specs.declared.places.Linearized.{Linearized}
-use Rattle.lset_replay.specs.Trace.{Trace, open_call_at, place_at, number_of, fit, changed_at, read_at, settled}
-use Rattle.lset_replay.specs.Trace.{changed_on, ended_on, needs_key, shows}
+use Rattle.lset_replay.specs.Trace.{Trace, open_call_at, place_at, number_of, fit, changed_at, read_at, settled, changed_on}
+use Rattle.lset_replay.specs.Trace.{ended_on, needs_key, shows}
 use Rattle.lset_history.proofs.Firsts.{first_passing_is}
 use Rattle.lset_history.specs.Changes.{is_present, IsBounded}
 use Rattle.lset_replay.proofs.KeyChanges.{HoldsKeys, Tells, changes_by, changed_keys, changed_upto, changed_bounded}
@@ -61,20 +61,19 @@ module _ (m t : ℕ) (cs : List TracedCall) (ch : Option Change) (o : OpenCall) 
   ended_history : (r : Option Reply) → open_call_at s.under_way t ≡ Some o → s.calls ≡ map record_of cs
       → (traced_at cs num).ended ≡ None
       → (ended_on m t r s).calls ≡ map record_of (set cs num (traced_on m ch r (traced_at cs num)))
-  ended_history None e g h = g ∙ sym (map-set record_of cs num (traced_on m ch None (traced_at cs num))
-      ∙ ap (λ z. set (map record_of cs) num (record {
-        thread = (traced_at cs num).thread;
-        call = (traced_at cs num).call;
-        begun = (traced_at cs num).begun;
-        ended = z;
-      })) (sym h)
-      ∙ ap (λ z. set (map record_of cs) num z) (sym (get_or_mapped record_of cs num no_traced))
-      ∙ set-get_or (map record_of cs) num no_call)
-  ended_history (Some a) e g h =
-      ap (λ z. set s.calls (number_of z) (ended_with (call_numbered s.calls (number_of z)) (m, a))) e
-      ∙ ap (λ z. set z num (ended_with (call_numbered z num) (m, a))) g
-      ∙ ap (λ z. set (map record_of cs) num (ended_with z (m, a))) (get_or_mapped record_of cs num no_traced)
-      ∙ sym (map-set record_of cs num (traced_on m ch (Some a) (traced_at cs num)))
+  ended_history None e g h = g ∙ sym (cc (
+    map-set record_of cs num (traced_on m ch None (traced_at cs num)),
+    h,
+    get_or_mapped record_of cs num no_traced,
+    set-get_or (map record_of cs) num no_call,
+  ))
+  ended_history (Some a) e g h = cc (
+    e,
+    g,
+    get_or_mapped record_of cs num no_traced,
+    map-set record_of cs num
+        (traced_on m ch (Some a) (traced_at cs num)),
+  )
 
 or_false : (b c : Bool) → (b || c) ≡ false → (b ≡ false) × (c ≡ false)
 or_false true c e = absurd (cc)
@@ -148,12 +147,10 @@ module _ (op : Opening) (last : ℕ) (log : Log) (contents : Contents) (counts :
   kept_changes = ended_changes (suc k) t r changed ∙ changed_changes (suc k) t ch s
 
   step_keys : (j m : ℕ) → m ≤ suc k → Tells (is_present kept.changes j m) (contents m j)
-  step_keys j m l = subst (λ c. Tells (is_present c j m) (contents m j)) (sym kept_changes)
-      (changed_keys contents k s.changes f.upto f.keys ch en.content j m l)
+  step_keys j m l = rw kept_changes (changed_keys contents k s.changes f.upto f.keys ch en.content j m l)
 
   step_upto : (j : ℕ) → All (λ x. x ≤ suc k) (kept.changes j)
-  step_upto j = subst (λ c. All (λ x. x ≤ suc k) (c j)) (sym kept_changes)
-      (changed_upto contents k s.changes f.upto f.keys ch j)
+  step_upto j = rw kept_changes (changed_upto contents k s.changes f.upto f.keys ch j)
 
   step_bounded : IsBounded kept.changes
   step_bounded = subst IsBounded (sym kept_changes) (changed_bounded contents k s.changes f.upto f.keys ch en.content
@@ -167,9 +164,7 @@ module _ (op : Opening) (last : ℕ) (log : Log) (contents : Contents) (counts :
   idle_by None u l e = changed_open (suc k) t ch s u None (f.idle u l e)
   idle_by (Some a) u l e = elim (same_or_not t u) [
     | inl y ↦ subst (λ z. open_call_at (ended_on (suc k) t (Some a) changed).under_way z ≡ None) y
-        (ended_seat (suc k) t a changed (let b : length changed.under_way ≡ length s.under_way =
-        ap (λ (xs : List (Option OpenCall)). length xs) (changed_seats (suc k) t ch s) in
-        let c : t < length s.under_way = in_seats t en.of_a_thread in omega arith))
+        (ended_seat (suc k) t a changed (grind arith))
     | inr d ↦ (ended_others (suc k) t (Some a) changed u (λ z. d (sym z))
         ∙ changed_open (suc k) t ch s u None (f.idle u l (sym (if_other t u d false (is_open log u k)) ∙ e)))
   ]
@@ -192,8 +187,7 @@ module _ (op : Opening) (last : ℕ) (log : Log) (contents : Contents) (counts :
   step_busy : (u : ℕ) → u < op.threads → is_open log u (suc k) ≡ true
       → (o : OpenCall) × (open_call_at kept.under_way u ≡ Some o) × IsWatched log contents counts (suc k) u o
   step_busy u l e = elim (same_or_not t u) [
-    | inl y ↦ subst (λ z. (o : OpenCall) × (open_call_at kept.under_way z ≡ Some o) × IsWatched log contents counts
-        (suc k) z o) y (
+    | inl y ↦ rw (← y) (
         let stays = open_here r (sym (open_is log k (stepped t ch r) at t)
         ∙ subst (λ z. is_open log z (suc k) ≡ true) (sym y) e) in (
           watching,
@@ -221,21 +215,17 @@ module _ (op : Opening) (last : ℕ) (log : Log) (contents : Contents) (counts :
       → (m : ℕ) × (fit kept.changes watching a (suc k) ≡ Some m) × IsLeastFit op.quota contents counts here (suc k) a m
   fits_first e g a h =
       let th : here.thread ≡ t = number.open_call.0 in
-      let unchanged : has_changed log t k ≡ false = subst (λ z. has_changed log z k ≡ false) th (told.changed_is
-      ∙ ap (λ (z : Option ℕ). is_some z) e) in
+      let unchanged : has_changed log t k ≡ false = subst (λ z. has_changed log z k ≡ false) th (cc (told.changed_is, e)) in
       let still : has_changed log t (suc k) ≡ false = changed_is log k (stepped t ch r) at t
       ∙ if_same t t refl (has_changed log t k || is_change ch) (has_changed log t k)
       ∙ ap (λ z. has_changed log t k || is_change z) g ∙ or_nothing (has_changed log t k) unchanged in
-      let call_same : last_call log t k ≡ watching.call =
-      subst (λ z. last_call log z k ≡ here.call) th told.call_is ∙ number.open_call.2 in
-      let begun_same : begun_at log t k ≡ watching.begun =
-      subst (λ z. begun_at log z k ≡ here.begun) th told.begun_is ∙ number.open_call.3 in
+      let call_same = subst (λ z. last_call log z k ≡ here.call) th told.call_is ∙ number.open_call.2 in
+      let begun_same = subst (λ z. begun_at log z k ≡ here.begun) th told.begun_is ∙ number.open_call.3 in
       let sometime : FitsSometime op.quota contents counts watching.begun (suc k) t watching.call a =
       subst (λ z. FitsSometime op.quota contents counts z (suc k) t watching.call a) begun_same
       (subst (λ z. FitsSometime op.quota contents counts (begun_at log t k) (suc k) t z a) call_same
       (subst (λ z. RightReply z op.quota contents counts (begun_at log t k) (suc k) t (last_call log t k) (Some a)) still
-      (subst (λ z. RightReply (has_changed log t (suc k)) op.quota contents counts (begun_at log t k) (suc k) t
-      (last_call log t k) z) h en.right))) in
+      (rw (← h) en.right))) in
       let since : watching.begun ≤ k = open_now.2.since in
       let w = fit_least op.quota contents counts watching.begun (suc k) t kept.changes watching.call a
       (fit kept.changes watching a (suc k)) step_bounded step_keys
@@ -259,9 +249,7 @@ module _ (op : Opening) (last : ℕ) (log : Log) (contents : Contents) (counts :
       elim (same_or_not i number_here) [
         | inl y ↦ subst (λ z. PlaceOf op.quota contents counts (traced_at (calls_at log (suc k)) z) (place_at kept.places z))
             (sym y)
-            (subst (λ xs. PlaceOf op.quota contents counts (traced_at xs number_here) (place_at kept.places number_here))
-            (sym calls_next)
-            (subst (λ z. PlaceOf op.quota contents counts z (place_at kept.places number_here))
+            (rw calls_next (subst (λ z. PlaceOf op.quota contents counts z (place_at kept.places number_here))
             (sym (get_or-set_same (calls_at log k) number_here (traced_on (suc k) ch r here) no_traced inside))
             (subst (λ z. PlaceOf op.quota contents counts (traced_on (suc k) ch r here) z)
             (sym (ended_here (suc k) t r changed watching open_next (omega arith)
@@ -275,9 +263,8 @@ module _ (op : Opening) (last : ℕ) (log : Log) (contents : Contents) (counts :
             (subst (λ z. PlaceBy op.quota contents counts here here.changed z (place_at s.places number_here))
             number.open_call.1 (f.placed number_here inside)) fits_first))))
         | inr d ↦ subst (λ xs. PlaceOf op.quota contents counts (traced_at xs i) (place_at kept.places i)) (sym calls_next)
-            (subst (λ z. PlaceOf op.quota contents counts z (place_at kept.places i))
-            (sym (get_or-set_other (calls_at log k) number_here i (traced_on (suc k) ch r here) no_traced d))
-            (subst (λ z. PlaceOf op.quota contents counts (traced_at (calls_at log k) i) z)
+            (rw (get_or-set_other (calls_at log k) number_here i (traced_on (suc k) ch r here) no_traced d) (subst
+            (λ z. PlaceOf op.quota contents counts (traced_at (calls_at log k) i) z)
             (sym (ended_other (suc k) t r changed watching i open_next d
             ∙ changed_other (suc k) t ch s i (λ z. d (z ∙ same_num))))
             (f.placed i (omega arith))))

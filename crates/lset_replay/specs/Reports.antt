@@ -12,7 +12,7 @@ use Rattle.lset_steps.specs.declared.world.StepFault.TheVariants as step
 use Rattle.lset_steps.specs.Steps.{Table, Run, event_at, state_at}
 use Rattle.lset_steps.specs.Laws.{views}
 use Rattle.lset_steps.specs.Worlds.{WorldState, Refused, IsContent}
-use Rattle.lset_linearizable.specs.Headline.{history_of, IsPlacedBy, keys_left}
+use Rattle.lset_lists.specs.Headline.{history_of, IsPlacedBy, keys_left}
 use Rattle.lset_schedule.specs.Plan.{Plan, opening_in}
 use Rattle.lset_report.specs.Report.{ReportValue, view}
 use Rattle.lset_replay.specs.declared.events.LineEvent.{LineEvent}

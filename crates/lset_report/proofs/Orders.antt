@@ -1,6 +1,6 @@
 -- Places that are sorted by their ranks, those of one rank as they stood, stand block after block.
-use Rattle.std.proofs.Common.{◌≡◌, ℕ, zero, suc, ◌+◌, ◌*◌, ◌<◌, ◌≤◌, ◌⊎◌, inl, inr, Bool, true, false, not, ◌&&◌, List, [], ◌∷◌, ◌++◌}
-use Rattle.std.proofs.Common.{map, length, get_or, refl, sym, ap, ◌∙◌, arith, append_assoc}
+use Rattle.std.proofs.Common.{rules, ◌≡◌, ℕ, zero, suc, ◌+◌, ◌*◌, ◌<◌, ◌≤◌, ◌⊎◌, inl, inr, Bool, true, false, not, ◌&&◌, List, []}
+use Rattle.std.proofs.Common.{◌∷◌, ◌++◌, map, length, get_or, refl, sym, ap, ◌∙◌, arith, append_assoc}
 use Rattle.std.specs.Prelude.{◌==◌, nat_lt, if◌then◌else◌, All}
 use Rattle.std.specs.List.{filter}
 use Rattle.std.specs.List.Sorted.{IsNonDecreasingBy, IsPermutation, ties}
@@ -137,9 +137,8 @@ module _ (xs ys : List Pointed) (moved : IsPermutation xs ys) (rise : IsNonDecre
     moved = moved;
     rise = λ i j e between inside. moment_rises (get_or ys i e).point.change (get_or ys j e).point.change
         (get_or ys i e).point.moment (get_or ys j e).point.moment (rise i j e between inside);
-    blocks = λ last few. sym (all_below rank_of (2 * last + 2) ys (All-permutation (λ x. rank_of x < 2 * last + 2) xs ys moved
-        (All-weaker (λ (x : Pointed). x.point.moment ≤ last) (λ x. rank_of x < 2 * last + 2)
-        (λ x l. rank_upto x.point.change x.point.moment last l) xs few))) ∙ blocks_below last;
+    blocks = λ last few. sym (all_below rank_of (2 * last + 2) ys (search (rules, All-permutation, All-weaker, rank_upto)))
+        ∙ blocks_below last;
   }
 
 -- ---- the places of calls that stand are in the order of [Placement]

@@ -26,8 +26,8 @@ use Rattle.lset_report.specs.declared.reading.lines.Section.{Section}
 use Rattle.lset_report.specs.declared.reading.lines.Section.TheVariants as section
 use Rattle.lset_report.specs.Report.{ReportValue}
 use Rattle.lset_report.specs.Texts.{end_pieces}
-use Rattle.lset_report.specs.ReportReading.{call_told, call_form, IsEnd, IsCall, IsPlace, opening_kind, open_kind, ended_kind, place_kind}
-use Rattle.lset_report.specs.ReportReading.{from_calls, from_order, from_keys, kinds, section_after}
+use Rattle.lset_report.specs.ReportReading.{call_told, call_form, IsEnd, IsCall, IsPlace, opening_kind, open_kind, ended_kind}
+use Rattle.lset_report.specs.ReportReading.{place_kind, from_calls, from_order, from_keys, kinds, section_after}
 
 -- ---- lines and their texts
 

@@ -1,6 +1,6 @@
 -- Reading the lines of a report one after the other, as a loop does.
-use Rattle.std.proofs.Common.{◌≡◌, ℕ, ◌+◌, ◌<◌, ◌≤◌, ◌⊎◌, inl, inr, true, ltb, eqb, List, [], ◌∷◌, ◌++◌}
-use Rattle.std.proofs.Common.{length, get_or, codes, Result, Ok, Err, refl, sym, ap, subst, ◌∙◌, ◌≢◌, arith}
+use Rattle.std.proofs.Common.{◌≡◌, ℕ, ◌+◌, ◌<◌, ◌≤◌, ◌⊎◌, inl, inr, true, ltb, eqb, List, [], ◌∷◌, ◌++◌, length, get_or, Result}
+use Rattle.std.proofs.Common.{Ok, Err, refl, sym, ap, subst, ◌∙◌, ◌≢◌, arith}
 use Rattle.std.proofs.lemmas.Bool.{ltb-true, lt-ltb, eqb-true, eq-eqb, and_parts}
 use Rattle.std.proofs.lemmas.List.{get_or-append-add}
 use Rattle.lset_words.specs.declared.TheConstants.{MOST_OPENING}
@@ -12,7 +12,7 @@ use Rattle.lset_text.specs.declared.causes.Cause.TheVariants as wrong
 use Rattle.lset_text.specs.declared.causes.LineFault.{LineFault}
 use Rattle.lset_text.specs.Causes.{fault}
 use Rattle.lset_text.specs.Parts.{cut_at}
-use Rattle.lset_text.specs.Headers.{header_of, header_lines, number_line}
+use Rattle.lset_text.specs.Headers.{header_of, header_lines}
 use Rattle.lset_text.specs.Kinds.{line_in, made}
 use Rattle.lset_text.specs.Lines.{lines_from, IsFaultlessTo, IsGoodLine, Stands}
 use Rattle.lset_text.specs.Openings.{is_above}
@@ -30,9 +30,8 @@ use Rattle.lset_report.specs.declared.reading.lines.Section.{Section}
 use Rattle.lset_report.specs.declared.reading.lines.Section.TheVariants as section
 use Rattle.lset_report.specs.Report.{ReportValue}
 use Rattle.lset_report.specs.Texts.{title, last_line}
-use Rattle.lset_report.specs.ReportReading.{kinds, may_follow, most_keys, is_next}
-use Rattle.lset_report.specs.ReportReading.{judged, line_after, SoFar, with_told, step, grammar, text}
-use Rattle.lset_report.specs.ReportReading.{no_lines, nothing_told, version_told, reading, RunsOut}
+use Rattle.lset_report.specs.ReportReading.{kinds, may_follow, most_keys, is_next, judged, line_after, SoFar, with_told, step}
+use Rattle.lset_report.specs.ReportReading.{grammar, text, no_lines, nothing_told, version_told, reading, RunsOut}
 use Rattle.lset_report.specs.ReportReader.{so_far, state, IsFull}
 
 -- ---- the judgement of a line
@@ -96,8 +95,7 @@ AllOf rest s = lines_from grammar first_line s (cut_at 10 rest)
 
 -- a line with a fault, or for which memory ran out
 pub stops_at : (all : List ℕ) (start s : SoFar) (line : ℕ) (rest x after : List ℕ) (e : LineFault)
-    → cut_at 10 rest ≡ x ∷ cut_at 10 after
-    → ((cause : Cause) × (step s x ≡ Err cause) × (e ≡ fault line cause))
+    → cut_at 10 rest ≡ x ∷ cut_at 10 after → ((cause : Cause) × (step s x ≡ Err cause) × (e ≡ fault line cause))
     ⊎ ((l : Line) × (line_after s.section s.report x ≡ Ok l) × (l ≢ End) × (e ≡ fault line wrong.Memory))
     → Stands grammar first_line all (AllOf all start) line s rest
     → (AllOf all start ≡ Err e) ⊎ IsFull (cut_at 10 all) (AllOf all start) e
@@ -113,9 +111,7 @@ stops_at all start s line rest x after e parts (inr full) stands =
       length stands.above,
       full.3 ∙ ap (λ n. fault n wrong.Memory) stands.number,
       subst (IsGoodLine first_line (cut_at 10 all) (AllOf all start)) stands.number good,
-      λ is_end. full.2 (sym (end_is s.report.version s.section full.0
-          (subst (λ (y : List ℕ). line_in s.report.version wrong.Line (kinds s.report.version s.section) y ≡ Ok full.0)
-          (sym here ∙ is_end) read))),
+      grind (arith, end_is),
     )
 
 -- ---- texts with their headers
@@ -135,8 +131,7 @@ module _ (bytes : List ℕ) (v : Version) (version_is : v ≡ version_told (cut_
   pub header_fault : (e : LineFault) → header_of (title v) (cut_at 10 bytes) ≡ Err e → reading bytes ≡ Err e
   header_fault e is = in_version ∙ ap told_by (text_refused (text v) (cut_at 10 bytes) e is)
 
-  still_good : (line : ℕ) (read : Result SoFar LineFault) → IsFaultlessTo line read
-      → IsFaultlessTo line (told_by read)
+  still_good : (line : ℕ) (read : Result SoFar LineFault) → IsFaultlessTo line read → IsFaultlessTo line (told_by read)
   still_good line (Ok s) good = tt
   still_good line (Err e) good = good
 
@@ -151,8 +146,7 @@ module _ (bytes : List ℕ) (v : Version) (version_is : v ≡ version_told (cut_
     line_is = refl;
     whole = omega (arith, good.1);
     asks = asks;
-    good = subst (IsFaultlessTo (1 + index)) (sym in_version)
-        (still_good (1 + index) (text_from (text v) (cut_at 10 bytes)) good.2);
+    good = rw in_version (still_good (1 + index) (text_from (text v) (cut_at 10 bytes)) good.2);
   }
 
   module _ (rest : List ℕ) (h : Header) (head : header_of (title v) (cut_at 10 bytes) ≡ Ok (h, cut_at 10 rest)) where
@@ -161,8 +155,7 @@ module _ (bytes : List ℕ) (v : Version) (version_is : v ≡ version_told (cut_
 
     pub runs_out_after_header : RunsOut 1 (cut_at 10 bytes) (reading bytes) (fault last_of_header wrong.Memory)
     runs_out_after_header =
-        let here : get_or (cut_at 10 bytes) 3 [] ≡ number_line (codes "quota") h.quota =
-        ap (λ (ps : List (List ℕ)). get_or ps 3 []) parts_are in
+        let here = ap (λ (ps : List (List ℕ)). get_or ps 3 []) parts_are in
         runs_out 3 (omega arith) (header_good (text v) bytes rest h head)
         (λ is_end. (let same = sym here ∙ is_end in cc))
 
@@ -180,8 +173,7 @@ module _ (bytes : List ℕ) (v : Version) (version_is : v ≡ version_told (cut_
     whole_text s e section_is so_far_is (inl bad) = inl (report_is s section_is so_far_is ∙ ap told_by bad)
     whole_text s e section_is so_far_is (inr full) =
         let start : state s ≡ nothing_told v h = rw (section_is, so_far_is) refl in
-        let here : get_or (cut_at 10 bytes) (last_of_header + full.0) [] ≡ get_or (cut_at 10 rest) full.0 [] =
-        ap (λ (ps : List (List ℕ)). get_or ps (last_of_header + full.0) []) parts_are
+        let here = ap (λ (ps : List (List ℕ)). get_or ps (last_of_header + full.0) []) parts_are
         ∙ get_or-append-add (header_lines (title v) h) (cut_at 10 rest) full.0 [] in
         let good = good_in_text (text v) bytes rest h (first_line + full.0) head
         (subst (λ (t : SoFar). IsGoodLine first_line (cut_at 10 rest) (AllOf rest t) (first_line + full.0)) start full.2) in

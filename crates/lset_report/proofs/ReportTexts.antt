@@ -1,6 +1,6 @@
 -- The two laws: what is read is the text of the report, and the text of a report is read.
-use Rattle.std.proofs.Common.{◌≡◌, ℕ, ◌+◌, ◌<◌, ◌≤◌, ◌^◌, inl, inr, false, cond, List, [], ◌∷◌, ◌++◌, map, length}
-use Rattle.std.proofs.Common.{Option, Some, None, Result, Ok, Err, refl, sym, ap, subst, ◌∙◌, arith, append_assoc, length-append}
+use Rattle.std.proofs.Common.{◌≡◌, ℕ, ◌+◌, ◌<◌, ◌≤◌, ◌^◌, inl, inr, false, cond, List, [], ◌∷◌, ◌++◌, map, length, Option, Some}
+use Rattle.std.proofs.Common.{None, Result, Ok, Err, refl, sym, ap, subst, ◌∙◌, arith, append_assoc, length-append}
 use Rattle.std.specs.Prelude.{IfOk, MatchResult}
 use Rattle.std.specs.List.{AllByRecursion}
 use Rattle.std.proofs.lemmas.Option.{IfSome_then}
@@ -20,7 +20,6 @@ use Rattle.lset_text.specs.Headers.{IsHeader, header_lines}
 use Rattle.lset_text.specs.Kinds.{line_in}
 use Rattle.lset_text.specs.Lines.{Leads}
 use Rattle.lset_text.specs.Openings.{opening_line, opening_lines, HasOpening}
-use Rattle.lset_text.specs.Results.{◌>>=◌}
 use Rattle.lset_text.specs.Spellings.{HasCall, HasReply}
 use Rattle.lset_text.specs.Texts.{text_from}
 use Rattle.lset_text.proofs.PartLaws.{Lacks-from_test}
@@ -39,14 +38,15 @@ use Rattle.lset_report.specs.declared.report.TheConstants.{MOST_CALLS, MOST_PLAC
 use Rattle.lset_text.specs.declared.causes.Cause.TheVariants as wrong
 use Rattle.lset_text.specs.declared.causes.LineFault.{LineFault}
 use Rattle.lset_report.specs.Report.{ReportValue, view}
-use Rattle.lset_report.specs.Texts.{title, header_in, call_line, call_lines, place_line, key_line, last_line}
-use Rattle.lset_report.specs.Texts.{report_lines, report_text, HasEnd, HasWordsIn, HasWordsOfVersion}
-use Rattle.lset_report.specs.ReportReading.{IsEnd, IsCall, IsPlace, IsReport, most_keys, kinds, line_after}
-use Rattle.lset_report.specs.ReportReading.{section_after, with_line, SoFar, with_told, step, ends, is_done, grammar}
-use Rattle.lset_report.specs.ReportReading.{no_lines, nothing_told, text, version_told, report_of, reading, Gives}
+use Rattle.lset_report.specs.Texts.{title, header_in, call_line, call_lines, place_line, key_line, last_line, report_lines}
+use Rattle.lset_report.specs.Texts.{report_text, HasEnd, HasWordsIn, HasWordsOfVersion}
+use Rattle.lset_report.specs.ReportReading.{IsEnd, IsCall, IsPlace, IsReport, most_keys, kinds, line_after, section_after}
+use Rattle.lset_report.specs.ReportReading.{with_line, SoFar, with_told, step, ends, is_done, grammar, no_lines, nothing_told}
+use Rattle.lset_report.specs.ReportReading.{text, version_told, reading, Gives}
 use Rattle.lset_report.proofs.ReportHistories.{history_more, may_again}
-use Rattle.lset_report.proofs.ReportLines.{pieces_of, line_text, IsLine, Reaches, IsNext, kinds_known, IsTold, reached, opening_told}
-use Rattle.lset_report.proofs.ReportLines.{call_told_so, place_told, key_told, end_told_so, call_comes, place_comes, key_comes}
+use Rattle.lset_report.proofs.ReportLines.{pieces_of, line_text, IsLine, Reaches, IsNext, kinds_known, IsTold, reached}
+use Rattle.lset_report.proofs.ReportLines.{opening_told, call_told_so, place_told, key_told, end_told_so, call_comes, place_comes}
+use Rattle.lset_report.proofs.ReportLines.{key_comes}
 use Rattle.lset_report.proofs.ReportLoops.{IsGood, judged_good, line_read, report_told}
 
 calls_pushed : (n : ℕ) (xs : List CallRecord) (x : CallRecord)
@@ -204,8 +204,7 @@ is_found bytes r is =
     let found = text_found (text v) IsSoFar lines_at (starts v) (λ s t x h e. let m = one_line s t x h e in (m.0, m.1)) same_end
     bytes last.0 last.1 in
     let done = (kept_if (is_done last.0.section) wrong.NotEnded last.0 last.0 found.1).0 in
-    subst (λ (q : ReportValue). IsReport q × (bytes ≡ report_text q)) (ok_is last.0.report r last.2)
-    (found.2.0, found.0 ∙ rw done refl)
+    rw (← ok_is last.0.report r last.2) (found.2.0, found.0 ∙ rw done refl)
 
 -- ---- a line is read again
 
@@ -231,9 +230,8 @@ follows : (threads : ℕ) (earlier front more : List CallRecord) (x : CallRecord
     → ContinuesHistory threads earlier (front ++ x ∷ more) → MayFollow threads (earlier ++ front) x
 follows threads earlier [] more x history =
     subst (λ (ys : List CallRecord). MayFollow threads ys x) (sym (append-nil earlier)) history.0
-follows threads earlier (y ∷ ys) more x history =
-    subst (λ (zs : List CallRecord). MayFollow threads zs x) (append_assoc earlier (y ∷ []) ys)
-    (follows threads (earlier ++ y ∷ []) ys more x history.1)
+follows threads earlier (y ∷ ys) more x history = rw (← append_assoc earlier (y ∷ []) ys) (follows threads
+    (earlier ++ y ∷ []) ys more x history.1)
 
 abbrev at : Version → Header → List ℕ → List CallRecord → List Placed → List ℕ → SoFar
 at v h os cs ps ks = record {
@@ -334,10 +332,13 @@ reads_text r is =
     let again = text_again (text v) IsSoFar (λ s t x holds e. let m = one_line s t x holds e in (m.0, m.2)) h (body r) (all_told r)
     (title_lacks v) head (starts v h head).0 (body_leads r is) refl in
     let parts : List (List ℕ) = header_lines (title v) h ++ (body r ++ [] ∷ []) in
-    let regrouped : report_lines r ≡ header_lines (title v) h ++ body r = simp append_assoc in
-    ap (λ (ls : List (List ℕ)). report_of (cut_at 10 (text_of ls))) regrouped ∙ ap report_of again.0
-    ∙ ap (λ (u : Version). text_from (text u) parts >>= report_told) (version_again text refl v h (body r ++ [] ∷ []))
-    ∙ ap (λ (x : Result SoFar LineFault). x >>= report_told) again.1
+    let regrouped : report_lines r ≡ header_lines (title v) h ++ body r = simp append_assoc in grind (
+      arith,
+      regrouped,
+      again.0,
+      version_again text refl v h (body r ++ [] ∷ []),
+      again.1,
+    )
 
 -- ---- as a reader's clauses
 

@@ -3,12 +3,11 @@ use Rattle.std.specs.Prelude.{◌≡◌, ℕ, ◌<◌, ◌&&◌, ◌==◌, nat_l
 use Rattle.std.specs.List.{list_any}
 use Rattle.lset_words.specs.declared.Reply.{Reply}
 use Rattle.lset_words.specs.declared.history.CallRecord.{CallRecord}
-use Rattle.lset_words.specs.History.{IsHistory}
 use Rattle.lset_report.specs.declared.reading.calls.CallsSoFar.{CallsSoFar}
 use Rattle.lset_report.specs.ReportReading.{begins_later, is_taken, is_idle}
 
 abbrev pub threads_of : CallsSoFar → ℕ
-threads_of s = length s.last_ends.items
+threads_of s = s.history.opening.threads
 
 -- 0 stands for no end
 abbrev pub end_moment : Option (ℕ × Reply) → ℕ
@@ -33,12 +32,12 @@ ends_well_by ends x = ends_apart ends x.begun x.ended
 
 -- WHAT IS KEPT of a history of calls:
 pub record Tracks (s : CallsSoFar) : Type 0 where
-  pub history : IsHistory (threads_of s) s.calls.items
   -- the last beginning,
-  pub begins : (m : ℕ) → begins_later s.calls.items m ≡ nat_lt s.last_begun m
+  pub begins : (m : ℕ) → begins_later s.history.calls m ≡ nat_lt s.last_begun m
   -- each moment past it, which is taken only by the last end of a thread,
-  pub taken : (m : ℕ) → s.last_begun < m → is_taken s.calls.items m ≡ is_last_end s.last_ends.items m
+  pub taken : (m : ℕ) → s.last_begun < m → is_taken s.history.calls m ≡ is_last_end s.last_ends.items m
   -- and of each thread the last end, and whether a call is open
+  pub ends : length s.last_ends.items ≡ threads_of s
   pub each : length s.busy.items ≡ threads_of s
   pub idle : (t m : ℕ) → t < threads_of s → 0 < m
-      → is_idle s.calls.items t m ≡ (not (slice_index_or s.busy.items t false) && nat_lt (slice_index_or s.last_ends.items t 0) m)
+      → is_idle s.history.calls t m ≡ (not (slice_index_or s.busy.items t false) && nat_lt (slice_index_or s.last_ends.items t 0) m)

@@ -2,6 +2,7 @@
 use Rattle.std.specs.Prelude.{◌≡◌, ◌≢◌, ◌⊎◌, ◌≤◌, ◌+◌, ℕ, List, [], length, slice_index_or, Result, Ok, Err}
 use Rattle.std.specs.List.Sorted.{IsStrictlyIncreasing}
 use Rattle.lset_words.specs.declared.TheConstants.{MOST_OPENING}
+use Rattle.lset_words.specs.Words.{empty}
 use Rattle.lset_text.specs.declared.causes.Cause.{Cause}
 use Rattle.lset_text.specs.declared.causes.Cause.TheVariants.{Memory}
 use Rattle.lset_text.specs.declared.causes.LineFault.{LineFault}
@@ -14,7 +15,7 @@ use Rattle.lset_report.specs.declared.reading.lines.Line.{Line}
 use Rattle.lset_report.specs.declared.reading.lines.Line.TheVariants.{End}
 use Rattle.lset_report.specs.Texts.{last_line}
 use Rattle.lset_report.specs.ReportReading.{line_after, SoFar, step}
-use Rattle.lset_report.specs.ReportCalls.{Tracks, threads_of}
+use Rattle.lset_report.specs.ReportCalls.{Tracks}
 
 -- the report of the lines that were read
 abbrev pub so_far : Reader → ReportValue
@@ -23,7 +24,7 @@ so_far s = record {
   kind = s.header.kind;
   history = record {
     opening = record { threads = s.header.threads; quota = s.header.quota; keys = s.opening.items };
-    calls = s.calls.calls.items;
+    calls = s.calls.history.calls;
   };
   order = s.order.items;
   keys = s.keys.items;
@@ -33,7 +34,7 @@ pub record Holds (s : Reader) : Type 0 where
   pub rising : IsStrictlyIncreasing s.opening.items
   pub few : length s.opening.items ≤ MOST_OPENING
   pub tracks : Tracks s.calls
-  pub threads : threads_of s.calls ≡ s.header.threads
+  pub opens : s.calls.history.opening ≡ empty s.header.threads s.header.quota
 
 -- what was read so far
 abbrev pub state : Reader → SoFar

@@ -28,7 +28,6 @@ use crate::title::title;
 use crate::{MOST_CALLS, MOST_KEYS, MOST_KEYS_OPENED, MOST_PLACES, Report, ReportFault};
 use calls::CallsSoFar;
 use lines::{Line, Section, line_of_report};
-use lset_history::History;
 use lset_text::{Cause, Header, LineFault, Version, cut, is_above, read_header, version_of};
 use lset_words::{CallRecord, MOST_OPENING, Placed};
 use std::alloc::{AllocError, Global};
@@ -63,6 +62,7 @@ fn most_keys(version: Version) -> usize
 
 impl Reader {
     fn new(alloc: Global, version: Version, header: Header) -> Result<Reader, AllocError>
+        requires { IsHeader header }
         ensures holds { IfOk result (λ s. Holds s) }
         ensures section { IfOk result (λ s. s.section ≡ Section.Opening) }
         ensures nothing { IfOk result (λ s. so_far s ≡ no_lines version header) }
@@ -72,7 +72,7 @@ impl Reader {
             header,
             section: Section::Opening,
             opening: Vec::new(alloc),
-            calls: CallsSoFar::new(alloc, header.threads)?,
+            calls: CallsSoFar::new(alloc, header.threads, header.quota)?,
             order: Vec::new(alloc),
             keys: Vec::new(alloc),
         })
@@ -83,7 +83,7 @@ impl Reader {
         requires { Holds self.now }
         ensures { result ≡ is_next (so_far self.now) number made }
     {
-        number as usize == self.calls.calls.len() && self.calls.may_follow(made)
+        number as usize == self.calls.history.calls().len() && self.calls.may_follow(made)
     }
 
     /// The line, if there is room for it after those that were read, and an opening key is above the one before, or a call
@@ -94,7 +94,7 @@ impl Reader {
     {
         let (count, most) = match line {
             Line::Opening(_) => (self.opening.len(), MOST_OPENING as usize),
-            Line::Call(_, _) => (self.calls.calls.len(), MOST_CALLS),
+            Line::Call(_, _) => (self.calls.history.calls().len(), MOST_CALLS),
             Line::Place(_) => (self.order.len(), MOST_PLACES),
             Line::Key(_) => (self.keys.len(), most_keys(self.version)),
             Line::End => return Ok(line),
@@ -182,15 +182,12 @@ impl Reader {
         ensures { view result ≡ so_far self }
     {
         let calls = self.calls;
+        let mut history = calls.history;
+        history.reopen(self.opening);
         Report {
             version: self.version,
             kind: self.header.kind,
-            history: History::from_calls(
-                self.header.threads,
-                self.header.quota,
-                self.opening,
-                calls.calls,
-            ),
+            history,
             order: self.order,
             keys: self.keys,
         }
@@ -229,6 +226,7 @@ fn report(alloc: Global, bytes: &[u8]) -> Result<Report, ReportFault>
 /// the order of `Cause`. If a header line is due and no byte is left, it is the error of that line. `Memory`, in place
 /// of any other answer, if an allocation fails: its line is the last that was read, which is not `end` and has no other
 /// error, and neither has a line above it.
+#[tactic(auto, using(crate::proofs::ReportTexts::found_in, crate::proofs::ReportTexts::only_in))]
 pub fn read_report(alloc: Global, bytes: &[u8]) -> Result<Report, ReportFault>
     // What is read is a report with a history, and the bytes are its text.
     ensures found { IfOk result (λ r. IsReport (view r) × (bytes.now ≡ report_text (view r))) }

@@ -21,7 +21,4 @@ pub use rounds::{Countless, Rounds, or_wait_forever};
 pub use rule::{Asking, Cutting, Follows, Heeding, Learning, Noting, Onward, Starting, Taking};
 pub use slots::OwnSlots;
 pub use view::{Opened, OwnCall, Past, PendingCall, SpareThread, View};
-pub use word_steps::{
-    TableSeat, Words, exchange_first, exchange_on, load_first, load_on, start_on, step_on,
-    store_first, store_on,
-};
+pub use word_steps::{TableSeat, Words, start_on, step_on};

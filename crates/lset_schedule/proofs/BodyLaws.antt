@@ -1,6 +1,6 @@
 -- What comes after a header is read from its lines, and from nothing else: once for every text with lines of events.
-use Rattle.std.proofs.Common.{◌≡◌, ℕ, ◌+◌, ◌<◌, ◌≤◌, ◌^◌, inl, inr, Bool, true, false, cond, ltb, List, [], ◌∷◌, ◌++◌, map, length}
-use Rattle.std.proofs.Common.{Result, Ok, Err, refl, sym, ap, subst, ◌∙◌, arith, append_assoc, codes}
+use Rattle.std.proofs.Common.{◌≡◌, ℕ, ◌+◌, ◌<◌, ◌≤◌, ◌^◌, inl, inr, Bool, true, false, cond, ltb, List, [], ◌∷◌, ◌++◌, map}
+use Rattle.std.proofs.Common.{length, Result, Ok, Err, refl, sym, ap, subst, ◌∙◌, arith, append_assoc, codes}
 use Rattle.std.specs.Fmt.{decimal}
 use Rattle.std.specs.List.{sum_by, AllByRecursion}
 use Rattle.std.proofs.lemmas.Bool.{lt-ltb, le-ltb, ltb-true, ltb-false}
@@ -28,8 +28,8 @@ use Rattle.lset_schedule.specs.declared.TheConstants.{MOST_EVENTS}
 use Rattle.lset_text.specs.declared.causes.Cause.{Cause}
 use Rattle.lset_text.specs.declared.causes.Cause.TheVariants.{Event, TooMany, Opening}
 use Rattle.lset_text.specs.Texts.{text_from}
-use Rattle.lset_schedule.specs.ScheduleReading.{EventLines, BodyValue, no_lines, Item, opens, event}
-use Rattle.lset_schedule.specs.ScheduleReading.{opening_kind, kinds_after, with_item, with_line, grammar, texts}
+use Rattle.lset_schedule.specs.ScheduleReading.{EventLines, BodyValue, no_lines, Item, opens, event, opening_kind, kinds_after}
+use Rattle.lset_schedule.specs.ScheduleReading.{with_item, with_line, grammar, texts}
 
 -- ---- what one line adds
 
@@ -139,13 +139,12 @@ module _ {L : Type 0} (text : EventLines L) (v : Version) (title : List ℕ) (pi
       let room = room_for_events (ltb MOST_EVENTS (sum_by text.count s.lines + text.count l)) more t e in
       let keys = opening_lines s.keys in
       let head = header_lines title s.header in
-      let after : body_lines more ≡ body_lines s ++ line_text l ∷ [] =
-      ap (λ (ls : List (List ℕ)). keys ++ ls) (map_push line_text s.lines l)
+      let after = ap (λ (ls : List (List ℕ)). keys ++ ls) (map_push line_text s.lines l)
       ∙ sym (append_assoc keys (map line_text s.lines) (line_text l ∷ [])) in
       let lines = ap (λ (ls : List (List ℕ)). head ++ ls) after ∙ sym (append_assoc head (body_lines s) (line_text l ∷ [])) in
       let sum = sum_by-append text.count s.lines (l ∷ []) in
       let last = sum_by-cons text.count l [] in
-      subst (Adds s (line_text l)) room.1 (
+      rw (← room.1) (
         record {
           opens = has.opens;
           opening = has.opening;
@@ -160,8 +159,7 @@ module _ {L : Type 0} (text : EventLines L) (v : Version) (title : List ℕ) (pi
   item_adds s t ps (opens k) has is told e = key_adds s t k has is (none_above v s.lines ps k told) e
   item_adds s t ps (event l) has is told e = event_adds s t l has is e
 
-  line_adds : (s t : BodyValue L) (x : List ℕ) → HasText text v Good s → with_line text v s x ≡ Ok t
-      → Adds s x t × Lacks 10 x
+  line_adds : (s t : BodyValue L) (x : List ℕ) → HasText text v Good s → with_line text v s x ≡ Ok t → Adds s x t × Lacks 10 x
   line_adds s t x has is =
       let kinds = kinds_after text v s.lines in
       let known = known_after v s.lines refl in
@@ -198,8 +196,7 @@ module _ {L : Type 0} (text : EventLines L) (v : Version) (title : List ℕ) (pi
       → with_line text v (of_keys h ks) (opening_line k) ≡ Ok (of_keys h (ks ++ k ∷ []))
   key_step h ks k two low few above =
       let kinds : List (LineKind (Item L)) = opening_kind ∷ map (kind_as event) text.kinds in
-      let told : line_in v Event kinds (opening_line k) ≡ Ok (opens k) =
-      line_made v Event item_pieces IsItem kinds (opens k) (opening_known two, events_known)
+      let told = line_made v Event item_pieces IsItem kinds (opens k) (opening_known two, events_known)
       (inl ((tt, (k, tt)), refl, (tt, ((omega arith, omega (arith, low)), tt)))) in
       let first : kinds_after text v [] ≡ kinds = ap (λ w. kinds_after text w []) two in
       rw (first, told, lt-ltb (length ks) MOST_OPENING few, above) refl

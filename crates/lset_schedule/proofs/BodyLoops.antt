@@ -1,6 +1,6 @@
 -- Reading what comes after a header line by line, as the loop does: which line an error is in, and that a failed allocation is none.
-use Rattle.std.proofs.Common.{◌≡◌, ℕ, ◌+◌, inl, inr, Bool, true, false, cond, ltb, List, [], ◌∷◌, length}
-use Rattle.std.proofs.Common.{Option, Some, None, Result, Err, refl, codes}
+use Rattle.std.proofs.Common.{arith, ◌≡◌, ℕ, ◌+◌, inl, inr, Bool, true, false, cond, ltb, List, [], ◌∷◌, length, Option, Some}
+use Rattle.std.proofs.Common.{None, Result, Err, refl, codes}
 use Rattle.std.specs.Prelude.{MatchOption}
 use Rattle.std.specs.List.{sum_by}
 use Rattle.lset_words.specs.declared.TheConstants.{MOST_OPENING}
@@ -17,8 +17,7 @@ use Rattle.lset_text.proofs.LineLaws.{bind_err}
 use Rattle.lset_schedule.specs.declared.TheConstants.{MOST_EVENTS}
 use Rattle.lset_text.specs.declared.causes.Cause.{Cause}
 use Rattle.lset_text.specs.declared.causes.Cause.TheVariants.{Event, Number, Memory}
-use Rattle.lset_schedule.specs.ScheduleReading.{EventLines, BodyValue, Item, opens, event}
-use Rattle.lset_schedule.specs.ScheduleReading.{kinds_after, with_item, with_line}
+use Rattle.lset_schedule.specs.ScheduleReading.{EventLines, BodyValue, Item, opens, event, kinds_after, with_item, with_line}
 
 -- ---- a line that may be one of an opening key
 
@@ -60,8 +59,4 @@ no_cause (inl is) = cc
 no_cause (inr is) = cc
 
 pub never_memory : {L : Type 0} (text : EventLines L) (v : Version) (s : BodyValue L) (x : List ℕ) → with_line text v s x ≡ Err Memory → ⊥
-never_memory text v s x is =
-    elim (bind_err (line_in v Event (kinds_after text v s.lines) x) (with_item text s) Memory is) [
-      | inl bad ↦ no_cause (first_fails v Event (kinds_after text v s.lines) (cut_at 32 x) Memory bad)
-      | inr bad ↦ item_fails text s bad.0 bad.2
-    ]
+never_memory text v s x is = grind (arith, bind_err, no_cause, first_fails, item_fails)

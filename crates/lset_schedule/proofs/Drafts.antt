@@ -1,6 +1,6 @@
 -- What the generator keeps from turn to turn.
-use Rattle.std.proofs.Common.{◌≡◌, ◌≢◌, ℕ, ◌+◌, ◌^◌, ◌<◌, ◌≤◌, ◌⊎◌, inl, inr, IsTrue, ◌↔◌, false}
-use Rattle.std.proofs.Common.{List, [], ◌∷◌, ◌++◌, length, length-append, refl, sym, ap, subst, ◌∙◌, arith}
+use Rattle.std.proofs.Common.{◌≡◌, ◌≢◌, ℕ, ◌+◌, ◌^◌, ◌<◌, ◌≤◌, ◌⊎◌, inl, inr, IsTrue, ◌↔◌, false, List, [], ◌∷◌, ◌++◌, length}
+use Rattle.std.proofs.Common.{length-append, refl, sym, ap, subst, ◌∙◌, arith}
 use Rattle.std.specs.List.{AllByRecursion, count_by, sum_by}
 use Rattle.std.proofs.lemmas.Grind.{flat_map-append}
 use Rattle.std.proofs.lemmas.List.Sums.{sum_by-append, sum_by-cons}
@@ -17,7 +17,8 @@ use Rattle.lset_steps.specs.Worlds.{WorldState}
 use Rattle.lset_schedule.specs.declared.value.Line.{Line}
 use Rattle.lset_schedule.specs.declared.value.Line.TheVariants as line
 use Rattle.lset_schedule.specs.Plan.{IsLine, IsSchedule, event_count}
-use Rattle.lset_schedule.specs.Generating.{events_of_line, events_of_lines, is_begin, IsGeneratedLine, StartsWithBegin, IsGenerated}
+use Rattle.lset_schedule.specs.Generating.{events_of_line, events_of_lines, is_begin, IsGeneratedLine, StartsWithBegin}
+use Rattle.lset_schedule.specs.Generating.{IsGenerated}
 use Rattle.lset_steps.proofs.MoreEvents.{RunsTo, runs_to_opening, runs_to_more}
 use Rattle.lset_schedule.proofs.RunLaws.{opening_rests}
 use Rattle.lset_schedule.specs.Drawing.{line_of_event, left_after, IsOver}
@@ -43,8 +44,7 @@ pub record IsDraft (T : Table) (n q calls keys turns left : ℕ) (lines : List L
   pub alone : n ≡ 1 → length lines ≡ turns
   pub start : IsUnbegun turns n calls left lines w.state ⊎ StartsWithBegin lines
 
-all_more : {X : Type 0} (P : X → Type 0) (xs : List X) (x : X) → AllByRecursion P xs → P x
-    → AllByRecursion P (xs ++ x ∷ [])
+all_more : {X : Type 0} (P : X → Type 0) (xs : List X) (x : X) → AllByRecursion P xs → P x → AllByRecursion P (xs ++ x ∷ [])
 all_more P [] x all h = (h, tt)
 all_more P (y ∷ ys) x all h = (all.0, all_more P ys x all.1 h)
 
@@ -123,8 +123,7 @@ line_made s n t left keys (event.Begin u call) lt h = (omega (arith, h.0), h.3, 
 line_made s n t left keys (event.Go u) lt h = (omega (arith, h.0), refl)
 
 begun_more : (s : State) (t left keys calls : ℕ) (lines : List Line) (e : Event) → IsNextEvent s t left keys e
-    → count_by is_begin lines + left ≡ calls
-    → count_by is_begin (lines ++ line_of_event e ∷ []) + left_after left e ≡ calls
+    → count_by is_begin lines + left ≡ calls → count_by is_begin (lines ++ line_of_event e ∷ []) + left_after left e ≡ calls
 begun_more s t left keys calls lines (event.Begin u call) h b =
     rw (count_more lines (line.Begin u call)) (omega (arith, h.2))
 begun_more s t left keys calls lines (event.Go u) h b = rw (count_more lines (line.Go u 1)) (omega arith)
@@ -149,8 +148,7 @@ pub draft_event : (T : Table) (n q calls keys turns left t : ℕ) (lines : List 
     (record w { state = after T w.state e })
 draft_event T n q calls keys turns left t lines w e d more lt h small = record {
   sized = d.sized;
-  run = subst (λ es. RunsTo T (empty n q) es (after T w.state e)) (sym (events_more lines e))
-      (runs_to_more T (empty n q) (events_of_lines lines) w.state e d.run enabled);
+  run = rw (events_more lines e) (runs_to_more T (empty n q) (events_of_lines lines) w.state e d.run enabled);
   each = all_more (IsGeneratedLine n keys) lines (line_of_event e) d.each (line_made w.state n t left keys e lt h);
   begun = begun_more w.state t left keys calls lines e h d.begun;
   few = rw (length_more lines (line_of_event e)) room;
@@ -169,8 +167,7 @@ draft_event T n q calls keys turns left t lines w e d more lt h small = record {
 
     started : IsUnbegun turns n calls left lines w.state ⊎ StartsWithBegin lines
         → StartsWithBegin (lines ++ line_of_event e ∷ [])
-    started (inl u) = subst (λ ls. StartsWithBegin (ls ++ line_of_event e ∷ [])) (sym u.none)
-        (starts_now w.state n t left keys e lt h u.rest)
+    started (inl u) = rw u.none (starts_now w.state n t left keys e lt h u.rest)
     started (inr b) = starts_more lines (line_of_event e) b
 
 pub draft_along : (T : Table) (n q calls keys turns left left' : ℕ) (lines lines' : List Line) (w w' : WorldState)
@@ -178,8 +175,7 @@ pub draft_along : (T : Table) (n q calls keys turns left left' : ℕ) (lines lin
     → IsDraft T n q calls keys turns left lines w → IsDraft T n q calls keys turns left' lines' w'
 draft_along T n q calls keys turns left left' lines lines' w w' e f h d =
     subst (λ l. IsDraft T n q calls keys turns l lines' w') (sym e)
-    (subst (λ ls. IsDraft T n q calls keys turns left ls w') (sym f)
-    (subst (λ v. IsDraft T n q calls keys turns left lines v) (sym h) d))
+    (rw f (subst (λ v. IsDraft T n q calls keys turns left lines v) (sym h) d))
 
 -- ---- generated lines are lines of a schedule
 
@@ -201,9 +197,7 @@ one_each n keys (line.Go t steps) h = h.1
 events_counted : (n keys : ℕ) (lines : List Line) → AllByRecursion (IsGeneratedLine n keys) lines
     → sum_by event_count lines ≡ length lines
 events_counted n keys [] each = refl
-events_counted n keys (l ∷ ls) each =
-    sum_by-cons event_count l ls ∙ ap (λ k. k + sum_by event_count ls) (one_each n keys l each.0)
-    ∙ ap (λ k. 1 + k) (events_counted n keys ls each.1) ∙ omega arith
+events_counted n keys (l ∷ ls) each = omega (arith, sum_by-cons, one_each, events_counted n keys ls each.1)
 
 pub generated_fits : (T : Table) (kind : Kind) (n q calls keys : ℕ) (lines : List Line) → keys < 2 ^ 32
     → length lines ≤ MOST_GENERATED → IsGenerated T n q calls keys lines

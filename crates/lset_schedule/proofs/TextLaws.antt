@@ -1,5 +1,6 @@
 -- The two laws: what is read is the text of the schedule, and the text of a schedule is read.
-use Rattle.std.proofs.Common.{◌≡◌, ℕ, ◌<◌, ◌^◌, inl, inr, List, [], ◌∷◌, ◌++◌, map, false, Result, Ok, Err, refl, ap, subst, ◌∙◌, sym, arith}
+use Rattle.std.proofs.Common.{◌≡◌, ℕ, ◌<◌, ◌^◌, inl, inr, List, [], ◌∷◌, ◌++◌, map, false, Result, Ok, Err, refl, ap, subst, ◌∙◌}
+use Rattle.std.proofs.Common.{sym, arith}
 use Rattle.std.specs.Prelude.{IfOk, MatchResult, ◌≢◌}
 use Rattle.std.specs.List.{AllByRecursion}
 use Rattle.lset_words.specs.declared.Key.{Key}
@@ -23,7 +24,8 @@ use Rattle.lset_schedule.specs.declared.value.Schedule.{Schedule}
 use Rattle.lset_text.specs.declared.causes.Cause.{Cause}
 use Rattle.lset_text.specs.declared.causes.Cause.TheVariants.{Memory}
 use Rattle.lset_text.specs.declared.causes.LineFault.{LineFault}
-use Rattle.lset_schedule.specs.Plan.{Plan, view, planned, header_in, pieces_of, line_text, title, schedule_text, IsLine, IsSchedule}
+use Rattle.lset_schedule.specs.Plan.{Plan, view, planned, header_in, pieces_of, line_text, title, schedule_text, IsLine}
+use Rattle.lset_schedule.specs.Plan.{IsSchedule}
 use Rattle.lset_schedule.specs.ScheduleReading.{begin_kind, events, schedules, plan_in, version_told, plan_of, reading, Gives}
 use Rattle.lset_text.proofs.TextLaws.{version_again}
 use Rattle.lset_schedule.proofs.BodyLaws.{body_found, body_again}

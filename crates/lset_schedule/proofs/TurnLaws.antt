@@ -1,6 +1,6 @@
 -- The first turn of the generator, one more and the last one.
-use Rattle.std.proofs.Common.{◌≡◌, ℕ, zero, suc, ◌+◌, ◌-◌, ◌%◌, ◌<◌, ◌↔◌, IsTrue, true, inl, inr, Option, Some, None, List, [], ◌∷◌, ◌++◌}
-use Rattle.std.proofs.Common.{refl, sym, ap, subst, ◌∙◌, arith}
+use Rattle.std.proofs.Common.{◌≡◌, ℕ, zero, suc, ◌+◌, ◌-◌, ◌%◌, ◌<◌, ◌↔◌, IsTrue, true, inl, inr, Option, Some, None, List, []}
+use Rattle.std.proofs.Common.{◌∷◌, ◌++◌, refl, sym, ap, subst, ◌∙◌, arith}
 use Rattle.rand_core.specs.Stream.{Stream, next_u32}
 use Rattle.lset_steps.specs.declared.Event.{Event}
 use Rattle.lset_steps.specs.Steps.{Table, State, after, opening}
@@ -29,12 +29,10 @@ made_none T p made s left lines answers is a b c = rw (is, a, b, c) refl
 
 module _ (T : Table) (threads keys : ℕ) where
   pub begun_drawn : (turns n q calls : ℕ) (s : State) (made lines : List Line) (answers : Stream) → s ≡ opening (empty n q) →
-      made ≡ []
-      → AreDrawn T threads keys turns (progress s calls made answers) lines
+      made ≡ [] → AreDrawn T threads keys turns (progress s calls made answers) lines
       → AreDrawn T threads keys turns (before_turns n q calls answers) lines
-  begun_drawn turns n q calls s made lines answers opens none h =
-      subst (λ z. AreDrawn T threads keys turns (progress z calls [] answers) lines) opens
-      (subst (λ ls. AreDrawn T threads keys turns (progress s calls ls answers) lines) none h)
+  begun_drawn turns n q calls s made lines answers opens none h = rw (← opens) (subst (λ ls. AreDrawn T threads keys turns
+      (progress s calls ls answers) lines) none h)
 
   turn_is : (p : Progress) (choice : ℕ) (first last : Stream) (e : Option Event) → (choice, first) ≡ next_u32 p.answers
       → (e, last) ≡ event_drawn p.state (choice % threads) p.left keys first
@@ -51,11 +49,9 @@ module _ (T : Table) (threads keys : ℕ) where
   unfolding AreDrawn
   turn_drawn turns i choice divisor p after first last e lines same lt more chosen drawn is rest =
       let k : turns - i ≡ suc (turns - (i + 1)) = omega arith in
-      let whose : (e, last) ≡ event_drawn p.state (choice % threads) p.left keys first =
-      subst (λ n. (e, last) ≡ event_drawn p.state (choice % n) p.left keys first) same drawn in
+      let whose = subst (λ n. (e, last) ≡ event_drawn p.state (choice % n) p.left keys first) same drawn in
       let next : after ≡ after_turn T threads keys p = is ∙ sym (turn_is p choice first last e chosen whose) in
-      subst (λ n. AreDrawn T threads keys n p lines) (sym k)
-      (inr (more, subst (λ x. AreDrawn T threads keys (turns - (i + 1)) x lines) next rest))
+      rw k (inr (more, subst (λ x. AreDrawn T threads keys (turns - (i + 1)) x lines) next rest))
 
   pub end_drawn : (turns : ℕ) (p : Progress) → IsEnd p → AreDrawn T threads keys turns p p.lines
   unfolding AreDrawn

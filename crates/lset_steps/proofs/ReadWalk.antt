@@ -13,7 +13,7 @@ use Rattle.lset_steps.specs.Steps.{Table, Run, Enabled, state_at, local_of, seen
 use Rattle.lset_steps.specs.Chain.{View, Seen}
 use Rattle.lset_steps.specs.Laws.{Lawful, word_named, views}
 use Rattle.lset_steps.specs.Promises.{IsRead}
-use Rattle.lset_steps.proofs.ReadTables.{HasReadRows, IsReadRow, in_each_read_row}
+use Rattle.lset_steps.proofs.ReadTables.{HasReadRows, IsReadRow}
 use Rattle.lset_steps.specs.BoundedReads.{WalkWasInChain}
 use Rattle.lset_steps.proofs.Moves.{Course, InPast}
 use Rattle.lset_steps.proofs.Hindsight.{hindsight}
@@ -53,12 +53,6 @@ module _ (T : Table) (rows : HasReadRows T) (vs : ℕ → View) (first now : ℕ
 abbrev pub ShowsReading : Outline → Type 1
 ShowsReading At = (q t : ℕ) (vs : ℕ → View) (first now : ℕ) (v : View) (done : Bool) (l : Local) → IsReadRow l.pc
     → At q t vs first now v done l → Reading vs first now done l
-
-pub low_row : {A : Type 0} (pc row : ℕ) → pc ≡ row → row < 20 → IsReadRow pc → A
-low_row pc row e h r =
-    let above : 20 ≤ pc = in_each_read_row (λ n. 20 ≤ n) (omega arith) (omega arith) (omega arith) (omega arith) (omega arith)
-    (omega arith) pc r in
-    absurd (omega arith)
 
 -- what a contains or a ceiling is about to load
 loads_seen : (T : Table) (At : Outline) → Discipline T T.marks At → HasReadRows T → ShowsReading At

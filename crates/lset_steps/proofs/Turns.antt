@@ -7,18 +7,18 @@ use Rattle.lset_words.specs.declared.Call.{Call}
 use Rattle.lset_words.specs.declared.Key.{Key}
 use Rattle.lset_words.specs.declared.Reply.{Reply}
 use Rattle.lset_words.specs.declared.Reply.TheVariants.{True}
-use Rattle.lset_words.specs.Words.{lock_index, node_count, word_count, target, tail_word, Sizes}
+use Rattle.lset_words.specs.Words.{lock_index, node_count, word_count, target, tail_word, Sizes, Opening, Opens, sizes}
 use Rattle.lset_words.specs.Account.{MayChange, FitsSometime}
 use Rattle.lset_steps.specs.declared.Local.{Local}
 use Rattle.lset_steps.specs.declared.Action.{Action}
 use Rattle.lset_steps.specs.declared.Action.TheVariants.{Load, Exchange}
-use Rattle.lset_steps.specs.Steps.{Table, idle, seen_by}
+use Rattle.lset_steps.specs.Steps.{Table, idle, opening, seen_by}
 use Rattle.lset_steps.specs.Chain.{View, view, FitsIn, IsOrdered, contents_of, counts_of, node_lock}
-use Rattle.lset_steps.specs.Laws.{BeginLaws, Registers, Due}
+use Rattle.lset_steps.specs.Laws.{BeginLaws, Registers, Due, view_of}
 use Rattle.lset_steps.proofs.Memory.{WordStep, Memory, reads}
 use Rattle.lset_steps.proofs.Rely.{Rely, rely_of}
 use Rattle.lset_steps.proofs.Remains.{Remains, remains_of, remains_same}
-use Rattle.lset_steps.proofs.Discipline.{Outline, Discipline, StepOf, Here, Thread}
+use Rattle.lset_steps.proofs.Discipline.{Outline, Before, Discipline, StepOf, Here, Thread}
 use Rattle.lset_steps.proofs.Replies.{fed, fitted_on, or_false}
 use Rattle.lset_steps.proofs.Held.{LockedStep, rely_same, reads_word, locks_free, finds_locked}
 
@@ -123,37 +123,70 @@ pub data Turn (T : Table) (P : Protocol T.marks) (At : Outline) (sz : Sizes) (t 
       → Registers sz t l' → l'.call ≡ l.call → l'.used ≡ used' t → l'.pc ≡ 0
       → At sz.quota t vs first (suc now) (view sz ws' used') true l' → Turn T P At sz t vs first now ws used done l
 
+-- a protocol lets a thread try the lock of a node
+abbrev pub Locks : {marks : Bool} → Protocol marks → Type 0
+Locks P = (sz : Sizes) (t : ℕ) (ws : List ℕ) (used : ℕ → ℕ) (a : ℕ) → a < node_count sz
+    → (node_lock ws a ≡ 0 → P.step sz t ws used (Exchange (lock_index a) 0 (t + 1)) (slice_set ws (lock_index a) (t + 1)) used None)
+    × (node_lock ws a ≢ 0 → P.step sz t ws used (Exchange (lock_index a) 0 (t + 1)) ws used None)
+
+pub locks_nodes : (marks : Bool) → Locks (node_locks marks)
+locks_nodes marks sz t ws used a inn = (λ free. locks_free a inn free, λ taken. finds_locked a inn taken)
+
 -- the row that tries the lock of node a
-pub tries : {T : Table} {At : Outline} {sz : Sizes} {t : ℕ} {vs : ℕ → View} {first now : ℕ} {ws : List ℕ}
+pub tries : {T : Table} {P : Protocol T.marks} {At : Outline} {sz : Sizes} {t : ℕ} {vs : ℕ → View} {first now : ℕ} {ws : List ℕ}
     {used : ℕ → ℕ} {done : Bool} {l : Local}
-    (a : ℕ) (on same : Local) → a < node_count sz → T.next l ≡ Exchange (lock_index a) 0 (t + 1)
+    → Locks P → (a : ℕ) (on same : Local) → a < node_count sz → T.next l ≡ Exchange (lock_index a) 0 (t + 1)
     → T.feed l (node_lock ws a) ≡ fed (if node_lock ws a == 0 then on else same) None → T.effect l (node_lock ws a) ≡ None
     → Onward sz t l on → Onward sz t l same
     → (node_lock ws a ≡ 0 → At sz.quota t vs first (suc now) (view sz (slice_set ws (lock_index a) (t + 1)) used) done on)
-    → At sz.quota t vs first (suc now) (view sz ws used) done same → Turn T (node_locks T.marks) At sz t vs first now ws used done
-    l
-tries {t = t} {ws = ws} a on same inn acts feeds tells onward again taken stays = elim (same_or_not (node_lock ws a) 0) [
+    → At sz.quota t vs first (suc now) (view sz ws used) done same → Turn T P At sz t vs first now ws used done l
+tries {P = P} {sz = sz} {t = t} {ws = ws} {used = used} locks a on same inn acts feeds tells onward again taken stays = elim (same_or_not (node_lock ws a) 0) [
   | inl free ↦ passes (Exchange (lock_index a) 0 (t + 1)) (slice_set ws (lock_index a) (t + 1)) on acts
       (feeds ∙ ap (λ (x : Local). fed x None) (if_same (node_lock ws a) 0 free on same)) tells
-      (locks_free a inn free) onward (taken free)
+      ((locks sz t ws used a inn).0 free) onward (taken free)
   | inr other ↦ passes (Exchange (lock_index a) 0 (t + 1)) ws same acts
       (feeds ∙ ap (λ (x : Local). fed x None) (if_other (node_lock ws a) 0 other on same)) tells
-      (finds_locked a inn other) again stays
+      ((locks sz t ws used a inn).1 other) again stays
 ]
 
 -- WHAT A LIST HAS TO SHOW: its outline holds at the begins, each row is a step of its protocol and keeps the outline for its own
 -- thread, and the outline stands through what the others do
 pub record Follows (T : Table) (P : Protocol T.marks) (At : Outline) : Type 1 where
-  pub idle_at : (q t : ℕ) (vs : ℕ → View) (v : View) → At q t vs 0 0 v false (idle q t)
+  pub idle_at : (op : Opening) → Opens op → (t : ℕ) (vs : ℕ → View)
+      → At op.quota t vs 0 0 (view_of (sizes op) (opening op)) false (idle op.quota t)
   pub begun : (call : Call) (l : Local) → BeginLaws T.begin call l
   pub begin_registers : (sz : Sizes) (t : ℕ) (call : Call) (l : Local) → target call < tail_word → Registers sz t l
       → Registers sz t (T.begin call l)
   pub begins : (q t : ℕ) (vs : ℕ → View) (now : ℕ) (v : View) (call : Call) (l : Local) → vs now ≡ v → IsOrdered v
-      → v.key 0 ≡ 0 → At q t vs now now v false (T.begin call l)
+      → v.key 0 ≡ 0 → Before At q t vs v l → At q t vs now now v false (T.begin call l)
   pub stands : Stands P At
   pub turn : (sz : Sizes) (t : ℕ) (vs : ℕ → View) (first now : ℕ) (ws : List ℕ) (used : ℕ → ℕ) (done : Bool) (l : Local)
       → Here T.marks sz vs now ws used → Thread At sz t vs first now ws used done l → t < sz.threads → l.pc ≢ 0
       → Turn T P At sz t vs first now ws used done l
+
+-- AN INVARIANT OVER ALL THREADS: an outline may say of the shared words what each step of the protocol keeps. The rows are then
+-- shown with `At` alone, where the invariant is known, and the list follows its protocol with `Keeping`.
+abbrev pub Keeping : (View → Type 0) → Outline → Outline
+Keeping Always At q t vs first now v done l = At q t vs first now v done l × Always v
+
+pub own_part : {At : Outline} {Always : View → Type 0} {sz : Sizes} {t : ℕ} {vs : ℕ → View} {first now : ℕ} {ws : List ℕ}
+    {used : ℕ → ℕ} {done : Bool} {l : Local}
+    → Thread (Keeping Always At) sz t vs first now ws used done l → Thread At sz t vs first now ws used done l
+own_part th = record { registers = th.registers; counts = th.counts; begun = th.begun; at = th.at.0 }
+
+pub keeping : {T : Table} {P : Protocol T.marks} {At : Outline} (Always : View → Type 0) {sz : Sizes} {t : ℕ} {vs : ℕ → View}
+    {first now : ℕ} {ws : List ℕ} {used : ℕ → ℕ} {done : Bool} {l : Local}
+    → ((a : Action) (ws' : List ℕ) (used' : ℕ → ℕ) (change : Option (Key × Bool))
+    → P.step sz t ws used a ws' used' change → Always (view sz ws' used'))
+    → Turn T P At sz t vs first now ws used done l → Turn T P (Keeping Always At) sz t vs first now ws used done l
+keeping Always {used = used} kept (passes a ws' l' acts feeds tells c onward at) =
+    passes a ws' l' acts feeds tells c onward (at, kept a ws' used None c)
+keeping Always kept (changes a ws' used' l' k b acts feeds tells c may registers call count pc at) =
+    changes a ws' used' l' k b acts feeds tells c may registers call count pc (at, kept a ws' used' (Some (k, b)) c)
+keeping Always {used = used} kept (answers a ws' l' r acts feeds tells c due registers call count pc at) =
+    answers a ws' l' r acts feeds tells c due registers call count pc (at, kept a ws' used None c)
+keeping Always kept (ends a ws' used' l' k b acts feeds tells c may registers call count pc at) =
+    ends a ws' used' l' k b acts feeds tells c may registers call count pc (at, kept a ws' used' (Some (k, b)) c)
 
 or_true : (b : Bool) → (b || true) ≡ true
 or_true true = refl

@@ -1,14 +1,13 @@
 -- What a walk without locks knows of the two nodes that it has come to: not that they are in the chain, but that they are
--- published,
--- and that the key of the call is between theirs.
-use Rattle.std.specs.Prelude.{◌≡◌, ◌≢◌, ℕ, ◌+◌, ◌/◌, ◌<◌, ◌≤◌, Bool, None, List, slice_set}
+-- published, and that the key of the call is between theirs.
+use Rattle.std.specs.Prelude.{◌≡◌, ◌≢◌, ℕ, ◌+◌, ◌*◌, ◌/◌, ◌<◌, ◌≤◌, Bool, true, None, List, slice_set}
 use Rattle.std.proofs.Common.{arith, ◌∙◌, ap}
 use Rattle.lset_words.specs.Words.{lock_index, tail_word, node_count, Sizes}
 use Rattle.lset_steps.specs.declared.Action.TheVariants.{Exchange}
 use Rattle.lset_steps.specs.Chain.{View, view, node_key, node_link, node_lock}
 use Rattle.lset_steps.proofs.Moves.{KeepsNodes}
-use Rattle.lset_steps.proofs.Memory.{Memory, inside, next_published, goes_on}
-use Rattle.lset_steps.proofs.Held.{locks_free}
+use Rattle.lset_steps.proofs.Memory.{Memory, inner, inside, next_published, goes_on}
+use Rattle.lset_steps.proofs.Held.{Behind, locks_free}
 
 -- pred is below the key, and curr may come next
 pub record Spot (v : View) (key pred curr : ℕ) : Type 0 where
@@ -73,3 +72,15 @@ module _ {marks : Bool} {sz : Sizes} {ws : List ℕ} {used : ℕ → ℕ} (m : M
   keeps_locked {t} tn a inn free =
       goes_on marks sz ws used m t tn (Exchange (lock_index a) 0 (t + 1)) (slice_set ws (lock_index a) (t + 1)) used None
       (locks_free a inn free).0
+
+-- in a list that marks: the load of the link of pred under its lock. A link without a mark says that pred is in the chain.
+pub behind_of_load : {sz : Sizes} {ws : List ℕ} {used : ℕ → ℕ} (m : Memory true sz ws used) {t key pred curr : ℕ} → key < tail_word
+    → Spot (view sz ws used) key pred curr → node_lock ws pred ≡ t + 1 → node_link ws pred ≡ 2 * curr
+    → Behind (view sz ws used) t key pred curr
+behind_of_load {sz} {ws} {used} m {t} {key} {pred} low s mine follows = record {
+  held = record { mine = mine; at = m.marked pred s.pred_published (omega arith); published = s.pred_published };
+  inner = inner true sz ws used m pred key s.below low;
+  follows = follows;
+  below = s.below;
+  next = s.curr_published;
+}

@@ -13,8 +13,8 @@ use Rattle.lset_text.specs.Forms.{Piece, word, number, kind, call, reply, Tells,
 use Rattle.lset_text.specs.Forms.{line_with, AllFit, have_form, both, all_told, told_in, IsPiece, ArePieces, IsForm}
 use Rattle.lset_text.proofs.PartLaws.{line_lacks, cut_line, line_from_cut, Lacks-below}
 use Rattle.lset_text.proofs.NumberLaws.{number_ok, number_again, decimal_lacks}
-use Rattle.lset_text.proofs.WordLaws.{same_bytes, kind_ok, kind_again, kind_lacks, call_in_ok, call_in_again, reply_ok, reply_again}
-use Rattle.lset_text.proofs.WordLaws.{reply_lacks}
+use Rattle.lset_text.proofs.WordLaws.{same_bytes, kind_ok, kind_again, kind_lacks, call_in_ok, call_in_again, reply_ok}
+use Rattle.lset_text.proofs.WordLaws.{reply_again, reply_lacks}
 use Rattle.lset_text.proofs.ReadingLaws.{test_some}
 
 -- ---- one piece

@@ -1,6 +1,6 @@
 -- A header is read from its four lines, and from nothing else.
-use Rattle.std.proofs.Common.{◌≡◌, Result, ℕ, ◌<◌, ◌≤◌, ◌^◌, Bool, true, false, cond, eqb, List, [], ◌∷◌, ◌++◌, length, Option, Some, None, Ok, Err}
-use Rattle.std.proofs.Common.{refl, ap, subst, ◌∙◌, arith, codes}
+use Rattle.std.proofs.Common.{◌≡◌, Result, ℕ, ◌<◌, ◌≤◌, ◌^◌, true, List, [], ◌∷◌, ◌++◌, length, Option, Some, None, Ok, Err, refl}
+use Rattle.std.proofs.Common.{ap, subst, ◌∙◌, arith, codes}
 use Rattle.std.specs.Prelude.{option_map}
 use Rattle.std.specs.List.{AllByRecursion}
 use Rattle.std.specs.Str.{bytes_eq}
@@ -17,7 +17,8 @@ use Rattle.lset_text.specs.Parts.{cut_at, text_of, all_from, Lacks}
 use Rattle.lset_text.specs.Forms.{told_in}
 use Rattle.lset_text.specs.Results.{◌>>=◌, or_fail}
 use Rattle.lset_text.specs.Headers.{kind_line, number_line, header_lines, IsHeader, title_in, kind_form, kind_in, number_form}
-use Rattle.lset_text.specs.Headers.{number_after, line_due, told_by_line, title_told, kind_told, threads_told, quota_told, header_of}
+use Rattle.lset_text.specs.Headers.{number_after, line_due, told_by_line, title_told, kind_told, threads_told, quota_told}
+use Rattle.lset_text.specs.Headers.{header_of}
 use Rattle.lset_text.proofs.PartLaws.{some_part, cut_text, text_from_cut}
 use Rattle.lset_text.proofs.ReadingLaws.{bind_ok, or_fail_ok, test_some, ok_is}
 use Rattle.lset_text.proofs.WordLaws.{same_bytes}
@@ -127,43 +128,14 @@ then_never : {A B : Type 0} (r : Result A LineFault) (f : A → Result B LineFau
 then_never (Ok x) f first next e is memory = next x e is memory
 then_never (Err d) f first next e is memory = first e (cc) memory
 
--- a fault of a cause that is another
-named_never : {A : Type 0} (line : ℕ) (cause : Cause) → (cause ≡ wrong.Memory → ⊥) → NeverMemory {A = A} (Err (fault line cause))
-named_never line cause other e is memory =
-    let same : fault line cause ≡ e = cc in other (ap (λ (f : LineFault). f.cause) same ∙ memory)
-
-due_never : (line : ℕ) (cause : Cause) (parts : List (List ℕ)) → (cause ≡ wrong.Memory → ⊥) → NeverMemory (line_due line cause parts)
-due_never line cause [] other = named_never line cause other
-due_never line cause (rest ∷ []) other = by (eqb (length rest) 0)
-  where
-    by : (b : Bool) → NeverMemory {A = Due} (Err (fault line (cond b cause wrong.NotEnded)))
-    by true = named_never line cause other
-    by false = named_never line wrong.NotEnded (λ e. cc)
-due_never line cause (x ∷ y ∷ more) other = λ e is memory. cc
-
-value_never : {A : Type 0} (line : ℕ) (cause : Cause) (o : Option A) → (cause ≡ wrong.Memory → ⊥)
-    → NeverMemory (or_fail (fault line cause) o)
-value_never line cause None other = named_never line cause other
-value_never line cause (Some x) other = λ e is memory. cc
-
 told_never : {A : Type 0} (line : ℕ) (cause : Cause) (read : List ℕ → Option A) (parts : List (List ℕ)) → (cause ≡ wrong.Memory → ⊥)
     → NeverMemory (told_by_line line cause read parts)
 unfolding told_by_line
-told_never line cause read parts other =
-    then_never (line_due line cause parts) (λ due. or_fail (fault line cause) (read due.0) >>= λ told. Ok (told, due.1))
-    (due_never line cause parts other)
-    (λ due. then_never (or_fail (fault line cause) (read due.0)) (λ told. Ok (told, due.1))
-    (value_never line cause (read due.0) other) (λ told e is memory. cc))
+told_never line cause read parts other = grind arith
 
 pub header_never : (title : List ℕ) (parts : List (List ℕ)) → NeverMemory (header_of title parts)
 unfolding header_of
-header_never title parts =
-    then_never (title_told title parts) after_title (told_never 1 wrong.Header (title_in title) parts (λ e. cc))
-    (λ first. then_never (kind_told first.1) after_kind (told_never 2 wrong.Kind kind_in first.1 (λ e. cc))
-    (λ kind. then_never (threads_told kind.1) (after_threads kind.0)
-    (told_never 3 wrong.Threads (number_after (codes "threads") 1 MOST_THREADS) kind.1 (λ e. cc))
-    (λ threads. then_never (quota_told threads.1) (after_quota kind.0 threads.0)
-    (told_never 4 wrong.Quota (number_after (codes "quota") 0 MOST_QUOTA) threads.1 (λ e. cc)) (λ quota e is memory. cc))))
+header_never title parts = grind (arith, then_never, told_never, codes)
 
 joined : {xs ys zs : List (List ℕ)} {x y : List ℕ} → xs ≡ x ∷ ys → x ≡ y → ys ≡ zs → xs ≡ y ∷ zs
 joined e f g = cc
@@ -185,12 +157,7 @@ header_ok title parts found is =
     let is_threads = number_after_ok (codes "threads") 1 MOST_THREADS line3.0 threads.0.0 refl (omega arith) line3.2 in
     let is_quota = number_after_ok (codes "quota") 0 MOST_QUOTA line4.0 quota.0.0 refl (omega arith) line4.2 in
     let header : Header = record { kind = kind.0.0; threads = threads.0.0; quota = quota.0.0 } in
-    let within : IsHeader header = record {
-      some = omega (arith, is_threads.1);
-      few = is_threads.2;
-      small = is_quota.2;
-      opens = omega arith;
-    } in
+    let within : IsHeader header = omega arith in
     let all : parts ≡ header_lines title header ++ quota.0.1 =
     joined line1.1 is_title (joined line2.1 is_kind (joined line3.1 is_threads.0 (joined line4.1 is_quota.0 refl))) in
     subst (BeginsWith title parts) (ok_is (header, quota.0.1) found quota.2) (all, within, line4.3)

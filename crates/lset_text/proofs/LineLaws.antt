@@ -1,6 +1,6 @@
 -- Lines that are read one after another, as a loop does: once for every text.
-use Rattle.std.proofs.Common.{◌≡◌, ℕ, ◌+◌, ◌<◌, ◌≤◌, ◌⊎◌, inl, inr, Bool, true, false, cond, eqb, List, [], ◌∷◌, ◌++◌, length, get_or}
-use Rattle.std.proofs.Common.{Result, Ok, Err, refl, sym, ap, subst, ◌∙◌, append_assoc, length-append, arith}
+use Rattle.std.proofs.Common.{◌≡◌, ℕ, ◌+◌, ◌<◌, ◌≤◌, ◌⊎◌, inl, inr, Bool, true, false, cond, eqb, List, [], ◌∷◌, ◌++◌, length}
+use Rattle.std.proofs.Common.{get_or, Result, Ok, Err, refl, sym, ap, subst, ◌∙◌, append_assoc, length-append, arith}
 use Rattle.std.specs.List.{AllByRecursion}
 use Rattle.std.proofs.Math.Seq.{get_or-append_seam}
 use Rattle.std.proofs.lemmas.Bool.{eqb-true, ne_eqb}
@@ -110,13 +110,11 @@ is_good {S} g first text read line s t rest x after parts is stands =
     let next = lines_from g (line + 1) t (cut_at 10 after) in
     let more : next ≡ read = sym (lines_go g line s t x (cut_at 10 after) (some_part 10 after) is)
     ∙ ap (lines_from g line s) (sym parts) ∙ stands.so_far in
-    let split : cut_at 10 text ≡ stands.above ++ x ∷ cut_at 10 after =
-    stands.parts ∙ ap (λ (ps : List (List ℕ)). stands.above ++ ps) parts in
+    let split = stands.parts ∙ ap (λ (ps : List (List ℕ)). stands.above ++ ps) parts in
     let counted = ap length split ∙ length-append stands.above (x ∷ cut_at 10 after) in (
       omega (arith, stands.number),
       omega (arith, stands.number, counted, some_part 10 after),
-      subst (IsFaultlessTo line) more
-          (faultless_from g line (line + 1) t (cut_at 10 after) (omega arith)),
+      rw (← more) (faultless_from g line (line + 1) t (cut_at 10 after) (omega arith)),
     )
 
 -- a line that is not taken, since it has a fault or memory ran out
@@ -139,8 +137,7 @@ pub line_at : {S : Type 0} (g : Grammar S) (first : ℕ) (text : List ℕ) (read
     (rest x after : List ℕ) → cut_at 10 rest ≡ x ∷ cut_at 10 after → (stands : Stands g first text read line s rest)
     → get_or (cut_at 10 text) (length stands.above) [] ≡ x
 line_at g first text read line s rest x after parts stands =
-    ap (λ (ps : List (List ℕ)). get_or ps (length stands.above) []) (stands.parts
-    ∙ ap (λ (ps : List (List ℕ)). stands.above ++ ps) parts)
+    ap (λ (ps : List (List ℕ)). get_or ps (length stands.above) []) (cc (stands.parts, parts))
     ∙ get_or-append_seam stands.above x (cut_at 10 after) []
 
 -- ---- BOTH WAYS
@@ -204,14 +201,11 @@ leads_all g P Q one s t (x ∷ xs) holds leads =
 -- THE LINES OF A LIST: where each item leads from the state of those before it to the state with it, so do all
 pub items_lead : {S X : Type 0} (g : Grammar S) (state : List X → S) (lines : ℕ → List X → List (List ℕ))
     (line : ℕ → X → List ℕ) → ((n : ℕ) → lines n [] ≡ [])
-    → ((n : ℕ) (x : X) (xs : List X) → lines n (x ∷ xs) ≡ line n x ∷ lines (n + 1) xs)
-    → (before xs : List X)
+    → ((n : ℕ) (x : X) (xs : List X) → lines n (x ∷ xs) ≡ line n x ∷ lines (n + 1) xs) → (before xs : List X)
     → ((front more : List X) (x : X) → front ++ x ∷ more ≡ before ++ xs
     → g.step (state front) (line (length front) x) ≡ Ok (state (front ++ x ∷ [])))
     → Leads g (state before) (lines (length before) xs) (state (before ++ xs))
-items_lead g state lines line none some before [] each =
-    subst (λ (ls : List (List ℕ)). Leads g (state before) ls (state (before ++ []))) (sym (none (length before)))
-    (ap state (sym (append-nil before)))
+items_lead g state lines line none some before [] each = rw (none (length before)) (ap state (sym (append-nil before)))
 items_lead {X = X} g state lines line none some before (x ∷ xs) each =
     let next : List X = before ++ x ∷ [] in
     let grouped : next ++ xs ≡ before ++ x ∷ xs = append_assoc before (x ∷ []) xs in
@@ -219,5 +213,4 @@ items_lead {X = X} g state lines line none some before (x ∷ xs) each =
     let rest = items_lead g state lines line none some next xs (λ front more y is. each front more y (is ∙ grouped)) in
     let named = subst (λ (n : ℕ). Leads g (state next) (lines n xs) (state (next ++ xs))) counted rest in
     let all = subst (λ (ys : List X). Leads g (state next) (lines (length before + 1) xs) (state ys)) grouped named in
-    subst (λ (ls : List (List ℕ)). Leads g (state before) ls (state (before ++ x ∷ xs))) (sym (some (length before) x xs))
-    (state next, each before xs x refl, all)
+    rw (some (length before) x xs) (state next, each before xs x refl, all)

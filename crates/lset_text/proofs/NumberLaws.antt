@@ -1,18 +1,17 @@
 -- Decimals and the numbers that they spell.
-use Rattle.std.proofs.Common.{◌≡◌, ℕ, zero, suc, ◌+◌, ◌-◌, ◌*◌, ◌^◌, ◌<◌, ◌≤◌, Bool, true, false, cond, eqb, leb, ◌&&◌}
-use Rattle.std.proofs.Common.{◌||◌, not, List, length, get_or, take, Some, None, refl, sym, ap, ◌∙◌, arith, inl, inr}
+use Rattle.std.proofs.Common.{◌≡◌, ℕ, zero, suc, ◌+◌, ◌-◌, ◌*◌, ◌^◌, ◌<◌, ◌≤◌, Bool, true, false, cond, eqb, leb, ◌&&◌, ◌||◌, not}
+use Rattle.std.proofs.Common.{List, length, get_or, take, Some, None, refl, sym, ap, ◌∙◌, arith, inl, inr}
 use Rattle.std.specs.Fmt.{decimal}
 use Rattle.std.specs.Str.{all_ascii_digits}
 use Rattle.std.specs.Str.Parse.{digits_value, AllDigits}
 use Rattle.std.specs.Char.{digit_value, is_ascii_digit}
-use Rattle.std.proofs.lemmas.Bool.{and_parts, and_from, and_left, and_right, lt-leb, le-leb, leb-true, lt-ltb, ltb-true}
-use Rattle.std.proofs.lemmas.Bool.{or_right, or_left, or_cases, eq-eqb, eqb-true, eqb-false, ne_eqb, both_ways}
-use Rattle.std.proofs.lemmas.Bool.{false_from_ne_true, not_from_false, not-true, cases_eq}
+use Rattle.std.proofs.lemmas.Bool.{and_parts, and_from, and_left, and_right, lt-leb, le-leb, leb-true, lt-ltb, ltb-true, or_right}
+use Rattle.std.proofs.lemmas.Bool.{or_left, eq-eqb, ne_eqb, both_ways, false_from_ne_true, not_from_false, cases_eq}
 use Rattle.std.proofs.lemmas.List.Elements.{All-from_get_or}
 use Rattle.std.proofs.lemmas.Int.Digits.{digits_value_more, digits_more}
 use Rattle.std.proofs.lemmas.Str.Parse.{IsNumeralModel, numerals_by_value, tells_all_ascii_digits, digits_value-take-le, digit_at}
-use Rattle.std.proofs.lemmas.Fmt.{decimal-digits_value, digits_decimal, digits_value-decimal, decimal_nonempty}
-use Rattle.std.proofs.lemmas.Fmt.{first_decimal, decimal_digit}
+use Rattle.std.proofs.lemmas.Fmt.{decimal-digits_value, digits_decimal, digits_value-decimal, decimal_nonempty, first_decimal}
+use Rattle.std.proofs.lemmas.Fmt.{decimal_digit}
 use Rattle.lset_text.specs.Parts.{Lacks}
 use Rattle.lset_text.specs.Numbers.{is_number, is_between, number_in, max_number}
 
@@ -47,10 +46,7 @@ no_number low high p e = rw e refl
 pub not_a_digit : (low high : ℕ) (p : List ℕ) (i : ℕ) → i < length p → is_ascii_digit (get_or p i 0) ≡ false
     → None ≡ number_in low high p
 not_a_digit low high p i lt e =
-    let bad : is_number p ≡ true → ⊥ = λ number.
-    let digits = (and_parts _ _ (and_parts _ _ number).1).0 in
-    let range = digit_at p i (own.to p digits) lt in
-    both_ways (is_ascii_digit (get_or p i 0)) e (grind arith) in
+    let bad : is_number p ≡ true → ⊥ = grind (arith, and_parts, digit_at, own, both_ways) in
     no_number low high p (and_left (is_number p) _ (false_from_ne_true (is_number p) bad))
 
 pub too_high : (low high : ℕ) (p : List ℕ) (i : ℕ) → high < digits_value 10 (take i p) → None ≡ number_in low high p
@@ -70,8 +66,7 @@ is_spelled low high p v is some digits first low_ok high_ok =
     let number : is_number p ≡ true = and_from _ _ (lt-ltb 0 (length p) some) (and_from _ _ (own.from p digits) first_ok) in
     let low_test = le-leb low (digits_value 10 p) (omega (arith, is)) in
     let high_test = le-leb (digits_value 10 p) high (omega (arith, is)) in
-    let both : (is_number p && is_between low high (digits_value 10 p)) ≡ true =
-    and_from _ _ number (and_from _ _ low_test high_test) in
+    let both = and_from _ _ number (and_from _ _ low_test high_test) in
     rw both (ap (λ (n : ℕ). Some n) is)
 
 -- ---- both ways
@@ -90,10 +85,7 @@ number_ok low high p v wide e =
     let number = and_parts _ _ all.0 in
     let digits = and_parts _ _ number.1 in
     let high_ok : digits_value 10 p ≤ high = leb-true _ _ bounds.1 in
-    let first : get_or p 0 0 ≡ 48 → length p ≡ 1 = λ zero. elim (or_cases _ _ digits.1) [
-      | inl one ↦ eqb-true _ _ one
-      | inr other ↦ absurd (eqb-false _ _ (not-true _ other) zero)
-    ] in
+    let first : get_or p 0 0 ≡ 48 → length p ≡ 1 = grind arith in
     let spelled = decimal-digits_value own p digits.0 (ltb-true 0 (length p) number.0) first (omega arith) in
     (sym (ap decimal (sym found.1) ∙ spelled), rw (← found.1) (leb-true _ _ bounds.0), rw (← found.1) high_ok)
 

@@ -1,6 +1,6 @@
 -- Lines of opening keys, and keys that rise strictly.
-use Rattle.std.proofs.Common.{◌≡◌, ℕ, zero, suc, ◌+◌, ◌-◌, ◌<◌, ◌^◌, ◌⊎◌, inl, inr, true, List, [], ◌∷◌, ◌++◌, length, length-append, get_or}
-use Rattle.std.proofs.Common.{refl, sym, ap, subst, ◌∙◌, arith}
+use Rattle.std.proofs.Common.{rules, ◌≡◌, ℕ, zero, suc, ◌+◌, ◌-◌, ◌<◌, ◌^◌, true, List, [], ◌∷◌, ◌++◌, length, length-append}
+use Rattle.std.proofs.Common.{get_or, refl, ap, ◌∙◌, arith}
 use Rattle.std.specs.Prelude.{nat_lt}
 use Rattle.std.specs.List.Sorted.{IsStrictlyIncreasing}
 use Rattle.std.proofs.lemmas.Bool.{ltb-true, lt-ltb}
@@ -22,23 +22,13 @@ some_last keys key some = ap (λ o. above_last o key) (slice_get-get_or keys (le
 pub rises_more : (keys : List ℕ) (key : ℕ) → IsStrictlyIncreasing keys → is_above keys key ≡ true
     → IsStrictlyIncreasing (keys ++ key ∷ [])
 rises_more keys key rising above k below =
-    let long : length (keys ++ key ∷ []) ≡ length keys + 1 = length_push keys key in
-    elim (last_or_before k (length keys) (omega arith)) [
-      | inl e ↦ (let a : get_or (keys ++ key ∷ []) (k + 1) 0 ≡ key = get_or_push keys key 0 (k + 1) (sym e) in
-          let b : get_or (keys ++ key ∷ []) k 0 ≡ get_or keys k 0 = get_or_append_left keys (key ∷ []) 0 k (omega arith) in
-          let at : length keys - 1 ≡ k = omega arith in
-          let c : get_or keys (length keys - 1) 0 < key = ltb-true _ _ (sym (some_last keys key (omega arith)) ∙ above) in
-          let d : get_or keys k 0 < key = subst (λ n. get_or keys n 0 < key) at c in
-          omega arith)
-      | inr l ↦ (let a : get_or (keys ++ key ∷ []) (k + 1) 0 ≡ get_or keys (k + 1) 0 =
-          get_or_append_left keys (key ∷ []) 0 (k + 1) l in
-          let b : get_or (keys ++ key ∷ []) k 0 ≡ get_or keys k 0 = get_or_append_left keys (key ∷ []) 0 k (omega arith) in
-          let c : get_or keys k 0 < get_or keys (k + 1) 0 = rising k l in
-          omega arith)
-    ]
-  where
-    last_or_before : (k n : ℕ) → k + 1 < n + 1 → (k + 1 ≡ n) ⊎ (k + 1 < n)
-    last_or_before k n l = grind arith
+    let long : length (keys ++ key ∷ []) ≡ length keys + 1 = length_push keys key in grind (
+      arith,
+      get_or_push,
+      get_or_append_left,
+      ltb-true,
+      some_last,
+    )
 
 -- in keys that rise, each lies above those before it
 pub above_before : (keys : List ℕ) (key : ℕ) (more : List ℕ) → IsStrictlyIncreasing (keys ++ key ∷ more) →
@@ -49,8 +39,7 @@ above_before (x ∷ xs) key more rising =
     let k = length keys - 1 in
     let a : get_or (keys ++ key ∷ more) k 0 ≡ get_or keys k 0 = get_or_append_left keys (key ∷ more) 0 k (omega arith) in
     let b : get_or (keys ++ key ∷ more) (k + 1) 0 ≡ key = get_or_at keys key more (k + 1) (omega arith) in
-    let c : get_or (keys ++ key ∷ more) k 0 < get_or (keys ++ key ∷ more) (k + 1) 0 =
-    rising k (longer keys key more k (omega arith)) in
+    let c = rising k (longer keys key more k (omega arith)) in
     some_last keys key (omega arith) ∙ lt-ltb _ _ (omega (arith, a, b, c))
   where
     get_or_at : (xs : List ℕ) (y : ℕ) (ys : List ℕ) (n : ℕ) → n ≡ length xs → get_or (xs ++ y ∷ ys) n 0 ≡ y
@@ -73,13 +62,4 @@ has_none Two = tt
 
 pub opens_more : (o : Opening) (k : ℕ) → Opens o → k < 2 ^ 32 → length o.keys < MOST_OPENING → is_above o.keys k ≡ true
     → Opens (record o { keys = o.keys ++ k ∷ [] })
-opens_more o k is low room above = record {
-  within = record {
-    some = is.within.some;
-    few = is.within.few;
-    small = is.within.small;
-    opens = omega (arith, length_push o.keys k, room);
-  };
-  rising = rises_more o.keys k is.rising above;
-  low = All-push (λ (j : ℕ). j < 2 ^ 32) o.keys k is.low low;
-}
+opens_more o k is low room above = search (rules, length_push, rises_more, All-push)

@@ -1,6 +1,6 @@
 -- Cutting texts into lines and lines into pieces, and joining them again.
-use Rattle.std.proofs.Common.{◌≡◌, ℕ, ◌+◌, ◌-◌, ◌<◌, ◌≤◌, Bool, true, false, cond, eqb, ltb, not, ◌&&◌, List, [], ◌∷◌}
-use Rattle.std.proofs.Common.{◌++◌, length, take, drop, Some, None, refl, sym, ap, ◌∙◌, append_assoc, arith, length-append}
+use Rattle.std.proofs.Common.{◌≡◌, ℕ, ◌+◌, ◌-◌, ◌<◌, ◌≤◌, Bool, true, false, cond, eqb, ltb, not, ◌&&◌, List, [], ◌∷◌, ◌++◌}
+use Rattle.std.proofs.Common.{length, take, drop, Some, None, refl, sym, ap, ◌∙◌, append_assoc, arith, length-append}
 use Rattle.std.specs.Prelude.{position}
 use Rattle.std.specs.List.{join_with_byte, position_or_len, AllByRecursion}
 use Rattle.std.proofs.lemmas.Bool.{and_parts, eq-eqb, leb-true, ltb-false, ne_eqb, not-true}
@@ -22,8 +22,7 @@ cond_none false x e = refl
 pub uncut : (byte : ℕ) (text : List ℕ) → None ≡ position (λ b. eqb b byte) text → cut_at byte text ≡ text ∷ []
 uncut byte text e =
     let first = position_or_len (λ b. eqb b byte) text in
-    let past : length text ≤ position_or_len (λ b. eqb b byte) text =
-    ltb-false _ _ (cond_none (ltb first (length text)) first e) in
+    let past = ltb-false _ _ (cond_none (ltb first (length text)) first e) in
     slice_split_none (λ b. eqb b byte) text (λ k d lt. fails_before_first (λ b. eqb b byte) text k d (omega arith))
 
 -- else the first part stands before the first such byte

@@ -52,8 +52,7 @@ later_pushed (y ∷ ys) x s t = refl
 pub section_leads : {S X : Type 0} (g : Grammar S) (state : List X → S) (line : X → List ℕ) (P : X → Type 0) (most : ℕ)
     (xs : List X) → length xs ≤ most → AllByRecursion P xs
     → ((front more : List X) (x : X) → front ++ x ∷ more ≡ xs → length front < most → P x
-    → g.step (state front) (line x) ≡ Ok (state (front ++ x ∷ [])))
-    → Leads g (state []) (map line xs) (state xs)
+    → g.step (state front) (line x) ≡ Ok (state (front ++ x ∷ []))) → Leads g (state []) (map line xs) (state xs)
 section_leads g state line P most xs few are each =
     items_lead g state (λ n. map line) (λ n. line) (λ n. refl) (λ n x ys. refl) [] xs
     (λ front more x is. each front more x is (omega (arith, shorter front more xs x is, few)) (middle P front more xs x is are))

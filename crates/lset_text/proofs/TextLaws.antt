@@ -1,5 +1,6 @@
 -- Whole texts: what is read stands there, and what stands there is read; once for every text.
-use Rattle.std.proofs.Common.{◌≡◌, ℕ, ◌<◌, false, List, [], ◌∷◌, ◌++◌, length, Result, Ok, Err, refl, sym, ap, ◌∙◌, subst, append_assoc, arith}
+use Rattle.std.proofs.Common.{◌≡◌, ℕ, ◌<◌, false, List, [], ◌∷◌, ◌++◌, length, Result, Ok, Err, refl, sym, ap, ◌∙◌, subst}
+use Rattle.std.proofs.Common.{append_assoc, arith}
 use Rattle.std.specs.Prelude.{IfErr}
 use Rattle.std.specs.List.{AllByRecursion}
 use Rattle.std.specs.Str.{bytes_eq}
@@ -71,8 +72,7 @@ good_after g bytes rest h (Err e) is good = λ m.
 pub text_found : {S : Type 0} (g : TextGrammar S) (P : S → Type 0) (text : S → List (List ℕ))
     → ((h : Header) → IsHeader h → P (g.start h) × (text (g.start h) ≡ header_lines g.title h))
     → ((s t : S) (x : List ℕ) → P s → g.lines.step s x ≡ Ok t → P t × (text t ≡ text s ++ x ∷ []))
-    → ((s t : S) → g.lines.ends s ≡ Ok t → s ≡ t)
-    → (bytes : List ℕ) (t : S) → text_from g (cut_at 10 bytes) ≡ Ok t
+    → ((s t : S) → g.lines.ends s ≡ Ok t → s ≡ t) → (bytes : List ℕ) (t : S) → text_from g (cut_at 10 bytes) ≡ Ok t
     → (bytes ≡ text_of (text t)) × (g.lines.ends t ≡ Ok t) × P t
 unfolding text_from
 text_found g P text begins one same bytes t is =

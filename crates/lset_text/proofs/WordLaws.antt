@@ -51,7 +51,11 @@ value_ok {A} text P (y ∷ ys) piece x all is = elim (cases_Bool (bytes_eq piece
 
 pub kind_ok : (piece : List ℕ) (k : Kind) → kind_of piece ≡ Some k → piece ≡ kind_text k
 unfolding kind_of
-kind_ok piece k is = (value_ok kind_text (λ k. Unit {0}) all_kinds piece k (tt, (tt, (tt, (tt, (tt, tt))))) is).0
+kind_ok piece k is = (value_ok kind_text (λ k. Unit {0}) all_kinds piece k (any all_kinds) is).0
+  where
+    any : (kinds : List Kind) → AllByRecursion (λ k. Unit {0}) kinds
+    any [] = tt
+    any (k ∷ kinds) = (tt, any kinds)
 
 pub kind_again : (k : Kind) → kind_of (kind_text k) ≡ Some k
 unfolding kind_of

@@ -109,6 +109,7 @@ pub fn read_header<'a>(title: &[u8], text: &'a [u8]) -> Result<(Header, &'a [u8]
 }
 
 /// Lemma: a header is read from its text, whatever follows it.
+#[tactic(auto, using(crate::proofs::HeaderLaws::header_from_text))]
 pub fn headers_read_back()
     ensures { HeadersReadBack }
 {}

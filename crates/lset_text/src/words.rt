@@ -1,4 +1,5 @@
 ghost use Rattle.std.specs.Prelude.{◌≡◌, Some};
+ghost use Rattle.std.specs.Str.{bytes_eq};
 ghost use Rattle.lset_text.specs.Spellings.{
   kind_text,
   kind_of,
@@ -63,17 +64,24 @@ pub fn kind_word(kind: Kind) -> &'static str
     }
 }
 
+/// Whether a field is the word of a kind.
+fn is_word_of(piece: &[u8], kind: Kind) -> bool
+    ensures { result ≡ bytes_eq piece.now (kind_text kind) }
+{
+    piece == kind_word(kind).as_bytes()
+}
+
 /// Returns the kind of list that a field names; `None` for any other field.
 #[tactic(auto, unfolding(crate::specs::Spellings::kind_of))]
 pub fn read_kind(piece: &[u8]) -> Option<Kind>
     ensures { result ≡ kind_of piece.now }
 {
     match piece {
-        b"coarse" => Some(Kind::Coarse),
-        b"fine" => Some(Kind::Fine),
-        b"optimistic" => Some(Kind::Optimistic),
-        b"lazy" => Some(Kind::Lazy),
-        b"lock-free" => Some(Kind::LockFree),
+        _ if is_word_of(piece, Kind::Coarse) => Some(Kind::Coarse),
+        _ if is_word_of(piece, Kind::Fine) => Some(Kind::Fine),
+        _ if is_word_of(piece, Kind::Optimistic) => Some(Kind::Optimistic),
+        _ if is_word_of(piece, Kind::Lazy) => Some(Kind::Lazy),
+        _ if is_word_of(piece, Kind::LockFree) => Some(Kind::LockFree),
         _ => None,
     }
 }

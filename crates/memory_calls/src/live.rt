@@ -1,5 +1,4 @@
 //! Running sets of each list, from their opening to their keys.
-ghost use Rattle.std.specs.Prelude.{◌≡◌, IfOk, All};
 
 use crate::prelude::*;
 use lset_coarse::CoarseList;
@@ -9,30 +8,21 @@ use lset_lock_free::LockFreeList;
 use lset_optimistic::OptimisticList;
 use lset_server::{Device, session};
 
-fn last_seat<M: Running>(set: &LiveSet<M>, seats: &mut Vec<Seat<M>>) -> Result<Seat<M>>
-    requires { All (λ s. s.set ≡ set.now) seats.old.items }
-    ensures seat { IfOk result (λ s. s.set ≡ set.now) }
-    ensures rest { All (λ s. s.set ≡ set.now) seats.new.items }
-{
+fn last_seat<M: Running>(set: &LiveSet<M>, seats: &mut Vec<Seat<M>>) -> Result<Seat<M>> {
     match seats.pop() {
         Some(seat) => Ok(seat),
         None => Err(Error::msg("no seat is left")),
     }
 }
 
-fn opened<M: Running>(alloc: Global, calls: &mut Calls) -> Result<(LiveSet<M>, Seat<M>, Seat<M>)>
-    ensures { IfOk result (λ r. (r.1.set ≡ r.0) × (r.2.set ≡ r.0)) }
-{
+fn opened<M: Running>(alloc: Global, calls: &mut Calls) -> Result<(LiveSet<M>, Seat<M>, Seat<M>)> {
     let (set, mut seats) = answer!(calls, "open", OpenFault::Memory, open::<M>(alloc, 2, 6))?;
     let one = last_seat(&set, &mut seats)?;
     let zero = last_seat(&set, &mut seats)?;
     Ok((set, zero, one))
 }
 
-fn add_six<M: Running, R: Wait>(rt: &R, set: &LiveSet<M>, seat: &mut Seat<M>) -> Result<()>
-    requires { seat.old.set ≡ set.now }
-    ensures { seat.new.set ≡ set.now }
-{
+fn add_six<M: Running, R: Wait>(rt: &R, set: &LiveSet<M>, seat: &mut Seat<M>) -> Result<()> {
     for key in 1..=6 {
         check(set.add(rt, seat, Key(key)) == Reply::True)?;
     }
@@ -46,10 +36,7 @@ fn change_and_look<M: Running, R: Wait>(
     calls: &mut Calls,
     set: &LiveSet<M>,
     seat: &mut Seat<M>,
-) -> Result<()>
-    requires { seat.old.set ≡ set.now }
-    ensures { seat.new.set ≡ set.now }
-{
+) -> Result<()> {
     calls.announce(alloc, "LiveSet::add")?;
     add_six(rt, set, seat)?;
     calls.announce(alloc, "LiveSet::remove")?;
@@ -68,10 +55,7 @@ fn call_within<M: Running>(
     seat: Seat<M>,
     call: Call,
     wanted: Reply,
-) -> Result<Seat<M>>
-    requires { seat.set ≡ set.now }
-    ensures { IfOk result (λ s. s.set ≡ set.now) }
-{
+) -> Result<Seat<M>> {
     calls.announce(alloc, "LiveSet::call_within")?;
     let made = set.call_within::<Spin, Countless>(seat, call, &Spin::new());
     let Some((seat, reply)) = made else {
@@ -87,10 +71,7 @@ fn call_each_within<M: Running>(
     calls: &mut Calls,
     set: &LiveSet<M>,
     seat: Seat<M>,
-) -> Result<Seat<M>>
-    requires { seat.set ≡ set.now }
-    ensures { IfOk result (λ s. s.set ≡ set.now) }
-{
+) -> Result<Seat<M>> {
     let key = Key(9);
     let seat = call_within(alloc, calls, set, seat, Call::Add(key), Reply::True)?;
     let seat = call_within(alloc, calls, set, seat, Call::Contains(key), Reply::True)?;
@@ -107,10 +88,7 @@ fn call_typed<M: Running, R: Wait>(
     set: &LiveSet<M>,
     seat: &mut Seat<M>,
     added: Added,
-) -> Result<()>
-    requires { seat.old.set ≡ set.now }
-    ensures { seat.new.set ≡ set.now }
-{
+) -> Result<()> {
     calls.announce(alloc, "Seat::add")?;
     check(seat.add(rt, set, Key(4)) == Added::Already && seat.add(rt, set, Key(8)) == added)?;
     calls.announce(alloc, "Seat::contains")?;
@@ -130,10 +108,7 @@ fn pass_receipts<M: Running>(
     set: &LiveSet<M>,
     zero: &mut Seat<M>,
     one: &mut Seat<M>,
-) -> Result<()>
-    requires { (zero.old.set ≡ set.now) × (one.old.set ≡ set.now) }
-    ensures { (zero.new.set ≡ set.now) × (one.new.set ≡ set.now) }
-{
+) -> Result<()> {
     calls.announce(alloc, "LiveSet::receipt")?;
     let mut receipt = set.receipt(zero);
     calls.announce(alloc, "LiveSet::copied")?;
@@ -151,10 +126,7 @@ fn answer_session<M: Running, R: Wait>(
     calls: &mut Calls,
     set: &LiveSet<M>,
     seat: &mut Seat<M>,
-) -> Result<()>
-    requires { seat.old.set ≡ set.now }
-    ensures { seat.new.set ≡ set.now }
-{
+) -> Result<()> {
     let mut written = answer!(
         calls,
         "Vec::with_capacity",
@@ -176,9 +148,7 @@ fn gather_and_close<M: Running>(
     set: LiveSet<M>,
     mut zero: Seat<M>,
     one: Seat<M>,
-) -> Result<()>
-    requires { (zero.set ≡ set) × (one.set ≡ set) }
-{
+) -> Result<()> {
     calls.announce(alloc, "LiveSet::gather")?;
     set.gather(&mut zero, one);
     calls.announce(alloc, "LiveSet::close")?;
@@ -207,10 +177,7 @@ fn add_typed<M: Running, R: Wait>(
     set: &LiveSet<M>,
     seat: &mut Seat<M>,
     key: u32,
-) -> Result<()>
-    requires { seat.old.set ≡ set.now }
-    ensures { seat.new.set ≡ set.now }
-{
+) -> Result<()> {
     check(!seat.remove(rt, set, Key(key)) && !seat.contains(rt, set, Key(key)))?;
     check(seat.add(rt, set, Key(key)) == Added::New)?;
     check(seat.add(rt, set, Key(key)) == Added::Already && seat.contains(rt, set, Key(key)))?;
@@ -220,10 +187,7 @@ fn add_typed<M: Running, R: Wait>(
 const MANY: u32 = 1_100;
 
 /// A seat adds falling keys, each right behind the head, and takes them out.
-fn fill_and_empty<M: Running, R: Wait>(rt: &R, set: &LiveSet<M>, seat: &mut Seat<M>) -> Result<()>
-    requires { seat.old.set ≡ set.now }
-    ensures { seat.new.set ≡ set.now }
-{
+fn fill_and_empty<M: Running, R: Wait>(rt: &R, set: &LiveSet<M>, seat: &mut Seat<M>) -> Result<()> {
     add_typed(rt, set, seat, u32::MAX)?;
     for key in (0..MANY).rev() {
         add_typed(rt, set, seat, key)?;

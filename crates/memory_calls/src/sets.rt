@@ -1,5 +1,3 @@
-ghost use Rattle.std.specs.Prelude.{◌<◌};
-
 use crate::prelude::*;
 use lset_coarse::CoarseList;
 use lset_history::{History, HistoryFault, Oracle};
@@ -35,9 +33,7 @@ fn oracle_has(alloc: Global, oracle: &Oracle, calls: &mut Calls, keys: &[u32]) -
 }
 
 /// Adds the keys 1 to 12, more than a node of the set of keys holds.
-fn fill(oracle: &mut Oracle, calls: &mut Calls) -> Result<()>
-    requires { 0 < oracle.old.threads }
-{
+fn fill(oracle: &mut Oracle, calls: &mut Calls) -> Result<()> {
     for key in 1..=12 {
         let add = Call::Add(Key(key));
         let reply = answer!(calls, "Oracle::apply", AllocError, oracle.apply(0, add))?;
@@ -63,9 +59,7 @@ pub fn oracles(alloc: Global, calls: &mut Calls) -> Result<()> {
 }
 
 /// A call of a thread that looks for a key in the empty set begins and ends.
-fn looks(alloc: Global, history: &mut History, calls: &mut Calls, number: u32) -> Result<()>
-    requires { number < 5 }
-{
+fn looks(alloc: Global, history: &mut History, calls: &mut Calls, number: u32) -> Result<()> {
     let (call, begun) = (Call::Contains(Key(number)), 2 * number + 1);
     let id = answer!(
         calls,

@@ -1,6 +1,5 @@
 //! Programs on threads, and a server with one session. No two threads ask for memory at once, so each run counts the growths
 //! in one order.
-ghost use Rattle.std.specs.Prelude.{◌≡◌, ◌<◌, ◌^◌, IfOk, IfSome, IsTrue, All, length};
 
 use crate::prelude::*;
 use lset_server::{ServeCause, Served, serve};
@@ -13,9 +12,7 @@ fn open_seats(
     alloc: Global,
     calls: &mut Calls,
     seats: u32,
-) -> Result<(LiveSet<LazyList>, Vec<Seat<LazyList>>), OpenFault>
-    ensures { IfOk result (λ r. All (λ s. s.set ≡ r.0) r.1.items) }
-{
+) -> Result<(LiveSet<LazyList>, Vec<Seat<LazyList>>), OpenFault> {
     answer!(
         calls,
         "open",
@@ -24,20 +21,8 @@ fn open_seats(
     )
 }
 
-fn are_short(programs: &[Vec<Call>]) -> bool
-    ensures { IsTrue result → All (λ p. length p.items < 2 ^ 32) programs.now }
-{
-    programs.iter().all(
-        |program| -> bool
-            ensures { IsTrue result → length program.now.items < 2 ^ 32 }
-        { program.len() <= 4_294_967_295 },
-    )
-}
-
 /// Add 1, Contains 1, Remove 1; and Add 2, Add 2.
-fn two_programs(alloc: Global) -> Result<Vec<Vec<Call>>, AllocError>
-    ensures { IfOk result (λ ps. All (λ p. length p.items < 2 ^ 32) ps.items) }
-{
+fn two_programs(alloc: Global) -> Result<Vec<Vec<Call>>, AllocError> {
     let mut programs = Vec::new(alloc);
     let first = [
         Call::Add(Key(1)),
@@ -47,11 +32,7 @@ fn two_programs(alloc: Global) -> Result<Vec<Vec<Call>>, AllocError>
     let second = [Call::Add(Key(2)), Call::Add(Key(2))];
     programs.push(Vec::from_slice(alloc, &first)?)?;
     programs.push(Vec::from_slice(alloc, &second)?)?;
-    if are_short(&programs) {
-        Ok(programs)
-    } else {
-        Err(AllocError)
-    }
+    Ok(programs)
 }
 
 /// Notes how `work` was refused, and gives the set and the seats to go on with: those that came back, or new ones.
@@ -59,10 +40,7 @@ fn after_refusal(
     alloc: Global,
     calls: &mut Calls,
     fault: WorkFault<LazyList>,
-) -> Result<(LiveSet<LazyList>, Vec<Seat<LazyList>>)>
-    requires { IfSome fault.back (λ b. All (λ s. s.set ≡ b.0) b.1.items) }
-    ensures { IfOk result (λ r. All (λ s. s.set ≡ r.0) r.1.items) }
-{
+) -> Result<(LiveSet<LazyList>, Vec<Seat<LazyList>>)> {
     let WorkFault { cause, back } = fault;
     calls.name = match (cause, back.is_some()) {
         (WorkCause::Memory, true) => "work (Memory, all comes back)",
@@ -82,9 +60,7 @@ fn work_again<R: Host>(
     alloc: Global,
     set: LiveSet<LazyList>,
     seats: Vec<Seat<LazyList>>,
-) -> Result<Outcome>
-    requires { All (λ s. s.set ≡ set) seats.items }
-{
+) -> Result<Outcome> {
     match work(rt, alloc, set, seats, two_programs(alloc)?, &Always) {
         Ok(outcome) => Ok(outcome),
         Err(_) => Err(Error::msg("a fault")),
@@ -133,9 +109,7 @@ fn serve_client<R: Host + Net<Listener = TcpListener, Stream = TcpStream>>(
     alloc: Global,
     set: LiveSet<LazyList>,
     seats: Vec<Seat<LazyList>>,
-) -> Result<Option<ServeCause>>
-    requires { All (λ s. s.set ≡ set) seats.items }
-{
+) -> Result<Option<ServeCause>> {
     let (listener, mut stream) = client(rt)?;
     match serve(rt, alloc, listener, set, seats, 1) {
         Ok(served) => {

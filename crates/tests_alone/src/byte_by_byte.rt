@@ -3,8 +3,9 @@
 use crate::devices::{Plan, WHOLE, Writer};
 use crate::prelude::*;
 use std::io::{self, Read};
-use tool_base::{Answer, deliver, tool_check};
+use tool_base::{Answer, deliver};
 use tool_judge::judge_input;
+use tool_replay::tool_check;
 
 /// So many calls in turn.
 const CALLS: u32 = 4_000;

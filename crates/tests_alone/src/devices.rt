@@ -1,5 +1,4 @@
 //! Readers and writers of which one call fails.
-ghost use Rattle.std.specs.Prelude.{◌≡◌, IfOk};
 
 use crate::prelude::*;
 use std::io::{self, ErrorKind, Read, Write};
@@ -31,9 +30,7 @@ impl Failure {
         })
     }
 
-    fn answer(self) -> io::Result<usize>
-        ensures { IfOk result (λ count. count ≡ 0) }
-    {
+    fn answer(self) -> io::Result<usize> {
         match self {
             Failure::Nothing => Ok(0),
             _ => Err(self.error()),

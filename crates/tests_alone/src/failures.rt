@@ -1,7 +1,136 @@
-//! Each read and each write of each run of the tools fails in turn.
-use crate::devices::{CANNOT_READ, CANNOT_WRITE, Failure, Plan, WHOLE, Way, planned};
+//! Each read and each write of runs of the program fails in turn. What it prints is in `transcripts`.
+use crate::devices::{
+    CANNOT_READ, CANNOT_WRITE, Failure, Plan, Reader, WHOLE, Way, Writer, planned,
+};
 use crate::prelude::*;
-use crate::tools::{ROWS, Row, Run, SCHEDULE, Tool, ran, whole_run};
+use lset_command::is_out_of_memory;
+use lset_dispatch::{run_words, tool_words};
+use lset_text::cut;
+use tool_replay::tool_gen;
+use tool_threads::tool_run;
+
+/// The words of a run, and its input.
+type Row = (&'static [&'static str], &'static str);
+
+const SCHEDULE: &str =
+    "listset-schedule 1\nlist coarse\nthreads 1\nquota 4\nbegin 0 add 5\ngo 0 7\n";
+
+/// With a step of a thread that has no call open.
+const IDLE: &str =
+    "listset-schedule 1\nlist coarse\nthreads 1\nquota 4\nbegin 0 add 5\ngo 0 1\ngo 0 7\n";
+
+const REPORT: &str =
+    "listset-report 1\nlist coarse\nthreads 1\nquota 4\ncall 0 0 add 5 1 8 true\nplace 0 true\nkey 5\nend\n";
+
+/// Its order leaves out its call.
+const LEFT_OUT: &str =
+    "listset-report 1\nlist coarse\nthreads 1\nquota 4\ncall 0 0 add 5 1 8 true\nkey 5\nend\n";
+
+/// Calls that an order explains.
+const EXPLAINED: &str =
+    "listset-calls 1\nopening 7\ncall 0 add 5 1 4 true\ncall 1 remove 7 2 - -\nkey 5\nend\n";
+
+/// Two adds of one key that changed the set.
+const BOTH: &str = "listset-calls 1\ncall 0 add 5 1 4 true\ncall 1 add 5 2 3 true\nkey 5\nend\n";
+
+/// A recording without its end.
+const UNENDED: &str = "listset-calls 1\ncall 0 add 5 1 4 true\nkey 5\n";
+
+const DRAFT: &str = "listset-draft 2\nlist coarse\nthreads 1\nquota 4\nbegin 0 add 5\ngo 0 out\n";
+
+/// One call of a list whose `contains` may look at no mark.
+const LOOK: &str =
+    "listset-schedule 2\nlist lazy\nthreads 1\nquota 0\nbegin 0 contains 5\ngo 0 2\n";
+
+/// What a server printed that left one key.
+const PRINTED: &str = "listening 127.0.0.1:4711\nsessions 1\ncalls 1\nkey 7\n";
+
+/// Runs that write on the output, and then those that write a line about an error alone.
+const ROWS: [Row; 31] = [
+    (&["replay"], SCHEDULE),
+    (&["check"], REPORT),
+    (&["check"], LEFT_OUT),
+    (&["judge"], EXPLAINED),
+    (&["judge"], BOTH),
+    (&["draft"], DRAFT),
+    (&["show"], SCHEDULE),
+    (&["show"], LEFT_OUT),
+    (&["show"], IDLE),
+    (&["show", "--svg"], SCHEDULE),
+    (&["trace", "--chain"], SCHEDULE),
+    (&["trace"], IDLE),
+    (&["replay", "--lacks", "mark-in-contains"], LOOK),
+    (&["trace", "--lacks", "mark-in-contains"], LOOK),
+    (&["show", "--lacks", "mark-in-contains"], LOOK),
+    (&["gen", "coarse", "1", "4", "1", "8", "1"], ""),
+    (&["example", "full"], ""),
+    (&["run", "coarse", "1", "4", "2", "8", "1"], ""),
+    (&["--help"], ""),
+    (&["replay"], REPORT),
+    (&["check"], SCHEDULE),
+    (&["judge"], UNENDED),
+    (&["draft"], REPORT),
+    (&["show"], BOTH),
+    (&["trace"], REPORT),
+    (&["replay", "--lacks", "mark-in-contains"], REPORT),
+    (&["gen", "skip"], ""),
+    (&["example", "snap"], ""),
+    (&["run", "skip"], ""),
+    (&["serve", "skip"], ""),
+    (&["skip"], ""),
+];
+
+/// A server of no session, which opens with the keys of its input.
+const SERVER: Row = (&["serve", "lazy", "1", "4", "0", "0", "-"], PRINTED);
+
+/// What a run did with its devices.
+#[derive(Drop)]
+struct Run {
+    status: u8,
+    input: Reader,
+    output: Writer,
+    stderr: Writer,
+}
+
+/// The text without the line that names a server's port, which is another in each run.
+fn without_port(text: &[u8]) -> &[u8] {
+    if !text.starts_with(b"listening ") {
+        return text;
+    }
+    match cut(text, b'\n') {
+        Some((_line, rest)) => rest,
+        None => text,
+    }
+}
+
+impl Run {
+    /// Whether it wrote this line about an error, and nothing on the output.
+    fn wrote_only(&self, line: &[u8]) -> bool {
+        self.output.calls == 0 && self.stderr.taken.as_slice() == line
+    }
+
+    /// Whether it wrote and returned what another run did.
+    fn is_as(&self, other: &Run) -> bool {
+        self.status == other.status
+            && without_port(&self.output.taken) == without_port(&other.output.taken)
+            && self.stderr.taken == other.stderr.taken
+    }
+}
+
+/// Runs a row on devices of these plans: of its input, its output and `stderr`.
+fn run_on<R: Host>(rt: &R, alloc: Global, (words, input): Row, plans: [Plan; 3]) -> Run {
+    let [of_input, output, stderr] = plans;
+    let mut input = Reader::new(input, of_input);
+    let mut output = Writer::new(alloc, output);
+    let mut stderr = Writer::new(alloc, stderr);
+    let status = run_words(rt, alloc, words, &mut input, &mut output, &mut stderr);
+    Run {
+        status,
+        input,
+        output,
+        stderr,
+    }
+}
 
 const READS: [Way; 3] = [
     (Failure::Interrupted, 1),
@@ -22,7 +151,7 @@ const MOST_CALLS: usize = 10_000;
 enum Device {
     Input,
     Output,
-    Faults,
+    Stderr,
 }
 
 impl Device {
@@ -31,7 +160,7 @@ impl Device {
         match self {
             Device::Input => [plan, WHOLE, WHOLE],
             Device::Output => [WHOLE, plan, WHOLE],
-            Device::Faults => [WHOLE, WHOLE, plan],
+            Device::Stderr => [WHOLE, WHOLE, plan],
         }
     }
 
@@ -40,7 +169,17 @@ impl Device {
         match self {
             Device::Input => run.input.calls,
             Device::Output => run.output.calls,
-            Device::Faults => run.faults.calls,
+            Device::Stderr => run.stderr.calls,
+        }
+    }
+
+    /// How many bytes a whole run of a row moves on it.
+    fn moved(self, (_words, input): Row, whole: &Run) -> usize {
+        match self {
+            Device::Input if whole.input.calls == 0 => 0,
+            Device::Input => input.len(),
+            Device::Output => whole.output.taken.len(),
+            Device::Stderr => whole.stderr.taken.len(),
         }
     }
 
@@ -50,11 +189,11 @@ impl Device {
         match self {
             Device::Input => run.status == 1 && run.wrote_only(CANNOT_READ),
             Device::Output => {
-                let is_told = run.faults.taken.as_slice() == CANNOT_WRITE;
+                let is_told = run.stderr.taken.as_slice() == CANNOT_WRITE;
                 run.status == 1 && run.output.stopped_within(&whole.output.taken) && is_told
             }
-            Device::Faults => {
-                let is_met = run.faults.stopped_within(&whole.faults.taken);
+            Device::Stderr => {
+                let is_met = run.stderr.stopped_within(&whole.stderr.taken);
                 run.status == whole.status && is_met && run.output.calls == 0
             }
         }
@@ -70,30 +209,21 @@ fn each_call_fails<R: Host>(
     device: Device,
     way: Way,
 ) -> Result<usize, Fail> {
-    let whole = whole_run(rt, alloc, row)?;
+    let whole = run_on(rt, alloc, row, [WHOLE, WHOLE, WHOLE]);
     for fails_at in 0..MOST_CALLS {
-        let run = ran(rt, alloc, row, device.plans(planned(way, fails_at)))?;
+        let run = run_on(rt, alloc, row, device.plans(planned(way, fails_at)));
         if device.calls(&run) <= fails_at {
-            assert!(rt; run.is_as(&whole));
+            assert!(rt; run.is_as(&whole), "{:?}", row.0);
+            let moved = device.moved(row, &whole);
+            assert!(rt; fails_at.saturating_mul(way.1) >= moved, "{:?}", row.0);
             return Ok(fails_at);
         }
-        assert!(rt; device.is_met(&whole, &run) && device.calls(&run) == fails_at + 1);
+        assert!(rt; device.is_met(&whole, &run), "{:?}", row.0);
+        assert!(rt; device.calls(&run) == fails_at + 1, "{:?}", row.0);
     }
     Err(Fail::new("no run ends without a failure"))
 }
 
-/// How many bytes a whole run moves on the device.
-fn moved<R: Host>(rt: &R, alloc: Global, row: Row, device: Device) -> Result<usize, Fail> {
-    let whole = whole_run(rt, alloc, row)?;
-    Ok(match device {
-        Device::Input if whole.input.calls == 0 => 0,
-        Device::Input => row.1.len(),
-        Device::Output => whole.output.taken.len(),
-        Device::Faults => whole.faults.taken.len(),
-    })
-}
-
-/// Each row has as many runs in which the device fails as it takes to move its bytes, or more.
 fn each_row_fails<R: Host>(
     rt: &R,
     alloc: Global,
@@ -101,13 +231,8 @@ fn each_row_fails<R: Host>(
     ways: &[Way],
 ) -> Result<(), Fail> {
     for row in &ROWS {
-        let bytes = moved(rt, alloc, *row, device)?;
         for way in ways {
-            let runs = each_call_fails(rt, alloc, *row, device, *way)?;
-            assert!(rt;
-                runs.saturating_mul(way.1) >= bytes,
-                "{runs} runs of {bytes} bytes"
-            );
+            each_call_fails(rt, alloc, *row, device, *way)?;
         }
     }
     Ok(())
@@ -115,7 +240,10 @@ fn each_row_fails<R: Host>(
 
 #[test]
 fn each_read_fails_in_turn(rt: HostRuntime) -> Result<(), Fail> {
-    each_row_fails(&rt, rt.alloc(), Device::Input, &READS)
+    each_row_fails(&rt, rt.alloc(), Device::Input, &READS)?;
+    let runs = each_call_fails(&rt, rt.alloc(), SERVER, Device::Input, READS[1])?;
+    assert!(rt; runs > PRINTED.len() / 7);
+    Ok(())
 }
 
 #[test]
@@ -125,47 +253,95 @@ fn each_write_on_the_output_fails_in_turn(rt: HostRuntime) -> Result<(), Fail> {
 
 #[test]
 fn each_write_of_a_line_about_an_error_fails_in_turn(rt: HostRuntime) -> Result<(), Fail> {
-    each_row_fails(&rt, rt.alloc(), Device::Faults, &WRITES)
+    each_row_fails(&rt, rt.alloc(), Device::Stderr, &WRITES)
 }
 
 /// A read, or a write of the output, fails, and then a write of the line about it: the status stays.
 #[test]
-fn a_device_and_the_line_about_it_fail(rt: HostRuntime) -> Result<(), Fail> {
-    let row = (Tool::Replay, SCHEDULE);
+fn a_device_and_the_line_about_it_fail(rt: HostRuntime) {
     for (device, line) in [(Device::Input, CANNOT_READ), (Device::Output, CANNOT_WRITE)] {
         for write in 0..line.len() {
             let [input, output, _] = device.plans(planned(WRITES[0], 5));
             let plans = [input, output, planned(WRITES[0], write)];
-            let run = ran(&rt, rt.alloc(), row, plans)?;
-            assert!(rt; run.status == 1 && run.faults.stopped_within(line));
+            let run = run_on(&rt, rt.alloc(), ROWS[0], plans);
+            assert!(rt; run.status == 1 && run.stderr.stopped_within(line));
         }
     }
-    Ok(())
 }
 
 /// A schedule in which a thread tries for a lock that another one has: its trace is written in some pieces of 15,360 bytes.
-const TRIES: Row = (
-    Tool::Trace,
-    "listset-schedule 1\nlist coarse\nthreads 2\nquota 4\n\
-        begin 0 add 5\ngo 0 1\nbegin 1 add 7\ngo 1 2000\n",
-);
+const TRIES: &str = "listset-schedule 1\nlist coarse\nthreads 2\nquota 4\n\
+    begin 0 add 5\ngo 0 1\nbegin 1 add 7\ngo 1 2000\n";
 
 /// On an output that takes up to 4,096 bytes a call: what was written up to a failing call is a front of the text, and nothing is
 /// written behind it.
 #[test]
 fn each_write_of_a_long_trace_fails_in_turn(rt: HostRuntime) -> Result<(), Fail> {
-    let whole = whole_run(&rt, rt.alloc(), TRIES)?;
+    let row: Row = (&["trace"], TRIES);
+    let whole = run_on(&rt, rt.alloc(), row, [WHOLE, WHOLE, WHOLE]);
     assert!(rt; whole.status == 0 && whole.output.taken.len() > 4 * 15_360);
     for call in 0..MOST_CALLS {
         let plan = planned((Failure::Interrupted, 4096), call);
-        let run = ran(&rt, rt.alloc(), TRIES, [WHOLE, plan, WHOLE])?;
+        let run = run_on(&rt, rt.alloc(), row, [WHOLE, plan, WHOLE]);
         if run.status == 0 {
             assert!(rt; run.is_as(&whole) && call > 15);
             return Ok(());
         }
         let is_front = whole.output.taken.starts_with(&run.output.taken);
         assert!(rt; is_front && run.status == 1 && run.output.calls == call + 1);
-        assert!(rt; run.faults.taken.as_slice() == CANNOT_WRITE);
+        assert!(rt; run.stderr.taken.as_slice() == CANNOT_WRITE);
     }
     Err(Fail::new("no run ends without a failure"))
+}
+
+/// A port that is taken: each write of the line about it fails, and the status stays.
+#[test]
+fn a_server_cannot_listen(rt: HostRuntime) -> Result<(), Fail> {
+    let alloc = rt.alloc();
+    let listener = TcpListener::bind(&rt, "127.0.0.1:0")?;
+    let port = listener.local_addr()?.port().to_string(alloc)?;
+    let words = ["serve", "lazy", "1", "4", port.as_str(), "1"];
+    let line = b"listset: cannot listen\n".as_slice();
+    for write in 0..=line.len() {
+        let mut output = Writer::new(alloc, WHOLE);
+        let mut stderr = Writer::new(alloc, planned((Failure::BrokenPipe, 1), write));
+        let status = run_words(
+            &rt,
+            alloc,
+            &words,
+            &mut "".as_bytes(),
+            &mut output,
+            &mut stderr,
+        );
+        assert!(rt; status == 1 && output.calls == 0);
+        assert!(rt; stderr.taken.as_slice() == &line[..write]);
+    }
+    Ok(())
+}
+
+/// `tool_gen` and `tool_run` on the values of the words do what the program does.
+#[test]
+fn gen_and_run_take_the_values_of_the_words(rt: HostRuntime) -> Result<(), Fail> {
+    let alloc = rt.alloc();
+    for row in &ROWS {
+        let whole = run_on(&rt, alloc, *row, [WHOLE, WHOLE, WHOLE]);
+        let values = match tool_words(alloc, row.0) {
+            Ok(words) => words.values,
+            Err(_) => continue,
+        };
+        let (mut output, mut stderr) = (Vec::new(alloc), Vec::new(alloc));
+        let status = match row.0[0] {
+            "gen" => tool_gen(alloc, &values, &mut output, &mut stderr),
+            "run" => tool_run(&rt, alloc, &values, &mut output, &mut stderr),
+            _ => continue,
+        };
+        assert!(rt; status == whole.status, "{:?}", row.0);
+        assert!(rt; output == whole.output.taken && stderr == whole.stderr.taken);
+    }
+    Ok(())
+}
+
+#[test]
+fn words_without_memory_for_them_are_no_mistake(rt: HostRuntime) {
+    assert!(rt; is_out_of_memory(&clap::Error::from(AllocError)));
 }

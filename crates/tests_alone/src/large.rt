@@ -13,9 +13,7 @@ fn true_calls<F: Fn(u32) -> Call>(
     alloc: Global,
     count: u32,
     call: F,
-) -> Result<Vec<(u32, Call, Reply)>, AllocError>
-    requires { F.IsAlwaysCallable call }
-{
+) -> Result<Vec<(u32, Call, Reply)>, AllocError> {
     let mut calls = Vec::new(alloc);
     for number in 0..count {
         calls.push((number % MOST_THREADS, call(number), Reply::True))?;

@@ -1,16 +1,11 @@
 //! Keys and histories that several tests are about.
-ghost use Rattle.std.specs.Prelude.{◌≡◌, IfOk, length};
-ghost use Rattle.std.specs.List.Sorted.{IsStrictlyIncreasing};
 
 use crate::prelude::*;
 
 pub const FIVE: Key = Key(5);
 
 /// The keys from 0 on, so many.
-pub fn rising_keys(alloc: Global, count: u32) -> Result<Vec<u32>, AllocError>
-    ensures rising { IfOk result (λ v. IsStrictlyIncreasing v.items) }
-    ensures many { IfOk result (λ v. length v.items ≡ count) }
-{
+pub fn rising_keys(alloc: Global, count: u32) -> Result<Vec<u32>, AllocError> {
     let mut keys = Vec::new(alloc);
     for number in 0..count {
         keys.push(number)?;

@@ -2,29 +2,42 @@
 pub use lset_coarse::CoarseList;
 pub use lset_fine::FineList;
 pub use lset_history::{Changes, History, HistoryFault, Oracle, OrderFault, Placed, check_order};
-pub use lset_judge::{
-    Hidden, Judge, LAST_MOMENT, Refusal, StreamCall, StreamFault, Verdict, Window,
-};
+pub use lset_judge::{Hidden, Judge, LAST_MOMENT, Refusal, StreamCall, StreamFault, Verdict};
 pub use lset_lazy::LazyList;
 pub use lset_lock_free::LockFreeList;
 pub use lset_optimistic::OptimisticList;
 pub use lset_replay::replay;
 pub use lset_schedule::generate;
-pub use lset_steps::{Event, Machine, OpenReads, StepFault, World};
+pub use lset_steps::{Event, Machine, World};
 pub use lset_words::{
-    Call, CallRecord, Key, MOST_OPENING, MOST_QUOTA, MOST_THREADS, Reply, layout, layout_opening,
+    Call, Key, MOST_OPENING, MOST_QUOTA, MOST_THREADS, Reply, layout, layout_opening,
 };
 pub use rand_core::{Rng, SeedableRng};
 pub use rand_pcg::Pcg32;
 pub use std::alloc::{AllocError, Global};
 pub use std::net::{Net, TcpListener, TcpStream};
 pub use std::process::Abort;
-pub use std::sync::Wait;
+use std::rt::Files;
+use std::sync::Wait;
 pub use std::test::Fail;
-pub use std::thread::Threads;
-pub use std::time::Clock;
+use std::thread::Threads;
+use std::time::Clock;
 
-/// May fail a test, wait, sleep, and start threads.
-pub trait Host: Abort + Clock + Sync + Threads + Wait {}
+/// What the program needs of the runtime, and may fail a test.
+pub trait Host: Abort
+    + Clock
+    + Files
+    + Net<Listener = TcpListener, Stream = TcpStream>
+    + Sync
+    + Threads
+    + Wait {}
 
-impl<R: Abort + Clock + Sync + Threads + Wait> Host for R {}
+impl<
+    R: Abort
+        + Clock
+        + Files
+        + Net<Listener = TcpListener, Stream = TcpStream>
+        + Sync
+        + Threads
+        + Wait,
+> Host for R {}

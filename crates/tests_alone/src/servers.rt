@@ -1,11 +1,9 @@
 //! A server whose output fails. Its port is another in each run, so its first line is compared but for the port's digits.
-use crate::devices::{CANNOT_WRITE, Failure, Plan, WHOLE, Way, Writer, planned};
+use crate::devices::{CANNOT_WRITE, Failure, Plan, Way, Writer, planned};
 use crate::prelude::*;
-use crate::tools::texts_of;
+use lset_dispatch::run_words;
 use std::io::{self, Read, Write};
 use std::net::Shutdown;
-use tool_base::{Trouble, deliver, read_serve_request};
-use tool_serve::serve_set;
 
 const LISTENING: &str = "listening 127.0.0.1:";
 
@@ -23,10 +21,7 @@ const WAYS: [Way; 3] = [
 ];
 
 /// A client that asks for a call and takes its leave before the server accepts it, so that it needs no thread of its own.
-fn client<R: Net<Listener = TcpListener, Stream = TcpStream>>(
-    rt: &R,
-    port: u16,
-) -> io::Result<TcpStream> {
+fn client<R: Host>(rt: &R, port: u16) -> io::Result<TcpStream> {
     let mut stream = TcpStream::connect(rt, ("127.0.0.1", port))?;
     stream.write_all(b"ADD 7\nQUIT\n")?;
     stream.shutdown(Shutdown::Write)?;
@@ -52,7 +47,7 @@ struct Door<'r, R> {
     is_open: bool,
 }
 
-impl<R: Net<Listener = TcpListener, Stream = TcpStream>> Write for Door<'_, R> {
+impl<R: Host> Write for Door<'_, R> {
     fn write(&mut self, buf: &[u8]) -> io::Result<usize> {
         self.writer.write(buf)
     }
@@ -111,72 +106,49 @@ fn is_whole(bytes: &[u8], after: &str) -> Option<bool> {
     Some(ends && is_front(bytes, after)?)
 }
 
-/// What a server did with its devices.
-#[derive(Drop)]
-struct Run<'r, R> {
-    status: u8,
-    door: Door<'r, R>,
-    faults: Writer,
-}
-
-/// Runs the tool on the values of KIND, PORT and SESSIONS, on devices of these plans: of its output and of `faults`.
-fn ran<'r, R: Host + Net<Listener = TcpListener, Stream = TcpStream>>(
-    rt: &'r R,
-    alloc: Global,
-    [kind, port, sessions]: [&str; 3],
-    [output, faults]: [Plan; 2],
-) -> Result<Run<'r, R>, AllocError> {
-    let values = texts_of(alloc, &[kind, "1", "4", port, sessions])?;
+/// A server of one session whose output fails as planned, and whether it did.
+fn output_fails<R: Host>(rt: &R, alloc: Global, plan: Plan) -> Result<bool, Fail> {
+    let words = ["serve", "lazy", "1", "4", "0", "1"];
     let mut door = Door {
         rt,
-        writer: Writer::new(alloc, output),
+        writer: Writer::new(alloc, plan),
         client: None,
         is_open: false,
     };
-    let mut faults = Writer::new(alloc, faults);
-    let made = match read_serve_request(&values) {
-        Ok(request) => serve_set(rt, alloc, request, &[], &mut door),
-        Err(wrong) => Err(Trouble::Bad(wrong)),
-    };
-    let status = deliver(made, &mut door, &mut faults);
-    Ok(Run {
-        status,
-        door,
-        faults,
-    })
-}
-
-/// A server of one session whose output fails as planned, and whether it did.
-fn output_fails<R: Host + Net<Listener = TcpListener, Stream = TcpStream>>(
-    rt: &R,
-    alloc: Global,
-    plan: Plan,
-) -> Result<bool, Fail> {
-    let run = ran(rt, alloc, ["lazy", "0", "1"], [plan, WHOLE])?;
-    let calls = run.door.writer.calls;
-    if run.status == 0 {
-        assert!(rt; is_whole(&run.door.writer.taken, ONE_SESSION) == Some(true));
-        assert!(rt; run.faults.taken.is_empty() && calls <= plan.fails_at);
-        assert!(rt; is_answered(run.door.client));
+    let mut stderr = Vec::new(alloc);
+    let status = run_words(
+        rt,
+        alloc,
+        &words,
+        &mut "".as_bytes(),
+        &mut door,
+        &mut stderr,
+    );
+    let Door {
+        writer,
+        client,
+        is_open,
+        ..
+    } = door;
+    if status == 0 {
+        assert!(rt; is_whole(&writer.taken, ONE_SESSION) == Some(true));
+        assert!(rt; stderr.is_empty() && writer.calls <= plan.fails_at);
+        assert!(rt; is_answered(client));
         return Ok(false);
     }
-    assert!(rt; run.status == 1 && run.faults.taken.as_slice() == CANNOT_WRITE);
-    assert!(rt; is_front(&run.door.writer.taken, ONE_SESSION) == Some(true));
-    assert!(rt; calls == plan.fails_at.saturating_add(1));
-    if run.door.is_open {
-        assert!(rt; is_answered(run.door.client));
+    assert!(rt; status == 1 && stderr.as_slice() == CANNOT_WRITE);
+    assert!(rt; is_front(&writer.taken, ONE_SESSION) == Some(true));
+    assert!(rt; writer.calls == plan.fails_at.saturating_add(1));
+    if is_open {
+        assert!(rt; is_answered(client));
     } else {
-        assert!(rt; is_turned_away(run.door.client));
+        assert!(rt; is_turned_away(client));
     }
     Ok(true)
 }
 
 /// How many runs there are in which the output fails, at each of its calls in turn, until a run ends without a failure.
-fn each_call_fails<R: Host + Net<Listener = TcpListener, Stream = TcpStream>>(
-    rt: &R,
-    alloc: Global,
-    way: Way,
-) -> Result<usize, Fail> {
+fn each_call_fails<R: Host>(rt: &R, alloc: Global, way: Way) -> Result<usize, Fail> {
     for fails_at in 0..MOST_CALLS {
         if !output_fails(rt, alloc, planned(way, fails_at))? {
             return Ok(fails_at);
@@ -194,35 +166,4 @@ fn each_call_on_the_output_fails_in_turn(rt: HostRuntime) -> Result<(), Fail> {
         assert!(rt; runs.saturating_mul(way.1) > LISTENING.len());
     }
     Ok(())
-}
-
-/// A server that does not begin, and the write with a number of the line about it fails: the status stays.
-fn line_fails<R: Host + Net<Listener = TcpListener, Stream = TcpStream>>(
-    rt: &R,
-    alloc: Global,
-    [kind, port]: [&str; 2],
-    (status, line): (u8, &[u8]),
-) -> Result<(), Fail> {
-    for write in 0..=line.len() {
-        let faults = planned((Failure::BrokenPipe, 1), write);
-        let run = ran(rt, alloc, [kind, port, "1"], [WHOLE, faults])?;
-        assert!(rt; run.status == status && run.door.writer.calls == 0);
-        if write < line.len() {
-            assert!(rt; run.faults.stopped_within(line));
-        } else {
-            assert!(rt; run.faults.taken.as_slice() == line);
-        }
-    }
-    Ok(())
-}
-
-/// A wrong value, and a port that is taken.
-#[test]
-fn each_write_of_a_line_fails_in_turn(rt: HostRuntime) -> Result<(), Fail> {
-    let listener = TcpListener::bind(&rt, "127.0.0.1:0")?;
-    let port = listener.local_addr()?.port().to_string(rt.alloc())?;
-    let bad: &[u8] = b"listset: bad KIND\n";
-    let taken: &[u8] = b"listset: cannot listen\n";
-    line_fails(&rt, rt.alloc(), ["skip", "0"], (2, bad))?;
-    line_fails(&rt, rt.alloc(), ["lazy", port.as_str()], (1, taken))
 }

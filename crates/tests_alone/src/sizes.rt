@@ -1,9 +1,7 @@
 //! Each function of the libraries that can run out of memory, at each size from 0 to 200: it succeeds there, with the answer that is right.
-ghost use Rattle.std.specs.Prelude.{◌≤◌};
 
 use crate::made::{in_turn, rising_keys};
 use crate::prelude::*;
-use crate::worlds::make_call;
 use lset_judge::{Judged, judge};
 use lset_recording::RecordingReader;
 use lset_report::{read_report, write_report};
@@ -12,25 +10,17 @@ use lset_schedule::{programs, read_schedule, write_schedule};
 const MOST_SIZE: u32 = 200;
 
 /// So many threads of that many.
-fn threads_of(size: u32) -> u32
-    ensures some { 1 ≤ result }
-    ensures few { result ≤ 64 }
-{
+fn threads_of(size: u32) -> u32 {
     1 + size % MOST_THREADS
 }
 
-/// A list with so many slots of each thread, which opens with so many keys.
-fn has_world<M: Machine, R: Abort>(rt: &R, alloc: Global, size: u32) -> Result<(), Fail>
-    requires { size ≤ 200 }
-{
+/// The world of a list that opens with so many keys.
+fn has_world<M: Machine, R: Abort>(rt: &R, alloc: Global, size: u32) -> Result<(), Fail> {
     let keys = rising_keys(alloc, size)?;
     let layout = layout_opening(threads_of(size), size, size)?;
-    let mut world = World::<M>::opened(alloc, layout, &keys)?;
+    let world = World::<M>::opened(alloc, layout, &keys)?;
     assert!(rt; world.content()? == keys, "{size}");
     assert!(rt; world.chain()?.len() == keys.len(), "{size}");
-    let added = make_call(&mut world, 0, Call::Add(Key(size)))?;
-    let reply = if size == 0 { Reply::Full } else { Reply::True };
-    assert!(rt; added.is_some_and(|(answer, _)| answer == reply), "{size}");
     Ok(())
 }
 
@@ -60,9 +50,7 @@ fn is_replayed<R: Abort>(rt: &R, alloc: Global, text: &[u8]) -> Result<usize, Fa
 }
 
 /// A schedule of so many calls is drawn.
-fn has_schedule<M: Machine, R: Abort>(rt: &R, alloc: Global, size: u32) -> Result<(), Fail>
-    requires { size ≤ 200 }
-{
+fn has_schedule<M: Machine, R: Abort>(rt: &R, alloc: Global, size: u32) -> Result<(), Fail> {
     let (threads, seed) = (threads_of(size), u64::from(size));
     let schedule = generate::<M>(alloc, threads, size, size, 1 + size, seed)?;
     let calls = is_replayed(rt, alloc, &write_schedule(alloc, &schedule)?)?;
@@ -71,9 +59,7 @@ fn has_schedule<M: Machine, R: Abort>(rt: &R, alloc: Global, size: u32) -> Resul
 }
 
 /// One thread looks for each of so many opening keys, which in a LazyList takes two steps more than for the key before.
-fn looks_for_each(alloc: Global, size: u32) -> Result<String, Fail>
-    requires { size ≤ 200 }
-{
+fn looks_for_each(alloc: Global, size: u32) -> Result<String, Fail> {
     let mut text = String::from_str(alloc, "listset-schedule 2\nlist lazy\nthreads 1\nquota 0\n")?;
     for key in 0..size {
         writeln!(&mut text, "opening {key}")?;
@@ -107,9 +93,7 @@ fn schedules_and_reports_of_each_size(rt: HostRuntime) -> Result<(), Fail> {
 }
 
 /// A set that opens with so many keys takes as many more, and is then full.
-fn has_oracle<R: Abort>(rt: &R, alloc: Global, size: u32) -> Result<(), Fail>
-    requires { size ≤ 200 }
-{
+fn has_oracle<R: Abort>(rt: &R, alloc: Global, size: u32) -> Result<(), Fail> {
     let mut oracle = Oracle::opened(alloc, 1, size, &rising_keys(alloc, size)?)?;
     for key in size..2 * size {
         assert!(rt;
@@ -129,9 +113,7 @@ fn has_oracle<R: Abort>(rt: &R, alloc: Global, size: u32) -> Result<(), Fail>
 }
 
 /// Threads in turn add so many keys.
-fn adds(alloc: Global, size: u32) -> Result<History, Fail>
-    requires { size ≤ 200 }
-{
+fn adds(alloc: Global, size: u32) -> Result<History, Fail> {
     let mut calls = Vec::new(alloc);
     for key in 0..size {
         calls.push((key % threads_of(size), Call::Add(Key(key)), Reply::True))?;
@@ -141,9 +123,7 @@ fn adds(alloc: Global, size: u32) -> Result<History, Fail>
 }
 
 /// So many adds have an order that leaves their keys, and none that leaves nothing, which is shown.
-fn is_judged<R: Abort>(rt: &R, alloc: Global, size: u32) -> Result<(), Fail>
-    requires { size ≤ 200 }
-{
+fn is_judged<R: Abort>(rt: &R, alloc: Global, size: u32) -> Result<(), Fail> {
     let history = adds(alloc, size)?;
     let judged = judge(alloc, &history, &rising_keys(alloc, size)?)?;
     assert!(rt; matches!(judged, Judged::Linearizable), "{size}");
@@ -155,10 +135,7 @@ fn is_judged<R: Abort>(rt: &R, alloc: Global, size: u32) -> Result<(), Fail>
 }
 
 /// Each of so many threads has an add pending, and each took effect.
-fn is_judged_pending<R: Abort>(rt: &R, alloc: Global, threads: u32) -> Result<(), Fail>
-    requires some { 1 ≤ threads }
-    requires few { threads ≤ 64 }
-{
+fn is_judged_pending<R: Abort>(rt: &R, alloc: Global, threads: u32) -> Result<(), Fail> {
     let mut history = History::new(alloc, threads, 1);
     for thread in 0..threads {
         history.begin(thread, Call::Add(Key(thread)), thread + 1)?;
@@ -180,9 +157,7 @@ fn sets_and_histories_of_each_size(rt: HostRuntime) -> Result<(), Fail> {
 }
 
 /// The judge of so many calls that find a key each, and of as many adds that are pending.
-fn judge_of(alloc: Global, size: u32) -> Result<Judge, Fail>
-    requires { size ≤ 200 }
-{
+fn judge_of(alloc: Global, size: u32) -> Result<Judge, Fail> {
     let mut judge = Judge::new(alloc, &rising_keys(alloc, size)?)?;
     for number in 0..2 * size {
         let begun = 2 * u64::from(number) + 1;
@@ -203,9 +178,7 @@ fn judge_of(alloc: Global, size: u32) -> Result<Judge, Fail>
 }
 
 /// A recording: so many opening keys, each of which is looked for, and is left.
-fn recording_of(alloc: Global, size: u32) -> Result<String, Fail>
-    requires { size ≤ 200 }
-{
+fn recording_of(alloc: Global, size: u32) -> Result<String, Fail> {
     let mut text = String::from_str(alloc, "listset-calls 1\n")?;
     for key in 0..size {
         writeln!(&mut text, "opening {key}")?;
@@ -223,9 +196,7 @@ fn recording_of(alloc: Global, size: u32) -> Result<String, Fail>
 }
 
 /// A recording of so many calls is read in pieces of one byte more.
-fn is_read<R: Abort>(rt: &R, alloc: Global, size: u32) -> Result<(), Fail>
-    requires { size ≤ 200 }
-{
+fn is_read<R: Abort>(rt: &R, alloc: Global, size: u32) -> Result<(), Fail> {
     let text = recording_of(alloc, size)?;
     let mut reader = RecordingReader::new(alloc);
     for piece in text.as_bytes().chunks(size as usize + 1) {

@@ -22,8 +22,6 @@ struct Asking<'a> {
 }
 
 impl Source for Asking<'_> {
-    ghost use Rattle.std.specs.Prelude.{None, false};
-
     ghost remaining = { λ _. None };
 
     ghost has_failed = { λ _. false };
@@ -50,8 +48,6 @@ struct Counting<'a> {
 }
 
 impl Sink for Counting<'_> {
-    ghost use Rattle.std.specs.Prelude.{None, false};
-
     ghost written = { λ _. None };
 
     ghost has_failed = { λ _. false };

@@ -45,6 +45,8 @@ mod sessions;
 #[cfg(test)]
 mod sizes;
 #[cfg(test)]
+mod stepped;
+#[cfg(test)]
 mod stopped;
 #[cfg(test)]
 mod typed;

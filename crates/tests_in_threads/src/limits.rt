@@ -10,8 +10,6 @@ struct Lines {
 }
 
 impl Source for Lines {
-    ghost use Rattle.std.specs.Prelude.{None, false};
-
     ghost remaining = { λ _. None };
 
     ghost has_failed = { λ _. false };

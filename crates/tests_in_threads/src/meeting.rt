@@ -1,5 +1,4 @@
 //! Threads that wait for one another, never longer than a limit.
-ghost use Rattle.std.specs.Prelude.{◌≡◌};
 
 use crate::prelude::*;
 
@@ -33,9 +32,7 @@ pub fn calls<M: Running, R: Clock + Wait, P: Pause>(
     call: Call,
     pause: &P,
     flags: (&AtomicBool, &AtomicBool),
-) -> Reply
-    requires { seat.set ≡ set.now }
-{
+) -> Reply {
     let _came = comes(rt, flags.0);
     let reply = set.call(rt, &mut seat, call, pause);
     flags.1.store(true, Ordering::SeqCst);

@@ -1,14 +1,12 @@
 //! What the tests do with a running set: each stops the test if the set does anything else.
-ghost use Rattle.std.specs.Prelude.{◌≡◌, All, IfSome};
-ghost use Rattle.std.specs.List.Sorted.{IsStrictlyIncreasing};
 
 use crate::prelude::*;
 
-pub fn last_of<M: Machine, R: Abort>(rt: &R, set: &LiveSet<M>, seats: &mut Vec<Seat<M>>) -> Seat<M>
-    requires { All (λ s. s.set ≡ set.now) seats.old.items }
-    ensures seat { result.set ≡ set.now }
-    ensures rest { All (λ s. s.set ≡ set.now) seats.new.items }
-{
+pub fn last_of<M: Machine, R: Abort>(
+    rt: &R,
+    set: &LiveSet<M>,
+    seats: &mut Vec<Seat<M>>,
+) -> Seat<M> {
     seats.pop().expect(rt, "no seat is left")
 }
 
@@ -17,9 +15,7 @@ pub fn two_seats_on<M: Machine, R: Abort>(
     rt: &R,
     alloc: Global,
     keys: &[u32],
-) -> (LiveSet<M>, Seat<M>, Seat<M>)
-    ensures { (result.1.set ≡ result.0) × (result.2.set ≡ result.0) }
-{
+) -> (LiveSet<M>, Seat<M>, Seat<M>) {
     let (set, mut seats) = open_with::<M>(alloc, 2, 4, keys).expect(rt, "not opened");
     let one = last_of(rt, &set, &mut seats);
     let zero = last_of(rt, &set, &mut seats);
@@ -27,17 +23,12 @@ pub fn two_seats_on<M: Machine, R: Abort>(
 }
 
 /// A set that opens empty and has two seats with a quota of 4: it, and its seats 0 and 1.
-pub fn two_seats<M: Machine, R: Abort>(rt: &R, alloc: Global) -> (LiveSet<M>, Seat<M>, Seat<M>)
-    ensures { (result.1.set ≡ result.0) × (result.2.set ≡ result.0) }
-{
+pub fn two_seats<M: Machine, R: Abort>(rt: &R, alloc: Global) -> (LiveSet<M>, Seat<M>, Seat<M>) {
     two_seats_on::<M, R>(rt, alloc, &[])
 }
 
 /// The reply of a call by the method of its name.
-fn reply<M: Running, R: Wait>(rt: &R, set: &LiveSet<M>, seat: &mut Seat<M>, call: Call) -> Reply
-    requires { seat.old.set ≡ set.now }
-    ensures { seat.new.set ≡ set.now }
-{
+fn reply<M: Running, R: Wait>(rt: &R, set: &LiveSet<M>, seat: &mut Seat<M>, call: Call) -> Reply {
     match call {
         Call::Add(key) => set.add(rt, seat, key),
         Call::Remove(key) => set.remove(rt, seat, key),
@@ -52,20 +43,14 @@ pub fn make_calls<M: Running, R: Host>(
     set: &LiveSet<M>,
     seat: &mut Seat<M>,
     rows: &[(Call, Reply)],
-)
-    requires { seat.old.set ≡ set.now }
-    ensures { seat.new.set ≡ set.now }
-{
+) {
     for (call, wanted) in rows {
         assert_eq!(rt; reply(rt, set, seat, *call), *wanted, "{call:?}");
     }
 }
 
 /// A seat that holds all of these.
-pub fn gathered<M: Machine>(set: &LiveSet<M>, mut seats: Vec<Seat<M>>) -> Option<Seat<M>>
-    requires { All (λ s. s.set ≡ set.now) seats.items }
-    ensures { IfSome result (λ s. s.set ≡ set.now) }
-{
+pub fn gathered<M: Machine>(set: &LiveSet<M>, mut seats: Vec<Seat<M>>) -> Option<Seat<M>> {
     let mut all = None;
     while let Some(seat) = seats.pop() {
         all = Some(set.gather_onto(all, seat));
@@ -74,10 +59,7 @@ pub fn gathered<M: Machine>(set: &LiveSet<M>, mut seats: Vec<Seat<M>>) -> Option
 }
 
 /// The set is closed: the keys that it leaves.
-pub fn keys_left<M: Machine, R: Abort>(rt: &R, set: LiveSet<M>, seat: Seat<M>) -> Vec<u32>
-    requires { seat.set ≡ set }
-    ensures { IsStrictlyIncreasing result.items }
-{
+pub fn keys_left<M: Machine, R: Abort>(rt: &R, set: LiveSet<M>, seat: Seat<M>) -> Vec<u32> {
     let Ok(closed) = set.close(seat) else {
         panic!(rt; "the set is not closed")
     };
@@ -85,9 +67,7 @@ pub fn keys_left<M: Machine, R: Abort>(rt: &R, set: LiveSet<M>, seat: Seat<M>) -
 }
 
 /// The set is closed, and has just these keys.
-pub fn close_with<M: Machine, R: Abort>(rt: &R, set: LiveSet<M>, seat: Seat<M>, keys: &[u32])
-    requires { seat.set ≡ set }
-{
+pub fn close_with<M: Machine, R: Abort>(rt: &R, set: LiveSet<M>, seat: Seat<M>, keys: &[u32]) {
     assert_eq!(rt; keys_left(rt, set, seat).as_slice(), keys);
 }
 

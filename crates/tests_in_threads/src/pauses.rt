@@ -1,5 +1,4 @@
 //! How many steps a call makes, by the number of times that it asks its pause: once after each step that does not answer.
-ghost use Rattle.std.specs.Prelude.{◌≡◌};
 
 use crate::opened::two_seats;
 use crate::prelude::*;

@@ -1,4 +1,5 @@
 //! What most of the tests use, and what they ask of the runtime.
+pub use crate::stepped::Stepped;
 pub use lset_coarse::CoarseList;
 pub use lset_fine::FineList;
 pub use lset_lazy::LazyList;
@@ -20,7 +21,6 @@ pub use std::sync::Wait;
 pub use std::sync::atomic::{AtomicBool, AtomicU64, Ordering};
 pub use std::thread::{self, Threads, join};
 pub use std::time::{Clock, Duration};
-pub use stepped_lists::Stepped;
 
 /// May fail a test, wait, sleep, and start threads.
 pub trait Host: Abort + Clock + Sync + Threads + Wait {}

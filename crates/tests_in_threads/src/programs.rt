@@ -1,5 +1,4 @@
 //! Programs on threads, and the gates that they pass.
-ghost use Rattle.std.specs.Prelude.{◌≡◌, ◌<◌, ◌^◌, IsTrue, All, length};
 
 use crate::meeting::Meeting;
 use crate::opened::{last_of, make_calls, two_seats};
@@ -9,31 +8,6 @@ use lset_schedule::programs;
 use lset_work::{Outcome, WorkCause, WorkFault, work};
 use std::sync::atomic::AtomicU32;
 
-fn are_short(programs: &[Vec<Call>]) -> bool
-    ensures { IsTrue result → All (λ p. length p.items < 2 ^ 32) programs.now }
-{
-    programs.iter().all(
-        |program| -> bool
-            ensures { IsTrue result → length program.now.items < 2 ^ 32 }
-        { program.len() <= 4_294_967_295 },
-    )
-}
-
-/// `work`, once it is seen that the programs are short.
-fn tried<M: Running + Send + Sync, R: Host, G: Gate + Sync>(
-    rt: &R,
-    alloc: Global,
-    set: LiveSet<M>,
-    seats: Vec<Seat<M>>,
-    programs: Vec<Vec<Call>>,
-    gate: &G,
-) -> Result<Outcome, WorkFault<M>>
-    requires { All (λ s. s.set ≡ set) seats.items }
-{
-    assert!(rt; are_short(&programs));
-    work(rt, alloc, set, seats, programs, gate)
-}
-
 /// The outcome, which must not be refused.
 pub fn worked<M: Running + Send + Sync, R: Host, G: Gate + Sync>(
     rt: &R,
@@ -42,19 +16,15 @@ pub fn worked<M: Running + Send + Sync, R: Host, G: Gate + Sync>(
     seats: Vec<Seat<M>>,
     programs: Vec<Vec<Call>>,
     gate: &G,
-) -> Outcome
-    requires { All (λ s. s.set ≡ set) seats.items }
-{
-    match tried(rt, alloc, set, seats, programs, gate) {
+) -> Outcome {
+    match work(rt, alloc, set, seats, programs, gate) {
         Ok(outcome) => outcome,
         Err(fault) => panic!(rt; "refused: {}", fault.cause),
     }
 }
 
 /// A set that opens empty and has so many seats with a quota of 4.
-fn in_a_row<M: Running, R: Abort>(rt: &R, alloc: Global, seats: u32) -> (LiveSet<M>, Vec<Seat<M>>)
-    ensures { All (λ s. s.set ≡ result.0) result.1.items }
-{
+fn in_a_row<M: Running, R: Abort>(rt: &R, alloc: Global, seats: u32) -> (LiveSet<M>, Vec<Seat<M>>) {
     open::<M>(alloc, seats, 4).expect(rt, "not opened")
 }
 
@@ -66,7 +36,7 @@ fn fault_of<R: Host, G: Gate + Sync>(
     gate: &G,
 ) -> WorkFault<LazyList> {
     let (set, seats) = in_a_row::<LazyList, R>(rt, alloc, 2);
-    match tried(rt, alloc, set, seats, programs, gate) {
+    match work(rt, alloc, set, seats, programs, gate) {
         Ok(_) => panic!(rt; "not refused"),
         Err(fault) => fault,
     }
@@ -131,9 +101,7 @@ fn alone<M: Running, R: Abort>(
     alloc: Global,
     seat: Seat<M>,
     program: &[Call],
-) -> (Vec<Seat<M>>, Vec<Vec<Call>>)
-    ensures { All (λ s. s.set ≡ seat.set) result.0.items }
-{
+) -> (Vec<Seat<M>>, Vec<Vec<Call>>) {
     let calls = Vec::from_slice(alloc, program).expect(rt, "room");
     let seats = vec![in alloc; seat].expect(rt, "room");
     (seats, vec![in alloc; calls].expect(rt, "room"))
@@ -143,7 +111,7 @@ fn alone<M: Running, R: Abort>(
 fn a_missing_seat_gives_set_and_seat_back(rt: HostRuntime) {
     let (set, zero, _one) = two_seats::<LazyList, HostRuntime>(&rt, rt.alloc());
     let (seats, programs) = alone(&rt, rt.alloc(), zero, &[Call::Add(Key(3))]);
-    match tried(&rt, rt.alloc(), set, seats, programs, &Always) {
+    match work(&rt, rt.alloc(), set, seats, programs, &Always) {
         Ok(_) => panic!(rt; "a seat is missing"),
         Err(fault) => gave_all_back(&rt, fault, 1),
     }
@@ -232,9 +200,7 @@ fn a_gate_that_answers_false_ends_its_program_alone(rt: HostRuntime) {
 }
 
 /// The seat 2, which has taken the seat 1 in, before the seat 0.
-fn two_before_zero<M: Running, R: Abort>(rt: &R, alloc: Global) -> (LiveSet<M>, Vec<Seat<M>>)
-    ensures { All (λ s. s.set ≡ result.0) result.1.items }
-{
+fn two_before_zero<M: Running, R: Abort>(rt: &R, alloc: Global) -> (LiveSet<M>, Vec<Seat<M>>) {
     let (set, mut seats) = in_a_row::<M, R>(rt, alloc, 3);
     let mut two = last_of(rt, &set, &mut seats);
     let one = last_of(rt, &set, &mut seats);

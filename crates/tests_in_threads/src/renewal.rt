@@ -1,5 +1,4 @@
 //! A set that was closed is opened again with its keys, with other seats and slots, and as another list.
-ghost use Rattle.std.specs.Prelude.{◌≡◌};
 
 use crate::opened::{close_with, gathered, keys_left, last_of, make_calls, rising_keys};
 use crate::prelude::*;

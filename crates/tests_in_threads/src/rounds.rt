@@ -1,5 +1,4 @@
 //! Calls with few rounds: the walk of each loop is as long as is known here, and a lock that is held is not waited for.
-ghost use Rattle.std.specs.Prelude.{◌≡◌};
 
 use crate::opened::two_seats_on;
 use crate::pauses::Count;
@@ -54,9 +53,7 @@ fn a_contains_of_a_list_that_marks_has_no_rounds(rt: HostRuntime) {
 }
 
 /// A set in which a call had too few rounds and keeps its locks, and its other seat.
-fn stuck<M: Bounded, R: Abort>(rt: &R, alloc: Global) -> (LiveSet<M>, Seat<M>)
-    ensures { result.1.set ≡ result.0 }
-{
+fn stuck<M: Bounded, R: Abort>(rt: &R, alloc: Global) -> (LiveSet<M>, Seat<M>) {
     let (set, zero, one) = two_seats_on::<M, R>(rt, alloc, &KEYS);
     let made = set.call_within::<Spin, UpTo<2>>(one, Call::Add(Key(25)), &Spin::new());
     assert!(rt; made.is_none());

@@ -1,5 +1,4 @@
 //! Seats that call in turn or at once, are gathered and closed, and pass receipts on.
-ghost use Rattle.std.specs.Prelude.{◌≡◌};
 
 use crate::meeting::{Meeting, calls};
 use crate::opened::{close_with, make_calls, two_seats, two_seats_on};
@@ -33,9 +32,12 @@ fn open_refuses_seats_and_then_a_quota_outside_their_limits(rt: HostRuntime) {
 }
 
 /// The seat 0 takes the seat 1 in, finds 9, and closes the set, which has the key 9 alone.
-fn gathers_and_closes<M: Running, R: Host>(rt: &R, set: LiveSet<M>, mut zero: Seat<M>, one: Seat<M>)
-    requires { (zero.set ≡ set) × (one.set ≡ set) }
-{
+fn gathers_and_closes<M: Running, R: Host>(
+    rt: &R,
+    set: LiveSet<M>,
+    mut zero: Seat<M>,
+    one: Seat<M>,
+) {
     assert_eq!(rt; (zero.thread(), one.thread(), zero.held()), (0, 1, 1));
     set.gather(&mut zero, one);
     assert_eq!(rt; (zero.thread(), zero.held()), (0, 2));
@@ -146,9 +148,7 @@ fn at_once<M: Running + Send + Sync, R: Host, P: Pause + Sync>(
     seats: (Seat<M>, Seat<M>),
     both: (Call, Call),
     pause: &P,
-) -> (Reply, Reply)
-    requires { (seats.0.set ≡ set.now) × (seats.1.set ≡ set.now) }
-{
+) -> (Reply, Reply) {
     let (zero, one) = seats;
     let (start, ended) = (AtomicBool::new(true), AtomicBool::new(false));
     let flags = (&start, &ended);

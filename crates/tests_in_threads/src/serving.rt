@@ -1,5 +1,4 @@
 //! Servers on the loopback, and their clients.
-ghost use Rattle.std.specs.Prelude.{◌≡◌, All};
 
 use crate::clients::{all_meet, asks, leaves, meets};
 use crate::opened::last_of;
@@ -11,9 +10,7 @@ use lset_server::{ServeCause, Served, serve};
 type Set = LiveSet<LazyList>;
 
 /// A set that opens empty, with a quota of 4, and its seats.
-fn opened<R: Abort>(rt: &R, alloc: Global, seats: u32) -> (Set, Vec<Seat<LazyList>>)
-    ensures { All (λ s. s.set ≡ result.0) result.1.items }
-{
+fn opened<R: Abort>(rt: &R, alloc: Global, seats: u32) -> (Set, Vec<Seat<LazyList>>) {
     open::<LazyList>(alloc, seats, 4).expect(rt, "not opened")
 }
 
@@ -25,17 +22,12 @@ fn listening<R: Host + Net<Listener = TcpListener, Stream = TcpStream>>(rt: &R) 
 fn served_on<
     R: Host + Net<Listener = TcpListener, Stream = TcpStream>,
     F: FnOnce(u16) -> bool + Send,
->(rt: &R, alloc: Global, set: Set, seats: Vec<Seat<LazyList>>, sessions: u32, ask: F) -> Served
-    requires seats { All (λ s. s.set ≡ set) seats.items }
-    requires ask { F.IsAlwaysCallable ask }
-{
+>(rt: &R, alloc: Global, set: Set, seats: Vec<Seat<LazyList>>, sessions: u32, ask: F) -> Served {
     let listener = listening(rt);
     let port = listener.local_addr().expect(rt, "no port").port();
     let (served, asked) = join(
         rt,
-        move ||
-            requires { All (λ s. s.set ≡ set) seats.items }
-        { serve(rt, alloc, listener, set, seats, sessions) },
+        move || { serve(rt, alloc, listener, set, seats, sessions) },
         move || ask(port),
     );
     assert!(rt; asked);
@@ -49,9 +41,7 @@ fn served_on<
 fn served_while<
     R: Host + Net<Listener = TcpListener, Stream = TcpStream>,
     F: FnOnce(u16) -> bool + Send,
->(rt: &R, alloc: Global, seats: u32, sessions: u32, ask: F) -> Served
-    requires { F.IsAlwaysCallable ask }
-{
+>(rt: &R, alloc: Global, seats: u32, sessions: u32, ask: F) -> Served {
     let (set, seats) = opened(rt, alloc, seats);
     served_on(rt, alloc, set, seats, sessions, ask)
 }
@@ -125,9 +115,7 @@ fn as_many_sessions_meet_as_there_are_seats(rt: HostRuntime) {
 }
 
 /// A set with four seats, of which two hold two each.
-fn two_pairs<R: Abort>(rt: &R, alloc: Global) -> (Set, Vec<Seat<LazyList>>)
-    ensures { All (λ s. s.set ≡ result.0) result.1.items }
-{
+fn two_pairs<R: Abort>(rt: &R, alloc: Global) -> (Set, Vec<Seat<LazyList>>) {
     let (set, mut seats) = opened(rt, alloc, 4);
     let three = last_of(rt, &set, &mut seats);
     let two = last_of(rt, &set, &mut seats);

@@ -1,5 +1,4 @@
 //! Sessions on sets of their own: lines and their answers.
-ghost use Rattle.std.specs.Prelude.{◌≡◌, false};
 
 use crate::devices::{FailingReader, GenerousReader, GreedyWriter};
 use crate::opened::{last_of, two_seats};
@@ -16,18 +15,14 @@ pub const CEILINGS: &[u8] = b"CEILING 7\nADD 9\nCEILING 7\nQUIT\n";
 pub const FOUND: &[u8] = b"NONE\nTRUE\nAT 9\nBYE\n";
 
 /// A set that opens empty, with one seat and a quota of 4.
-pub fn one_seat<R: Abort>(rt: &R, alloc: Global) -> (LiveSet<LazyList>, Seat<LazyList>)
-    ensures { result.1.set ≡ result.0 }
-{
+pub fn one_seat<R: Abort>(rt: &R, alloc: Global) -> (LiveSet<LazyList>, Seat<LazyList>) {
     let (set, mut seats) = open::<LazyList>(alloc, 1, 4).expect(rt, "not opened");
     let seat = last_of(rt, &set, &mut seats);
     (set, seat)
 }
 
 /// What a session on a fresh set writes, and how it ends.
-pub fn held<R: Host, I: Source>(rt: &R, alloc: Global, reader: &mut I) -> (Vec<u8>, Ended)
-    requires { I.has_failed reader.old ≡ false }
-{
+pub fn held<R: Host, I: Source>(rt: &R, alloc: Global, reader: &mut I) -> (Vec<u8>, Ended) {
     let (set, mut seat) = one_seat(rt, alloc);
     let mut written = Vec::new(alloc);
     let ended = session(rt, reader, &mut Device::new(&mut written), &set, &mut seat);
@@ -35,9 +30,11 @@ pub fn held<R: Host, I: Source>(rt: &R, alloc: Global, reader: &mut I) -> (Vec<u
 }
 
 /// A session whose answers wait.
-pub fn held_buffered<R: Host, I: Source + Drop>(rt: &R, alloc: Global, lines: I) -> (Vec<u8>, Ended)
-    requires { I.has_failed lines ≡ false }
-{
+pub fn held_buffered<R: Host, I: Source + Drop>(
+    rt: &R,
+    alloc: Global,
+    lines: I,
+) -> (Vec<u8>, Ended) {
     let (set, mut seat) = one_seat(rt, alloc);
     let mut written = Vec::new(alloc);
     let ended = buffered_session(rt, lines, Device::new(&mut written), &set, &mut seat);

@@ -1,6 +1,5 @@
 //! Programs on threads, of log-uniform sizes up to each limit, beside a model. Each thread has keys of its own, those that leave its number
 //! when they are divided by the number of threads, and a sequential set of them: so its replies do not hang on what the others do.
-ghost use Rattle.std.specs.Prelude.{◌≡◌};
 
 use crate::opened::{keys_left, last_of, make_calls, rising_keys};
 use crate::prelude::*;
@@ -299,19 +298,14 @@ fn lock_free_calls_succeed_at_all_sizes(rt: HostRuntime) {
 }
 
 /// A seat adds keys from `first` up, one for each of its slots, in falling order: each stands right behind the head.
-fn fill<M: Running, R: Wait>(rt: &R, set: &LiveSet<M>, seat: &mut Seat<M>, first: u32, count: u32)
-    requires { seat.old.set ≡ set.now }
-    ensures { seat.new.set ≡ set.now }
-{
+fn fill<M: Running, R: Wait>(rt: &R, set: &LiveSet<M>, seat: &mut Seat<M>, first: u32, count: u32) {
     for number in (0..count).rev() {
         let _reply = set.add(rt, seat, Key(first.saturating_add(number)));
     }
 }
 
 /// Each slot of each seat takes a key, below those with which the set opens.
-fn filled<M: Running, R: Host>(rt: &R, alloc: Global, opening: &[u32]) -> (LiveSet<M>, Seat<M>)
-    ensures { result.1.set ≡ result.0 }
-{
+fn filled<M: Running, R: Host>(rt: &R, alloc: Global, opening: &[u32]) -> (LiveSet<M>, Seat<M>) {
     let opened = open_with::<M>(alloc, MOST_THREADS, MOST_QUOTA, opening);
     let (set, mut seats) = opened.expect(rt, "not opened");
     let mut all = None;

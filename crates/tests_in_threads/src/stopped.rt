@@ -1,6 +1,5 @@
 //! Two calls, of which one stops between two of its steps until the other has ended or waits: rows of the tables, on running sets, by the
 //! loops of each list and by the interpreter on its table.
-ghost use Rattle.std.specs.Prelude.{◌≡◌};
 
 use crate::meeting::{calls, comes};
 use crate::opened::two_seats_on;
@@ -121,9 +120,7 @@ fn both_call<M: Running + Send + Sync, R: Host>(
     seats: (Seat<M>, Seat<M>),
     both: (Call, Call),
     stopping: &Stopping<'_, R>,
-) -> (Reply, Reply)
-    requires { (seats.0.set ≡ set.now) × (seats.1.set ≡ set.now) }
-{
+) -> (Reply, Reply) {
     let now = AtomicBool::new(true);
     let (zero_starts, one_starts) = if stopping.zero.stops_at == NEVER {
         (&stopping.one.has_stopped, &now)
@@ -279,9 +276,7 @@ fn reads<M: RunningReads, R: Clock + Wait>(
     set: &LiveSet<M>,
     mut seat: Seat<M>,
     flags: (&AtomicBool, &AtomicBool),
-) -> (bool, Reply, Reply)
-    requires { seat.set ≡ set.now }
-{
+) -> (bool, Reply, Reply) {
     let _came = comes(rt, flags.0);
     let looked = set.contains_now(&mut seat, Key(10));
     let asked = set.contains(rt, &mut seat, Key(10));

@@ -1,5 +1,4 @@
 //! Typed calls: each value that one returns, at each list.
-ghost use Rattle.std.specs.Prelude.{◌≡◌};
 
 use crate::opened::{close_with, two_seats};
 use crate::prelude::*;
@@ -15,10 +14,7 @@ enum Made {
 
 use Made::{Adds, Finds, Removes, Seeks};
 
-fn makes<M: Running, R: Host>(rt: &R, set: &LiveSet<M>, seat: &mut Seat<M>, made: Made)
-    requires { seat.old.set ≡ set.now }
-    ensures { seat.new.set ≡ set.now }
-{
+fn makes<M: Running, R: Host>(rt: &R, set: &LiveSet<M>, seat: &mut Seat<M>, made: Made) {
     match made {
         Adds(key, added) => assert_eq!(rt; seat.add(rt, set, Key(key)), added, "{key}"),
         Removes(key, there) => assert_eq!(rt; seat.remove(rt, set, Key(key)), there, "{key}"),
@@ -88,10 +84,7 @@ fn a_ceiling_is_a_key_or_none(rt: HostRuntime) {
 }
 
 /// Adds 9 from a seat of the set, and gives the seat back with what the call did.
-fn claim<M: Running, R: Wait>(rt: &R, set: &LiveSet<M>, mut seat: Seat<M>) -> (Seat<M>, Added)
-    requires { seat.set ≡ set.now }
-    ensures { result.0.set ≡ set.now }
-{
+fn claim<M: Running, R: Wait>(rt: &R, set: &LiveSet<M>, mut seat: Seat<M>) -> (Seat<M>, Added) {
     let added = seat.add(rt, set, Key(9));
     (seat, added)
 }
@@ -102,10 +95,7 @@ fn claim_at_once<M: Running + Send + Sync, R: Threads + Wait + Sync>(
     set: &LiveSet<M>,
     zero: Seat<M>,
     one: Seat<M>,
-) -> ((Seat<M>, Added), (Seat<M>, Added))
-    requires { (zero.set ≡ set.now) × (one.set ≡ set.now) }
-    ensures { (result.0.0.set ≡ set.now) × (result.1.0.set ≡ set.now) }
-{
+) -> ((Seat<M>, Added), (Seat<M>, Added)) {
     join(
         rt,
         move || claim(rt, set, zero),

@@ -1,6 +1,4 @@
 pub mod Trouble
 pub mod Tools
-pub mod Replaying
-pub mod Checking
-pub mod Generating
+pub mod Arguments
 pub mod Faults

@@ -7,6 +7,8 @@ use Rattle.lset_text.specs.declared.causes.LineFault.{LineFault}
 use Rattle.lset_text.specs.Causes.{name_of}
 use Rattle.lset_replay.specs.declared.fault.ReplayFault.{ReplayFault}
 use Rattle.lset_replay.specs.declared.fault.ReplayFault.TheVariants as replay
+use Rattle.lset_schedule.specs.declared.fault.GenFault.{GenFault}
+use Rattle.lset_schedule.specs.declared.fault.GenFault.TheVariants as generator
 use Rattle.tool_base.specs.declared.trouble.SystemCause.{SystemCause}
 use Rattle.tool_base.specs.declared.trouble.SystemCause.TheVariants as system
 use Rattle.tool_base.specs.declared.trouble.ValueName.{ValueName}
@@ -29,6 +31,13 @@ of_replay (replay.NoThread number) = Line number cause.NoThread
 of_replay (replay.Busy number) = Line number cause.Busy
 of_replay (replay.Idle number) = Line number cause.Idle
 of_replay replay.Memory = Memory
+
+-- of a schedule that is not generated
+abbrev pub of_generator : GenFault → Trouble
+of_generator generator.Threads = Bad value.Threads
+of_generator generator.Quota = Bad value.Quota
+of_generator generator.Keys = Bad value.Keys
+of_generator generator.Memory = Memory
 
 abbrev pub status_of : Trouble → ℕ
 status_of Memory = 3

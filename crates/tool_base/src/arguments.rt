@@ -1,7 +1,7 @@
 ghost use Rattle.std.specs.Prelude.{◌≡◌, ◌≤◌, ◌↔◌, IsTrue, IfOk, IfSome, map, string_bytes};
 ghost use Rattle.lset_text.specs.Numbers.{number_in};
 ghost use Rattle.lset_schedule.specs.Generating.{IsAccepted};
-ghost use Rattle.tool_base.specs.Generating.{IsPlain, kind_at, number_at, random_request_of};
+ghost use Rattle.tool_base.specs.Arguments.{IsPlain, kind_at, number_at, random_request_of};
 
 use crate::trouble::ValueName;
 use lset_text::{number, read_kind};
@@ -110,7 +110,7 @@ fn seed_at(values: &[String], index: usize) -> Option<u64>
 /// Reads the arguments KIND, THREADS, QUOTA, CALLS, KEYS and SEED, in this order, with the ranges of `RandomRequest`;
 /// numbers are decimals without leading zeros. The error names the first that is missing or wrong. Further arguments are not
 /// looked at.
-#[tactic(auto, unfolding(crate::specs::Generating::random_request_of))]
+#[tactic(auto, unfolding(crate::specs::Arguments::random_request_of))]
 pub fn read_random_request(values: &[String]) -> Result<RandomRequest, ValueName>
     ensures value { result ≡ random_request_of (map string_bytes values.now) }
     ensures known { IfOk result (λ request. IsAccepted request.threads request.quota request.keys) }

@@ -4,12 +4,9 @@
 
 mod answer;
 mod arguments;
-mod checking;
 mod faults;
-mod generating;
 mod input;
 mod number_lines;
-mod replaying;
 mod tool;
 mod trouble;
 
@@ -19,11 +16,8 @@ pub use arguments::{
     MOST_SESSIONS_ASKED, RandomRequest, ServeRequest, read_lives_request, read_random_request,
     read_serve_request,
 };
-pub use checking::{Check, tool_check};
 pub use faults::{FAULTS, list_faults};
-pub use generating::{generate_for, generate_text, tool_gen};
 pub use input::{Input, LONGEST, READ_SIZE, put, read_all};
 pub use number_lines::{put_keys, put_number};
-pub use replaying::{Replay, tool_replay};
 pub use tool::{Tool, answer_text, run_tool};
 pub use trouble::{SystemCause, Trouble, ValueName};

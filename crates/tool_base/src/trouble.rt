@@ -1,8 +1,9 @@
 ghost use Rattle.std.specs.Prelude.{◌≡◌, ◌≤◌, length};
-ghost use Rattle.tool_base.specs.Trouble.{of_line_fault, of_replay, status_of, system_name, value_word};
-ghost use Rattle.tool_base.specs.declared.trouble.Trouble.TheVariants.{Memory};
+ghost use Rattle.tool_base.specs.Trouble.{of_generator, of_line_fault, of_replay, status_of, system_name, value_word};
+ghost use Rattle.tool_base.specs.declared.trouble.Trouble.TheVariants.{Bad, Memory};
 
 use lset_replay::ReplayFault;
+use lset_schedule::GenFault;
 use lset_text::{Cause, LineFault};
 use std::alloc::{AllocError, AllocFailed};
 
@@ -109,6 +110,27 @@ impl From<ReplayFault> for Trouble {
             ReplayFault::Busy(line) => Trouble::Line(line, Cause::Busy),
             ReplayFault::Idle(line) => Trouble::Line(line, Cause::Idle),
             ReplayFault::Memory => Trouble::Memory,
+        }
+    }
+}
+
+impl From<ValueName> for Trouble {
+    ghost from_gives = { λ name t. t ≡ Bad name };
+
+    fn from(name: ValueName) -> Trouble {
+        Trouble::Bad(name)
+    }
+}
+
+impl From<GenFault> for Trouble {
+    ghost from_gives = { λ e t. t ≡ of_generator e };
+
+    fn from(fault: GenFault) -> Trouble {
+        match fault {
+            GenFault::Threads => Trouble::Bad(ValueName::Threads),
+            GenFault::Quota => Trouble::Bad(ValueName::Quota),
+            GenFault::Keys => Trouble::Bad(ValueName::Keys),
+            GenFault::Memory => Trouble::Memory,
         }
     }
 }

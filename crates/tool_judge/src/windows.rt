@@ -5,8 +5,8 @@ use std::alloc::{AllocError, Global};
 /// The most calls that are printed: of more, the last to begin.
 const MOST_SHOWN: usize = 16;
 
-/// A call, as a recording has it.
-fn put_call(out: &mut String, made: StreamCall) -> Result<(), AllocError> {
+/// Writes the line of a call, as a recording has it. `AllocError` if an allocation fails.
+pub fn put_call(out: &mut String, made: StreamCall) -> Result<(), AllocError> {
     let StreamCall {
         thread,
         call,

@@ -1,7 +1,6 @@
-use crate::Show;
+use crate::{Show, Window};
 use lset_text::number;
 use tool_base::ValueName;
-use tool_drawing::Window;
 
 /// The width of a picture as text, in characters, if no option names one.
 const DEFAULT_WIDTH: u32 = 100;
@@ -40,5 +39,6 @@ pub fn read_show(
     Ok(Show {
         form,
         window: Window { from, to },
+        lacks: None,
     })
 }

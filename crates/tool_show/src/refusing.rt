@@ -2,9 +2,9 @@
 
 ghost use Rattle.std.specs.Prelude.{◌≡◌, ◌<◌, length, IfOk, IfSome};
 
+use crate::refusal::Refusal;
 use lset_history::{CallRecord, History, Oracle, OrderFault, Placed, check_order};
 use std::alloc::{AllocError, Global};
-use tool_drawing::Refusal;
 
 /// The index of the first place of a call, from this index on.
 fn place_from(order: &[Placed], from: usize, call: u32) -> Option<usize>

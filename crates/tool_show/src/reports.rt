@@ -1,9 +1,9 @@
+use crate::picture::Picture;
 use crate::refusing::why_refused;
 use lset_history::{History, Placed};
 use lset_report::Report;
 use lset_words::{Call, Point, Reply};
 use std::alloc::{AllocError, Global};
-use tool_drawing::Picture;
 
 /// Whether a call with this reply changes the set.
 fn changes_set(call: Call, reply: Reply) -> bool {

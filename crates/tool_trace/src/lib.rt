@@ -8,5 +8,4 @@ mod running;
 mod table_words;
 mod tool;
 
-pub use running::trace_of_run;
 pub use tool::{Trace, trace_events};

@@ -2,19 +2,20 @@
 
 ghost use Rattle.lset_schedule.specs.Plan.{IsSchedule, view};
 
-use crate::lines::{Lines, Output, Sink, head_of};
+use crate::Trace;
+use crate::lines::{Lines, Sink, head_of};
+use broken_lists::{broken_run, read_broken_schedule};
 use lset_coarse::CoarseList;
 use lset_fine::FineList;
 use lset_lazy::LazyList;
 use lset_lock_free::LockFreeList;
 use lset_optimistic::OptimisticList;
 use lset_replay::{Run, Steps, event_of, run_of};
-use lset_schedule::Schedule;
+use lset_schedule::{Schedule, read_schedule};
 use lset_steps::Machine;
 use lset_words::Kind;
 use std::alloc::Global;
-use std::io::Write;
-use tool_base::{Answer, Trouble};
+use tool_base::Trouble;
 
 /// Traces a run from its first event on, and returns the status: 1 if it ends at an event that cannot be made, else 0.
 fn trace<W: Steps + Drop, S: Sink>(
@@ -56,8 +57,8 @@ fn trace_on<M: Machine, S: Sink>(
     trace(schedule, run, sink)
 }
 
-/// Traces a schedule on the list of its kind. (A task of `on_list` cannot hold the sink.)
-fn trace_into<S: Sink>(
+/// Traces a schedule on the list that it names. (A task of `on_list` cannot hold the sink.)
+fn trace_named<S: Sink>(
     alloc: Global,
     schedule: &Schedule,
     chains: bool,
@@ -74,35 +75,20 @@ fn trace_into<S: Sink>(
     }
 }
 
-/// Returns the trace of a schedule, with status 1 if it ends at an event that is not enabled, else 0.
-pub fn trace_of(alloc: Global, schedule: &Schedule, chains: bool) -> Result<Answer, Trouble>
-    requires { IsSchedule (view schedule.now) }
-{
-    let mut text = Vec::new(alloc);
-    let status = trace_into(alloc, schedule, chains, &mut text)?;
-    Ok(Answer { text, status })
-}
-
-/// Returns the trace of a run on a list that lacks a check, from its first event on.
-pub fn trace_of_run<W: Steps + Drop>(
+/// Traces the schedule whose text this is into the sink, and returns the status: 1 if the run ends at an event that it cannot
+/// make, else 0.
+pub fn trace_into<S: Sink>(
     alloc: Global,
-    schedule: &Schedule,
-    lacks: &str,
-    run: Run<W>,
-) -> Result<Answer, Trouble> {
-    let mut text = head_of(alloc, schedule, Some(lacks))?.into_bytes();
-    let status = trace(schedule, run, &mut text)?;
-    Ok(Answer { text, status })
-}
-
-/// Writes the trace of a schedule, without chains, as its events are made, and returns the status: 1 if it ends at an event that is not
-/// enabled, else 0. If memory is refused, or a write fails, a part may have been written.
-pub fn write_trace<W: Write>(
-    alloc: Global,
-    schedule: &Schedule,
-    output: &mut W,
-) -> Result<u8, Trouble>
-    requires { IsSchedule (view schedule.now) }
-{
-    trace_into(alloc, schedule, false, &mut Output { output })
+    options: Trace,
+    text: &[u8],
+    sink: &mut S,
+) -> Result<u8, Trouble> {
+    let Some(broken) = options.lacks else {
+        let schedule = read_schedule(alloc, text)?;
+        return trace_named(alloc, &schedule, options.chains, sink);
+    };
+    let schedule = read_broken_schedule(alloc, broken, text)?;
+    let run = broken_run(alloc, broken, &schedule, options.chains)?;
+    sink.take(&head_of(alloc, &schedule, Some(broken.name()))?)?;
+    trace(&schedule, run, sink)
 }

@@ -1,8 +1,9 @@
 //! Sorted-list sets that threads share.
 
 use std::error::Error;
-use std::ffi::c_void;
+use std::ffi::{c_void, CStr};
 use std::fmt::{self, Display};
+use std::os::raw::c_char;
 use std::ptr::null_mut;
 use std::sync::atomic::{AtomicU64, Ordering};
 
@@ -25,6 +26,7 @@ extern "C" {
     fn listset_close(seat: *mut Raw) -> u8;
     fn listset_keys(closed: *mut Raw, room: *mut u32, places: usize) -> usize;
     fn listset_drop(seat: *mut Raw);
+    fn listset_fault_text(fault: u8) -> *const c_char;
 }
 
 const NONE: Raw = Raw { full: false, at: null_mut() };
@@ -56,9 +58,10 @@ pub enum Added {
 
 /// Why something is refused.
 #[derive(Clone, Copy, Debug, PartialEq, Eq)]
+#[repr(u8)]
 pub enum Fault {
     /// The seats are not 1 to 64.
-    Seats,
+    Seats = 10,
     /// The quota is above 16,384.
     Quota,
     /// The keys do not rise, or are more than 1,048,576.
@@ -66,7 +69,7 @@ pub enum Fault {
     /// Memory was refused.
     Memory,
     /// Not all seats are gathered.
-    SeatsOut,
+    SeatsOut = 16,
     /// No seat is left to be split off.
     NoMore,
     /// The seats are of two sets.
@@ -75,32 +78,21 @@ pub enum Fault {
 
 impl Display for Fault {
     fn fmt(&self, f: &mut fmt::Formatter) -> fmt::Result {
-        f.write_str(match self {
-            Fault::Seats => "the seats are not 1 to 64",
-            Fault::Quota => "the quota is above 16384",
-            Fault::Keys => "the keys do not rise or are too many",
-            Fault::Memory => "out of memory",
-            Fault::SeatsOut => "not all seats are gathered",
-            Fault::NoMore => "no seat is left to be split off",
-            Fault::OtherSet => "the seats are of two sets",
-        })
+        // SAFETY: it gives a text that is constant and ends with a zero byte.
+        f.write_str(&unsafe { CStr::from_ptr(listset_fault_text(*self as u8)) }.to_string_lossy())
     }
 }
 
 impl Error for Fault {}
 
 fn told(code: u8) -> Result<(), Fault> {
-    Err(match code {
-        0 => return Ok(()),
-        10 => Fault::Seats,
-        11 => Fault::Quota,
-        12 => Fault::Keys,
-        13 => Fault::Memory,
-        16 => Fault::SeatsOut,
-        17 => Fault::NoMore,
-        18 => Fault::OtherSet,
-        _ => unreachable!("the types rule out the fault {code}"),
-    })
+    use Fault::*;
+    let all = [Seats, Quota, Keys, Memory, SeatsOut, NoMore, OtherSet];
+    match all.into_iter().find(|it| *it as u8 == code) {
+        Some(fault) => Err(fault),
+        None if code == 0 => Ok(()),
+        None => unreachable!("the types rule out the fault {code}"),
+    }
 }
 
 /// A thread's place in a set. It is no copy, one thread uses it at a time, and it may go to another thread.

@@ -11,12 +11,6 @@ template <class K> struct Right {
     bool remove(const K &key) { std::lock_guard held(lock); return keys.erase(key) > 0; }
     bool contains(const K &key) { std::lock_guard held(lock); return keys.count(key) > 0; }
 };
-using MySet = Right<unsigned>;
-
-struct OpensWithKeys : MySet {
-    OpensWithKeys() { keys = {1, 3}; }
-};
-
 // By the names of the standard library, and without a removal.
 struct AddsOnly {
     std::set<unsigned> keys;
@@ -25,77 +19,53 @@ struct AddsOnly {
     size_t count(unsigned key) { std::lock_guard held(lock); return keys.count(key); }
 };
 
-// Each half is under the lock, and not the two together.
-struct CheckThenAct : MySet {
-    bool add(unsigned key) {
-        if (contains(key)) return false;
-        std::this_thread::yield();
-        MySet::add(key);
-        return true;
-    }
-};
+// Right, but for what the variable SET says.
+struct Set : Right<unsigned> {
+    using right = Right<unsigned>;
+    const std::string is = std::getenv("SET");
+    std::atomic<unsigned> calls{0};
+    std::atomic<right *> parts[8192]{};
 
-// The part of a key is made by its first call, and two calls may make it.
-struct FirstUse {
-    std::atomic<MySet *> parts[8192]{};
-    MySet &part(unsigned key) {
-        if (!parts[key]) parts[key] = new MySet;  // (which stays)
+    Set() {
+        if (is == "opens") keys = {1, 3};
+        if (is == "not made") throw std::runtime_error("no room");
+    }
+    // With "first use" the part of a key is made by its first call, and two calls may make it.
+    right &part(unsigned key) {
+        if (is != "first use") return *this;
+        if (!parts[key]) parts[key] = new right;  // (which stays)
         return *parts[key];
     }
-    bool add(unsigned key) { return part(key).add(key); }
-    bool remove(unsigned key) { return part(key).remove(key); }
-    bool contains(unsigned key) { return part(key).contains(key); }
-};
+    // "collides" takes keys for one that have a place in common.
+    unsigned place(unsigned key) const { return is == "collides" ? key % 64 : key; }
 
-// It takes keys for one that have a place in common.
-struct Collides : MySet {
-    bool add(unsigned key) { return MySet::add(key % 64); }
-    bool remove(unsigned key) { return MySet::remove(key % 64); }
-    bool contains(unsigned key) { return MySet::contains(key % 64); }
-};
-
-// Each fiftieth reply is lost: then it is not known, or the call is made again.
-template <bool is_again> struct Lossy : MySet {
-    std::atomic<unsigned> calls{0};
+    // Each fiftieth reply is lost: then it is not known, or the call is made again.
     template <class Call> std::optional<bool> called(Call call) {
-        bool reply = call();
-        if (++calls % 50 > 0) return reply;
-        return is_again ? std::optional(call()) : std::nullopt;
+        const bool reply = call();
+        if ((is != "not known" && is != "again") || ++calls % 50 > 0) return reply;
+        return is == "again" ? std::optional(call()) : std::nullopt;
     }
-    auto add(unsigned key) { return called([&] { return MySet::add(key); }); }
-    auto remove(unsigned key) { return called([&] { return MySet::remove(key); }); }
-};
-
-// From some call on it finds all keys.
-template <int due> struct Finds : MySet {
-    std::atomic<int> calls{0};
-    bool contains(unsigned key) { return ++calls > due || MySet::contains(key); }
-};
-
-// A remove, the thirtieth if not said, does not come back, with the lock held.
-template <class Last, int due = 30> struct Stops : MySet {
-    int removes = 0;
-    bool remove(unsigned key) {
+    // A remove does not come back, with the lock held.
+    void stop() {
         std::lock_guard held(lock);
-        if (++removes == due) Last()();
-        return keys.erase(key) > 0;
+        if (++calls != (is == "crashes late" ? 10'000 : 30)) return;
+        if (is == "throws") throw std::runtime_error("no memory");
+        if (is == "exits") _exit(3);
+        if (is == "crashes" || is == "crashes late") abort();
+        while (is == "hangs") std::this_thread::sleep_for(std::chrono::hours(1));
     }
-};
-struct Hangs {
-    void operator()() { for (;;) std::this_thread::sleep_for(std::chrono::hours(1)); }
-};
-struct Crashes {
-    void operator()() { abort(); }
-};
-struct Exits {
-    void operator()() { _exit(3); }
-};
-struct Throws {
-    void operator()() { throw std::runtime_error("no memory"); }
-};
-
-struct NotMade : MySet {
-    NotMade() { throw std::runtime_error("no room"); }
+    auto add(unsigned key) {
+        if (is == "check then act" && contains(key)) return std::optional(false);
+        if (is == "check then act") std::this_thread::yield(), right::add(key);
+        return is == "check then act" ? std::optional(true) : called([&] { return part(key).right::add(place(key)); });
+    }
+    auto remove(unsigned key) {
+        if (is != "not known" && is != "again" && is != "finds all late") stop();
+        return called([&] { return part(key).right::remove(place(key)); });
+    }
+    bool contains(unsigned key) {
+        return is == "finds all" || (is == "finds all late" && ++calls > 8000) || part(key).right::contains(place(key));
+    }
 };
 
 listset::options how_of(std::istream &words) {
@@ -117,32 +87,18 @@ listset::options how_of(std::istream &words) {
 std::string text(unsigned number) { return "key " + std::to_string(number); }
 std::string twice(unsigned number) { return "key " + std::to_string(number / 2); }
 
-int main() {
-    std::string set = std::getenv("SET");
-    std::istringstream words(std::getenv("HOW"));
-    auto how = how_of(words);
+listset::verdict judged(const std::string &set, const listset::options &how) {
     using texts = listset::judging::made<Right<std::string>>;
-    std::map<std::string, std::function<listset::verdict()>> judges{
-        {"right", [&] { return listset::judge<MySet>(how); }},
-        {"opens", [&] { return listset::judge<OpensWithKeys>(how); }},
-        {"adds only", [&] { return listset::judge<AddsOnly>(how); }},
-        {"texts", [&] { return listset::judge<Right<std::string>>(how, texts(), text); }},
-        {"twice", [&] { return listset::judge<Right<std::string>>(how, texts(), twice); }},
-        {"not known", [&] { return listset::judge<Lossy<false>>(how); }},
-        {"again", [&] { return listset::judge<Lossy<true>>(how); }},
-        {"check then act", [&] { return listset::judge<CheckThenAct>(how); }},
-        {"first use", [&] { return listset::judge<FirstUse>(how); }},
-        {"collides", [&] { return listset::judge<Collides>(how); }},
-        {"finds all", [&] { return listset::judge<Finds<0>>(how); }},
-        {"finds all late", [&] { return listset::judge<Finds<8000>>(how); }},
-        {"hangs", [&] { return listset::judge<Stops<Hangs>>(how); }},
-        {"crashes", [&] { return listset::judge<Stops<Crashes>>(how); }},
-        {"crashes late", [&] { return listset::judge<Stops<Crashes, 10000>>(how); }},
-        {"exits", [&] { return listset::judge<Stops<Exits>>(how); }},
-        {"throws", [&] { return listset::judge<Stops<Throws>>(how); }},
-        {"not made", [&] { return listset::judge<NotMade>(how); }}};
+    if (set == "adds only") return listset::judge<AddsOnly>(how);
+    if (set == "texts") return listset::judge<Right<std::string>>(how, texts(), text);
+    if (set == "twice") return listset::judge<Right<std::string>>(how, texts(), twice);
+    return listset::judge<Set>(how);
+}
+
+int main() {
+    std::istringstream words(std::getenv("HOW"));
     try {
-        auto verdict = judges.at(set)();
+        auto verdict = judged(std::getenv("SET"), how_of(words));
         bool is_refused = verdict.said.rfind("not linearizable", 0) == 0, is_few = verdict.file.empty();
         std::cout << "verdict: " << (verdict ? "ok" : is_refused ? "refused" : is_few ? "too few" : "not ended") << "\n" << verdict << "\n";
     } catch (const listset::no_verdict &why) {

@@ -1,3 +1,4 @@
+import listset.Judge;
 import java.util.HashSet;
 import java.util.Map;
 import java.util.Set;
@@ -5,138 +6,77 @@ import java.util.concurrent.ConcurrentHashMap;
 import java.util.concurrent.ConcurrentSkipListSet;
 import java.util.concurrent.atomic.AtomicInteger;
 import java.util.concurrent.locks.LockSupport;
+import java.util.function.BooleanSupplier;
 
 /** Judges the set that the variable SET names, with the options of HOW, as "threads=4 runs=2"; prints how the verdict came out, and it. */
 final class Sets {
     private Sets() { }
 
-    static class Right extends ConcurrentSkipListSet<Integer> { }
+    /** Right, but for what the variable SET says. */
+    static final class Named extends ConcurrentSkipListSet<Integer> {
+        private final String is = System.getenv("SET");
+        private final AtomicInteger calls = new AtomicInteger();
+        private final Map<Object, Set<Integer>> parts = new ConcurrentHashMap<>();
 
-    static final class OpensWithKeys extends Right {
-        OpensWithKeys() { addAll(Set.of(1, 3)); }
-    }
+        Named() {
+            if (is.equals("opens")) addAll(Set.of(1, 3));
+            if (is.equals("not made")) throw new IllegalStateException("no room");
+        }
 
-    /** Each half is one step, and the two together are not. */
-    static final class CheckThenAct extends Right {
+        /** "collides" takes keys for one that have a place in common. */
+        private Integer place(Object key) { return is.equals("collides") ? (Integer) key % 64 : (Integer) key; }
+
+        /** With "first use" the part of a key is made by its first call, and two calls may make it. */
+        private Set<Integer> part(Object key) {
+            Set<Integer> found = parts.get(key);
+            if (found == null) parts.put(key, found = new ConcurrentSkipListSet<>());
+            return found;
+        }
+
+        /** Each fiftieth reply is lost: then it is not known, or the call is made again. */
+        private boolean called(BooleanSupplier call) {
+            boolean reply = call.getAsBoolean();
+            if (!is.equals("not known") && !is.equals("again") || calls.incrementAndGet() % 50 > 0) return reply;
+            if (is.equals("not known")) throw new Judge.NotKnown();
+            return call.getAsBoolean();
+        }
+
+        /** A remove does not come back, with the lock of all others. */
+        private synchronized void stop() {
+            int due = is.equals("crashes late") ? 10_000 : 30;
+            if (calls.incrementAndGet() != due) return;
+            if (is.equals("throws")) throw new IllegalStateException("no memory");
+            if (is.startsWith("crashes") || is.equals("exits")) Runtime.getRuntime().halt(3);
+            while (is.equals("hangs")) LockSupport.park();
+        }
+
         @Override public boolean add(Integer key) {
+            if (is.equals("first use")) return part(key).add(key);
+            if (!is.equals("check then act")) return called(() -> super.add(place(key)));
             boolean isNew = !contains(key);
             Thread.yield();
             return isNew && (super.add(key) || true);
         }
-    }
 
-    /** The part of a key is made by its first call, and two calls may make it. */
-    static final class FirstUse {
-        private final Map<Integer, Right> parts = new ConcurrentHashMap<>();
-
-        private Right part(int key) {
-            Right found = parts.get(key);
-            if (found == null) parts.put(key, found = new Right());
-            return found;
+        @Override public boolean remove(Object key) {
+            if (is.equals("first use")) return part(key).remove(key);
+            if (is.matches("hangs|crashes.*|exits|throws")) stop();
+            return called(() -> super.remove(place(key)));
         }
 
-        boolean add(int key) { return part(key).add(key); }
-
-        boolean remove(int key) { return part(key).remove(key); }
-
-        boolean contains(int key) { return part(key).contains(key); }
-    }
-
-    /** It takes keys for one that have a place in common. */
-    static final class Collides extends Right {
-        @Override public boolean add(Integer key) { return super.add(key % 64); }
-
-        @Override public boolean remove(Object key) { return super.remove((Integer) key % 64); }
-
-        @Override public boolean contains(Object key) { return super.contains((Integer) key % 64); }
-    }
-
-    /** Each fiftieth reply is lost: then it is not known, or the call is made again. */
-    static class Lossy extends Right {
-        private final AtomicInteger calls = new AtomicInteger();
-
-        boolean isAgain() { return false; }
-
-        @Override public boolean add(Integer key) {
-            boolean reply = super.add(key);
-            if (calls.incrementAndGet() % 50 > 0) return reply;
-            if (!isAgain()) throw new Judge.NotKnown();
-            return super.add(key);
+        @Override public boolean contains(Object key) {
+            if (is.equals("finds all") || is.equals("finds all late") && calls.incrementAndGet() > 8000) return true;
+            return is.equals("first use") ? part(key).contains(key) : super.contains(place(key));
         }
     }
-
-    static final class Again extends Lossy {
-        @Override boolean isAgain() { return true; }
-    }
-
-    /** From some call on it finds all keys. */
-    static class Finds extends Right {
-        private final AtomicInteger calls = new AtomicInteger();
-
-        int due() { return 0; }
-
-        @Override public boolean contains(Object key) { return calls.getAndIncrement() >= due() || super.contains(key); }
-    }
-
-    static final class FindsLate extends Finds {
-        @Override int due() { return 8000; }
-    }
-
-    /** A remove, the thirtieth, does not come back, with the lock of all others. */
-    abstract static class Stops extends Right {
-        private int removes = 0;
-
-        int due() { return 30; }
-
-        abstract void stop();
-
-        @Override public synchronized boolean remove(Object key) {
-            if (++removes == due()) stop();
-            return super.remove(key);
-        }
-    }
-
-    static final class Hangs extends Stops {
-        @Override void stop() { for (;;) LockSupport.park(); }
-    }
-
-    static class Exits extends Stops {
-        @Override void stop() { Runtime.getRuntime().halt(3); }
-    }
-
-    static final class ExitsLate extends Exits {
-        @Override int due() { return 10_000; }
-    }
-
-    static final class Throws extends Stops {
-        @Override void stop() { throw new IllegalStateException("no memory"); }
-    }
-
-    private static Set<Integer> notMade() { throw new IllegalStateException("no room"); }
 
     private static Judge.Verdict judged(String set, Judge.Options how) {
+        Object here = new Object();
         return switch (set) {
-            case "right", "adds only" -> Judge.judge(Right::new, how);
-            case "opens" -> Judge.judge(OpensWithKeys::new, how);
             case "texts" -> Judge.judge(ConcurrentSkipListSet<String>::new, it -> "key " + it, Set::add, Set::remove, Set::contains, how);
             case "twice" -> Judge.judge(HashSet<String>::new, it -> "key " + it / 2, Set::add, Set::remove, Set::contains, how);
-            case "not known" -> Judge.judge(Lossy::new, how);
-            case "again" -> Judge.judge(Again::new, how);
-            case "check then act" -> Judge.judge(CheckThenAct::new, how);
-            case "first use" -> Judge.judge(FirstUse::new, FirstUse::add, FirstUse::remove, FirstUse::contains, how);
-            case "collides" -> Judge.judge(Collides::new, how);
-            case "finds all" -> Judge.judge(Finds::new, how);
-            case "finds all late" -> Judge.judge(FindsLate::new, how);
-            case "hangs" -> Judge.judge(Hangs::new, how);
-            case "crashes", "exits" -> Judge.judge(Exits::new, how);
-            case "crashes late" -> Judge.judge(ExitsLate::new, how);
-            case "throws" -> Judge.judge(Throws::new, how);
-            case "not made" -> Judge.judge(Sets::notMade, how);
-            case "not passed on" -> {
-                Object here = new Object();
-                yield Judge.judge(() -> new ConcurrentSkipListSet<>(here.hashCode() == 0 ? Set.of(1) : Set.of()), how);
-            }
-            default -> throw new IllegalArgumentException(set);
+            case "not passed on" -> Judge.judge(() -> new ConcurrentSkipListSet<>(here.hashCode() == 0 ? Set.of(1) : Set.of()), how);
+            default -> Judge.judge(Named::new, how);
         };
     }
 

@@ -1,31 +1,41 @@
-"""Servers on the loopback, judged: `listset serve`, and Redis if it is installed; and a client that checks and then acts.
+"""Servers on the loopback, judged: `listset serve`; and, if it is installed, Redis, a client that checks and then acts, a replica that is
+read, and connections that pause and are lost.
 
 python3 -m unittest discover -s tests -t tests
 """
 
+import contextlib
 import os
 import shutil
 import socket
 import subprocess
+import sys
+import tempfile
+import threading
 import time
 import unittest
 
 import listset_judge
-import servers
+import listset_servers
 
-FEW = {"threads": 4, "calls": 250, "keys": 4, "runs": 4}
+FEW = {"threads": 4, "calls": 250, "keys": 4, "runs": 4, "pauses": 0}
 SESSIONS = FEW["runs"] * (FEW["threads"] + 1)
 SECONDS = 30  # until a server listens, or ends
 
 
-class CheckThenAct(servers.Redis):
+class CheckThenAct(listset_servers.Redis):
     """Two lines to the server for a change, between which another client's may come."""
 
     def add(self, key):
         return not self.contains(key) and (super().add(key) or True)
 
-    def remove(self, key):
-        return self.contains(key) and (super().remove(key) or True)
+
+class Again(listset_servers.Redis):
+    """What is not known is asked again."""
+
+    def add(self, key):
+        reply = super().add(key)
+        return super().add(key) if reply is None else reply
 
 
 def free_port():
@@ -44,7 +54,7 @@ class Served(unittest.TestCase):
         self.addCleanup(server.wait, SECONDS)
         self.addCleanup(server.kill)
         port = int(server.stdout.readline().rpartition(":")[2])
-        verdict = listset_judge.judge(lambda: servers.Listset(port), opens_with_keys=True, **FEW)
+        verdict = listset_judge.judge(lambda: listset_servers.Listset(port), opens_with_keys=True, **FEW)
         self.assertIn(f"sessions {SESSIONS}\n", server.communicate(timeout=SECONDS)[0])
         self.assertEqual(verdict.calls, 4000)
         self.assertGreater(verdict.overlapped, 0)
@@ -52,26 +62,51 @@ class Served(unittest.TestCase):
 
     def test_what_a_server_refuses_is_one_sentence(self):
         with self.assertRaisesRegex(listset_judge.NoVerdict, "the set could not be made: .*refused"):
-            listset_judge.judge(lambda: servers.Redis(free_port()), **FEW)
+            listset_judge.judge(lambda: listset_servers.Redis(free_port()), **FEW)
+
+    def test_an_answer_that_does_not_come_is_not_known(self):
+        with socket.create_server(("127.0.0.1", 0)) as listening:
+            server = listset_servers.Server(listening.getsockname()[1], seconds=1)
+            self.assertIsNone(server.ask("ADD 1", {"TRUE": True}))
+            with listening.accept()[0] as lost:
+                lost.recv(100)
+            threading.Thread(target=self.answer, args=[listening], daemon=True).start()
+            self.assertIs(server.ask("ADD 1", {"TRUE": True}), True)
+
+    def answer(self, listening):
+        with listening.accept()[0] as connection:
+            connection.recv(100)
+            connection.sendall(b"TRUE\r\n")
 
 
 @unittest.skipUnless(shutil.which("redis-server"), "redis-server is not installed: Debian's package redis-server")
 class OfRedis(unittest.TestCase):
     def setUp(self):
-        self.port = free_port()
-        words = ["redis-server", "--bind", "127.0.0.1", "--port", self.port, "--save", "", "--appendonly", "no"]
-        self.server = subprocess.Popen([*map(str, words)], stdin=subprocess.DEVNULL, stdout=subprocess.DEVNULL)
-        self.addCleanup(self.server.wait, SECONDS)
-        self.addCleanup(self.server.terminate)
+        self.port = self.started()
+
+    def started(self, *more):
+        port, room = free_port(), tempfile.mkdtemp()  # (a replica writes a file there)
+        self.addCleanup(shutil.rmtree, room)
+        words = ["redis-server", "--bind", "127.0.0.1", "--port", port, "--dir", room, "--save", "", "--appendonly", "no", *more]
+        server = subprocess.Popen([*map(str, words)], stdin=subprocess.DEVNULL, stdout=subprocess.DEVNULL)
+        self.addCleanup(server.wait, SECONDS)
+        self.addCleanup(server.terminate)
+        self.wait_until(lambda: self.asked(port, "PING") == "+PONG")
+        return port
+
+    def asked(self, port, line):
+        with contextlib.suppress(OSError):
+            return listset_servers.Connection(port, SECONDS).ask(line)
+
+    def wait_until(self, is_done):
         for _ in range(SECONDS * 20):
-            with socket.socket() as tried:
-                if not tried.connect_ex(("127.0.0.1", self.port)):
-                    return
+            if is_done():
+                return
             time.sleep(0.05)
-        self.fail("redis-server does not listen")
+        self.fail("redis-server is not ready")
 
     def test_redis_is_linearizable(self):
-        verdict = listset_judge.judge(lambda: servers.Redis(self.port), **FEW)
+        verdict = listset_judge.judge(lambda: listset_servers.Redis(self.port), **FEW)
         self.assertEqual(verdict.calls, 4000)
         self.assertGreater(verdict.overlapped, 0)
         print(verdict)
@@ -79,6 +114,26 @@ class OfRedis(unittest.TestCase):
     def test_check_then_act_is_refused(self):
         with self.assertRaises(listset_judge.NotLinearizable) as refused:
             listset_judge.judge(lambda: CheckThenAct(self.port), **{**FEW, "runs": 20})
+        print(refused.exception)
+
+    def test_a_replica_that_is_read_is_refused(self):
+        replica = self.started("--replicaof", f"127.0.0.1 {self.port}")
+        self.wait_until(lambda: self.asked(self.port, "WAIT 1 100") == ":1")
+        with self.assertRaises(listset_judge.NotLinearizable) as refused:
+            listset_judge.judge(lambda: listset_servers.Redis(self.port, read_at=replica), pauses=0)
+        print(refused.exception)
+
+    def test_answers_that_are_late_or_lost(self):
+        breaks = f"import listset_servers, time; c = listset_servers.Connection({self.port}, 9)\nwhile True: c.ask('CLIENT PAUSE 150'); time.sleep(0.4); c.ask('CLIENT KILL TYPE normal'); time.sleep(0.1)"
+        breaking = subprocess.Popen([sys.executable, "-c", breaks])
+        self.addCleanup(breaking.wait)
+        self.addCleanup(breaking.kill)
+        late = {"pauses": 0, "threads": 4, "calls": 2500, "keys": 4, "runs": 2}
+        verdict = listset_judge.judge(lambda: listset_servers.Redis(self.port, seconds=0.05), **late)
+        self.assertGreater(verdict.overlapped, 0)
+        print(verdict)
+        with self.assertRaises(listset_judge.NotLinearizable) as refused:
+            listset_judge.judge(lambda: Again(self.port, seconds=0.05), **{**late, "runs": 20})
         print(refused.exception)
 
 

@@ -1,65 +1,81 @@
-//! A run, written down as it goes, in memory that a process of its own shares with this one.
+//! A run, written down as it goes, in memory that a process of its own may share with this one.
+use std::any::Any;
 use std::panic::{catch_unwind, AssertUnwindSafe};
-use std::slice::from_raw_parts;
-use std::sync::atomic::Ordering::{Acquire, Release, SeqCst};
-use std::sync::atomic::{AtomicBool, AtomicU32, AtomicU64, AtomicU8};
-use std::time::Duration;
+use std::sync::atomic::AtomicU32;
+use std::sync::atomic::Ordering::SeqCst;
+use std::time::{Duration, Instant};
 
-use crate::child::Memory;
+use crate::memory::Memory;
 use crate::words::*;
-use crate::{Calls, Options, Shape, Source};
+use crate::{no_verdict, Calls, Failure, Options, Shape, Source};
 
-const WORDS: [&str; 3] = ["add", "remove", "contains"];
-const UNKNOWN: u8 = 2;
+const UNKNOWN: u32 = 2; // of a call what it answered: 0, 1 or this
 
-/// What was thrown where a set was made or called stands in so many bytes.
-const MOST_WHY: usize = 240;
+/// How far a run is.
+const GOING: u32 = 1;
+const RESTING: u32 = 2;
+const OVER: u32 = 3;
+const FAILED: u32 = 4;
+const UNMADE: u32 = 5;
 
-/// A call as its thread writes it: at its begin, and again at its end. A moment is 0 as long as there is none. A thread goes on under a
-/// new number after an outcome that is not known.
-struct Slot {
-    thread: AtomicU32,
-    key: AtomicU32,
-    word: AtomicU8,
-    reply: AtomicU8,
-    begin: AtomicU32,
-    end: AtomicU32,
+/// Where the numbers of a run are: among them what it draws moments from, how far it is, and from `Why` on why it failed.
+#[derive(Clone, Copy)]
+enum At {
+    Tickets,
+    There,
+    Done,
+    Begun,
+    Phase,
+    IsStopping,
+    IsHere,
+    Numbers,
+    Seed,
+    Threads,
+    Sets,
+    Calls,
+    Keys,
+    Times,
+    Why,
 }
 
-struct Head {
-    seed: AtomicU64,
-    /// The threads, sets, calls, keys and times of the shape.
-    shape: [AtomicU32; 5],
-    tickets: AtomicU32,
-    looks: AtomicU32,
-    there: AtomicU32,
-    done: AtomicU32,
-    /// The numbers that threads have had.
-    numbers: AtomicU32,
-    /// The rounds, and the last moment of the parts before this one.
-    begun: AtomicU32,
-    before: AtomicU32,
-    is_going: AtomicBool,
-    is_resting: AtomicBool,
-    is_stopping: AtomicBool,
-    is_failing: AtomicBool,
-    is_not_made: AtomicBool,
-    is_ended: AtomicBool,
-    is_here: AtomicBool,
-    why: [AtomicU8; MOST_WHY],
-}
+const MOST_WHY: usize = 240; // bytes, each in a number; behind them are the calls,
+const SLOTS: usize = At::Why as usize + MOST_WHY;
+const SLOT: usize = 6; // each with its end, begin, thread, word, key and reply; the first two are 0 as long as there is none;
+const KEYS: usize = SLOTS + PART as usize * SLOT; // and of each key of each set whether it was there, at first and at the end
 
-/// The memory of a run: of the part that goes on. All in it are atomics, of which zero bytes are values.
+/// What reads a part that has been made; whether it is the last, and how the run came to no end, if it did not.
+pub type Read<'a> = &'a mut (dyn FnMut(&Area, bool, Option<String>) -> Result<(), Failure> + Send);
+
+/// The memory of a run: the calls from one rest to the next.
 pub struct Area {
     memory: Memory,
     pub options: Options,
     most_keys: usize,
 }
 
+/// A call that was recorded.
+pub struct Row([u32; SLOT]);
+
+impl Row {
+    pub fn is_under_way(&self) -> bool {
+        self.0[0] == 0
+    }
+
+    pub fn line(&self) -> String {
+        let [end, begin, thread, word, key, reply] = self.0;
+        let word = ["add", "remove", "contains"][word as usize];
+        match end {
+            0 => format!("call {thread} {word} {key} {begin} - -\n"),
+            _ if reply == UNKNOWN => format!("call {thread} {word} {key} {begin} - -\n"),
+            _ => format!("call {thread} {word} {key} {begin} {end} {}\n", reply == 1),
+        }
+    }
+}
+
 impl Area {
-    /// The bytes that runs by these options take.
+    /// The numbers that runs by these options take.
     pub fn size(options: &Options) -> usize {
-        size_of_head() + PART as usize * std::mem::size_of::<Slot>() + 2 * most_keys(options)
+        KEYS + 2 * most_keys(options)
     }
 
     /// An area in memory of that size.
@@ -67,255 +83,261 @@ impl Area {
         Area { memory, options: options.clone(), most_keys: most_keys(options) }
     }
 
-    fn head(&self) -> &Head {
-        // SAFETY: the memory begins with a head, and lives as long as the area.
-        unsafe { &*self.memory.place().cast::<Head>() }
+    fn at(&self, it: At) -> &AtomicU32 {
+        &self.memory[it as usize]
     }
 
-    fn slots(&self) -> &[Slot] {
-        // SAFETY: they stand behind the head, and were counted for the size.
-        unsafe { from_raw_parts(self.memory.place().add(size_of_head()).cast::<Slot>(), PART as usize) }
+    fn get(&self, it: At) -> u32 {
+        self.at(it).load(SeqCst)
     }
 
-    /// Of each key of each set whether it was there, at first and at the end.
-    fn keys(&self) -> (&[AtomicBool], &[AtomicBool]) {
-        let behind = size_of_head() + std::mem::size_of_val(self.slots());
-        // SAFETY: they stand behind the slots, and were counted for the size.
-        unsafe { from_raw_parts(self.memory.place().add(behind).cast::<AtomicBool>(), 2 * self.most_keys) }
-            .split_at(self.most_keys)
+    fn set(&self, it: At, to: u32) {
+        self.at(it).store(to, SeqCst);
     }
 
-    pub fn opening(&self) -> Vec<u32> {
-        keys_in(self.keys().0)
+    fn next(&self, it: At) -> u32 {
+        self.at(it).fetch_add(1, SeqCst) + 1
     }
 
-    pub fn left(&self) -> Vec<u32> {
-        keys_in(self.keys().1)
+    /// Of each key of each set whether it was there, at first or at the end.
+    fn keys(&self, is_left: bool) -> &[AtomicU32] {
+        &self.memory[KEYS + usize::from(is_left) * self.most_keys..][..self.most_keys]
     }
 
     fn shape(&self) -> Shape {
-        let [threads, sets, calls, keys, times] = [0, 1, 2, 3, 4].map(|it| self.head().shape[it].load(SeqCst));
+        let [threads, sets, calls, keys, times] =
+            [At::Threads, At::Sets, At::Calls, At::Keys, At::Times].map(|it| self.get(it));
         Shape { name: "", threads, sets, calls, keys, times }
     }
 
-    /// The calls of each thread from one rest to the next, of which the last may be fewer.
-    fn rows(&self, of: Shape) -> u32 {
-        if of.sets > 1 {
-            of.sets * of.calls
-        } else {
-            of.calls.min(PART / of.threads)
-        }
-    }
-
-    pub fn parts(&self) -> u32 {
-        let of = self.shape();
-        if of.sets > 1 {
-            1
-        } else {
-            (of.calls - 1) / self.rows(of) + 1
-        }
-    }
+    // ---- who reads a run
 
     /// Has a run of this shape begin: whoever makes it may go on.
     pub fn begin(&self, seed: u64, of: Shape) {
-        self.memory.clear(size_of_head(), Area::size(&self.options));
-        let head = self.head();
-        for it in [&head.tickets, &head.looks, &head.there, &head.done, &head.begun, &head.before] {
-            it.store(0, SeqCst);
-        }
-        for it in [&head.is_resting, &head.is_stopping, &head.is_failing, &head.is_not_made, &head.is_ended] {
-            it.store(false, SeqCst);
-        }
-        head.why.iter().for_each(|it| it.store(0, SeqCst));
-        head.seed.store(seed, SeqCst);
-        head.numbers.store(of.threads, SeqCst);
-        head.shape.iter().zip([of.threads, of.sets, of.calls, of.keys, of.times]).for_each(|(to, it)| to.store(it, SeqCst));
-        head.is_going.store(true, SeqCst);
+        let is_here = self.get(At::IsHere);
+        self.memory.iter().for_each(|it| it.store(0, SeqCst));
+        let shape =
+            [(At::Threads, of.threads), (At::Sets, of.sets), (At::Calls, of.calls), (At::Keys, of.keys), (At::Times, of.times)];
+        shape.into_iter().for_each(|(at, it)| self.set(at, it));
+        self.set(At::Seed, seed as u32);
+        self.set(At::Numbers, of.threads * of.sets);
+        self.set(At::IsHere, is_here);
+        self.set(At::Phase, GOING);
     }
 
-    /// Whether a run is to be made, which then is.
-    pub fn is_asked(&self) -> bool {
-        self.head().is_going.swap(false, SeqCst)
-    }
-
-    pub fn come(&self) {
-        self.head().is_here.store(true, SeqCst);
+    pub fn stop(&self) {
+        self.set(At::IsStopping, 1);
     }
 
     pub fn is_here(&self) -> bool {
-        self.head().is_here.load(SeqCst)
+        self.get(At::IsHere) == 1
     }
 
-    /// What changes as long as the run goes on.
-    pub fn moved(&self) -> u32 {
-        self.head().tickets.load(SeqCst).wrapping_add(self.head().looks.load(SeqCst))
+    /// Has the parts of a run read, each once it is made, with how it came to no end, if it did not; `ended` is how the process that
+    /// makes it has ended.
+    pub fn read_parts(&self, ended: &dyn Fn() -> Option<String>, read: Read) -> Result<(), Failure> {
+        for round in 1..=self.shape().rounds() {
+            let mut trouble = self.made(ended);
+            let phase = self.get(At::Phase);
+            if phase >= FAILED {
+                let bytes = self.memory[At::Why as usize..][..MOST_WHY].iter().map(|it| it.load(SeqCst) as u8);
+                trouble = Some(String::from_utf8_lossy(&bytes.take_while(|&it| it != 0).collect::<Vec<u8>>()).into_owned());
+            }
+            match &trouble {
+                Some(why) if phase == UNMADE => return no_verdict(why.clone()),
+                Some(why) if self.get(At::Tickets) == 0 => return no_verdict(say(NOT_MADE, &[why])),
+                _ => {}
+            }
+            let is_last = round == self.shape().rounds() || trouble.is_some();
+            read(self, is_last, trouble)?;
+            if is_last {
+                break;
+            }
+            self.memory[SLOTS..KEYS].iter().for_each(|it| it.store(0, SeqCst));
+            self.set(At::Phase, GOING);
+        }
+        Ok(())
     }
 
-    pub fn has_begun(&self) -> bool {
-        self.head().tickets.load(SeqCst) > 0
+    /// Waits until a part is made, or no call begins or ends for too long; gives how that went wrong.
+    fn made(&self, ended: &dyn Fn() -> Option<String>) -> Option<String> {
+        let (mut seen, mut since) = (self.get(At::Tickets), Instant::now());
+        while self.get(At::Phase) < RESTING {
+            if let Some(why) = ended() {
+                return Some(why).filter(|_| self.get(At::Phase) < RESTING);
+            }
+            if self.get(At::Tickets) != seen {
+                (seen, since) = (self.get(At::Tickets), Instant::now());
+            }
+            if since.elapsed() > Duration::from_secs(self.options.seconds.into()) {
+                return Some(say(HUNG, &[&self.options.seconds]));
+            }
+            std::thread::sleep(Duration::from_micros(300));
+        }
+        None
     }
 
-    pub fn is_resting(&self) -> bool {
-        self.head().is_resting.load(SeqCst)
+    /// The calls of the part that was made, by their begins.
+    pub fn calls(&self) -> Vec<Row> {
+        let slots = self.memory[SLOTS..KEYS].chunks(SLOT);
+        let numbers = |slot: &[AtomicU32]| Row(std::array::from_fn(|it| slot[it].load(SeqCst)));
+        let mut rows: Vec<Row> = slots.map(numbers).filter(|it| it.0[1] > 0).collect();
+        rows.sort_unstable_by_key(|it| it.0[1]);
+        rows
     }
 
-    /// Lets a run that rests go on.
-    pub fn go_on(&self) {
-        self.head().is_resting.store(false, SeqCst);
+    /// The lines of the keys that were there.
+    pub fn lines_of_keys(&self, word: &str, is_left: bool) -> String {
+        let there = (0..).zip(self.keys(is_left)).filter(|(_, it)| it.load(SeqCst) == 1);
+        there.map(|(key, _): (u32, _)| format!("{word} {key}\n")).collect()
     }
 
-    /// Rests until the run may go on.
-    pub fn rest(&self) -> bool {
-        self.head().is_resting.store(true, SeqCst);
-        self.waits(|| !self.is_resting())
+    // ---- who makes it
+
+    /// Makes the runs that another process asks for.
+    pub fn serve<S: Sync>(&self, source: &Source<S>) -> ! {
+        self.set(At::IsHere, 1);
+        loop {
+            if self.get(At::Phase) == GOING {
+                self.call_all(source);
+            }
+            std::thread::sleep(Duration::from_micros(100));
+        }
+    }
+
+    /// Makes sets and calls them, to the end.
+    pub fn call_all<S: Sync>(&self, source: &Source<S>) {
+        let of = self.shape();
+        for one in 0..of.sets {
+            match catch_unwind(AssertUnwindSafe(source.make)) {
+                Err(why) => self.fail(UNMADE, why),
+                // (`move`: where it is dropped it may panic too)
+                Ok(set) => self.tried(move || Play { area: self, set: &set, calls: &source.calls, of, one }.all()),
+            }
+            if self.get(At::IsStopping) == 1 {
+                return;
+            }
+        }
+        self.set(At::Phase, OVER);
+    }
+
+    fn tried(&self, does: impl FnOnce()) {
+        catch_unwind(AssertUnwindSafe(does)).unwrap_or_else(|why| self.fail(FAILED, why));
+    }
+
+    /// Writes down why it failed; the first stays.
+    fn fail(&self, phase: u32, panic: Box<dyn Any + Send>) {
+        if self.at(At::IsStopping).swap(1, SeqCst) == 0 {
+            let words =
+                panic.downcast_ref::<&str>().map(|it| it.to_string()).or_else(|| panic.downcast_ref::<String>().cloned());
+            let text = if phase == UNMADE { NOT_MADE } else { THREW };
+            let why = say(text, &[&words.unwrap_or_else(|| "it panicked".to_string())]);
+            self.memory[At::Why as usize..][..MOST_WHY]
+                .iter()
+                .zip(why.bytes())
+                .for_each(|(to, byte)| to.store(byte.into(), SeqCst));
+            self.set(At::Phase, phase);
+        }
     }
 
     /// Waits, first awake if each thread may have a processor, so that all go on at once; false if the run stops.
     fn waits(&self, is_done: impl Fn() -> bool) -> bool {
         let processors = std::thread::available_parallelism().map_or(1, |it| it.get());
-        let awake = if self.shape().threads as usize <= processors { AWAKE } else { LONGEST };
-        let is_stopping = &self.head().is_stopping;
-        let mut looks = 0;
-        while !is_done() && !is_stopping.load(SeqCst) {
-            looks += 1;
-            if looks > awake {
+        let awake = if self.get(At::Threads) as usize <= processors { AWAKE } else { LONGEST };
+        for looks in 0_u32.. {
+            if is_done() || self.get(At::IsStopping) == 1 {
+                break;
+            }
+            if looks >= awake {
                 std::thread::sleep(Duration::from_micros(20));
             }
         }
-        !is_stopping.load(SeqCst)
+        self.get(At::IsStopping) == 0
     }
+}
 
-    /// Waits until all threads are here.
-    fn meet(&self, threads: u32) -> bool {
-        let all = self.head().there.fetch_add(1, SeqCst) / threads * threads + threads;
-        self.waits(|| self.head().there.load(SeqCst) >= all)
-    }
+/// A set that is called.
+struct Play<'a, S> {
+    area: &'a Area,
+    set: &'a S,
+    calls: &'a Calls<'a, S>,
+    of: Shape,
+    one: u32,
+}
 
-    pub fn is_ended(&self) -> bool {
-        self.head().is_ended.load(SeqCst)
-    }
-
-    pub fn is_not_made(&self) -> bool {
-        self.head().is_not_made.load(SeqCst)
-    }
-
-    /// Why the run failed, if it did.
-    pub fn why_it_failed(&self) -> Option<String> {
-        let bytes: Vec<u8> = self.head().why.iter().map(|it| it.load(SeqCst)).take_while(|&it| it != 0).collect();
-        self.head().is_failing.load(SeqCst).then(|| String::from_utf8_lossy(&bytes).into_owned())
-    }
-
-    /// Writes down why it failed; the first stays.
-    fn fail(&self, text: &str, panic: Box<dyn std::any::Any + Send>) {
-        if !self.head().is_stopping.swap(true, SeqCst) {
-            let words =
-                panic.downcast_ref::<&str>().map(|it| it.to_string()).or_else(|| panic.downcast_ref::<String>().cloned());
-            let why = say(text, &[&words.unwrap_or_else(|| "it panicked".to_string())]);
-            self.head().why.iter().zip(why.bytes()).for_each(|(to, byte)| to.store(byte, SeqCst));
-            self.head().is_failing.store(true, SeqCst);
-        }
-    }
-
-    /// Makes sets and calls them, to the end; between two parts for as long as `at_rest` gives true.
-    pub fn call_all<S: Sync>(&self, source: &Source<S>, at_rest: &dyn Fn() -> bool) {
-        for one in 0..self.shape().sets {
-            match catch_unwind(AssertUnwindSafe(source.make)) {
-                Err(why) => {
-                    self.head().is_not_made.store(true, SeqCst);
-                    self.fail(NOT_MADE, why);
-                }
-                Ok(set) => {
-                    // (`move`: where it is dropped it may panic too)
-                    let called =
-                        catch_unwind(AssertUnwindSafe(move || self.call_from_threads(&set, one, &source.calls, at_rest)));
-                    called.unwrap_or_else(|why| self.fail(THREW, why));
-                }
-            }
-            if self.head().is_stopping.load(SeqCst) {
-                break;
-            }
-        }
-        self.head().is_ended.store(true, SeqCst);
-    }
-
-    fn call_from_threads<S: Sync>(&self, set: &S, one: u32, calls_of: &Calls<S>, at_rest: &dyn Fn() -> bool) {
-        let of = self.shape();
+impl<S: Sync> Play<'_, S> {
+    fn all(&self) {
         std::thread::scope(|scope| {
-            for thread in 0..of.threads {
-                scope.spawn(move || self.call_in_parts(set, one, calls_of, thread));
+            for thread in 0..self.of.threads {
+                scope.spawn(move || self.area.tried(|| self.call_in_parts(thread)));
             }
-            let led = catch_unwind(AssertUnwindSafe(|| self.lead(set, one, calls_of, at_rest)));
-            led.unwrap_or_else(|why| self.fail(THREW, why));
+            self.area.tried(|| self.lead());
         });
     }
 
-    /// Has the threads make each part.
-    fn lead<S>(&self, set: &S, one: u32, calls_of: &Calls<S>, at_rest: &dyn Fn() -> bool) {
-        let (head, of) = (self.head(), self.shape());
-        let (opening, left) = self.keys();
-        let keys = (one * of.keys) as usize..((one + 1) * of.keys) as usize;
-        if self.options.opens_with_keys {
-            self.look_up(set, calls_of, &opening[keys.clone()]);
+    /// Has the threads make each part, and rests before each but the first until the one before has been read.
+    fn lead(&self) {
+        let area = self.area;
+        if area.options.opens_with_keys {
+            self.look_up(false);
         }
-        for part in 0..self.parts() {
-            if part > 0 && !at_rest() {
-                return head.is_stopping.store(true, SeqCst);
-            }
-            if of.sets == 1 {
-                head.before.store(head.tickets.load(SeqCst), SeqCst);
-            }
-            head.begun.store(one + part + 1, SeqCst);
-            if !self.waits(|| head.done.load(SeqCst) == (one + part + 1) * of.threads) {
-                return;
-            }
-        }
-        self.look_up(set, calls_of, &left[keys]);
-    }
-
-    fn look_up<S>(&self, set: &S, calls_of: &Calls<S>, keys: &[AtomicBool]) {
-        for (key, is_there) in (0..).zip(keys) {
-            is_there.store((calls_of.reply)(set, 2, self.number(calls_of, key)) == Some(true), SeqCst);
-            self.head().looks.fetch_add(1, SeqCst);
-        }
-    }
-
-    /// What a set is given for the number of a key.
-    fn number<S>(&self, calls_of: &Calls<S>, key: u32) -> u32 {
-        if calls_of.is_own {
-            key
-        } else {
-            key * self.head().shape[4].load(SeqCst)
-        }
-    }
-
-    /// The calls of one thread on a set.
-    fn call_in_parts<S>(&self, set: &S, one: u32, calls_of: &Calls<S>, thread: u32) {
-        let (of, head) = (self.shape(), self.head());
-        let rows = self.rows(of);
-        let mut draws = Draws((head.seed.load(SeqCst) << 20) + u64::from(one << 6) + u64::from(thread));
-        let mut number = if one == 0 { thread } else { head.numbers.fetch_add(1, SeqCst) };
-        for part in 0..self.parts() {
-            if !self.waits(|| head.begun.load(SeqCst) > one + part) {
-                return;
-            }
-            let (first, count) = if of.sets > 1 { (one * of.calls, of.calls) } else { (0, rows.min(of.calls - part * rows)) };
-            let calls = self.slots()[(thread * rows + first) as usize..][..count as usize].iter().enumerate();
-            let called = catch_unwind(AssertUnwindSafe(|| {
-                for (i, slot) in calls {
-                    if i % MEET as usize == 0 && !self.meet(of.threads) {
-                        break;
-                    }
-                    self.call(set, one * of.keys, calls_of, slot, &mut number, &mut draws);
+        for round in self.one * self.of.parts()..(self.one + 1) * self.of.parts() {
+            if round > 0 {
+                area.set(At::Phase, RESTING);
+                if !area.waits(|| area.get(At::Phase) == GOING) {
+                    return;
                 }
-            }));
-            called.unwrap_or_else(|why| self.fail(THREW, why));
-            head.done.fetch_add(1, SeqCst);
+            }
+            area.set(At::Begun, round + 1);
+            if !area.waits(|| area.get(At::Done) == (round + 1) * self.of.threads) {
+                return;
+            }
+        }
+        self.look_up(true);
+    }
+
+    fn look_up(&self, is_left: bool) {
+        for (key, is_there) in (0..self.of.keys).zip(&self.area.keys(is_left)[(self.one * self.of.keys) as usize..]) {
+            is_there.store(((self.calls.reply)(self.set, 2, self.number(key)) == Some(true)).into(), SeqCst);
+            self.area.next(At::Tickets);
         }
     }
 
-    fn call<S>(&self, set: &S, of_set: u32, calls_of: &Calls<S>, slot: &Slot, number: &mut u32, draws: &mut Draws) {
-        let (tickets, keys) = (&self.head().tickets, self.head().shape[3].load(SeqCst));
-        let [adds, removes, finds] = self.options.shares;
+    /// What the set is given for the number of a key.
+    fn number(&self, key: u32) -> u32 {
+        self.calls.number(self.of, key)
+    }
+
+    /// The calls of one thread.
+    fn call_in_parts(&self, thread: u32) {
+        let (area, of, rows) = (self.area, self.of, self.of.rows());
+        let mut draws = Draws((u64::from(area.get(At::Seed)) << 20) + u64::from(self.one << 6) + u64::from(thread));
+        let mut number = self.one * of.threads + thread;
+        for part in 0..of.parts() {
+            if !area.waits(|| area.get(At::Begun) > self.one * of.parts() + part) {
+                return;
+            }
+            for row in 0..rows.min(of.calls - part * rows) {
+                if row % MEET == 0 && !self.meet() {
+                    return;
+                }
+                self.call(&area.memory[SLOTS + (thread * rows + row) as usize * SLOT..][..SLOT], &mut number, &mut draws);
+            }
+            area.next(At::Done);
+        }
+    }
+
+    /// Waits until all threads are here.
+    fn meet(&self) -> bool {
+        let all = (self.area.next(At::There) - 1) / self.of.threads * self.of.threads + self.of.threads;
+        self.area.waits(|| self.area.get(At::There) >= all)
+    }
+
+    /// A call, which its thread writes down at its begin, and again at its end. The thread goes on under a new number after an outcome
+    /// that is not known.
+    fn call(&self, slot: &[AtomicU32], number: &mut u32, draws: &mut Draws) {
+        let (area, keys) = (self.area, self.of.keys);
+        let [adds, removes, finds] = area.options.shares;
         let word = match draws.below(adds + removes + finds) {
             it if it < adds => 0,
             it if it < adds + removes => 1,
@@ -323,72 +345,21 @@ impl Area {
         };
         let is_hot = keys > 2 * HOT && draws.below(2) == 0;
         let key = draws.below(if is_hot { HOT } else { keys });
-        let pause = if draws.below(100) < self.options.pauses { draws.below(LONGEST) } else { 0 };
-        slot.word.store(word, Release);
-        slot.thread.store(*number, Release);
-        slot.key.store(of_set + key, Release);
-        let key = self.number(calls_of, key);
-        (0..pause).for_each(|_| _ = tickets.load(SeqCst));
-        slot.begin.store(tickets.fetch_add(1, SeqCst) + 1, Release);
-        let reply = (calls_of.reply)(set, word, key).map_or(UNKNOWN, u8::from);
-        slot.reply.store(reply, Release);
-        slot.end.store(tickets.fetch_add(1, SeqCst) + 1, Release);
+        let pause = if draws.below(100) < area.options.pauses { draws.below(LONGEST) } else { 0 };
+        [*number, word, self.one * keys + key].into_iter().zip(&slot[2..]).for_each(|(it, to)| to.store(it, SeqCst));
+        (0..pause).for_each(|_| _ = area.get(At::Tickets));
+        slot[1].store(area.next(At::Tickets), SeqCst);
+        let reply = (self.calls.reply)(self.set, word as u8, self.number(key)).map_or(UNKNOWN, u32::from);
+        slot[5].store(reply, SeqCst);
+        slot[0].store(area.next(At::Tickets), SeqCst);
         if reply == UNKNOWN {
-            *number = self.head().numbers.fetch_add(1, SeqCst);
-        }
-    }
-
-    /// The calls of the part that was made, by their begins.
-    pub fn calls(&self) -> Vec<Row> {
-        let before = self.head().before.load(SeqCst);
-        let of_slot = |slot: &Slot| {
-            let (end, begin) = (slot.end.load(Acquire), slot.begin.load(Acquire)); // (the end may be that of a part before)
-            let reply = slot.reply.load(Acquire);
-            let word = WORDS[usize::from(slot.word.load(Acquire))];
-            let (thread, key) = (slot.thread.load(Acquire), slot.key.load(Acquire));
-            (begin > before).then_some(Row { thread, word, key, begin, end: (end > begin).then_some((end, reply)) })
-        };
-        let all = (self.shape().threads * self.rows(self.shape())) as usize;
-        let mut rows: Vec<Row> = self.slots()[..all].iter().filter_map(of_slot).collect();
-        rows.sort_unstable_by_key(|it| it.begin);
-        rows
-    }
-}
-
-/// A call that was recorded.
-pub struct Row {
-    thread: u32,
-    word: &'static str,
-    key: u32,
-    begin: u32,
-    end: Option<(u32, u8)>,
-}
-
-impl Row {
-    pub fn is_under_way(&self) -> bool {
-        self.end.is_none()
-    }
-
-    pub fn line(&self) -> String {
-        let Row { thread, word, key, begin, .. } = self;
-        match self.end {
-            Some((end, reply)) if reply != UNKNOWN => format!("call {thread} {word} {key} {begin} {end} {}\n", reply == 1),
-            _ => format!("call {thread} {word} {key} {begin} - -\n"),
+            *number = area.at(At::Numbers).fetch_add(1, SeqCst);
         }
     }
 }
 
 fn most_keys(options: &Options) -> usize {
-    options.shapes().map(|it| it.keys.max(it.sets * it.keys) as usize).max().unwrap_or(1)
-}
-
-fn size_of_head() -> usize {
-    let size = std::mem::size_of::<Head>();
-    size + 64 - size % 64
-}
-
-fn keys_in(there: &[AtomicBool]) -> Vec<u32> {
-    (0..).zip(there).filter(|(_, it)| it.load(SeqCst)).map(|(key, _)| key).collect()
+    options.shapes().map(|it| (it.sets * it.keys) as usize).max().unwrap_or(1)
 }
 
 /// Random numbers (SplitMix64).

@@ -16,6 +16,7 @@
 mod area;
 mod child;
 mod judges;
+mod memory;
 mod recording;
 mod told;
 mod words;
@@ -99,9 +100,17 @@ struct Shape {
 }
 
 impl Shape {
-    fn fitted(self) -> Shape {
-        let most = if self.sets > 1 { (PART / (self.threads * self.calls)).max(1) } else { 1 };
-        Shape { sets: self.sets.min(most), ..self }
+    /// The calls of each thread from one rest to the next, of which the last of a set may be fewer.
+    fn rows(&self) -> u32 {
+        self.calls.min(PART / self.threads)
+    }
+
+    fn parts(&self) -> u32 {
+        (self.calls - 1) / self.rows() + 1
+    }
+
+    fn rounds(&self) -> u32 {
+        self.sets * self.parts()
     }
 
     fn all_calls(&self) -> u64 {
@@ -133,14 +142,17 @@ impl Options {
         if self.calls > 0 {
             (it.calls, it.sets) = (self.calls, 1);
         }
-        it.fitted()
+        if self.opens_with_keys {
+            (it.calls, it.sets) = (it.sets * it.calls, 1);
+        }
+        it
     }
 
     /// With more threads and fewer keys, where these options leave them open.
     fn harder(&self, it: Shape) -> Shape {
         let threads = if self.threads == 0 { (2 * it.threads).min(8) } else { it.threads };
         let keys = if self.keys == 0 { (it.keys / 2).max(1) } else { it.keys };
-        Shape { threads, keys, ..it }.fitted()
+        Shape { threads, keys, ..it }
     }
 
     /// All shapes that a run may have.
@@ -259,9 +271,10 @@ macro_rules! judge {
     };
 }
 
-/// How the sets of a test are made and called.
+/// How the sets of a test are made and called, and how a key is shown.
 struct Source<'a, S> {
     make: &'a dyn Fn() -> S,
+    shown: &'a dyn Fn(u32) -> String,
     calls: Calls<'a, S>,
 }
 
@@ -270,6 +283,17 @@ struct Calls<'a, S> {
     reply: &'a (dyn Fn(&S, u8, u32) -> Option<bool> + Sync),
     /// Whether the numbers are those of keys that the test gives.
     is_own: bool,
+}
+
+impl<S> Calls<'_, S> {
+    /// What a set is given for the number of a key.
+    fn number(&self, of: Shape, key: u32) -> u32 {
+        if self.is_own {
+            key
+        } else {
+            key * of.times
+        }
+    }
 }
 
 /// Judges the sets that `make` makes, which are called by the three closures from many threads at once.
@@ -286,7 +310,7 @@ pub fn judge<S: Sync, A: Reply, R: Reply, C: Reply>(
         1 => remove(set, key).known(),
         _ => contains(set, key).known(),
     };
-    judged(&Source { make: &make, calls: Calls { reply: &reply, is_own: false } }, &|key| key.to_string(), &options)
+    judged(&Source { make: &make, shown: &|key| key.to_string(), calls: Calls { reply: &reply, is_own: false } }, &options)
 }
 
 /// The same for a set of other keys: `key` gives the key of a number, each another one.
@@ -311,25 +335,21 @@ pub fn judge_keys<S: Sync, K: Eq + Hash + Debug + Sync, A: Reply, R: Reply, C: R
         (1, key) => remove(set, key).known(),
         (_, key) => contains(set, key).known(),
     };
-    judged(
-        &Source { make: &make, calls: Calls { reply: &reply, is_own: true } },
-        &|number| format!("{:?}", keys[number as usize]),
-        &options,
-    )
+    let shown = |number| format!("{:?}", keys[number as usize]);
+    judged(&Source { make: &make, shown: &shown, calls: Calls { reply: &reply, is_own: true } }, &options)
 }
 
-fn judged<S: Sync>(source: &Source<S>, shown: &dyn Fn(u32) -> String, options: &Options) -> Result<Verdict, Failure> {
+fn judged<S: Sync>(source: &Source<S>, options: &Options) -> Result<Verdict, Failure> {
     let Some(runner) = Runner::started(source, options)? else {
         return Ok(Verdict { calls: 0, overlapped: 0, judge: String::new() }); // (in a process that is for another judge of the test)
     };
     let judge = Judge::found()?;
-    Tester { source, shown, options, runner: &runner, judge: &judge }.all()
+    Tester { source, options, runner: &runner, judge: &judge }.all()
 }
 
 /// Judges one run after another.
 struct Tester<'a, S> {
     source: &'a Source<'a, S>,
-    shown: &'a dyn Fn(u32) -> String,
     options: &'a Options,
     runner: &'a Runner,
     judge: &'a Judge,
@@ -362,8 +382,8 @@ impl<S: Sync> Tester<'_, S> {
     /// How many calls of a run overlapped a change of their key.
     fn judged_run(&self, seed: u64, shape: Shape) -> Result<u64, Failure> {
         let mut recording = Recording::new(self.options, shape, seed, self.judge)?;
-        self.runner.run(self.source, seed, shape, &mut |area, trouble| recording.write(area, trouble))?;
-        recording.judged(self.source.calls.is_own, self.shown)
+        self.runner.run(self.source, seed, shape, &mut |area, is_last, trouble| recording.write(area, is_last, trouble))?;
+        recording.judged(self.source)
     }
 
     /// Of a refusal and of further runs, the one that has the fewest calls, and two at least.

@@ -8,7 +8,7 @@ use std::sync::atomic::Ordering::SeqCst;
 use crate::area::{Area, Row};
 use crate::judges::{Asked, Judge, Judged};
 use crate::words::*;
-use crate::{no_verdict, told, Failed, Failure, Options, Shape};
+use crate::{no_verdict, told, Failed, Failure, Options, Shape, Source};
 
 /// The text of a run: as it grows it is written into a file, and given to the judge.
 pub struct Recording<'a> {
@@ -19,7 +19,7 @@ pub struct Recording<'a> {
     path: PathBuf,
     file: File,
     is_kept: bool,
-    parts: u32,
+    is_begun: bool,
     /// How the run came to no end, and the calls under way, if it did not.
     trouble: Option<(String, String)>,
 }
@@ -30,60 +30,62 @@ impl<'a> Recording<'a> {
         let is_kept = options.record.is_some();
         let path = folder.join(name_of(seed, is_kept));
         match std::fs::create_dir_all(&folder).and_then(|()| File::create(&path)) {
-            Ok(file) => {
-                Ok(Recording { judge, asked: Some(judge.ask()?), shape, seed, path, file, is_kept, parts: 0, trouble: None })
-            }
+            Ok(file) => Ok(Recording {
+                judge,
+                asked: Some(judge.ask()?),
+                shape,
+                seed,
+                path,
+                file,
+                is_kept,
+                is_begun: false,
+                trouble: None,
+            }),
             Err(_) => no_verdict(say(NO_FOLDER, &[&folder.display()])),
         }
     }
 
     /// Writes a part that has been made; with trouble it is the last.
-    pub fn write(&mut self, area: &Area, trouble: Option<String>) -> Result<(), Failure> {
-        self.parts += 1;
+    pub fn write(&mut self, area: &Area, is_last: bool, trouble: Option<String>) -> Result<(), Failure> {
         let rows = area.calls();
-        let mut text =
-            if self.parts == 1 { format!("listset-calls 1\n{}", lines_of("opening", area.opening())) } else { String::new() };
+        let mut text = String::new();
+        if !std::mem::replace(&mut self.is_begun, true) {
+            text = format!("listset-calls 1\n{}", area.lines_of_keys("opening", false));
+        }
         rows.iter().for_each(|it| text += &it.line());
         if let Some(trouble) = trouble {
             text += "cut\n";
             self.trouble = Some((trouble, rows.iter().filter(|it| it.is_under_way()).map(Row::line).collect()));
-        } else if self.parts == area.parts() {
-            text += &format!("{}end\n", lines_of("key", area.left()));
-        }
-        if let Err(fault) = self.file.write_all(text.as_bytes()) {
-            return no_verdict(format!("{} cannot be written: {fault}", self.path.display()));
+        } else if is_last {
+            text += &format!("{}end\n", area.lines_of_keys("key", true));
         }
         self.asked.iter_mut().for_each(|it| it.write(&text));
-        Ok(())
+        self.file.write_all(text.as_bytes()).or_else(|_| no_verdict(say(NO_FOLDER, &[&self.path.display()])))
     }
 
     /// How many calls of the whole run overlapped a change of their key, by the judge; or what is wrong with it.
-    pub fn judged(mut self, is_own: bool, shown: &dyn Fn(u32) -> String) -> Result<u64, Failure> {
+    pub(crate) fn judged<S>(mut self, source: &Source<S>) -> Result<u64, Failure> {
         let asked = self.asked.take().expect("it is asked once");
         let said = match self.judge.judged(asked)? {
             Judged::Ok { overlapped } if self.trouble.is_none() => return Ok(overlapped),
             Judged::Ok { .. } => EXPLAINED.to_string(),
-            Judged::Refused(said) => told::explained(&said, &self.path) + &self.key_line(&said, is_own, shown),
+            Judged::Refused(said) => told::explained(&said, &self.path) + &self.key_line(&said, source),
         };
         self.is_kept = true;
-        let failed = |said| Failed {
-            seed: self.seed,
-            name: self.shape.name.into(),
-            said,
-            file: self.path.clone(),
-            judge: self.judge.to_string(),
-        };
+        let (seed, name, file, judge) = (self.seed, self.shape.name.into(), self.path.clone(), self.judge.to_string());
         Err(match &self.trouble {
-            None => Failure::NotLinearizable(failed(said)),
-            Some((trouble, under_way)) => Failure::NotEnded(failed(say(UNDER_WAY, &[trouble, under_way, &said]))),
+            None => Failure::NotLinearizable(Failed { seed, name, said, file, judge }),
+            Some((trouble, under_way)) => {
+                let said = say(UNDER_WAY, &[trouble, under_way, &said]);
+                Failure::NotEnded(Failed { seed, name, said, file, judge })
+            }
         })
     }
 
     /// Which key of which set it is that the judge names, if its number does not say so.
-    fn key_line(&self, refused: &str, is_own: bool, shown: &dyn Fn(u32) -> String) -> String {
+    fn key_line<S>(&self, refused: &str, source: &Source<S>) -> String {
         let Some(number) = told::key_in(refused) else { return String::new() };
-        let key = number % self.shape.keys;
-        let shown = shown(if is_own { key } else { key * self.shape.times });
+        let shown = (source.shown)(source.calls.number(self.shape, number % self.shape.keys));
         let of_set = if self.shape.sets > 1 { say(IN_SET, &[&(number / self.shape.keys + 1)]) } else { String::new() };
         let is_plain = shown == number.to_string() && of_set.is_empty();
         if is_plain {
@@ -108,8 +110,4 @@ fn name_of(seed: u64, is_kept: bool) -> String {
         return format!("seed-{seed}.calls");
     }
     format!("listset-seed-{seed}-{}-{}.calls", std::process::id(), FILES.fetch_add(1, SeqCst) + 1)
-}
-
-fn lines_of(word: &str, keys: Vec<u32>) -> String {
-    keys.iter().map(|key| format!("{word} {key}\n")).collect()
 }

@@ -24,150 +24,91 @@ impl<K: Ord + Clone> Right<K> {
     }
 }
 
-type MySet = Right<u32>;
-
-/// A right set, by the names that the macro takes.
-struct Plain(MySet);
-
-impl Default for Plain {
-    fn default() -> Self {
-        Plain(MySet::new())
-    }
+/// Right, but for what the variable SET says.
+struct Set {
+    is: String,
+    keys: Right<u32>,
+    calls: AtomicU32,
+    parts: Mutex<BTreeMap<u32, Arc<Right<u32>>>>,
 }
 
-impl Plain {
-    fn add(&self, key: u32) -> bool {
-        self.0.add(&key)
+impl Set {
+    fn new() -> Self {
+        let is = std::env::var("SET").unwrap();
+        assert_ne!(is, "not made", "no room");
+        let keys = if is == "opens" { BTreeSet::from([1, 3]) } else { BTreeSet::new() };
+        Set { is, keys: Right(Mutex::new(keys)), calls: AtomicU32::new(0), parts: Mutex::default() }
     }
-    fn remove(&self, key: u32) -> bool {
-        self.0.remove(&key)
-    }
-    fn contains(&self, key: u32) -> bool {
-        self.0.contains(&key)
-    }
-}
 
-type Judged = Result<Verdict, Failure>;
-
-/// Judges a right set but for these calls.
-fn but<T: Sync>(
-    make: impl Fn() -> T,
-    add: impl Fn(&MySet, &T, u32) -> Option<bool> + Sync,
-    remove: impl Fn(&MySet, &T, u32) -> Option<bool> + Sync,
-    contains: impl Fn(&MySet, &T, u32) -> bool + Sync,
-    how: Options,
-) -> Judged {
-    let made = || (MySet::new(), make());
-    judge(
-        made,
-        |it, key| add(&it.0, &it.1, key),
-        |it, key| remove(&it.0, &it.1, key),
-        |it, key| contains(&it.0, &it.1, key),
-        how,
-    )
-}
-
-/// Each half is under the lock, and not the two together.
-fn check_then_act(how: Options) -> Judged {
-    let add = |it: &MySet, _: &(), key| {
-        let is_new = !it.contains(&key);
-        yield_now();
-        Some(is_new && (it.add(&key) || true))
-    };
-    but(|| (), add, |it, _, key| Some(it.remove(&key)), |it, _, key| it.contains(&key), how)
-}
-
-/// The part of a key is made by its first call, and two calls may make it.
-fn first_use(how: Options) -> Judged {
-    type Parts = Mutex<BTreeMap<u32, Arc<MySet>>>;
-    let part = |parts: &Parts, key| {
-        let found = parts.lock().unwrap().get(&key).cloned();
-        found.unwrap_or_else(|| {
-            let made = Arc::new(MySet::new());
-            parts.lock().unwrap().insert(key, made.clone());
+    /// A call of it, or with "first use" of a part: that of a key is made by its first call, and two calls may make it. "collides" takes
+    /// keys for one that have a place in common.
+    fn call(&self, call: fn(&Right<u32>, &u32) -> bool, key: u32) -> bool {
+        if self.is != "first use" {
+            return call(&self.keys, &if self.is == "collides" { key % 64 } else { key });
+        }
+        let found = self.parts.lock().unwrap().get(&key).cloned();
+        let part = found.unwrap_or_else(|| {
+            let made = Arc::new(Right::new());
+            self.parts.lock().unwrap().insert(key, made.clone());
             made
-        })
-    };
-    let make = || Parts::new(BTreeMap::new());
-    judge(
-        make,
-        |it, key| part(it, key).add(&key),
-        |it, key| part(it, key).remove(&key),
-        |it, key| part(it, key).contains(&key),
-        how,
-    )
-}
+        });
+        call(&part, &key)
+    }
 
-/// It takes keys for one that have a place in common.
-fn collides(how: Options) -> Judged {
-    judge(MySet::new, |it, key| it.add(&(key % 64)), |it, key| it.remove(&(key % 64)), |it, key| it.contains(&(key % 64)), how)
-}
-
-/// Each fiftieth reply is lost: then it is not known, or the call is made again.
-fn lossy(is_again: bool, how: Options) -> Judged {
-    let called = |calls: &AtomicU32, call: &dyn Fn() -> bool| {
-        let reply = call();
-        let is_lost = calls.fetch_add(1, SeqCst) % 50 == 49;
-        if is_lost {
-            is_again.then(call)
-        } else {
-            Some(reply)
+    /// Each fiftieth reply is lost: then it is not known, or the call is made again.
+    fn called(&self, call: fn(&Right<u32>, &u32) -> bool, key: u32) -> Option<bool> {
+        let reply = self.call(call, key);
+        let is_lost = ["not known", "again"].contains(&&*self.is) && self.calls.fetch_add(1, SeqCst) % 50 == 49;
+        match (is_lost, &*self.is) {
+            (true, "again") => Some(self.call(call, key)),
+            (true, _) => None,
+            _ => Some(reply),
         }
-    };
-    let add = |it: &MySet, calls: &AtomicU32, key| called(calls, &|| it.add(&key));
-    but(AtomicU32::default, add, |it, calls, key| called(calls, &|| it.remove(&key)), |it, _, key| it.contains(&key), how)
-}
+    }
 
-/// From some call on it finds all keys.
-fn finds(due: u32, how: Options) -> Judged {
-    let contains = |it: &MySet, calls: &AtomicU32, key| calls.fetch_add(1, SeqCst) >= due || it.contains(&key);
-    but(AtomicU32::default, |it, _, key| Some(it.add(&key)), |it, _, key| Some(it.remove(&key)), contains, how)
-}
-
-/// A remove does not come back, with the lock held.
-fn stops(due: u32, last: fn(), how: Options) -> Judged {
-    let remove = |it: &MySet, removes: &AtomicU32, key| {
-        let mut keys = it.0.lock().unwrap();
-        if removes.fetch_add(1, SeqCst) + 1 == due {
-            last();
+    /// A remove does not come back, with the lock held.
+    fn stop(&self) {
+        let _held = self.keys.0.lock().unwrap();
+        match (&*self.is, self.calls.fetch_add(1, SeqCst)) {
+            ("hangs", 29) => sleep(Duration::from_secs(3600)),
+            ("crashes", 29) | ("crashes late", 9999) => std::process::abort(),
+            ("exits", 29) => std::process::exit(3),
+            ("throws", 29) => panic!("no memory"),
+            _ => {}
         }
-        Some(keys.remove(&key))
-    };
-    but(AtomicU32::default, |it, _, key| Some(it.add(&key)), remove, |it, _, key| it.contains(&key), how)
+    }
+
+    fn add(&self, key: u32) -> Option<bool> {
+        if self.is != "check then act" {
+            return self.called(Right::add, key);
+        }
+        let is_new = !self.contains(key);
+        yield_now();
+        if is_new {
+            self.keys.add(&key);
+        }
+        Some(is_new)
+    }
+
+    fn remove(&self, key: u32) -> Option<bool> {
+        if ["hangs", "crashes", "crashes late", "exits", "throws"].contains(&&*self.is) {
+            self.stop();
+        }
+        self.called(Right::remove, key)
+    }
+
+    fn contains(&self, key: u32) -> bool {
+        let is_late = self.is == "finds all late" && self.calls.fetch_add(1, SeqCst) >= 8000;
+        self.is == "finds all" || is_late || self.call(Right::contains, key)
+    }
 }
 
-fn not_made() -> Plain {
-    panic!("no room")
-}
-
-fn judged(set: &str, how: Options) -> Judged {
-    let texts =
-        |key: &dyn Fn(u32) -> String| judge_keys(Right::new, key, Right::add, Right::remove, Right::contains, how.clone());
+fn judged(set: &str, how: Options) -> Result<Verdict, Failure> {
+    let texts = |key: fn(u32) -> String| judge_keys(Right::new, key, Right::add, Right::remove, Right::contains, how.clone());
     match set {
-        "right" | "adds only" => judge!(Plain, make: Plain::default, how),
-        "opens" => judge!(Plain, make: || Plain(Right(Mutex::new(BTreeSet::from([1, 3])))), how),
-        "texts" => texts(&|number| format!("key {number}")),
-        "twice" => texts(&|number| format!("key {}", number / 2)),
-        "not known" => lossy(false, how),
-        "again" => lossy(true, how),
-        "check then act" => check_then_act(how),
-        "first use" => first_use(how),
-        "collides" => collides(how),
-        "finds all" => finds(0, how),
-        "finds all late" => finds(8000, how),
-        "hangs" => stops(
-            30,
-            || loop {
-                sleep(Duration::from_secs(3600))
-            },
-            how,
-        ),
-        "crashes" => stops(30, || std::process::abort(), how),
-        "crashes late" => stops(10_000, || std::process::abort(), how),
-        "exits" => stops(30, || std::process::exit(3), how),
-        "throws" => stops(30, || panic!("no memory"), how),
-        "not made" => judge!(Plain, make: not_made, how),
-        _ => panic!("there is no set {set}"),
+        "texts" => texts(|number| format!("key {number}")),
+        "twice" => texts(|number| format!("key {}", number / 2)),
+        _ => judge!(Set, how),
     }
 }
 
@@ -219,11 +160,11 @@ fn another_test_holds_a_lock() {
             sleep(Duration::from_millis(25));
         }
     });
-    let add = |it: &MySet, key| {
+    let add = |it: &Right<u32>, key| {
         *COUNTED.lock().unwrap() += 1;
         it.add(&key)
     };
     let how = Options { calls: 100, runs: 2, seconds: 5, ..Options::default() };
-    println!("{}", judge(MySet::new, add, |it, key| it.remove(&key), |it, key| it.contains(&key), how).unwrap());
+    println!("{}", judge(Right::new, add, |it, key| it.remove(&key), |it, key| it.contains(&key), how).unwrap());
     holder.join().unwrap();
 }

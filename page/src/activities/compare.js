@@ -87,7 +87,7 @@ function drawSide(side, thread, place) {
 // On a slide of 720 pixels the list has what the bars of the history and the rest leave.
 function drawSideList({ state }, event, width, place, ofBars) {
   const most = now.place.view === "lecture" ? Math.max(220, 420 - ofBars) : 230;
-  const height = LEAST.atWork + (state.trace.kind === "coarse" ? 0 : LOCK_HEIGHT); // so that both are drawn in one scale
+  const height = LEAST.beside + (state.trace.kind === "coarse" ? 0 : LOCK_HEIGHT); // so that both are drawn in one scale
   return drawList(state, event, width, most, { width: 0, height }, `side-${place}`);
 }
 

@@ -1,14 +1,21 @@
-// Courses on the page: one is chosen, opened from a file or a link, written, tried, and handed out as a link or a file.
+// Below the lessons: what is handed in, and courses: one is chosen, opened from a file or a link, written, tried, and handed out as a link or a file.
 import { BOOK, BOOK_NAME } from "../../made/book.js";
 import { courseAddress, courseOfAddress } from "../course/course_link.js";
+import { handInText } from "../course/hand_in.js";
 import { triedCourse } from "../course/lesson.js";
+import { byId } from "../page/dom.js";
 import { saveText } from "../page/files.js";
+import { isText, keptUnder } from "../page/kept.js";
 import { askNow, held } from "../page/now.js";
 import { copied, linkTo } from "../page/visit.js";
 import { AddressFault, warningOf } from "../run/address.js";
 import { counted } from "../run/markup.js";
-import { drawLearnMap, lessonPart } from "./learn_map.js";
-import { learning } from "./learning.js";
+import { brokenLines } from "../story/kept_story.js";
+import { drawLearnMap } from "../story/learn_map.js";
+import { learning } from "../story/learning.js";
+import { JUDGED } from "./judging.js";
+
+const lessonPart = (name) => byId(`lesson-${name}`);
 
 // Takes the text of a course: its lessons are shown, or its faults by their lines. Whether it is one.
 function takeCourseText(panel, text) {
@@ -19,8 +26,14 @@ function takeCourseText(panel, text) {
   lessonPart("faults").dataset.isGood = faults.length > 0 ? "no" : "yes";
   lessonPart("link-text").hidden = true;
   if (faults.length === 0) panel.takeCourse(course);
+  fillCourses(panel);
   drawLearnMap();
   return faults.length === 0;
+}
+
+function fillCourses({ kept, course }) {
+  lessonPart("course").replaceChildren(...[BOOK_NAME, ...kept.courses.keys()].map((name) => new Option(name)));
+  lessonPart("course").value = course.name;
 }
 
 // Takes the course that an address has.
@@ -55,6 +68,7 @@ async function copyCourseLink(panel) {
 }
 
 export function listenToCourses(panel) {
+  fillCourses(panel);
   const box = lessonPart("course-text");
   lessonPart("course").onchange = () => {
     const name = lessonPart("course").value;
@@ -73,4 +87,30 @@ export function listenToCourses(panel) {
   lessonPart("try").onclick = () => takeCourseText(panel, box.value);
   lessonPart("link").onclick = () => takeCourseText(panel, box.value) && copyCourseLink(panel);
   lessonPart("save").onclick = () => saveText("lessons.course", box.value);
+}
+
+// ---- what is handed in
+
+// The text with all solutions is shown, and copied where the browser does that.
+async function handIn(panel) {
+  const lessons = panel.course.lessons.filter(({ name }) => panel.isSolved(name));
+  const solutions = lessons.map(({ name }) => ({ name, schedule: panel.own.solutions.get(name) }));
+  const orders = Object.values(keptUnder(JUDGED) ?? {}).filter(isText);
+  const broken = brokenLines().map(([, line]) => line);
+  const box = lessonPart("text");
+  box.value = handInText(panel.course.name, lessonPart("student").value.trim() || "?", solutions, [...orders, ...broken]);
+  box.hidden = false;
+  box.focus();
+  box.select();
+  const count = `${counted(solutions.length, "solution")}, ${counted(orders.length, "judged order")} and ${counted(broken.length, "broken list")}`;
+  lessonPart("told").textContent = (await copied(box.value)) ? `The text with ${count} is copied.` : `Copy this text: it has ${count}.`;
+}
+
+export function listenToHandIn(panel) {
+  lessonPart("student").value = panel.kept.student;
+  lessonPart("hand-in").onclick = () => handIn(panel);
+  lessonPart("student").onchange = () => {
+    panel.kept.student = lessonPart("student").value.trim();
+    if (!panel.kept.save()) lessonPart("told").textContent = "This browser keeps nothing: hand in before you leave the page.";
+  };
 }

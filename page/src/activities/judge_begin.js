@@ -2,7 +2,6 @@
 import { byId } from "../page/dom.js";
 import { dispatch, held, now, tell } from "../page/now.js";
 import { LEVELS, MOST_JUDGED } from "../run/judged.js";
-import { escaped } from "../run/markup.js";
 import { judgePart, judging } from "./judging.js";
 
 export function beginJudging() {
@@ -11,7 +10,6 @@ export function beginJudging() {
   if (!now.run.isRun || trace.refused !== null) return tell("A run with a refused event cannot be judged: delete the red line of the schedule first.");
   if (trace.calls.length === 0) return tell("There is no call to judge yet.");
   if (trace.total > MOST_JUDGED) return tell(`A run of at most ${MOST_JUDGED} events can be judged; this one has ${trace.total}.`);
-  if (now.run.lacks !== null && (now.task.verdict?.report ?? null) === null) return tell(escaped(now.task.verdict.says));
   tell("");
   judging.begin(judgePart("level").value);
   judgePart("level").focus();

@@ -1,18 +1,28 @@
 // Judge: choose a run, an example by its question or any number, and say what each call answers and where it takes effect; or let the
 // judge decide on calls that were recorded.
+import { CLASSICS } from "../../made/classics.js";
 import { byId } from "../page/dom.js";
+import { examples } from "../page/example.js";
 import { keptUnder } from "../page/kept.js";
+import { escaped } from "../run/markup.js";
+import { itemOf } from "../story/ask_figure.js";
+import { drawCard } from "../story/ask_map.js";
+import { LIST_WORDS } from "../story/scene.js";
 import { JUDGED } from "./judging.js";
 import { drawRecordedBox, listenToRecorded } from "./recorded.js";
-import { listenToSeedForm, questionsByList, seedForm } from "./watch.js";
+import { listenToSeedForm, seedForm } from "./watch.js";
 
 export function drawJudgeMap() {
   const judged = Object.keys(keptUnder(JUDGED) ?? {});
-  const isDone = (example) => judged.some((run) => run.startsWith(`${example} `));
+  const cardOf = ({ name, kind }) => {
+    const state = judged.some((run) => run.startsWith(`${name} `)) ? "done" : "";
+    const { title } = itemOf({ id: name });
+    return drawCard({ href: `#example=${name}&judge`, list: LIST_WORDS[kind], title, says: escaped(CLASSICS[name].question), state });
+  };
   byId("map-judge").innerHTML = `<h1>Judge a run yourself</h1><p class="lead">You see a run without its replies. Say what each call
     answers, and put a point where it takes effect. The proved <code>check</code> judges your order: any order that explains the run
     is right.</p><h2>A random run</h2>${seedForm("judge-seed", "Judge a run")}${drawRecordedBox()}<h2>An example, by its question</h2>
-    ${questionsByList("&judge", isDone)}`;
+    <div class="cards">${examples().map(cardOf).join("")}</div>`;
   listenToSeedForm("judge-seed", "&judge");
   listenToRecorded();
 }

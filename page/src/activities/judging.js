@@ -6,6 +6,7 @@ import { byId, redraw } from "../page/dom.js";
 import { keepUnder, keptUnder } from "../page/kept.js";
 import { askNow, dispatch, exampleShown, isJudging, now, tell } from "../page/now.js";
 import { addressOf } from "../run/address.js";
+import { askList } from "../run/broken.js";
 import { exerciseOf, LEVELS, OwnAnswer, repliesOf, verdictOn, wordOfAnswer } from "../run/judged.js";
 import { callText, chipOf, escaped } from "../run/markup.js";
 
@@ -26,11 +27,11 @@ class Judging {
 
   // Begins an exercise of this level about the run that is shown. At the third the report may be that of a broken list.
   begin(level) {
-    if (now.run.lacks !== null) return this.take(exerciseOf(now.task.verdict.report, "claim", false));
+    const { lacks, text } = now.run;
     const broken = exampleShown() === "" ? null : askNow("listset_broken_example", exampleShown());
     const isBroken = level === "claim" && broken?.status === 0 && Math.random() < 0.5;
-    const report = isBroken ? broken : askNow("listset_replay", now.run.text);
-    if (report.status === 0) this.take(exerciseOf(report.text, level, !isBroken));
+    const report = isBroken ? broken : askList(askNow, "listset_replay", lacks, text);
+    if (report.status === 0) this.take(exerciseOf(report.text, lacks === null ? level : "claim", lacks === null && !isBroken));
     else tell(`This run cannot be judged: ${escaped(report.text.trim())}.`);
   }
 

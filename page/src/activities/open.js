@@ -1,30 +1,32 @@
 // What an address opens, and what the page shows first.
 import { TRACES } from "../../made/traces.js";
+import { numberOfLevel } from "../data/chapter.js";
 import { byId } from "../page/dom.js";
-import { exampleText, isExample, openKept } from "../page/example.js";
+import { isExample, openKept } from "../page/example.js";
 import { HERE, isText, keepWork, keptUnder, works } from "../page/kept.js";
 import { fillWorks, pickExample } from "../page/menu.js";
 import { exampleShown, goTo, held, now, tell } from "../page/now.js";
-import { goToPlace, isAtMap, setView } from "../page/places.js";
-import { startPlay, stopPlay, wantsLessMotion } from "../page/play.js";
+import { goToPlace, setView } from "../page/places.js";
+import { stopPlay } from "../page/play.js";
 import { entryOf } from "../page/state.js";
 import { showMarks } from "../page/view.js";
 import { keepSoon, visit } from "../page/visit.js";
-import { forgetBefore, openTask, openWork, ownTask } from "../page/work.js";
+import { sceneOfHash } from "../page/scene_address.js";
+import { openTask, openWork, ownTask } from "../page/work.js";
 import { AddressFault, readAddress } from "../run/address.js";
 import { escaped } from "../run/markup.js";
-import { drawBreakMap, openLevel } from "./break_map.js";
+import { learning } from "../story/learning.js";
+import { keptStory } from "../story/kept_story.js";
+import { faultOfScene, openScene } from "../story/scene.js";
 import { openCompare } from "./compare.js";
 import { showCourseText, takeCourseOfAddress } from "./courses.js";
 import { beginJudging } from "./judge_begin.js";
 import { drawJudgeMap } from "./judge_map.js";
-import { drawLearnMap, openLesson } from "./learn_map.js";
-import { learning } from "./learning.js";
 import { drawReadMap } from "./read.js";
 import { showRecorded } from "./recorded.js";
-import { drawWatchMap, FIRST, openSeed } from "./watch.js";
+import { FIRST, openSeed } from "./watch.js";
 
-const MAPS = { watch: drawWatchMap, learn: drawLearnMap, judge: drawJudgeMap, break: drawBreakMap, read: drawReadMap };
+const MAPS = { judge: drawJudgeMap, read: drawReadMap };
 const WANTS_ENGINE = { learn: "a lesson", judge: "runs to judge", break: "a broken list", compare: "two lists side by side" };
 
 function needEngine(what) {
@@ -38,20 +40,28 @@ function showMap(activity) {
   scrollTo(0, 0);
 }
 
-// A run is opened from a map: below it the questions stand again.
-function leaveMap() {
-  if (isAtMap()) drawWatchMap(true);
+function openStory(place) {
+  needEngine("a place where threads step");
+  if (place.activity === "story" && place.id === "") place.id = String(keptStory().at);
+  const fault = faultOfScene({ id: "", given: {}, ...place });
+  if (fault !== null) throw new AddressFault(fault);
+  stopPlay();
+  tell("");
+  openScene(place);
 }
 
+const openLevel = (id, text, view) => openStory({ activity: "break", id, given: text === null ? {} : { text }, view });
+
 /** @param {string[]} place @param {any} wanted */
-function openPlace([activity, value], { text, event, lacks, course }) {
+function openPlace([activity, value], { text, event, view }) {
   if (activity in WANTS_ENGINE) needEngine(WANTS_ENGINE[activity]);
+  if (activity === "break") return openLevel(value, text, view);
+  if (activity === "watch" && value === "") return openStory({ activity: "ask", view });
   if (activity === "compare") return openCompare(null);
-  if (value === "" && (activity !== "learn" || course === null || text === null)) return showMap(activity);
-  leaveMap();
-  if (activity === "learn") openLesson(value, text, event);
-  else if (activity === "break") openLevel(Number(value));
-  else openWhatIf(value, text, event, lacks);
+  if (activity === "learn") return openStory({ activity, id: value, given: text === null ? {} : { text }, view });
+  if (activity !== "watch") return showMap(activity);
+  if (text === null) openRun({ seed: null, example: value, event });
+  else openLink({ text, event, lacks: null });
 }
 
 async function openCourse(wanted) {
@@ -65,7 +75,6 @@ function needExample(name) {
 }
 
 function openRun(wanted) {
-  leaveMap();
   if (wanted.seed !== null) {
     needEngine("a run by its number");
     openSeed(wanted.seed, wanted.event);
@@ -80,31 +89,26 @@ function openRun(wanted) {
   if (wanted.isJudged) beginJudging();
 }
 
-// An example with which the reader went on in another way.
-function openWhatIf(name, text, event, lacks) {
-  needExample(name);
-  needEngine("a schedule");
-  if (text === null) return pickExample(name, event);
-  const own = works.last((work) => work.text === text && work.task.kind === "example" && work.task.id === name);
-  if (own !== null) return openWork(own, event);
-  openTask({ kind: "example", id: name, work: works.newName(`from ${name}`), begun: exampleText(name) }, text, event, "", lacks);
-}
-
 // A link opens under a name of its own: that of the reader's work with this very text, or a new one.
-function openLink({ text, event, lacks }) {
+function openLink({ text, event, lacks, view = null }) {
   needEngine("a schedule");
-  if (text === now.run.text && now.run.isRun && now.run.lacks === lacks) return goTo(event);
-  const own = works.nameOf(text, lacks);
+  if (lacks !== null) return openLevel(String(numberOfLevel(lacks)), text, view);
+  if (text === now.run.text && now.run.isRun && now.place.screen === "stage") return goTo(event);
+  const own = works.nameOf(text);
   if (own !== null) return openWork(own, event);
   const told = "Opened from a link. Your changes are kept under a new name";
   const others = works.byName.size === 0 ? "" : `; your ${works.byName.size} other works stay under Open`;
-  const task = lacks === null ? ownTask("from a link") : { kind: "level", id: lacks, work: works.newName("from a link") };
-  openTask(task, text, event, `${told}${others}.`, lacks);
+  openTask(ownTask("from a link"), text, event, `${told}${others}.`);
 }
 
 // Opens what an address names: false, with a line, if it names nothing that there is.
 async function openAddress(hash) {
   try {
+    const place = sceneOfHash(hash);
+    if (place !== null) {
+      openStory(place);
+      return true;
+    }
     const wanted = readAddress(hash);
     setView(wanted.view);
     if (wanted.course !== null) await openCourse(wanted);
@@ -129,7 +133,7 @@ export function openRecorded(text) {
 }
 
 export function openCourseFile(text) {
-  showMap("learn");
+  openStory({ activity: "learn" });
   showCourseText(text);
 }
 
@@ -144,51 +148,39 @@ export async function followAddress(event) {
   keepSoon();
 }
 
-// ---- what the page shows first
-
 const addressKept = () => (isText(keptUnder(HERE)) ? keptUnder(HERE) : "");
 
 // Shows the example with which the page will open from its trace, while the engine comes; false if it will open with something else.
 export function showBeforehand() {
   works.load();
   const [, name, event] = /^#example=([a-z-]+)(?:&event=(\d+))?$/.exec(location.hash || addressKept()) ?? [];
-  const isPlain = location.hash === "" && addressKept() === "" && works.byName.size === 0;
-  if (isPlain) openKept(FIRST.example, FIRST.from);
-  else if (Object.hasOwn(TRACES, name)) openKept(name, Number(event ?? 0));
-  else return false;
+  if (!Object.hasOwn(TRACES, name)) return false;
+  openKept(name, Number(event ?? 0));
   document.body.dataset.ready = "soon";
   return true;
 }
 
-// A first visit: an example that plays a few events, and waits; at once as far as that if less motion is wanted, or a line told.
+// A first visit: the path; without an engine an example, from its trace.
 function firstVisit() {
-  const { event, before, there } = FIRST.stop;
-  const isTold = byId("told").textContent !== "";
-  const isMoved = exampleShown() === FIRST.example && now.run.count !== FIRST.from; // by the reader, while the engine came
-  pickExample(FIRST.example, isMoved ? now.run.count : FIRST.from);
-  if (isMoved) return;
-  if (isTold || wantsLessMotion()) goTo(event);
-  else startPlay(FIRST.stop);
-  if (!isTold) tell(now.run.count === event ? there : before);
+  if (held.engine === null) pickExample(FIRST.example, FIRST.event);
+  else openStory({ activity: "story", id: "1" });
 }
 
-// What the address names; else where the reader was, or the last work; else an example.
+// What the address names; else where the reader was; else the beginning.
 export async function openFirst() {
   fillWorks();
   const isNamed = location.hash !== "" && (await openAddress(location.hash));
   const said = byId("told").innerHTML;
   const isWrong = location.hash !== "" && !isNamed;
-  const last = works.last(() => true);
-  if (isNamed) bringBack();
-  else if (isWrong || addressKept() === "" || !(await openAddress(addressKept()))) {
-    if (last !== null && held.engine !== null) openWork(last);
-    else firstVisit();
-  } else bringBack();
+  if (!isNamed && (isWrong || addressKept() === "" || !(await openAddress(addressBack())))) firstVisit();
+  bringBack();
   if (!isNamed && said !== "") tell(said);
   Object.assign(visit, { isRead: true, entry: entryOf(held.state) });
-  forgetBefore();
   keepSoon();
 }
+
+// Where the reader was; a screen of the path welcomes who comes back to it.
+const addressBack = () => addressKept().replace(/^#story=(?!1$)\d+$/, "$&&back=yes");
 
 // What stood in the box of this work, and was not run.
 function bringBack() {

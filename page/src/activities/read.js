@@ -1,6 +1,7 @@
 // Read: the pages made of docs/, the words of the page, what is proved.
 import { byId } from "../page/dom.js";
 import { escaped, tag } from "../run/markup.js";
+import { drawCard } from "../story/ask_map.js";
 
 export const PAGES = [
   ["how-it-works.html", "How it works", "The five lists, from one lock to none, each with the runs that show why."],
@@ -24,13 +25,10 @@ const TERMS = {
 };
 
 export function drawReadMap() {
-  const cards = PAGES.map(([href, name, says], index) => {
-    const parts = [tag("span", { class: "number" }, index + 1), tag("b", {}, name), tag("small", {}, escaped(says))];
-    return tag("li", {}, tag("a", { href }, ...parts));
-  });
+  const cards = PAGES.map(([href, title, says]) => drawCard({ href, list: "", title, says: escaped(says) }));
   const terms = Object.entries(TERMS).map(([term, says]) => `<div><dt>${term}</dt><dd>${escaped(says)}</dd></div>`);
   const isAlone = document.body.dataset.alone !== undefined; // the page is one file, without the others beside it
-  const pages = isAlone ? "" : tag("ul", { class: "cards" }, ...cards);
+  const pages = isAlone ? "" : tag("div", { class: "cards" }, ...cards);
   const words = tag("dl", { class: "words card" }, ...terms);
   const heads = ["Read", "Terms", "What is proved, and what is not"].map((text, at) => tag(at === 0 ? "h1" : "h2", {}, text));
   byId("map-read").innerHTML = [heads[0], pages, heads[1], words, heads[2]].join("");

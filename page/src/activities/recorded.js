@@ -38,7 +38,7 @@ async function judgeCalls() {
   recorded.text = text;
   if (text === "") return showVerdict({ ...nothing, kind: "fault", says: "Paste the text of recorded calls first, or open a file." });
   showVerdict({ ...nothing, says: text.length < LONG_TEXT ? "" : "The judge is at work." });
-  const { text: said } = await askLong("listset_judge", text, false);
+  const said = await askLong("listset_judge_record", text, false);
   if (withNewline(recordedPart("text").value) === text) showVerdict(verdictOnCalls(said, text));
 }
 

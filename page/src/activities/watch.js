@@ -1,38 +1,15 @@
-// Watch: the examples by their question, grouped by list; what comes before and after; a run by its number.
-import { CLASSICS } from "../../made/classics.js";
+// The bench: a run step by step, of an example or of a number, with its question above it.
 import { LISTS } from "../../made/rows.js";
-import { IDEAS } from "../data/book_code.js";
 import { byId } from "../page/dom.js";
 import { examples } from "../page/example.js";
 import { works } from "../page/kept.js";
-import { askNow, exampleShown, isJudging, now } from "../page/now.js";
+import { askNow, isJudging, now } from "../page/now.js";
 import { openTask } from "../page/work.js";
-import { escaped, tag } from "../run/markup.js";
+import { tag } from "../run/markup.js";
 import { anotherSeed, partsOfSeed, scheduleOfSeed, seedOf } from "../run/seed.js";
 
-// The first example, and the events that a first visit plays: as long as one looks at a picture, and then it waits for the reader.
-export const FIRST = {
-  example: "marked-in-chain",
-  from: 15,
-  stop: {
-    event: 20,
-    before: "It plays up to event 20, where the question arises.",
-    there: "The play stops here, at the question. Press Step, or choose the next step below.",
-  },
-};
-
-// Cards by list, each a question and a link; `more` is what the address has behind the example, and `isDone` gives a tick.
-export function questionsByList(more = "", isDone = (_) => false) {
-  const columns = Object.entries(LISTS).map(([kind, { name }]) => {
-    const items = examples().filter((one) => one.kind === kind).map(({ name: example }) => {
-      const here = example === exampleShown() && more === "" ? { "aria-current": "true" } : {};
-      const given = { href: `#example=${example}${more}`, ...(isDone(example) ? { class: "done" } : {}), ...here };
-      return tag("li", {}, tag("a", given, escaped(CLASSICS[example].question), tag("small", {}, example)));
-    });
-    return tag("section", {}, tag("div", {}, tag("h3", {}, name), tag("p", {}, IDEAS[kind])), tag("ul", {}, ...items));
-  });
-  return tag("div", { class: "by-list" }, ...columns);
-}
+// The example that is shown without an engine, at the event before its question.
+export const FIRST = { example: "marked-in-chain", event: 20 };
 
 export function seedForm(id, verb) {
   const options = Object.entries(LISTS).map(([kind, { name }]) => tag("option", { value: kind }, name));
@@ -53,20 +30,6 @@ export function listenToSeedForm(id, more) {
   };
 }
 
-const WATCH_HEAD = `<h1>Watch a list at work</h1><p class="lead">Each question is a short run of two or three threads. Step through it,
-  guess what happens next, and let another thread go first at any event.</p>`;
-const WATCH_MORE = `<h2>A random run</h2><p class="lead">Each number stands for a run, the same one for everybody.</p>`;
-
-// As a map of its own, or below the run that is shown.
-export function drawWatchMap(isBelow = false) {
-  const head = isBelow ? '<h2 class="h1">More questions</h2>' : WATCH_HEAD;
-  const more = tag("div", { class: "of-engine" }, WATCH_MORE, seedForm("watch-seed", "Watch a run"));
-  byId("map-watch").innerHTML = `${head}${questionsByList()}${more}`;
-  listenToSeedForm("watch-seed", "");
-}
-
-// ---- the task above the stage
-
 export function openSeed(seed, count) {
   const text = scheduleOfSeed(askNow, seed);
   openTask({ kind: "seed", id: seed, work: works.newName(`run ${partsOfSeed(seed).number}`) }, text, count);
@@ -78,7 +41,7 @@ export function taskOfWatch() {
   const names = examples().map(({ name }) => name);
   const at = now.task.kind === "example" ? names.indexOf(now.task.id) : -1;
   const to = (index) => (at >= 0 && names[index] !== undefined ? `#example=${names[index]}${more}` : null);
-  return { before: to(at - 1), all: more === "" ? ["#watch", "All questions"] : ["#judge", "All runs"], next: to(at + 1) };
+  return { before: to(at - 1), all: more === "" ? ["#ask", "All questions"] : ["#judge", "All runs"], next: to(at + 1) };
 }
 
 function drawSeedBox(seed, more) {

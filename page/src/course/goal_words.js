@@ -76,12 +76,11 @@ function readGoalLine(text, number, names) {
   if (name !== undefined && !isNew && join !== undefined) fail(`${name} is found above: "${kind} ${name}: .." asks for more of it`);
   if (sort === "rest" && isNew && join !== "of") fail('a rest is that of a thread: "rest R of 0"');
   if (sort !== "step" && join === "in") fail(`a ${sort} is "of" a thread`);
-  const tests = clausesIn(clauses).map((clause) => readClause(sort, clause, known, fail));
+  const wanted = clauses.split(",").map((clause) => clause.trim()).filter((clause) => clause !== "");
+  const tests = wanted.map((clause) => readClause(sort, clause, known, fail));
   if (isNew) names.set(name, sort);
-  return { sort, name, isNew, count: count === undefined ? null : Number(count), join, whose, tests, clauses: clausesIn(clauses) };
+  return { sort, name, isNew, count: count === undefined ? null : Number(count), join, whose, tests };
 }
-
-const clausesIn = (text) => text.split(",").map((clause) => clause.trim()).filter((clause) => clause !== "");
 
 // The forms of clauses as they are told: X is a name that was given above, and N a number.
 function formOf([pattern]) {
@@ -138,55 +137,8 @@ function canMeet(lines, run) {
   return from(0, new Map());
 }
 
-// The conditions of a goal in a run, each { says, isMet }, and of one that is not met the first of its lines that is missing, in words.
+// The conditions of a goal in a run, each { says, isMet }.
 export function conditionsOf(goal, run) {
   const ends = goal.map(({ says }, index) => ({ says, index })).filter(({ says }) => says !== undefined);
-  return ends.map(({ says, index }) => {
-    const isMet = canMeet(goal.slice(0, index), run);
-    return { says, isMet, missing: isMet ? null : missingLine(goal, index, run) };
-  });
-}
-
-// Of a condition that ends before a line of a goal, and has several lines, the first one that is missing; else null.
-function missingLine(goal, end, run) {
-  const begin = goal.slice(0, end).map(({ says }) => says !== undefined).lastIndexOf(true) + 1;
-  if (end - begin < 2) return null;
-  let at = begin;
-  while (canMeet(goal.slice(0, at + 1), run)) at++;
-  return lineInWords(goal, at);
-}
-
-// A line in words, as "an add of thread 0, answers true": a name stands for what it was given to.
-function lineInWords(goal, at) {
-  const line = goal[at];
-  if (line.isWhole !== undefined) return "all calls have answered";
-  const nouns = new Map();
-  for (const above of goal.slice(0, at)) if (above.isNew) nouns.set(above.name, `the ${nounOf(above, nouns)}`);
-  const noun = nounOf(line, nouns);
-  const article = /^[aeiou]/.test(noun) ? "an" : "a";
-  const counted = line.count === 1 ? `${article} ${noun}` : `${line.count} times a ${noun}`;
-  const subject = line.count !== null ? counted : line.isNew ? `${article} ${noun}` : nouns.get(line.name);
-  const told = (clause) => plainClause(clause.replace(/\b[A-Z]\w*/g, (name) => nouns.get(name) ?? name));
-  return [subject, ...line.clauses.filter((clause) => !isOperation(clause) || !line.isNew).map(told)].join(", ");
-}
-
-// A clause as a student reads it.
-const PLAIN = [
-  [/^tries in vain a lock of (\d+)$/, "tries to take a lock that thread $1 holds"],
-  [/^takes out the node of (.*)$/, "unlinks the node of $1"],
-  [/^out of the chain$/, "at a node that is not in the chain"],
-  [/^in the chain$/, "at a node in the chain"],
-  [/^open$/, "pending"],
-  [/^holding 1$/, "holding one lock"],
-  [/^holding (\d+)$/, "holding $1 locks"],
-];
-const plainClause = (clause) => PLAIN.reduce((text, [words, plain]) => text.replace(words, plain), clause);
-
-const isOperation = (clause) => /^(add|remove|contains|ceiling)$/.test(clause);
-
-function nounOf({ sort, join, whose, clauses }, nouns) {
-  if (sort === "rest") return `time in which thread ${whose} makes no step`;
-  const noun = sort === "step" ? "step" : (clauses.find(isOperation) ?? "call");
-  if (join === undefined) return noun;
-  return join === "of" ? `${noun} of thread ${whose}` : `${noun} in ${nouns.get(whose)}`;
+  return ends.map(({ says, index }) => ({ says, isMet: canMeet(goal.slice(0, index), run) }));
 }

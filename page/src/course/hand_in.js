@@ -13,20 +13,20 @@
 // One file may have the texts of a whole class, and courses too.
 import { CLASSICS, LACKING } from "../../made/classics.js";
 import { AddressFault, addressOf, readAddress } from "../run/address.js";
-import { isTaskDone, NO_TASK, verdictOnLacking } from "../run/broken.js";
+import { askList, isTaskDone, NO_TASK, verdictOnLacking } from "../run/broken.js";
 import { answerOfWord, exerciseOf, LEVELS, verdictOn } from "../run/judged.js";
 import { eventsAsked, scheduleOfTrace, versionOf } from "../run/schedule_text.js";
 import { Trace } from "../run/trace.js";
 import { COURSE_TITLE } from "./course_text.js";
 import { judged, missingIn, MOST_EVENTS } from "./lesson.js";
 
-const HAND_IN_TITLE = /^listset-lessons [12]$/;
+const HAND_IN_TITLE = "listset-lessons 2";
 
 // The text with these solutions, each with the name of its lesson and its schedule, and these lines about runs that were judged and
 // lists that were broken.
 export function handInText(course, student, solutions, otherLines) {
   const lines = solutions.map(({ name, schedule }) => `${name} ${addressOf(schedule, eventsAsked(schedule))}`);
-  return ["listset-lessons 2", `course ${course}`, `student ${student}`, ...lines, ...otherLines, "end", ""].join("\n");
+  return [HAND_IN_TITLE, `course ${course}`, `student ${student}`, ...lines, ...otherLines, "end", ""].join("\n");
 }
 
 // The lines of a text without what mail has done to them, each with the number of its first line.
@@ -54,7 +54,7 @@ export function textsIn(text) {
   for (const { line, number } of unmailed(text)) {
     const last = found.at(-1);
     if (line === COURSE_TITLE) found.push({ kind: "course", number, lines: [] });
-    else if (HAND_IN_TITLE.test(line)) found.push({ kind: "hand-in", number, version: Number(line.at(-1)), lines: [] });
+    else if (line === HAND_IN_TITLE) found.push({ kind: "hand-in", number, lines: [] });
     else if (last?.kind === "hand-in" && !last.isEnded && line === "end") last.isEnded = true;
     else if (last?.kind === "hand-in" && !last.isEnded && line !== "") last.lines.push({ line, number });
   }
@@ -72,7 +72,7 @@ const lacksWords = (line) =>
 const isPiece = (line) => !line.includes(" ") || /^\S*[.,=&]\S* /.test(line);
 
 // What was handed in: the course and the student, or null, the parts with the numbers of their lines, and the faults.
-export function readHandIn({ lines, version, isEnded, number }) {
+export function readHandIn({ lines, isEnded, number }) {
   const parts = [];
   const faults = [];
   for (const given of lines) {
@@ -84,7 +84,7 @@ export function readHandIn({ lines, version, isEnded, number }) {
     else faults.push({ line: given.number, fault: `"${given.line.slice(0, 40)}" is no line of a solution` });
   }
   const valueOf = (word) => parts.find(({ line }) => line.startsWith(`${word} `))?.line.slice(word.length + 1) ?? null;
-  if (version === 2 && !isEnded) faults.push({ line: number, fault: 'the text is cut: the line "end" is missing' });
+  if (!isEnded) faults.push({ line: number, fault: 'the text is cut: the line "end" is missing' });
   const solutions = parts.filter(({ line }) => !/^(student|course) /.test(line));
   return { course: valueOf("course"), student: valueOf("student"), solutions, faults };
 }
@@ -152,7 +152,7 @@ function judgedBreak(ask, [name = "", link = "", ...more]) {
 function exampleBy(ask, name, schedule) {
   const shown = (example) => {
     const text = ask("listset_example", example).text;
-    return scheduleOfTrace(new Trace(ask("listset_trace_lacking", name, text).text, versionOf(text)));
+    return scheduleOfTrace(new Trace(askList(ask, "listset_trace", name, text).text, versionOf(text)));
   };
   return Object.keys(CLASSICS).find((example) => CLASSICS[example].lacks.includes(name) && shown(example) === schedule) ?? null;
 }

@@ -11,33 +11,34 @@ import { lessonText, readCourse } from "./course_text.js";
 import { conditionsOf, TooManyWays } from "./goal_words.js";
 
 export const MOST_EVENTS = 1000; // of a solution
-export const OTHER_SET = "The list, the number of threads, the quota and the opening keys are to be those of the lesson.";
+const OTHER_SET = "The list, the number of threads, the quota and the opening keys are to be those of the lesson.";
 
 // The lines of a schedule that tell its set: list, threads, quota and opening keys.
-export const setOf = (schedule) => schedule.split("\n").slice(1).filter((line) => !/^(begin|go) /.test(line)).join("\n");
+const setOf = (schedule) => schedule.split("\n").slice(1).filter((line) => !/^(begin|go) /.test(line)).join("\n");
 
-// The run of a schedule by the engine, or why there is none: `ask` gives what a function of the engine says of a text.
+// The run of a schedule by the engine, or the fault for which there is none: `ask` gives what a function of the engine says of a text.
 function runOfSchedule(ask, schedule, lacks) {
   const made = askList(ask, "listset_trace", lacks, schedule).text;
-  if (!isTrace(made)) return { trace: null, fault: `the schedule is refused: ${made.trim()}` };
+  if (!isTrace(made)) return { trace: null, fault: { ...readFault(made), says: `The schedule is refused: ${made.trim()}.` } };
   const trace = new Trace(made, versionOf(schedule));
-  if (trace.refused === null) return { trace, fault: null };
-  return { trace: null, fault: `line ${trace.refused.line} of the schedule is refused: ${trace.refused.cause}` };
+  const { refused } = trace;
+  if (refused === null) return { trace, fault: null };
+  return { trace: null, fault: { ...refused, says: `Line ${refused.line} of the schedule is refused: ${refused.cause}.` } };
 }
 
-export const unjudged = (reason) => ({ isSolved: false, reason, conditions: [], deadEnd: null });
+const unjudged = (reason, fault = null) => ({ isSolved: false, reason, fault, conditions: [], deadEnd: null });
 
 // Judges a schedule of a lesson that was tried.
 export function judged(ask, lesson, schedule) {
   if (setOf(schedule) !== setOf(lesson.begun)) return unjudged(OTHER_SET);
   if (eventsAsked(schedule) > MOST_EVENTS) return unjudged(`A solution has at most ${MOST_EVENTS} events.`);
   const { trace, fault } = runOfSchedule(ask, schedule, lesson.lacks);
-  if (trace === null) return unjudged(`${fault[0].toUpperCase()}${fault.slice(1)}.`);
+  if (trace === null) return unjudged(fault.says, fault);
   const run = new Run(trace);
   const conditions = withinBound(() => conditionsOfLesson(ask, lesson, schedule, run));
   if (conditions === null) return unjudged("This run is not judged: there are too many ways in which it could meet the goal.");
   const isSolved = conditions.every(({ isMet }) => isMet);
-  return { isSolved, reason: null, conditions, deadEnd: isSolved ? null : withinBound(() => deadEndIn(lesson, run)) };
+  return { isSolved, reason: null, fault: null, conditions, deadEnd: isSolved ? null : withinBound(() => deadEndIn(lesson, run)) };
 }
 
 // What a search of a goal finds, or null where it has too many ways to look at.
@@ -82,7 +83,7 @@ export function missingIn({ reason, conditions }) {
 // Tries a lesson, which then has the schedules of its start and of its answer: what is wrong with it and at which line, or null.
 function troubleOf(ask, lesson) {
   const start = scheduleOfDraft(ask, lessonText(lesson, lesson.start), lesson.lacks);
-  if (start.fault !== null) return refusedLine(lesson, "start", start.fault);
+  if (start.fault !== null) return refusedLine(lesson, "start", readFault(start.fault));
   lesson.begun = start.text;
   const begin = runOfSchedule(ask, start.text, lesson.lacks);
   if (begin.trace === null) return refusedLine(lesson, "start", begin.fault);
@@ -94,19 +95,18 @@ function troubleOf(ask, lesson) {
   lesson.solution = null;
   if (lesson.answer.length === 0) return null;
   const answer = scheduleOfDraft(ask, lessonText(lesson, [...lesson.start, ...lesson.answer]), lesson.lacks);
-  if (answer.fault !== null) return refusedLine(lesson, "answer", answer.fault);
+  if (answer.fault !== null) return refusedLine(lesson, "answer", readFault(answer.fault));
   lesson.solution = answer.text;
   const verdict = judged(ask, lesson, answer.text);
   if (verdict.isSolved) return null;
-  if (verdict.reason !== null) return refusedLine(lesson, "answer", verdict.reason);
+  if (verdict.reason !== null) return refusedLine(lesson, "answer", verdict.fault ?? { line: null, cause: null, says: verdict.reason });
   return { line: lesson.line, says: `its answer does not solve it: ${missingIn(verdict)}` };
 }
 
 // A fault of the schedule of a start or an answer, told by the line of the course and in words.
-function refusedLine(lesson, part, fault) {
-  const { line, cause } = readFault(fault);
+function refusedLine(lesson, part, { line, cause, says }) {
   const given = lesson.events[line - HEADER_LINES - lesson.opening.length - 1];
-  if (given === undefined || !(cause in CAUSES)) return { line: lesson.line, says: `its ${part} is refused: ${fault}` };
+  if (given === undefined || !(cause in CAUSES)) return { line: lesson.line, says: `its ${part} is refused: ${says}` };
   return { line: given.number, says: `its ${part} is refused at "${given.line}": ${CAUSES[cause]}` };
 }
 

@@ -1,158 +1,194 @@
-// Break it as levels: of each broken list its grade, a story, three hints (which calls, where, at which row to stop), and
-// what it lacks as one of some sentences. The numbers are the events and calls of the schedule in examples/schedules/lacks.
-
-export const GRADES = ["Warm up", "One thread waits", "Look twice"];
+// Break it: of each list that lacks a check a story, three hints, what it lacks, and two sentences that are not so, each with the reply
+// to it; the calls that A and B begin with; what is struck out of the code (of the line of a row); and the events and calls of the
+// schedule in examples/schedules/lacks. Who links to a level, or sets it as homework, names its number, the place here: none is given anew.
 
 export const BREAK_LEVELS = {
   lock: {
-    grade: 0,
     story: "One thread at a time, they say. Let two of them meet.",
     hints: [
       "Two adds of different keys, both between 3 and 7.",
       "Let both threads walk to the same place: pred is the node of 3, curr that of 7.",
-      "Stop t0 just before it writes pred.next. Let t1 do its whole add. Then let t0 end.",
+      "Stop A just before it writes pred.next. Let B do its whole add. Then let A end.",
     ],
     lacks: "It continues although another thread holds the lock.",
     others: {
       "It releases the lock before it writes the link.": "it releases the lock only after that",
       "It writes the link of pred before that of its own node.": "it writes the link of its own node first",
     },
-    shortest: [20, 2],
+    start: [["add", 5], ["add", 4]], shortest: [20, 2],
+    missing: [{ row: 1, part: "lock the list" }],
   },
   "mark-in-remove": {
-    grade: 0,
     story: "Two threads remove one key. One of them should answer that it came too late.",
     hints: [
       "Two removes of the same key, 3.",
       "Let both threads find the node of 3 before either of them marks it.",
-      "Stop t0 before the step that sets the mark; let t1 set its own; then let both end.",
+      "Stop A before the step that sets the mark; let B set its own; then let both end.",
     ],
-    shortest: [14, 2],
+    lacks: "A remove marks a node that is marked already.",
+    others: {
+      "A remove takes its node out before it marks it.": "it marks the node first",
+      "A remove does not look whether its key is there.": "it compares curr.key with its key",
+    },
+    start: [["remove", 3], ["remove", 3]], shortest: [14, 2],
+    missing: [{ row: 9, part: "no mark" }],
   },
   mark: {
-    grade: 0,
-    story: "Removing a node is one compare-and-exchange here. Fast. Too fast?",
+    story: "Removing a node is one compare-and-set here. Fast. Too fast?",
     hints: [
       "An add of 5, and a remove of the node in front of it.",
       "The pred of the add must be the node of 3, which the other thread removes.",
-      "Stop t0 before the step that links 5 in. Let t1 remove 3. Then one step of t0.",
+      "Stop A before the step that links 5 in. Let B remove 3. Then one step of A.",
     ],
-    shortest: [15, 2],
+    lacks: "A remove unlinks its node without marking it first.",
+    others: {
+      "A remove marks a node that is marked already.": "it marks no node at all",
+      "An add writes its link without comparing.": "it compares with what it saw",
+    },
+    start: [["add", 5], ["remove", 3]], shortest: [15, 2],
+    missing: [{ row: 9, part: "CAS curr.next: succ, no mark → mark" }],
   },
   "new-slot": {
-    grade: 0,
     story: "Each key that is added needs a node of its own. Does it get one?",
-    hints: [
-      "One thread is enough. It adds.",
-      "Two adds of different keys, one after the other.",
-      "Let t0 add 4, and then 5. Where is 4?",
-    ],
-    shortest: [20, 2],
+    hints: ["One thread is enough. It adds.", "Two adds of different keys, one after the other.", "Let A add 4, and then 5. Where is 4?"],
+    lacks: "An add writes into the node of its last key.",
+    others: {
+      "An add does not look whether its key is there.": "it compares curr.key with its key",
+      "An add writes its link without comparing.": "it compares with what it saw",
+    },
+    start: [["add", 4], ["add", 5]], shortest: [20, 2],
+    missing: [{ row: 5, part: "new " }],
   },
   "second-lock": {
-    grade: 1,
     story: "Hand over hand, the book says: two locks at a time. Here one hand stays in the pocket.",
     hints: [
       "An add of 5 beside a remove of 3, its neighbour.",
       "The add must hold the lock of 3 while the other thread removes that node.",
-      "Let t1 step through its add until just before it writes pred.next, with 3 as its pred. Then try a remove of 3 by t0.",
+      "Let B step through its add until just before it writes pred.next, with 3 as its pred. Then try a remove of 3 by A.",
     ],
-    shortest: [21, 2],
+    lacks: "A remove locks only pred, and not the node that it unlinks.",
+    others: {
+      "A remove does not lock pred.": "it locks pred, and keeps that lock until it has written",
+      "A remove releases its lock before it writes.": "it releases its lock only after that",
+    },
+    start: [["remove", 3], ["add", 5]], shortest: [21, 2],
+    missing: [{ row: 3, part: "lock curr," }],
   },
   "hand-over-hand": {
-    grade: 1,
     story: "A walk should never be without a lock, not for one moment.",
     hints: [
       "An add of 5 beside a remove of 3, its neighbour.",
       "There is a moment in which the walk of the add holds no lock. Find it.",
-      "Stop t1 on its way from the node of 3 to that of 7. Let t0 remove 3. Then let t1 end.",
+      "Stop B on its way from the node of 3 to that of 7. Let A remove 3. Then let B end.",
     ],
-    shortest: [24, 2],
+    lacks: "A walk releases one lock before it has the next.",
+    others: {
+      "It releases its locks before it writes.": "it releases them only after that",
+      "A walk does not lock the head.": "it locks the head first of all",
+    },
+    start: [["remove", 3], ["add", 5]], shortest: [24, 2],
+    missing: [{ row: 3, part: "pred still locked" }],
   },
   "second-walk": {
-    grade: 1,
     story: "It locks two nodes, and looks again. But what does it look at?",
     hints: [
       "An add of 5 beside a remove of 3, its neighbour.",
       "The node that the add has found as pred may be unlinked before it is locked.",
-      "Stop t0 at row 4, before it locks pred, which is the node of 3. Let t1 remove 3. Then let t0 end.",
+      "Stop A before it locks pred, which is the node of 3. Let B remove 3. Then let A end.",
     ],
-    shortest: [23, 2],
+    lacks: "With the locks it does not walk again: pred may not be in the list any more.",
+    others: {
+      "It does not lock curr.": "it locks pred and curr",
+      "It does not look whether pred still leads to curr.": "it looks at that, with both locks",
+    },
+    start: [["add", 5], ["remove", 3]], shortest: [23, 2],
+    missing: [{ row: 6, part: "walk from the head again" }, { row: 7, part: "until pred is met, else not valid" }],
   },
   "marks-in-validation": {
-    grade: 1,
     story: "Marks are set here. Does everybody read them?",
     hints: [
       "An add of 5 beside a remove of 3, its neighbour.",
       "The node that the add has found as pred may be removed before it is locked.",
-      "Stop t0 at row 4, before it locks pred, which is the node of 3. Let t1 remove 3. Then let t0 end.",
+      "Stop A before it locks pred, which is the node of 3. Let B remove 3. Then let A end.",
     ],
-    shortest: [25, 2],
+    lacks: "The validation does not look at the marks.",
+    others: {
+      "The validation does not look whether pred still leads to curr.": "it looks at that, with both locks",
+      "A remove does not mark its node.": "it marks the node before it unlinks it",
+    },
+    start: [["add", 5], ["remove", 3]], shortest: [25, 2],
+    missing: [{ row: 6, part: "pred unmarked," }, { row: 7, part: "and curr unmarked" }],
   },
   "mark-in-add": {
-    grade: 1,
     story: "A marked link must not change. Somebody changes it all the same.",
     hints: [
       "An add of 5, and a remove of the node in front of it.",
       "The remove must have marked the node of 3, and done no more.",
-      "Stop t0 before its last step. Let t1 remove 3 until it has set the mark. Then let t0 end.",
+      "Stop A before its last step. Let B remove 3 until it has set the mark. Then let A end.",
     ],
-    shortest: [17, 2],
+    lacks: "An add inserts its node behind a marked one.",
+    others: {
+      "A remove does not mark its node.": "it marks the node before it unlinks it",
+      "An add does not look whether its key is there.": "it compares curr.key with its key",
+    },
+    start: [["add", 5], ["remove", 3]], shortest: [17, 2],
+    missing: [{ row: 7, part: "no mark" }],
   },
   "same-node": {
-    grade: 2,
     story: "The second walk looks for pred. It meets something that looks like it.",
     hints: [
       "Three calls: an add of 5, and of the other thread a remove and an add of one key.",
       "The node of 3 is unlinked, and another node of 3 is inserted.",
-      "Stop t0 at row 4, before it locks pred, the old node of 3. Let t1 remove 3 and add 3 again. Then let t0 end.",
+      "Stop A before it locks pred, the old node of 3. Let B remove 3 and add 3 again. Then let A end.",
     ],
-    shortest: [36, 3],
+    lacks: "The second walk looks for the key of pred, and not for the node itself.",
+    others: {
+      "It does not walk a second time.": "it walks from the head again, with its locks",
+      "It does not lock pred.": "it locks pred and curr",
+    },
+    start: [["add", 5], ["remove", 3]], shortest: [36, 3],
+    missing: [{ row: 7, part: "pred is met" }],
   },
   "mark-at-key": {
-    grade: 2,
     story: "A marked node can stay in the chain for a while. Who reads it there?",
     hints: [
       "Three calls: an add of 5, a remove of 7, and then a contains of 7.",
-      "A remove whose last compare-and-exchange fails leaves its node in the chain, marked.",
-      "Stop t0 before it links 5 in. Let t1 remove 7 up to its last step. Link 5 in, let t1 end. Then call contains(7).",
+      "A remove whose last compare-and-set fails leaves its node in the chain, marked.",
+      "Stop A before it links 5 in. Let B remove 7 up to its last step. Link 5 in, let B end. Then call contains(7).",
     ],
-    shortest: [26, 3],
+    lacks: "A contains does not look at the mark of the node with its key.",
+    others: {
+      "A remove does not mark its node.": "it marks the node before it unlinks it",
+      "A contains stops before it comes to its key.": "it walks on while curr.key is below its key",
+    },
+    start: [["add", 5], ["remove", 7]], shortest: [26, 3],
+    missing: [{ row: 22, part: "and unmarked" }],
   },
   "mark-in-ceiling": {
-    grade: 2,
     story: "ceiling(2) asks for the smallest key from 2 on. It takes the first node that it finds. Any node?",
     hints: [
       "A remove of 3, and a ceiling of 2. Let something end in between.",
       "The remove has marked the node of 3 and has not ended. A contains of 3 answers false. And then the ceiling?",
-      "Stop t0 after it set the mark. Let t1 call contains(3), and then ceiling(2).",
+      "Stop A after it set the mark. Let B call contains(3), and then ceiling(2).",
     ],
-    shortest: [16, 3],
+    lacks: "A ceiling does not look at the mark of its node.",
+    others: {
+      "A ceiling stops before it comes to its key.": "it walks on while curr.key is below its key",
+      "A remove does not mark its node.": "it marks the node before it unlinks it",
+    },
+    start: [["remove", 3], ["contains", 3]], shortest: [16, 3],
+    missing: [{ row: 25, part: "if marked: start again;" }],
   },
   "mark-in-contains": {
-    grade: 3,
     story: "Here contains does not look at the mark. No schedule is known after which no order explains the calls. Why not?",
     hints: [
       "A remove of 3, and a contains of 3 by the other thread.",
       "The remove has set its mark and is still pending. So it may come after the contains.",
       "When the remove has ended, can a new contains still reach its node? In this list a remove ends after the node is unlinked.",
     ],
-    shortest: null,
+    lacks: "A contains does not look at the mark of its node.",
+    others: {},
+    start: [["remove", 3], ["contains", 3]], shortest: null,
+    missing: [{ row: 22, part: "and unmarked" }],
   },
-};
-
-// What a list lacks, in words, where the level has no words of its own.
-export const LACKS_IN_WORDS = {
-  "second-lock": "A remove locks only pred, and not the node that it unlinks.",
-  "hand-over-hand": "A walk releases one lock before it has the next.",
-  "second-walk": "With the locks it does not walk again: pred may not be in the list any more.",
-  "same-node": "The second walk looks for the key of pred, and not for the node itself.",
-  "marks-in-validation": "The validation does not look at the marks.",
-  "mark-in-contains": "A contains does not look at the mark of its node.",
-  "mark-in-ceiling": "A ceiling does not look at the mark of its node.",
-  mark: "A remove unlinks its node without marking it first.",
-  "mark-in-add": "An add inserts its node behind a marked one.",
-  "mark-in-remove": "A remove marks a node that is marked already.",
-  "mark-at-key": "A contains does not look at the mark of the node with its key.",
-  "new-slot": "An add writes into the node of its last key.",
 };

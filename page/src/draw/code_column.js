@@ -17,7 +17,7 @@ const operationsOf = (trace) => [...new Set(trace.calls.map(({ operation }) => o
 const LETTERS = 7; // that stand left of a line, the edge of a chip for one more each
 
 // The chips of the threads at a line: in full, or their numbers alone, or the first of them and how many more.
-export function drawWho(threads) {
+function drawWho(threads) {
   const numbers = threads.map(String);
   const cut = numbers.map((_, at) => [...numbers.slice(0, -1 - at), `+${at + 1}`]);
   const lettersOf = (texts) => texts.reduce((sum, text) => sum + text.length + 1, 0);

@@ -56,85 +56,43 @@ export const readExamples = (text) =>
 // An error of a text: its line and cause, each null where the answer names none, and the engine's own words.
 export function readFault(text) {
   const says = text.trim();
-  const [, line = null, cause = null] = /line (\d+)(?: of the schedule is refused)?: (\w+)/i.exec(says) ?? [];
+  const [, line = null, cause = null] = /^listset: line (\d+): (\w+)$/.exec(says) ?? [];
   return { line: line === null ? null : Number(line), cause, says };
 }
 
-// What `check` says of a report: ok, refused with the call that clashes (or null), or trouble with the text.
-export function readCheck(text) {
-  const says = text.trim();
-  if (says === "ok") return { kind: "ok", call: null, says };
-  const refused = /^refused \w+(?: (\d+))?/.exec(says);
-  if (refused === null) return { kind: "trouble", call: null, says };
-  return { kind: "refused", call: refused[1] === undefined ? null : Number(refused[1]), says };
+// The record of a verdict (listset_judge_record, listset_check_record): lines of a word and its values. Its kind is the verdict's word, or
+// `fault` with the engine's line about the text.
+export function readVerdict({ text }) {
+  const lines = linesIn(text);
+  const find = (word) => lines.find((line) => line.startsWith(`${word} `)) ?? null;
+  const valuesOf = (word) => find(word)?.split(" ").slice(1) ?? [];
+  const [kind = "fault"] = valuesOf("verdict");
+  if (kind === "fault") return { kind, fault: readFault(text), order: null, why: null };
+  const [[count], [cut], [key = null], [moment = null]] = ["calls", "cut", "key", "moment"].map(valuesOf);
+  const [[since = null, there], [hidden, first, last]] = ["since", "hidden"].map(valuesOf);
+  const by = find("by")?.slice("by ".length);
+  const why = {
+    key: key === null ? null : Number(key),
+    moment, // up to which the calls have no order; null: the key is left otherwise
+    since, // from which moment on they have none; 0: from the beginning; null: not known
+    isThere: there === "true",
+    by: by === undefined ? null : callOfRecording(by),
+    calls: lines.filter((line) => line.startsWith("call ")).map(callOfRecording),
+    hidden: hidden === undefined ? null : { count: Number(hidden), first, last },
+  };
+  const ofCalls = { count: Number(count), overlapped: Number(valuesOf("overlapped")[0]), isCutOff: cut === "true" };
+  return { kind, ...ofCalls, order: orderIn(valuesOf("order"), valuesOf("set")), why: kind === "none" ? why : null };
 }
 
-// Why an order is refused, in the forms of `show`'s line about it: a reply that is not that of the set, or of the run; a call before
-// another one that had ended; other keys than are left.
-const REFUSALS = [
-  { kind: "reply", form: /^refused WrongReply (\d+): place (\d+) says (\S+), and .*?the set is (\{.*\}) and answers (\S+)$/, names: ["call", "place", "reply", "set", "answers"] },
-  { kind: "run", form: /^refused WrongReply (\d+): place \d+ says (\S+), and the history says/, names: ["call", "reply"] },
-  { kind: "early", form: /^refused TooEarly (\d+): it begins at (\d+) and stands before call (\d+), which ended at (\d+)$/, names: ["call", "begun", "first", "ended"] },
-  { kind: "keys", form: /^refused WrongSet: the order leaves (\{.*\}), and the keys are (\{.*\})$/, names: ["set", "keys"] },
-];
-
-function readRefused(says) {
-  for (const { kind, form, names } of REFUSALS) {
-    const found = form.exec(says);
-    if (found !== null) return { kind, says, ...Object.fromEntries(names.map((name, at) => [name, found[at + 1]])) };
-  }
-  return { kind: "other", says };
-}
-
-// What `show` knows of the other orders of a report whose own is refused: that there is none, and why; another one; or that it is not
-// known. Of a report whose own order explains it, that; of one that it does not draw, its line about that.
-const ENDINGS = {
-  "not linearizable": "none",
-  "another order explains this report": "another",
-  "it is not known whether another order explains this report": "unknown",
+// Why an order is refused: the values by the fault's name; of all others the call.
+const FAULT_VALUES = {
+  HistoryReply: ["call", "reply"],
+  SetReply: ["call", "reply", "place", "answer"],
+  TooEarly: ["call", "begun", "other", "ended"],
+  WrongSet: [],
 };
 
-export function readShow({ status, text }) {
-  const lines = linesIn(text);
-  const line = lines.find((one) => one.startsWith("refused "));
-  const refused = line === undefined ? null : readRefused(line);
-  const at = lines.findIndex((one) => Object.hasOwn(ENDINGS, one));
-  if (at === -1) return { kind: status === 0 ? "own" : "trouble", refused, why: null, says: lines[0] };
-  return { kind: ENDINGS[lines[at]], refused, why: readWhy(lines.slice(at + 1)), says: lines[at + 1] ?? "" };
-}
-
-const WHY = /^no order explains the calls of key (\d+) (up to|and leaves)/;
-const FROM = /^(?:at first|after the calls that ended by moment (\d+)) the key is (there|not there)/;
-
-// Why no order explains calls: the key, whether it is left otherwise, after which moment (null: at first) it is there or not; the calls
-// that have no order from there; and the parts in the engine's words, each with the calls below it. They stand below `not linearizable`:
-//
-//     no order explains the calls of key 7 up to moment 80
-//     after the calls that ended by moment 40 the key is there, by this change:
-//     call 1 add 7 10 40 true
-//     from there these calls have no order:
-//     call 2 contains 7 50 60 false
-function readWhy(lines) {
-  const [, key, what] = WHY.exec(lines[0]) ?? [];
-  if (key === undefined) return null;
-  const told = [];
-  for (const line of lines) {
-    if (line.startsWith("call ")) told.at(-1).calls.push(callOfRecording(line));
-    else told.push({ says: line, calls: [] });
-  }
-  const [, since = null, is = null] = FROM.exec(told[1]?.says) ?? [];
-  const calls = told.find(({ says }) => says.startsWith("from there"))?.calls ?? [];
-  return { key: Number(key), isLeft: what === "and leaves", since, is, calls, told };
-}
-
-// What `judge` says of a recording: ok, with the number of calls, whether it was cut off, and remarks; none, and why; or a fault.
-export function readJudge(text) {
-  const [first, ...lines] = linesIn(text);
-  const count = /^ok (\d+) calls$/.exec(first)?.[1];
-  if (count !== undefined) {
-    const isCutOff = lines.some((line) => line.startsWith("the recording was cut off"));
-    return { kind: "ok", count: Number(count), isCutOff, remarks: lines };
-  }
-  const why = first === "not linearizable" ? readWhy(lines) : null;
-  return why === null ? { kind: "fault", fault: readFault(first) } : { kind: "none", why };
+function orderIn([fault, ...values], keys) {
+  if (fault === undefined) return null;
+  return { fault, set: `{${keys.join(", ")}}`, ...Object.fromEntries((FAULT_VALUES[fault] ?? ["call"]).map((name, at) => [name, values[at]])) };
 }

@@ -67,16 +67,6 @@ function loadScript(src) {
   });
 }
 
-// The words for the options of listset_show, as texts: of those that are not given, nothing.
-export function optionWords({ from, to, width }) {
-  return wordsOf([from, to, width].map((text) => (text === undefined ? "" : `=${text}`)));
-}
-
-// Words as an export takes them.
-export function wordsOf(words) {
-  return words.join("\0");
-}
-
 // Asks once, and a second time with the room that the answer needs.
 export function answerOf(engine, name, given) {
   const texts = textsOf(engine, engine[name].length, given);

@@ -8,12 +8,12 @@ import { toggleKeys, toggleLecture } from "./keys.js";
 import { cancelLong } from "./long_run.js";
 import { chooseInList } from "./menu.js";
 import { change, dispatch, now, show, tell } from "./now.js";
-import { isAtWork, PHONE } from "./places.js";
+import { PHONE } from "./places.js";
 import { changeSpeed, goByHand, togglePlay, wantsLessMotion } from "./play.js";
 import { savePicture } from "./save_picture.js";
 import { drawnHistory, showMarks, watchEditor } from "./view.js";
 import { copyLink, keepSoon } from "./visit.js";
-import { leaveWhatIf, newSchedule, redo, runBox, runWithOpening, undo } from "./work.js";
+import { newSchedule, runBox, runWithOpening } from "./work.js";
 
 function clickHistory(event) {
   const drawn = byId("calls").firstElementChild.getBoundingClientRect();
@@ -49,10 +49,13 @@ export function stopUnable(event) {
   event.preventDefault();
 }
 
-// Past the links of the frame, for whoever comes by the key Tab: to the step, to the first move of a lesson or level, or to the first
-// link of a map.
+// Past the links of the frame, for whoever comes by the key Tab: to the step, to what can be pressed first, or to the first link of a map.
 function skipToRun() {
-  const first = { map: `#map-${now.place.activity} a, [data-activity=compare] #sides-turns button`, stage: isAtWork() ? "#moves button" : "#next" };
+  const first = {
+    map: `#map-${now.place.activity} a, [data-activity=compare] #sides-turns button`,
+    stage: "#next",
+    scene: "#scene :is(.option, .fig button, .card, .foot .primary)",
+  };
   document.querySelector(first[now.place.screen])?.focus();
 }
 
@@ -100,12 +103,6 @@ export function listenToWork() {
   byId("examples").onchange = () => chooseInList(byId("examples").value);
   byId("run").onclick = runBox;
   byId("opening").onchange = runWithOpening;
-  byId("undo").onclick = undo;
-  byId("redo").onclick = redo;
-  byId("what-if-back").onclick = () => {
-    leaveWhatIf();
-    byId("next").focus();
-  };
   byId("link").onclick = copyLink;
   byId("new").onclick = () => newSchedule(byId("new-list").value, byId("new-threads").value, byId("new-quota").value);
   box.onscroll = showMarks;
@@ -131,17 +128,8 @@ export function listenToFiles() {
 export function placeParts() {
   const narrow = matchMedia("(max-width: 940px)");
   const place = () => {
-    for (const name of ["schedule-box", "new-box", "files-box", "threads-box", "lesson-goal"]) byId(name).open = !narrow.matches;
+    for (const name of ["schedule-box", "new-box", "files-box", "threads-box"]) byId(name).open = !narrow.matches;
   };
   narrow.addEventListener("change", place);
   place();
-}
-
-// At work the moves stand right below the list, else below the history.
-export function placeMoves(isBelow) {
-  const wanted = byId(isBelow ? "moves-wide" : "moves-narrow");
-  if (byId("moves-box").parentElement === wanted) return;
-  const focused = document.activeElement;
-  wanted.append(byId("moves-box"));
-  if (wanted.contains(focused)) focused.focus();
 }

@@ -1,20 +1,20 @@
 // Files: a schedule, a trace or a report that is opened; a schedule and a trace that are saved. And the box of the report.
-import { readShow } from "../engine/answers.js";
+import { readVerdict } from "../engine/answers.js";
 import { askList } from "../run/broken.js";
 import { faultOfTrace } from "../run/check_trace.js";
-import { recordedInWords } from "../run/recorded.js";
+import { reasonsOf } from "../run/recorded.js";
 import { scheduleOfTrace } from "../run/schedule_text.js";
 import { isTrace, Trace } from "../run/trace.js";
 import { byId } from "./dom.js";
 import { askLong, LONG_TEXT } from "./long_run.js";
 import { announce, askNow, dispatch, held, NO_ENGINE, now, takeScheduleOfTrace, takeTrace, tellTrouble } from "./now.js";
-import { beginTask, keepBefore, openTask, ownTask } from "./work.js";
+import { beginTask, openTask, ownTask } from "./work.js";
 
 const REPLY_WIDTH = 60; // of a call in the picture of a report: what stands right of its bar
 
-export function saveText(name, text) {
+export function saveText(name, text, type = "text/plain") {
   const link = document.createElement("a");
-  link.href = URL.createObjectURL(new Blob([text], { type: "text/plain" }));
+  link.href = URL.createObjectURL(new Blob([text], { type }));
   link.download = name;
   link.click();
   URL.revokeObjectURL(link.href);
@@ -63,7 +63,6 @@ export async function openFile(file) {
 function openTrace(text, task) {
   const fault = faultOfTrace(text);
   if (fault !== null) return tellTrouble(`this is no trace: ${fault}`);
-  keepBefore();
   beginTask(task);
   takeTrace(new Trace(text), 0, "a trace from a file");
   takeScheduleOfTrace();
@@ -97,7 +96,7 @@ function drawPicture(text) {
   byId("picture-box").hidden = !drawn.startsWith("<svg ");
   if (byId("picture-box").hidden) return;
   byId("picture").innerHTML = drawn;
-  const said = refusalIn(askNow("listset_show", text));
+  const said = refusalIn(text);
   byId("picture-says").textContent = said;
   const svg = byId("picture").firstElementChild;
   svg.setAttribute("role", "img");
@@ -105,11 +104,11 @@ function drawPicture(text) {
   scrollToClash();
 }
 
-// The lines of a picture that say why its order is refused, or which event is, and why no order explains the report.
-function refusalIn(drawn) {
-  const { refused, why } = readShow(drawn);
-  const reasons = (why?.told ?? []).flatMap(({ says, calls }) => (calls.length === 0 ? [says] : calls.map(recordedInWords)));
-  return [...(refused === null ? [] : [refused.says]), ...reasons].join("; ");
+// What is said beside a picture: its own line about why its order is refused, or which event is; and why no order explains the report.
+function refusalIn(text) {
+  const refused = askNow("listset_show", text).text.split("\n").filter((line) => line.startsWith("refused "));
+  const { why } = readVerdict(askNow("listset_check_record", text));
+  return [...refused.slice(0, 1), ...(why === null ? [] : reasonsOf(why))].join("; ");
 }
 
 // Brings the first call that clashes into sight, with its reply, where the picture is wider than its place.

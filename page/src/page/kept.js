@@ -31,20 +31,20 @@ export function keepUnder(name, value) {
 
 export const isText = (value) => typeof value === "string";
 const isWork = (kept) => typeof kept?.text === "string" && typeof kept.box === "string" && Number.isInteger(kept.count);
-const KINDS = ["own", "example", "lesson", "level", "seed"];
+const KINDS = ["own", "example", "lesson", "seed"];
 const isTask = (task) => KINDS.includes(task?.kind) && isText(task.id) && isText(task.course);
 
 // The task of a work that an earlier version of the page kept: its name told what it was for.
-function taskOfName(name, lacks) {
+function taskOfName(name) {
   const [, lesson, course = BOOK_NAME] = /^lesson ([a-z0-9-]+)(?: of (.+?))?(?: \d+)?$/.exec(name) ?? [];
   if (lesson !== undefined) return { kind: "lesson", id: lesson, course };
   const [, example] = /^from ([a-z-]+)(?: \d+)?$/.exec(name) ?? [];
   if (Object.hasOwn(CLASSICS, example)) return { kind: "example", id: example, course: "" };
-  return lacks === null ? { kind: "own", id: "", course: "" } : { kind: "level", id: lacks, course: "" };
+  return { kind: "own", id: "", course: "" };
 }
 
 /** @type {(entry: any[]) => [string, any]} */
-const workOf = ([name, kept]) => [name, { ...kept, task: isTask(kept.task) ? kept.task : taskOfName(name, kept.lacks ?? null) }];
+const workOf = ([name, kept]) => [name, { ...kept, task: isTask(kept.task) ? kept.task : taskOfName(name) }];
 
 // The works by their names, the last one last: of each its text, that of the box, its event, and its task.
 export const works = {
@@ -95,7 +95,7 @@ export function keepWork() {
   if (held.engine === null || run.text === "" || isLookedAt || task.work === "") return;
   const before = works.byName.get(task.work);
   if (before?.text === run.text && before.box === box && before.count === run.count) return;
-  const { kind, id, course } = task;
-  works.set(task.work, { text: run.text, box, count: run.count, lacks: run.lacks, task: { kind, id, course } });
+  const { kind, id } = task;
+  works.set(task.work, { text: run.text, box, count: run.count, lacks: run.lacks, task: { kind, id, course: "" } });
   announce("kept");
 }

@@ -1,17 +1,15 @@
-// What can be opened by its name: the reader's works, the broken lists, and the classic examples; and the question of the example that
+// What can be opened by its name: the reader's works and the classic examples; and the question of the example that
 // is shown, with the events at which it turns.
-import { CLASSICS, LACKING } from "../../made/classics.js";
-import { titleOfLacking } from "../run/broken.js";
+import { CLASSICS } from "../../made/classics.js";
 import { tag } from "../run/markup.js";
 import { eventsAsked } from "../run/schedule_text.js";
 import { byId, redraw } from "./dom.js";
 import { examples, openKept } from "./example.js";
 import { works } from "./kept.js";
-import { exampleShown, held, isForked, isJudging, now } from "./now.js";
-import { openExample, openLacking, openWork } from "./work.js";
+import { exampleShown, held, isJudging, now } from "./now.js";
+import { openExample, openWork } from "./work.js";
 
 const WORK = "work: ";
-const BREAK = "break: ";
 
 // The list of what can be opened: the works, the last one first; and what is shown is chosen there.
 export function fillWorks() {
@@ -30,16 +28,9 @@ export function fillExamples() {
   byId("example-options").replaceChildren(...examples().map(({ name, kind }) => new Option(`${name} (${kind})`, name)));
 }
 
-// The broken lists, with a tick at each that was broken.
-export function fillLacking(broken) {
-  const textOf = (name) => `${broken.has(name) ? "✓ " : ""}${titleOfLacking(name)}`;
-  byId("break-options-list").replaceChildren(...Object.keys(LACKING).map((name) => new Option(textOf(name), `${BREAK}${name}`)));
-}
-
 // What was chosen in the list of what can be opened.
 export function chooseInList(value) {
   if (value.startsWith(WORK)) openWork(value.slice(WORK.length));
-  else if (value.startsWith(BREAK)) openLacking(value.slice(BREAK.length));
   else if (value !== "") pickExample(value, 0);
 }
 
@@ -49,14 +40,13 @@ export const pickExample = (name, count, told = "") => (held.engine === null ? o
 export function showQuestion() {
   if (now.task.kind !== "example") return;
   const classic = CLASSICS[now.task.id];
-  byId("see-broken").hidden = held.engine === null || classic.lacks.length === 0;
   const box = byId("turns-box");
   if (box.dataset.example !== now.task.id) {
     box.open = byId("without-box").open = false;
     box.dataset.example = now.task.id;
   }
   const { total } = now.run.trace;
-  const turns = isForked() ? [] : classic.turns;
+  const { turns } = classic;
   const place = (event) => `left: calc(8px + (100% - 16px) * ${event / total})`;
   byId("ticks").innerHTML = box.open && !isJudging() ? turns.map((event) => `<i style="${place(event)}"></i>`).join("") : "";
   byId("question").textContent = classic.question;

@@ -7,7 +7,7 @@ import { scheduleOfTrace } from "../run/schedule_text.js";
 import { momentAt } from "../run/sentences.js";
 import { State } from "../run/state.js";
 import { byId } from "./dom.js";
-import { exampleIn, isWhatIf, reduce, stateAtFirst } from "./state.js";
+import { exampleIn, reduce, stateAtFirst } from "./state.js";
 
 export const NO_ENGINE = "The replayer does not run in this browser: no schedule can be run, no report checked. A file of listset trace can be opened.";
 
@@ -18,6 +18,9 @@ export const held = { state: stateAtFirst(), engine: null, render: () => {} };
 export const now = {
   get place() {
     return held.state.place;
+  },
+  get scene() {
+    return held.state.scene;
   },
   get run() {
     return held.state.run;
@@ -57,7 +60,6 @@ export function announce(what, ...given) {
 export const isJudging = () => now.exercise !== null;
 export const hiddenOutcomes = () => (isJudging() ? LEVELS[now.exercise.level].hidden : []);
 export const exampleShown = () => exampleIn(held.state);
-export const isForked = () => isWhatIf(held.state);
 
 export function goTo(count) {
   tell("");

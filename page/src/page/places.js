@@ -1,11 +1,10 @@
-// Where the reader is: one of the six activities, and in it the map of what there is, or the stage; and what is seen there.
+// Where the reader is: a scene of the story, or an activity, and in that the map of what there is, or the stage; and what is seen there.
 import { byId, setHidden } from "./dom.js";
 import { change, now, show } from "./now.js";
 import { factsOf, SEEN } from "./seen.js";
 
 export const PHONE = 560; // pixels, as in the style sheets
 export const isAtMap = () => now.place.screen === "map";
-export const isAtWork = () => now.place.activity === "learn" || now.place.activity === "break"; // there the moves stand below the picture
 
 export function goToPlace(activity, screen) {
   change("place", { activity, screen });
@@ -14,7 +13,7 @@ export function goToPlace(activity, screen) {
 
 // What is seen in a state; and the activity is marked as the one that is open.
 export function showParts(state) {
-  const facts = factsOf(state, { hasEngine: services.hasEngine, isPhone: innerWidth <= PHONE });
+  const facts = factsOf(state, { hasEngine: services.hasEngine });
   for (const [id, isSeen] of Object.entries(SEEN)) setHidden(byId(id), !isSeen(facts), byId("skip"));
   const { activity, screen, view } = state.place;
   const key = [activity, screen, view, facts.hasEngine].join();
@@ -23,17 +22,12 @@ export function showParts(state) {
   for (const part of document.querySelectorAll(".of-engine:not([id])")) part.hidden = !facts.hasEngine;
   Object.assign(document.body.dataset, { activity, screen, view: view ?? "" });
   for (const link of document.querySelectorAll("nav [data-to]")) {
-    if (link.dataset.to === activity) link.setAttribute("aria-current", "page");
+    if (link.dataset.to.split(" ").includes(activity)) link.setAttribute("aria-current", "page");
     else link.removeAttribute("aria-current");
   }
 }
 const placed = { key: "" };
 export const services = { hasEngine: true }; // until it is known that there is none
-
-export function setProgress(id, done, total) {
-  byId(id).textContent = `${done}/${total}`;
-  byId(id).setAttribute("aria-label", `${done} of ${total}`);
-}
 
 const ONE_COLUMN = 800; // pixels, as in style/views.css: in a window that is no wider the parts of a slide stand below one another
 

@@ -28,7 +28,7 @@ export function stopPlay() {
 }
 
 // Plays on from here, and from the start where nothing is left.
-export function startPlay(stop = NO_STOP) {
+function startPlay(stop = NO_STOP) {
   const { count, trace } = now.run;
   if (trace.total === 0) return;
   play.stop = stop;

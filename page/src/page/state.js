@@ -2,8 +2,23 @@
 //
 // @ts-check
 /**
- * @typedef {"watch" | "learn" | "judge" | "break" | "compare" | "read"} Activity
- * @typedef {{ activity: Activity, screen: "map" | "stage", view: "lecture" | "list" | "history" | null }} Place
+ * @typedef {"story" | "ask" | "code" | "break" | "learn" | "teachers" | "assignment"} SceneName
+ * @typedef {"watch" | "judge" | "compare" | "read" | SceneName} Activity
+ * @typedef {object} Place  A scene of the story has the id of what is shown there, and `given`, what else its address says.
+ * @property {Activity} activity
+ * @property {"map" | "stage" | "scene"} screen
+ * @property {string} id
+ * @property {Record<string, string>} given
+ * @property {"lecture" | "embed" | "list" | "history" | null} view
+ * @typedef {object} Scene  How far one is in a scene.
+ * @property {"" | "task" | "again" | "guess" | "playing" | "moment" | "done"} stage
+ * @property {number | null} chosen  the answer that was pressed; -1 where it was to be shown
+ * @property {string} note
+ * @property {string} text  the schedule of its run, where the address has it
+ * @property {number} hints
+ * @property {number} at  the branch that is shown
+ * @property {any[]} branches
+ * @property {string[]} wrong  wrong answers, so far
  * @typedef {object} Run  What was run: the text, its trace, the list without a check (or null), and the state after `count` events.
  * @property {string} text
  * @property {any} trace
@@ -13,53 +28,49 @@
  * @property {string} source  who ran it, in words
  * @property {boolean} isRun  whether the trace is that of the text
  * @property {number | null} faultLine
- * @typedef {"own" | "example" | "lesson" | "level" | "seed"} Kind
+ * @typedef {"own" | "example" | "seed"} Kind
  * @typedef {object} Task  What the run is for: of which kind, its id, the name under which tries are kept, and the text with which it begins.
  * @property {Kind} kind
  * @property {string} id
- * @property {string} course  of a lesson
  * @property {string} work
  * @property {string} begun
- * @property {any} verdict  on the run of a lesson or of a level
  * @typedef {{ hides: boolean, allThreads: boolean, letters: boolean }} Prefs
- * @typedef {{ place: Place, run: Run, task: Task, exercise: any, prefs: Prefs }} State
+ * @typedef {{ place: Place, scene: Scene, run: Run, task: Task, exercise: any, prefs: Prefs }} State
  * @typedef {{ [name: string]: any, type: string }} Action
  */
 
-const NO_TASK_YET = { kind: "own", id: "", course: "", work: "", begun: "", verdict: null };
+const NO_TASK_YET = { kind: "own", id: "", work: "", begun: "" };
+
+/** @type {Scene} */
+const SCENE_AT_FIRST = { stage: "", chosen: null, note: "", text: "", hints: 0, at: 0, branches: [], wrong: [] };
 
 /** @returns {State} */
 export const stateAtFirst = () => ({
-  place: { activity: "watch", screen: "stage", view: null },
+  place: { activity: "watch", screen: "stage", id: "", given: {}, view: null },
+  scene: SCENE_AT_FIRST,
   run: { text: "", trace: null, state: null, count: 0, lacks: null, source: "", isRun: false, faultLine: null },
   task: /** @type {Task} */ ({ ...NO_TASK_YET }),
   exercise: null,
   prefs: { hides: true, allThreads: false, letters: true },
 });
 
-const ACTIVITY_OF_TASK = /** @type {const} */ ({ lesson: "learn", level: "break" });
-
 /** The activity to which a run belongs. @param {State} state @returns {Activity} */
-function activityOfRun({ task, run, exercise }) {
-  if (exercise !== null) return "judge";
-  return ACTIVITY_OF_TASK[task.kind] ?? (run.lacks === null ? "watch" : "break");
-}
+const activityOfRun = ({ exercise }) => (exercise !== null ? "judge" : "watch");
 
-/** Whether the run of an example, or of a number, is no longer that with which it began. @param {State} state */
-export const isWhatIf = ({ task, run }) => (task.kind === "example" || task.kind === "seed") && run.text !== task.begun;
-
-/** The example that is shown as it is, or "". @param {State} state */
-export const exampleIn = (state) => (state.task.kind === "example" && !isWhatIf(state) ? state.task.id : "");
+/** The example that is shown, or "". @param {State} state */
+export const exampleIn = ({ task }) => (task.kind === "example" ? task.id : "");
 
 /** A run has the stage of its activity. @param {State} state @returns {State} */
-const onStage = (state) => ({ ...state, place: { ...state.place, activity: activityOfRun(state), screen: "stage" } });
+const onStage = (state) => ({ ...state, place: { ...state.place, activity: activityOfRun(state), screen: "stage", id: "", given: {} } });
 
 const within = (count, { total }) => Math.max(0, Math.min(total, count));
 
 /** @type {Record<string, (state: State, action: Action) => State>} */
 const MAKES = {
-  // A map, or another place without a run, is shown.
-  place: (state, { activity, screen }) => ({ ...state, place: { ...state.place, activity, screen } }),
+  // A map, a scene, or another place without a run of the bench, is shown.
+  place: (state, { activity, screen, id = "", given = {} }) =>
+    ({ ...state, place: { ...state.place, activity, screen, id, given }, scene: SCENE_AT_FIRST }),
+  scene: (state, { type, ...given }) => ({ ...state, scene: { ...state.scene, ...given } }),
   view: (state, { view }) => ({ ...state, place: { ...state.place, view } }),
   // Something is begun: what is run from now on is for this task.
   task: (state, { task, lacks = null }) =>
@@ -71,14 +82,13 @@ const MAKES = {
     const isGood = trace.refused === null;
     const faultLine = isGood ? null : trace.refused.line;
     const run = { ...state.run, trace, state: ofTrace, source, lacks: trace.lacks, isRun: true, faultLine, count: within(count, trace) };
-    return { ...state, run, task: { ...state.task, verdict: null }, exercise: null };
+    return { ...state, run, exercise: null };
   },
   // The text with which the task began.
   begun: (state, { begun }) => ({ ...state, task: { ...state.task, begun } }),
   source: (state, { source }) => ({ ...state, run: { ...state.run, source } }),
   fault: (state, { line, isOld }) => ({ ...state, run: { ...state.run, faultLine: line, isRun: !isOld } }),
   count: (state, { count }) => ({ ...state, run: { ...state.run, count: within(count, state.run.trace) } }),
-  verdict: (state, { verdict }) => ({ ...state, task: { ...state.task, verdict } }),
   exercise: (state, { exercise }) => onStage({ ...state, exercise }),
   prefs: (state, { type, ...given }) => ({ ...state, prefs: { ...state.prefs, ...given } }),
 };
@@ -91,5 +101,7 @@ export function reduce(state, action) {
 }
 
 /** What an entry of the browser's history is: a place or a task, and not a step of its run. @param {State} state */
-export const entryOf = ({ place, task, exercise }) =>
-  [place.activity, place.screen, place.view, ...(place.screen === "map" ? [] : [task.kind, task.id, task.course, exercise !== null])].join("\n");
+export function entryOf({ place, task, exercise }) {
+  const ofRun = place.screen === "stage" ? [task.kind, task.id, exercise !== null] : [place.id, JSON.stringify(place.given)];
+  return [place.activity, place.screen, place.view, ...ofRun].join("\n");
+}

@@ -6,13 +6,14 @@ import { drawCalls, heightOfCalls, scaleOf } from "../draw/history.js";
 import { drawList } from "../draw/list.js";
 import { drawListing } from "../draw/listing.js";
 import { arranged, shapeFor } from "../draw/places.js";
-import { forgetRoom, keptHeight, roomOf } from "../draw/room.js";
+import { forgetRoom, roomOf } from "../draw/room.js";
 import { drawTable } from "../draw/table.js";
 import { drawThreads, MOST_ROWS } from "../draw/threads.js";
+import { colourOf } from "../run/markup.js";
 import { momentAt, sentenceOf } from "../run/sentences.js";
 import { byId, keepHeight, setAble, setHtml } from "./dom.js";
 import { hiddenOutcomes, isJudging, now } from "./now.js";
-import { isAtWork, slideZoom } from "./places.js";
+import { slideZoom } from "./places.js";
 
 const LINE_HEIGHT = 21;
 
@@ -38,14 +39,13 @@ function showList({ state, event }, wide) {
   const shape = shapeFor(wide);
   if (glided.shape !== shape) forgetRoom(); // the page is as narrow as a phone now, or no longer
   const sizeAt = (number) => arranged(state, momentAt(state, number).event, shape);
-  const room = roomOf(trace, sizeAt, arranged(state, event, shape), wide, isAtWork());
+  const room = roomOf(trace, sizeAt, arranged(state, event, shape), wide);
   state.moveTo(count);
   const isNear = glided.trace === trace && Math.abs(glided.count - count) === 1 && byId("speed").value !== "fast";
   Object.assign(glided, { trace, count, shape });
   const draw = () => (byId("list").innerHTML = drawList(state, event, wide, listHeight(), room));
   glide(byId("list"), draw, isNear);
-  const isKept = isAtWork() && now.place.view === null;
-  byId("list").style.minHeight = isKept ? `${keptHeight(Number(byId("list").firstElementChild.getAttribute("height")), wide)}px` : "";
+  if (event !== null) byId("list").firstElementChild.classList.add(colourOf(event.thread));
 }
 
 // What may grow keeps its height. It is asked for once all is drawn, since each question has the whole page laid out.
@@ -117,15 +117,14 @@ function showHistory(event, wide) {
 function listHeight() {
   if (now.place.view === "list" || now.place.view === "history" || innerWidth <= 560) return Infinity;
   if (now.place.view === "lecture") return slideHeight();
-  const isLow = isJudging() || isAtWork();
   const below = byId("bar").clientHeight + heightBelowBar();
-  return Math.max(isLow ? 190 : 260, innerHeight - byId("list").getBoundingClientRect().top - scrollY - below);
+  return Math.max(isJudging() ? 190 : 260, innerHeight - byId("list").getBoundingClientRect().top - scrollY - below);
 }
 
 // What is to be seen below the bar: the reader's answer, the moves, or the history.
 function heightBelowBar() {
   if (isJudging()) return byId("judge").offsetHeight + 90;
-  return isAtWork() ? 90 + 42 * Math.min(now.run.trace.threads, 6) : 142 + callsHeight();
+  return 142 + callsHeight();
 }
 
 // The bars of the history, which scroll if they are too many.

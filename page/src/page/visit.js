@@ -31,7 +31,7 @@ function setAddress() {
   const entry = entryOf(held.state);
   const isNew = visit.entry !== null && visit.entry !== entry;
   visit.entry = entry;
-  keepUnder(HERE, address);
+  if (held.state.place.view !== "embed") keepUnder(HERE, address);
   if (!isNew && location.hash === (address ?? "")) return;
   const { text, count, lacks } = now.run;
   const kept = address === null ? { text, count, lacks } : null;

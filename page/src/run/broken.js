@@ -1,11 +1,11 @@
 // Broken lists: each lacks one check, and the reader looks for a schedule after which no order explains what its calls answer. Here is
 // what needs no browser: its run, the verdict on it, and where the whole list departs from it.
 //
-// The verdict comes from proved functions: `check` judges the order by the moments that the table names, and `show` ends with what is
-// known of all others. That this one order is refused does not say that there is none.
+// The verdict comes from proved functions: one judges the order by the moments that the table names, another all other orders. That this
+// one order is refused does not say that there is none.
 import { LACKING } from "../../made/classics.js";
 import { LISTS } from "../../made/rows.js";
-import { readCheck, readReport, readShow } from "../engine/answers.js";
+import { readReport, readVerdict } from "../engine/answers.js";
 import { nameOfCall } from "./judged.js";
 import { escaped } from "./markup.js";
 import { isFailed, isLock } from "./outcomes.js";
@@ -29,18 +29,8 @@ export const NO_TASK = "mark-in-contains";
 export const isTaskDone = (lacks, { kind }) => kind === "broken" && lacks !== NO_TASK;
 
 // What a function of the engine says of a schedule, on the whole list or on a broken one.
-export const askList = (ask, name, lacks, ...texts) => (lacks === null ? ask(name, ...texts) : ask(`${name}_lacking`, lacks, ...texts));
-
-// The names of the broken lists of this kind.
-const lackingOf = (kind) => Object.keys(LACKING).filter((name) => LACKING[name] === kind);
-
-// What such a list is called, which does not tell what it lacks.
-export function titleOfLacking(name) {
-  const kind = LACKING[name];
-  const names = lackingOf(kind);
-  const which = names.length === 1 ? "" : ` ${names.indexOf(name) + 1}`;
-  return `${LISTS[kind].name}${which} lacks one check`;
-}
+export const askList = (ask, name, lacks, text) =>
+  lacks === null ? ask(name, text) : ask("listset_lacking", lacks, text, name.slice("listset_".length));
 
 export function startOfLacking(name) {
   const set = [titleOf(2), `list ${LACKING[name]}`, `threads ${LACKING_THREADS}`, `quota ${LACKING_QUOTA}`];
@@ -50,27 +40,29 @@ export function startOfLacking(name) {
 // What is said of the run of a schedule on such a list: broken; points, if its own order alone is refused; explained; or refused if it
 // is no run.
 export function verdictOnLacking(ask, lacks, schedule) {
-  const { status, text } = ask("listset_replay_lacking", lacks, schedule);
+  const { status, text } = askList(ask, "listset_replay", lacks, schedule);
   if (status !== 0) return { kind: "refused", says: `The schedule is refused: ${text.trim()}`, report: null };
-  const checked = readCheck(ask("listset_check", text).text);
-  if (checked.kind === "ok") return { kind: "explained", says: EXPLAINED, report: text };
-  if (checked.kind === "trouble") return { kind: "refused", says: `The run is not judged: ${checked.says}.`, report: null };
-  const shown = readShow(ask("listset_show", text));
-  if (shown.kind !== "none") return { kind: "points", says: `${BY_POINTS} ${shown.kind === "another" ? OTHER : UNKNOWN}`, report: text };
-  return { kind: "broken", says: `Broken: ${whyNone(text, shown)}. ${UNEXPLAINED}`, report: text };
+  const verdict = readVerdict(ask("listset_check_record", text));
+  if (verdict.kind === "fault") return { kind: "refused", says: `The run is not judged: ${verdict.fault.says}.`, report: null };
+  if (verdict.kind === "own") return { kind: "explained", says: EXPLAINED, report: text };
+  if (verdict.kind === "none") {
+    const why = whyNone(text, verdict.why);
+    return { kind: "broken", why, says: `Broken: ${why}. ${UNEXPLAINED}`, report: text };
+  }
+  return { kind: "points", says: `${BY_POINTS} ${verdict.kind === "another" ? OTHER : UNKNOWN}`, report: text };
 }
 
 // Why no order explains a report, in words: the key, the event after which it is there or is not, and the few calls that have no order
 // from there.
-function whyNone(text, { why, says }) {
-  if (why === null) return says;
+function whyNone(text, { key, moment, since, isThere, calls }) {
+  if (key === null) return "no order leaves these keys, which do not rise";
+  const isLeft = moment === null;
   const exercise = readReport(text);
-  const { key, isLeft, since, is, calls } = why;
   if (isLeft && isLost(exercise, key)) return `${key} was added once and never removed, and at the end the set does not have it`;
   const left = exercise.keys.includes(key) ? "has it" : "does not have it";
   const then = [...calls.map((call) => callInWords(exercise, call)), ...(isLeft ? [`at the end the set ${left}`] : [])].join(", ");
-  if (is === null) return then === "" ? says : then;
-  return `${key} is ${is} ${since === null ? "at first" : `after event ${since}`}, and then ${then}`;
+  if (since === null) return then === "" ? `the calls of key ${key} have no order` : then;
+  return `${key} is ${isThere ? "there" : "not there"} ${since === "0" ? "at first" : `after event ${since}`}, and then ${then}`;
 }
 
 // Whether a key was put in once, and neither taken out nor there at first, and is not left.

@@ -1,7 +1,7 @@
 // Drafts: schedules in which a line may say `go T out` or `go T to ROW`, on whole lists and broken ones.
 import { isTrace, Trace } from "./trace.js";
 
-export const MOST_TRIED = 1000; // steps of a thread that does not come to where it is sent, to see for what it waits
+const MOST_TRIED = 1000; // steps of a thread that does not come to where it is sent, to see for what it waits
 const DRAFT_LINE = /^go \d+ (?:out|to \d+)$/m;
 
 // The schedule of a text in which a line may say `go T out` or `go T to ROW`, as the engine writes it; or the engine's line about
@@ -17,7 +17,7 @@ export function scheduleOfDraft(ask, text, lacks = null) {
 // it of a draft. What such a list does says its trace.
 function stepsOfLacking(ask, lacks, lines, thread, row) {
   const fault = (cause) => ({ count: null, fault: `listset: line ${lines.length + 1}: ${cause}` });
-  const { text } = ask("listset_trace_lacking", lacks, `${[...lines, `go ${thread} ${MOST_TRIED}`].join("\n")}\n`);
+  const { text } = ask("listset_lacking", lacks, `${[...lines, `go ${thread} ${MOST_TRIED}`].join("\n")}\n`, "trace");
   if (!isTrace(text)) return { count: null, fault: text.trim() };
   const steps = new Trace(text).events().filter(({ line }) => line === lines.length + 1);
   const end = steps.findIndex(({ answer }) => answer !== undefined);

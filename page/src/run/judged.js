@@ -3,8 +3,8 @@
 //
 // The calls and the keys are those of the run; the order and the replies in it are the reader's. So `check` says ok exactly where
 // the reader's order explains what the run did, and it need not be the order that the replayer gives. No set is computed here: why
-// an order is refused says the line of `show` that begins with `refused`.
-import { readCheck, readReport, readShow } from "../engine/answers.js";
+// an order is refused says the engine's record.
+import { readReport, readVerdict } from "../engine/answers.js";
 import { callText, openReply } from "./markup.js";
 
 export const MOST_JUDGED = 60; // events of a run that is judged
@@ -104,21 +104,21 @@ export function verdictOn(ask, answer) {
   const nothing = { isRight: null, clash: null, report: null };
   if (unsaid.length > 0) return { ...nothing, says: `Still missing: ${unsaid.join(", ")}.` };
   const report = reportOfAnswer(answer);
-  const checked = readCheck(ask("listset_check", report).text);
-  if (checked.kind === "ok") return { isRight: true, clash: null, report, says: rightInWords(answer) };
-  if (checked.kind === "trouble") return { ...nothing, says: `This order is not judged: ${checked.says}.` };
-  const { refused } = readShow(ask("listset_show", report));
-  return { isRight: false, clash: checked.call, report, says: refused === null ? checked.says : faultInWords(answer, refused) };
+  const { kind, fault, order } = readVerdict(ask("listset_check_record", report));
+  if (kind === "fault") return { ...nothing, says: `This order is not judged: ${fault.says}.` };
+  if (order === null) return { isRight: true, clash: null, report, says: rightInWords(answer) };
+  const clash = order.call === undefined ? null : Number(order.call);
+  return { isRight: false, clash, report, says: faultInWords(answer, order) };
 }
 
 // A claim that there is no order is judged by what is proved, not by a search: each run of the replayer has an order, and of another
-// report `show` says what is known.
+// report the engine's record says what is known.
 function verdictOnClaim(ask, { isWhole, reportText }) {
   const said = (isRight, says) => ({ isRight, clash: null, report: null, says });
   const there = "There is one: this is a run of a correct list, and each of those has an order (proved). Find it.";
   if (isWhole) return said(false, there);
-  const { kind, says } = readShow(ask("listset_show", reportText));
-  if (kind === "trouble") return said(null, `Whether there is none is not judged: ${says}.`);
+  const { kind, fault } = readVerdict(ask("listset_check_record", reportText));
+  if (kind === "fault") return said(null, `Whether there is none is not judged: ${fault.says}.`);
   if (kind === "none") return said(true, "Right: no order explains this report (proved). It comes from a broken list.");
   if (kind === "unknown") return said(null, "This report comes from a broken list, and whether an order explains it is not known.");
   return said(false, "There is one, although this report comes from a broken list. Find it.");
@@ -133,18 +133,18 @@ function rightInWords(answer) {
 }
 
 // Why an order is refused, in the reader's own terms.
-function faultInWords(answer, refused) {
-  const { call, place, reply, set, answers, begun, first, ended, keys } = refused;
+function faultInWords(answer, { fault, call, place, reply, set, answer: due, begun, other, ended }) {
   const named = (id) => nameOfCall(answer.exercise.calls[Number(id)]);
-  if (refused.kind === "reply") {
+  if (fault === "SetReply") {
     const before = Number(place) === 1 ? "before your first call" : `after ${named(answer.order()[Number(place) - 2].call.id)} in your order`;
-    return `${named(call)} cannot answer ${reply} there: ${before} the set is ${set}, and it would answer ${answers}.`;
+    return `${named(call)} cannot answer ${reply} there: ${before} the set is ${set}, and it would answer ${due}.`;
   }
-  if (refused.kind === "run") return `${named(call)} does not answer ${reply} in this run. Look at what it sees before it answers.`;
-  if (refused.kind === "early") {
-    return `${named(call)} begins at event ${begun}, and in your order it comes before ${named(first)}, which ended at event ${ended}.`;
+  if (fault === "HistoryReply") return `${named(call)} does not answer ${reply} in this run. Look at what it sees before it answers.`;
+  if (fault === "TooEarly") {
+    return `${named(call)} begins at event ${begun}, and in your order it comes before ${named(other)}, which ended at event ${ended}.`;
   }
-  return refused.kind === "keys" ? `Your order leaves the set ${set}; at the end of this run it is ${keys}.` : refused.says;
+  if (fault === "WrongSet") return `Your order leaves the set ${set}; at the end of this run it is {${answer.exercise.keys.join(", ")}}.`;
+  return `This is no order of the calls of this run (${fault}).`;
 }
 
 // The last word of a line that is handed in: the places of the order, or the word none.

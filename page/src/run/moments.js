@@ -1,5 +1,6 @@
 // A run as the goals of lessons look at it, moment by moment: each event, the row at which its thread stood before, and what there
 // is just after it. All of it follows from the lines of the engine's trace.
+import { isFailed, isLock, ownerIn } from "./outcomes.js";
 import { State } from "./state.js";
 
 export class Run {
@@ -56,9 +57,9 @@ function locksIn(state) {
 }
 
 export const locksOf = (moment, thread) => moment.locks.filter((lock) => lock === `t${thread}`).length;
-export const nodeOf = (event) => event.word.split(".")[0];
-export const isFailedStep = ({ event }) => event.deed === "exchange" && event.saw !== event.from;
-export const isFailedTry = (moment) => isFailedStep(moment) && moment.event.word.endsWith(".lock");
+export const nodeOf = (event) => ownerIn(event.word);
+export const isFailedStep = ({ event }) => isFailed(event);
+export const isFailedTry = (moment) => isFailedStep(moment) && isLock(moment.event.word);
 export const isMarkSeen = ({ event }) => event.saw !== undefined && event.saw.endsWith("*");
 export const isReadOfLink = ({ event }) => event.deed === "load" && event.word.endsWith(".link");
 export const isInChain = (moment) => moment.chain.includes(nodeOf(moment.event));

@@ -1,7 +1,7 @@
 // What comes of an event, as parts of its sentence.
 import { LISTS } from "../../made/rows.js";
 import { chipOf, keyText, said } from "./markup.js";
-import { keyNumber, ownerOf } from "./state.js";
+import { keyNumber, keysInChain, linkTarget, ownerOf } from "./state.js";
 import { firstOpeningNode } from "./trace.js";
 
 export const isLock = (word) => word.endsWith(".lock");
@@ -31,10 +31,7 @@ function wholeName({ trace, event }, name) {
   return `${name}</b>, ${whose}, which ${chipOf(mark.thread)} marked at event ${mark.number}`;
 }
 
-// Whether a node of the chain has this key and no mark.
-export function hasInChain(state, key) {
-  return state.chain().some((name) => String(state.nodes[name].key) === String(key) && !state.nodes[name].link.endsWith("*"));
-}
+export const hasInChain = (state, key) => keysInChain(state).includes(Number(key));
 
 // What comes of an event. Each says its part, or nothing.
 export const OUTCOMES = {
@@ -65,7 +62,7 @@ export const OUTCOMES = {
     const { state, event, before, wasInChain } = moment;
     const gone = before.curr;
     if (!wasInChain || !isLinkOf(event) || !isDone(event) || gone === "tail" || gone === ownerIn(event.word)) return "";
-    if (state.nodes[gone].link.replace("*", "") !== event.to || state.chain().includes(gone)) return "";
+    if (linkTarget(state.nodes[gone].link) !== event.to || state.chain().includes(gone)) return "";
     return `<b>This unlinks ${wholeName(moment, gone)}.`;
   },
 

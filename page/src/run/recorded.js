@@ -1,5 +1,5 @@
 // Calls that were recorded from a set of the reader's own: what the proved judge says of them, in words, and the calls that are drawn.
-import { callsOfRecording, leavesKey, readJudge } from "../engine/answers.js";
+import { callsOfRecording, leavesKey, readVerdict } from "../engine/answers.js";
 import { CAUSES_OF_CALLS } from "./faults.js";
 import { nameOfCall } from "./judged.js";
 
@@ -13,7 +13,7 @@ key 5
 end
 `;
 
-const MOST_DRAWN = 40; // calls of a right recording
+const MOST_DRAWN = 40; // calls
 
 // A text that was pasted may lack its last newline.
 export const withNewline = (text) => (text === "" || text.endsWith("\n") ? text : `${text}\n`);
@@ -23,8 +23,6 @@ export const recordedInWords = (call) =>
     ? `${nameOfCall(call)}, begun at ${call.begun}, is pending`
     : `${nameOfCall(call)} answers ${call.reply}, from ${call.begun} to ${call.ended}`;
 
-const sentence = (line) => `${line[0].toUpperCase()}${line.slice(1)}.`;
-
 // Which keys were left is not known of a recording that was cut off.
 function okInWords({ count, isCutOff }) {
   const calls = count === 1 ? "this one call" : `these ${count.toLocaleString("en")} calls`;
@@ -32,26 +30,48 @@ function okInWords({ count, isCutOff }) {
   return `Linearizable: an order explains ${calls}${keys}. It says nothing of other runs.`;
 }
 
-function verdictOfOk(judged, text) {
-  const drawn = judged.count > MOST_DRAWN ? [`the first ${MOST_DRAWN} calls are drawn`] : [];
-  return {
-    kind: "ok",
-    says: okInWords(judged),
-    reasons: [...judged.remarks, ...drawn].map(sentence),
-    calls: callsOfRecording(text, MOST_DRAWN),
-    from: null,
-  };
+// What else is said of a right recording: whether its calls meet, and that it was cut off.
+function remarksOn({ count, overlapped, isCutOff }) {
+  const few = "That is few, and a bug shows only if calls meet: take fewer keys, more threads, or pauses in the set.";
+  return [
+    `${overlapped} of them overlap a change of their key.`,
+    ...(20 * overlapped < count ? [few] : []),
+    ...(isCutOff ? ["The recording was cut off: some keys left fit, and those that were left are not known."] : []),
+    ...(count > MOST_DRAWN ? [`The first ${MOST_DRAWN} calls are drawn.`] : []),
+  ];
 }
 
-function verdictOfRefusal({ key, isLeft, since, is, told }, text) {
-  const reasons = told.map(({ says, calls }) => sentence([says, calls.map(recordedInWords).join("; ")].join(" ").trim()));
-  const has = leavesKey(text, key) ? "has it" : "does not have it";
+const isInWords = (isThere) => `the key is ${isThere ? "there" : "not there"}`;
+
+// Why no order explains the calls of a key, in sentences.
+export function reasonsOf({ key, moment, since, isThere, by, calls, hidden }) {
+  if (key === null) return ["No order leaves these keys, which do not rise."];
+  const isLeft = moment === null;
+  const said = [`No order explains the calls of key ${key} ${isLeft ? "and leaves it as it was left" : `up to moment ${moment}`}.`];
+  if (since === null) return said;
+  const from = since === "0" ? "At first" : `After the calls that ended by moment ${since}`;
+  said.push(`${from} ${isInWords(isThere)}${by === null ? "" : `, by this change: ${recordedInWords(by)}`}.`);
+  const these = `From there these calls have no order${isLeft ? " that leaves the key as it was left" : ""}`;
+  said.push(calls.length === 0 ? "No later call changes it." : `${these}: ${calls.map(recordedInWords).join("; ")}.`);
+  if (hidden === null) return said;
+  const { count, first, last } = hidden;
+  const more = count === 1 ? `1 more call of the key that began at moment ${first} is` : `${count} more calls of the key that began at moments ${first} to ${last} are`;
+  return [...said, `${more} not shown: whatever ${count === 1 ? "it" : "they"} did, these have no order.`];
+}
+
+function verdictOfOk(judged, text) {
+  return { kind: "ok", says: okInWords(judged), reasons: remarksOn(judged), calls: callsOfRecording(text, MOST_DRAWN), from: null };
+}
+
+function verdictOfRefusal(why, text) {
+  const { key, moment, since, isThere, by, calls } = why;
+  const atEnd = moment === null ? [`At the end the set ${leavesKey(text, key) ? "has it" : "does not have it"}.`] : [];
   return {
     kind: "none",
-    says: `Not linearizable: no order at all explains these calls${isLeft ? " and leaves the keys" : ""}.`,
-    reasons: isLeft ? [...reasons, `At the end the set ${has}.`] : reasons,
-    calls: told.flatMap(({ calls }) => calls),
-    from: since === null ? null : { moment: BigInt(since), says: `the key is ${is}` },
+    says: `Not linearizable: no order at all explains these calls${moment === null ? " and leaves the keys" : ""}.`,
+    reasons: [...reasonsOf(why), ...atEnd],
+    calls: [...(by === null ? [] : [by]), ...calls].slice(-MOST_DRAWN),
+    from: since === null || since === "0" ? null : { moment: BigInt(since), says: isInWords(isThere) },
   };
 }
 
@@ -60,10 +80,10 @@ function troubleInWords({ cause, says }) {
   return Object.hasOwn(CAUSES_OF_CALLS, cause) ? `${says}: ${CAUSES_OF_CALLS[cause]}.` : says;
 }
 
-// The judge's answer to the text: of which kind it is, a sentence, its reasons, and the calls to draw; those of a refusal with the moment
-// from which they have no order, and what the key is there.
+// The judge's record on the text (listset_judge_record): of which kind it is, a sentence, its reasons, and the calls to draw; those of a
+// refusal with the moment from which they have no order, and what the key is there.
 export function verdictOnCalls(answer, text) {
-  const judged = readJudge(answer);
+  const judged = readVerdict(answer);
   if (judged.kind === "ok") return verdictOfOk(judged, text);
   if (judged.kind === "none") return verdictOfRefusal(judged.why, text);
   return { kind: "fault", says: troubleInWords(judged.fault), reasons: [], calls: [], from: null };

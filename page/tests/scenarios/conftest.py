@@ -2,7 +2,6 @@
 
     pytest page/tests/scenarios [--browser chromium] [--shots FOLDER]"""
 
-import contextlib
 import functools
 import http.server
 import json
@@ -15,9 +14,8 @@ import webdriver  # (with build/ in the path, by pytest.ini)
 
 PAGE = pathlib.Path(__file__).resolve().parents[2]
 SECONDS = 20  # in which something has to be seen
-
-
 SLOW = 2  # seconds that the engine takes to come over a slow network
+SCENARIOS = {"webkit": 8}  # for which one browser is used, as WebKit's driver gives up after some dozen pages; others for all
 
 
 class Quiet(http.server.SimpleHTTPRequestHandler):
@@ -84,7 +82,10 @@ class Visitor(webdriver.Browser):
         return self.script("return [...document.querySelectorAll(arguments[0])].some((it) => it.getClientRects().length > 0)", what)
 
     def in_window(self, what):
-        """Whether a part is in the window, and nothing lies over it."""
+        """Whether a part is in the window, or comes there in a moment, and nothing lies over it."""
+        return any(self.is_in_window(what) or time.sleep(0.1) for _ in range(20))
+
+    def is_in_window(self, what):
         return self.script("""const it = document.querySelector(arguments[0]); const box = it.getBoundingClientRect();
             const over = document.elementFromPoint(box.left + box.width / 2, box.top + box.height / 2);
             return box.height > 0 && box.top >= 0 && box.bottom <= innerHeight && (it.contains(over) || over.contains(it))""", what)
@@ -152,35 +153,50 @@ def place(request):
     server.shutdown()
 
 
-@pytest.fixture(scope="module")
-def shared(browser, place):
-    """A browser for the scenarios of a file; or None of WebKit, whose driver gives up after some dozen pages."""
+class Turns:
+    """Browsers of one kind, one after the other: each for some scenarios, and a new one in place of one that has died."""
+
+    def __init__(self, name, place):
+        self.name, self.place, self.one, self.left = name, place, None, 0
+
+    def next(self):
+        if self.one is None or self.left == 0 or not self.one.is_alive():
+            self.end()
+            self.one, self.left = Visitor(self.name, self.place), SCENARIOS.get(self.name, 1000)
+        self.left -= 1
+        return self.one
+
+    def end(self):
+        if self.one is not None:
+            self.one.__exit__()
+
+
+@pytest.fixture(scope="session")
+def turns(browser, place):
     if webdriver.installed(browser) is None:
         pytest.skip(f"{browser}: not installed (Debian's package {webdriver.NEEDS[browser][0]})")
-    if browser == "webkit":
-        yield None
-        return
-    with Visitor(browser, place) as one:
-        yield one
+    its_turns = Turns(browser, place)
+    yield its_turns
+    its_turns.end()
 
 
 @pytest.fixture
-def visitor(browser, place, shared, request):
+def visitor(turns, place, request):
     """A person who has not been here before."""
-    with contextlib.nullcontext(shared) if shared is not None else Visitor(browser, place) as one:
-        one.size(1300, 900)
-        one.go(f"{place}/tests/nothing.html")
-        one.script("localStorage.clear(); sessionStorage.clear()")
-        one.faults()
-        yield one
-        if (folder := request.config.getoption("shots")) is not None:
-            folder.mkdir(parents=True, exist_ok=True)
-            one.picture(folder / f"{request.node.name}.png")
-        assert not (faults := one.faults()), faults
+    one = turns.next()
+    one.size(1300, 900)
+    one.go(f"{place}/tests/nothing.html")
+    one.script("localStorage.clear(); sessionStorage.clear()")
+    one.faults()
+    yield one
+    if (folder := request.config.getoption("shots")) is not None:
+        folder.mkdir(parents=True, exist_ok=True)
+        one.picture(folder / f"{request.node.name}.png")
+    assert not (faults := one.faults()), faults
 
 
 @pytest.fixture
-def another(browser, place, shared):
+def another(browser, place, turns):
     """A second person, with a profile of their own."""
     with Visitor(browser, place) as one:
         yield one

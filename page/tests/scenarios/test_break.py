@@ -1,62 +1,102 @@
-"""Break: a level is won, its answer is not told, the contradiction is in sight."""
+"""Break: each level is won, its answer is not told, the contradiction is in sight, and what is missing is struck out."""
+
+import pathlib
+
+SCHEDULES = pathlib.Path(__file__).resolve().parents[3] / "examples/schedules/lacks"
+DONE = "return document.querySelector('.reveal') !== null && document.body.dataset.busy !== 'yes'"
 
 
-def ways(visitor):
-    """A schedule that breaks level 1, found by the page's own hints: both walk, then both hang a node in."""
+def idle(visitor):
+    visitor.wait("return document.body.dataset.busy !== 'yes'", seconds=40)
+
+
+def won(visitor):
+    """Level 1 by its hints: both walk, B does its whole add, A ends."""
     visitor.open("#break=1")
-    begin = "#moves [data-thread='{}'] button[data-deed='begin']"
-    for thread, key in ((0, 5), (1, 4)):
-        visitor.type(f"#moves [data-thread='{thread}'] input", str(key))
-        visitor.click(begin.format(thread))
-    for _ in range(40):
-        visitor.press("0")
-        visitor.press("1")
-        if visitor.text("#break-verdict") == "Broken!":
-            return True
-    return False
+    for key in "aaabbbbbbaa":
+        if visitor.script(DONE):
+            return
+        visitor.press(key)
+        idle(visitor)
+    visitor.wait(DONE)
 
 
 def test_a_won_level_keeps_its_answer_to_itself(visitor):
-    assert ways(visitor)
-    assert visitor.is_seen("#break-options button") and not visitor.is_seen("#break-line code")
-    name = visitor.inside("return Object.keys(listsets.BREAK_LEVELS)[0]")
-    assert f"break {name}" not in visitor.text("main")
+    won(visitor)
+    assert visitor.text(".reveal .why").startswith("Broken.") and visitor.is_seen("[data-option]")
+    assert "break lock" not in visitor.text("main") and "Level" not in visitor.title
+    assert visitor.inside("return JSON.parse(localStorage.getItem('listset-broken')).lock").startswith("break lock #list=coarse")
 
 
 def test_the_contradiction_is_in_sight(visitor):
-    assert ways(visitor)
-    assert visitor.text("#break-promised").startswith("{3, 4, 5, 7}") and visitor.text("#break-has").startswith("{3,")
-    assert visitor.text("#break-promised") != visitor.text("#break-has")
-    assert visitor.in_window("#break-promised")
+    won(visitor)
+    assert visitor.text(".ledger .odd") == "4" and visitor.in_window(".ledger") and visitor.is_seen(".list .lost")
 
 
 def test_the_contradiction_is_in_sight_on_a_phone(visitor):
     visitor.size(390, 844)
-    assert ways(visitor)
-    assert visitor.in_window("#break-promised") and visitor.in_window("#break-win b")
+    won(visitor)
+    visitor.settle()
+    assert visitor.in_window(".ledger .odd")
+
+
+def test_a_wrong_answer_has_its_reply_and_the_right_one_strikes_the_line(visitor):
+    won(visitor)
+    visitor.click("[data-option]", "releases the lock")
+    assert "No: it releases the lock only after that." in visitor.text("#talk")
+    assert not visitor.is_seen(".steps del")
+    visitor.click("[data-option]", "continues")
+    idle(visitor)
+    assert visitor.text(".steps del").endswith("lock the list") and visitor.is_seen("[data-do=replay]")
+    visitor.click("[data-do=replay]")
+    visitor.press("a")
+    idle(visitor)
+    assert visitor.is_seen(".list .lost")
+    visitor.open("#break")
+    assert "1 of 10 broken" in visitor.text(".score") and visitor.text(".card[href='#break=1'] .sign") == "✓"
 
 
 def test_a_won_level_can_be_explored_on(visitor):
-    assert ways(visitor)
-    visitor.press("Left", "Left", "Left", "Left")
-    count = visitor.event()
-    visitor.click("#moves button")
-    assert visitor.event() == count + 1
-
-
-def test_a_wrong_answer_is_told_and_the_right_one_kept(visitor):
-    assert ways(visitor)
-    words = visitor.script("return [...document.querySelectorAll('#break-options button')].map((it) => it.innerText)")
-    for word in words:
-        visitor.click("#break-options button", word)
-        if visitor.text("#break-told").startswith("Right"):
-            break
-    visitor.wait("return document.getElementById('break-told').innerText.startsWith('Right')")
-    visitor.open("#break")
-    assert visitor.is_seen("#map-break .done")
+    won(visitor)
+    visitor.press("a")
+    idle(visitor)
+    assert "answers true" in visitor.text(".tale")
+    visitor.settle()
+    assert visitor.hash.startswith("#break=1&list=coarse")
+    where = visitor.hash
     visitor.reload()
     visitor.wait("return document.body.dataset.ready === 'yes'")
-    assert visitor.is_seen("#map-break .done")
+    assert visitor.hash == where and visitor.text(".reveal .why").startswith("Broken.")
+
+
+def test_hints_are_in_words(visitor):
+    visitor.open("#break=8")
+    for _ in range(3):
+        visitor.click("#hint")
+    hints = visitor.text(".hints")
+    assert len(hints.splitlines()) == 3 and "row" not in hints and "t0" not in hints
+    assert visitor.text("#hint") == "Start over"
+
+
+def test_each_level_is_broken_by_the_schedule_of_the_examples(visitor):
+    """Each level opens with the run of a link; it is shown as broken, its answer can be given, and no row is left without a line."""
+    visitor.open("#break")
+    levels = visitor.inside("return Object.keys(listsets.BREAK_LEVELS)")
+    for number, name in enumerate(levels, 1):
+        if name == "mark-in-contains":
+            continue
+        text = (SCHEDULES / f"{name}.schedule").read_text()
+        address = visitor.inside("return listsets.addressOf(given[0], 99, given[1])", text, name)
+        visitor.open(address)
+        visitor.wait(DONE)
+        visitor.settle()
+        assert "shown to you" in visitor.text(".reveal"), name
+        assert visitor.hash.startswith(f"#break={number}&"), name
+        right = visitor.inside("return listsets.BREAK_LEVELS[given[0]].lacks", name)
+        visitor.click("[data-option]", right)
+        visitor.press("a")  # a second press shows the end of the replay at once
+        idle(visitor)
+        assert visitor.is_seen(".steps del"), name
 
 
 def test_a_self_loop_does_not_cross_its_key(visitor):
@@ -64,6 +104,6 @@ def test_a_self_loop_does_not_cross_its_key(visitor):
     corners = visitor.inside("""const { now, drawList } = listsets;
         const name = now.run.state.chain()[1];
         now.run.state.nodes[name].link = name;
-        document.body.innerHTML = drawList(now.run.state, null, 900);
-        return document.querySelector(`[data-part="link ${name}"] path`).getAttribute("d").split(" L").length""")
+        document.getElementById("order").innerHTML = drawList(now.run.state, null, 900);
+        return document.querySelector(`#order [data-part="link ${name}"] path`).getAttribute("d").split(" L").length""")
     assert corners > 3

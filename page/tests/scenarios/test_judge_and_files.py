@@ -51,14 +51,15 @@ def test_a_course_file_is_opened_as_one(visitor):
 
 
 def test_compare_by_keys_and_back(visitor):
-    visitor.open("#watch")
+    visitor.open("#ask")
+    visitor.click("#more summary")
     visitor.click("nav a[href='#compare']")
     visitor.wait("return document.getElementById('sides-where').innerText.startsWith('turn 7')")
     visitor.press("Left", "Left", "1")
     assert visitor.text("#sides-where") == "turn 6 of 6"
     visitor.back()
-    visitor.wait("return location.hash === '#watch'")
-    assert visitor.is_seen("#map-watch")
+    visitor.wait("return location.hash === '#ask'")
+    assert visitor.is_seen("#scene .card")
 
 
 def test_a_wrong_address_is_told(visitor):
@@ -87,8 +88,8 @@ def test_a_phone_by_touch(visitor):
     visitor.open("#example=snip")
     visitor.touch("#next")
     assert visitor.event() == 1
-    visitor.touch("#moves [data-thread='0'] button")
-    assert visitor.is_seen("#what-if")
+    visitor.touch("#go-on-here")
+    visitor.wait("return location.hash.startsWith('#code=lock-free')")
     wide = visitor.script("return [document.documentElement.scrollWidth, document.documentElement.clientWidth]")
     assert wide[0] <= wide[1]
 

@@ -1,4 +1,4 @@
-"""Learn: a lesson is tried, solved and explored on; a teacher's course goes from profile to profile."""
+"""Solve: a lesson is tried, solved and explored on; a teacher's course goes from profile to profile."""
 
 COURSE = """listset-course 1
 course Monday
@@ -17,58 +17,109 @@ goal
 """
 
 
-def test_no_button_leads_to_the_try_that_is_shown(visitor):
-    visitor.open("#learn=one-lock")
-    for _ in range(2):
-        visitor.press("0")
-        visitor.settle()
-        visitor.press("1")
-        visitor.settle()
-    assert not visitor.is_seen("#lesson-go-on")
-    visitor.click("#lesson-start")
-    assert visitor.is_seen("#lesson-go-on")
-    visitor.click("#lesson-go-on")
-    assert visitor.event() > 0 and not visitor.is_seen("#lesson-go-on")
+def idle(visitor):
+    visitor.wait("return document.body.dataset.busy !== 'yes'")
 
 
-def test_a_solved_lesson_can_be_explored_on(visitor):
-    visitor.open("#learn=one-lock")
-    solution = visitor.inside("return listsets.learning.panel.lesson.solution") + "begin 0 contains 5\n"
-    visitor.type("#schedule", solution)
-    visitor.click("#run")
-    visitor.press("End")
-    visitor.wait("return document.getElementById('lesson-verdict').innerText === 'Solved.'")
-    visitor.press("Left", "Left", "Left")
-    assert visitor.is_seen("#moves button")
-    count = visitor.event()
-    visitor.click("#moves button")
-    assert visitor.event() == count + 1
+def press(visitor, keys):
+    for key in keys:
+        visitor.press(key)
+        idle(visitor)
 
 
-def test_a_course_link_survives(visitor, another):
+def begin(visitor, thread, call, key):
+    visitor.choose(f"[data-call='{thread}']", call)
+    visitor.script("document.querySelector(`[data-call='${arguments[0]}']`).dispatchEvent(new Event('input', { bubbles: true }))", thread)
+    visitor.type(f"[data-key='{thread}']", str(key))
+    visitor.click(f"[data-begin='{thread}']")
+
+
+def courses(visitor):
     visitor.open("#learn")
     visitor.unfold("#lesson-write")
+
+
+def solved(visitor):
+    """The course's lesson, as a student does it: A walks to the node of 5, B removes it, A looks at the mark."""
+    begin(visitor, 0, "contains", 5)
+    press(visitor, "a")
+    begin(visitor, 1, "remove", 5)
+    for _ in range(8):
+        if visitor.script("return document.querySelector('[data-thread=\"1\"] .step') === null"):
+            break
+        press(visitor, "b")
+    press(visitor, "a")
+    visitor.wait("return document.querySelector('.reveal') !== null")
+
+
+def test_a_lesson_is_solved_and_explored_on(visitor, another):
+    courses(visitor)
     visitor.type("#lesson-course-text", COURSE)
     visitor.click("#lesson-link")
     link = visitor.wait("return document.getElementById('lesson-link-text').value")
     student = another
     student.open("#" + link.split("#")[1])
-    assert "A key that is gone" in student.text("#lesson-title")
-    student.press("Tab")
-    student.script("document.activeElement.blur()")
-    visitor.settle()
-    assert student.hash.startswith("#course=")
-    student.click("#moves [data-thread='1'] button")
+    assert student.text("h1") == "A key that is gone" and "contains of A answer false" in student.text(".asked")
+    assert student.text(".conditions").startswith("○")
+    solved(student)
+    assert student.text(".reveal .why").startswith("Solved.") and student.text(".conditions").startswith("✓")
     student.settle()
-    assert student.hash.startswith("#course=")
+    assert student.hash.startswith("#course=") and "learn=first&list=lazy" in student.hash
     forwarded = student.hash
+    press(student, "a")
+    assert "Solved" in student.text(".reveal") or student.is_seen(".conditions")
     visitor.open(forwarded)
-    assert "A key that is gone" in visitor.text("#lesson-title") and visitor.event() == 1
+    assert visitor.text("h1") == "A key that is gone" and visitor.text(".reveal .why").startswith("Solved.")
+    student.open("#learn")
+    student.unfold("#lesson-hand")
+    student.type("#lesson-student", "Ada")
+    student.click("#lesson-hand-in")
+    text = student.wait("return document.getElementById('lesson-text').value")
+    assert "course Monday" in text and "first #list=lazy&threads=2&quota=0&opening=5&s=b0.contains.5" in text
+
+
+def test_the_last_try_is_there_again(visitor):
+    visitor.open("#learn=one-lock")
+    press(visitor, "ab")
+    visitor.settle()
+    tale, where = visitor.text(".tale"), visitor.hash
+    visitor.open("#learn=hand-over-hand")
+    visitor.open("#learn=one-lock")
+    assert visitor.text(".tale") == tale
+    visitor.click("[data-again]")
+    visitor.settle()
+    assert visitor.hash == "#learn=one-lock" and where.startswith("#learn=one-lock&list=coarse")
+
+
+def test_no_answer_is_told_unasked(visitor):
+    visitor.open("#learn=lost-pred")
+    before = visitor.text("main")
+    visitor.click("#hint")
+    assert "Hint." in visitor.text("#talk") and "See one of them" not in before
+    visitor.click("#hint")
+    visitor.click("[data-do=answer]")
+    visitor.press("a")  # a press shows the end at once
+    idle(visitor)
+    visitor.wait("return document.querySelector('#talk').innerText.includes('shown to you')")
+    assert not visitor.is_seen(".reveal")
+
+
+def test_each_lesson_is_solved_by_its_answer(visitor):
+    visitor.open("#learn")
+    lessons = visitor.inside("return listsets.learning.panel.course.lessons.map(({ name }) => name)")
+    assert len(lessons) == 12
+    for name in lessons:
+        address = visitor.inside("""const lesson = listsets.learning.panel.lessonNamed(given[0]);
+            return `#learn=${given[0]}&${listsets.addressOf(lesson.solution, 1).slice(1)}`""", name)
+        visitor.open(address)
+        visitor.wait("return document.querySelector('.reveal') !== null")
+        assert visitor.text(".reveal .why").startswith("Solved.") and "○" not in visitor.text(".conditions"), name
+    visitor.open("#learn")
+    assert "12 of 12 solved" in visitor.text(".score")
 
 
 def test_a_faulty_course_has_no_link(visitor):
-    visitor.open("#learn")
-    visitor.unfold("#lesson-write")
+    courses(visitor)
     visitor.type("#lesson-course-text", COURSE)
     visitor.click("#lesson-link")
     visitor.wait("return document.getElementById('lesson-link-text').value")
@@ -80,8 +131,7 @@ def test_a_faulty_course_has_no_link(visitor):
 def test_a_goal_without_a_bound_is_told(visitor):
     steps = "".join(f"  step {it} of 0\n" for it in "ABCDEF")
     goal = f"goal\n{steps}  call Z of 0: remove, key 9, answers true\n  say It goes on.\n"
-    visitor.open("#learn")
-    visitor.unfold("#lesson-write")
+    courses(visitor)
     visitor.type("#lesson-course-text", COURSE[: COURSE.index("goal")] + goal)
     visitor.click("#lesson-try")
     assert "line 3:" in visitor.text("#lesson-faults") and "too many ways" in visitor.text("#lesson-faults")
@@ -91,8 +141,8 @@ def test_kept_work_of_the_version_before_opens(visitor):
     kept = visitor.script("const ask = new XMLHttpRequest(); ask.open('GET', 'kept.json', false); ask.send(); return ask.responseText")
     visitor.script("for (const [name, text] of Object.entries(JSON.parse(arguments[0]))) localStorage.setItem(name, text)", kept)
     visitor.open("#learn=one-lock")
-    assert visitor.event() == 3 and "The one lock" in visitor.title
+    assert visitor.text(".reveal .why").startswith("Solved.") and "The one lock" in visitor.title
     visitor.open("#break")
-    assert visitor.is_seen("#map-break .done")
+    assert visitor.is_seen(".card.done")
     visitor.open("#learn")
-    assert visitor.is_seen("#map-learn .done")
+    assert visitor.is_seen(".card.done")

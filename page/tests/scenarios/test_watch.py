@@ -1,34 +1,21 @@
-"""Watch: the first visit, a choice of one's own, keys, the play, the browser's history."""
-
-QUESTION = "Is it still in the set?"
+"""The bench: a run step by step, a choice of one's own, keys, the play, the browser's history."""
 
 
-def first_visit(visitor):
-    visitor.open()
-    visitor.wait("return document.getElementById('where').innerText.startsWith('event 20 ')")
+def test_one_goes_on_from_here_by_the_code(visitor):
+    visitor.open("#example=marked-in-chain&event=20")
+    visitor.click("#go-on-here")
+    visitor.wait("return location.hash.startsWith('#code=lazy&quota=4&opening=&s=')")
+    assert "marks 5" in visitor.text(".tale")
+    visitor.press("b")
+    visitor.wait("return document.body.dataset.busy !== 'yes'")
+    assert "5 is out of the chain" in visitor.text(".tale")
+    visitor.back()
+    visitor.wait("return document.getElementById('where')?.innerText.startsWith('event 20')")
 
 
-def test_a_choice_keeps_the_question_and_a_way_back(visitor):
-    first_visit(visitor)
-    question = visitor.text("#question")
-    visitor.click("#moves [data-thread='0'] button")
-    assert visitor.event() == 21
-    assert visitor.text("#question") == question and visitor.is_seen("#task-next") and visitor.is_seen("#what-if")
-    visitor.click("#what-if-back")
-    assert visitor.event() == 20 and visitor.text("#question") == question and not visitor.is_seen("#what-if")
-    visitor.press("Right")
-    assert visitor.event() == 21 and visitor.text("#where") == "event 21 of 27"
-
-
-def test_the_next_visit_opens_where_one_was(visitor):
-    first_visit(visitor)
-    question = visitor.text("#question")
-    visitor.click("#moves [data-thread='0'] button")
-    visitor.settle()
-    visitor.open()
-    assert visitor.event() == 21 and visitor.text("#question") == question and visitor.is_seen("#what-if")
-    visitor.click("#what-if-back")
-    assert visitor.text("#where").endswith("of 27")
+def test_an_old_what_if_opens_as_its_schedule(visitor):
+    visitor.open("#watch=snip&list=lock-free&threads=2&quota=4&s=b0.add.5,g0.1&event=2")
+    assert visitor.event() == 2 and visitor.text("#where") == "event 2 of 2"
 
 
 def test_the_next_visit_opens_what_was_looked_at(visitor):
@@ -42,55 +29,26 @@ def test_the_next_visit_opens_what_was_looked_at(visitor):
 
 def test_a_step_is_no_entry_of_the_history(another):
     visitor = another
-    visitor.open("#watch")
+    visitor.open("#judge")
     before = visitor.script("return history.length")
-    visitor.click("#map-watch a[href^='#example=snip']")
+    visitor.script("location.hash = '#example=snip'")
     visitor.wait("return document.getElementById('where').innerText.startsWith('event 0 ')")
-    for key in "01010":
-        visitor.press(key)
+    for _ in range(4):
+        visitor.press("Right")
         visitor.settle()
     assert visitor.script("return history.length") == before + 1
     visitor.back()
-    visitor.wait("return location.hash === '#watch' && document.getElementById('stage').getClientRects().length === 0")
+    visitor.wait("return location.hash === '#judge' && document.getElementById('stage').getClientRects().length === 0")
 
 
 def test_reload_shows_the_same_run(visitor):
     visitor.open("#example=snip")
-    visitor.press("Right", "0", "0")
+    visitor.press("Right", "Right")
     visitor.settle()
     where, said = visitor.text("#where"), visitor.text("#said")
     visitor.reload()
     visitor.wait("return document.body.dataset.ready === 'yes'")
     assert (visitor.text("#where"), visitor.text("#said")) == (where, said)
-    assert visitor.is_seen("#what-if")
-
-
-def test_another_speed_keeps_the_stop(visitor):
-    visitor.open()
-    visitor.choose("#speed", "fast")
-    visitor.wait("return document.getElementById('play').textContent === 'Play'")
-    assert visitor.event() == 20
-
-
-def test_pause_and_play_keep_the_stop(visitor):
-    visitor.open()
-    visitor.choose("#speed", "slow")
-    visitor.click("#play")
-    visitor.choose("#speed", "fast")
-    visitor.click("#play")
-    visitor.wait("return document.getElementById('play').textContent === 'Play'")
-    assert visitor.event() == 20
-
-
-def test_a_click_leaves_the_keys_with_the_run(visitor):
-    visitor.open("#example=snip&event=3")
-    visitor.click("#moves [data-thread='0'] button[data-deed='end']")
-    assert visitor.focus().startswith("BUTTON")
-    count = visitor.event()
-    visitor.press("Left")
-    assert visitor.event() == count - 1
-    visitor.press("u")
-    assert visitor.text("#where").startswith("event 3 of")
 
 
 def test_a_direct_link_says_who_ran_it(visitor):
@@ -103,10 +61,10 @@ def test_titles_are_words(visitor):
     assert visitor.title.startswith(visitor.text("#question")) and "event" not in visitor.title
     visitor.open("#compare")
     assert visitor.title.startswith("CoarseList beside LazyList")
-    visitor.open("#learn=one-lock")
-    assert visitor.title.startswith(visitor.text("#lesson-title").split("  ")[0]) and "lesson one-lock" not in visitor.title
-    visitor.open("#break=1")
-    assert visitor.title.startswith("Level 1")
+    for address in ("#learn=one-lock", "#break=1", "#ask=snip", "#story=3", "#teachers", "#code=lazy", "#learn", "#break", "#ask", "#judge", "#read"):
+        visitor.open(address)
+        title = visitor.title
+        assert len(title) > 10 and "one-lock" not in title and "undefined" not in title and not title.startswith(":"), address
 
 
 def test_keys_and_slider(visitor):
@@ -117,8 +75,8 @@ def test_keys_and_slider(visitor):
     assert visitor.event() == 39 and "it took effect at event 23, a step of t1" in visitor.text("#said")
     visitor.press("Shift+Left", "Home", "?")
     assert visitor.event() == 0 and visitor.is_seen("#key-help")
-    visitor.press("?", "Right", "e", "1")
-    assert "ended" in visitor.text("#told")
+    visitor.press("?", "p", "p")
+    assert not visitor.is_seen("#key-help")
 
 
 def test_live_regions_say_a_sentence_once(visitor):

@@ -37,31 +37,15 @@ def test_texts_that_are_refused_are_told_where_they_stand(visitor):
     assert visitor.text("#fault") == "" and not visitor.is_seen("#old")
 
 
-def test_undo_redo_and_a_new_schedule(visitor):
+def test_a_new_schedule_and_work_of_ones_own(visitor):
     visitor.open("#example=snip&event=3")
-    visitor.press("0", "0", "0")
-    assert visitor.event() == 6
-    visitor.press("u", "u")
-    assert visitor.event() == 4
-    visitor.press("y")
-    assert visitor.event() == 5
     visitor.choose("#new-list", "optimistic")
     visitor.click("#new")
     assert visitor.text("#where") == "event 0 of 0" and visitor.text("#title").startswith("OptimisticList")
-    visitor.press("u")
-    assert visitor.event() == 5 and visitor.is_seen("#what-if")
-
-
-def test_steps_to_the_end_and_to_a_lock(visitor):
-    visitor.open("#example=snip")
-    run_text(visitor, HEADER.format("fine") + "begin 0 add 5\ngo 0 4\nbegin 1 add 7\n")
-    visitor.script("document.activeElement.blur()")
-    visitor.press("End", "e", "1")
-    assert "waits at row" in visitor.text("#told") and "which t0 holds" in visitor.text("#told")
-    visitor.press("e", "0")
-    assert visitor.text("#told") == "t0 ended add(5)."
-    visitor.press("9")
-    assert visitor.text("#told") == "There is no thread 9."
+    run_text(visitor, HEADER.format("optimistic") + "begin 0 add 5\ngo 0 4\n")
+    visitor.settle()
+    visitor.open()
+    assert visitor.text("#where").endswith("of 5") and visitor.text("#title").startswith("OptimisticList")
 
 
 def test_a_million_events_can_be_cancelled(visitor):
@@ -84,7 +68,8 @@ def test_what_is_to_come_is_hidden_and_can_be_shown(visitor):
 
 
 def test_controls_have_names_and_ids_stand_once(visitor):
-    for address in ("#example=snip", "#learn=one-lock", "#break=3", "#judge", "#compare", "#example=snip&judge"):
+    for address in ("#example=snip", "#learn=one-lock", "#break=3", "#judge", "#compare", "#example=snip&judge", "#story=2", "#ask=snip", "#teachers",
+                    "#assignment=x&learn=one-lock", "#code=lazy", "#learn"):
         visitor.open(address)
         nameless, twice = visitor.script("""const seen = [...document.querySelectorAll("button, select, input, textarea, a[href]")]
             .filter((it) => it.getClientRects().length > 0);
@@ -108,10 +93,10 @@ def test_by_keys_alone_from_the_top_to_a_step(visitor):
 
 def test_a_card_that_is_opened_leads_to_its_run(visitor):
     visitor.open("#break")
-    visitor.script("document.querySelector('#map-break a').focus()")
+    visitor.script("document.querySelector('#scene .card').focus()")
     visitor.press("Enter")
-    visitor.wait("return document.getElementById('break-box').getClientRects().length > 0")
-    assert visitor.focus().startswith("BUTTON")
+    visitor.wait("return location.hash === '#break=1'")
+    assert visitor.focus().startswith("H1")
 
 
 def test_one_is_judged(visitor):
@@ -127,9 +112,9 @@ def test_one_is_judged(visitor):
     assert visitor.is_seen("#past") and visitor.focus() == "BUTTON judge-begin"
 
 
-def test_none_is_right_of_a_broken_list(visitor):
-    visitor.open("#list=coarse&threads=2&quota=2&opening=3.7&s=b0.add.5&lacks=1")
-    assert visitor.is_seen("#break-box") and visitor.text("#break-verdict") != ""
+def test_a_schedule_of_a_broken_list_opens_its_level(visitor):
+    visitor.open("#list=coarse&threads=2&quota=2&opening=3.7&s=b0.add.5,g0.3&event=4&lacks=1")
+    assert visitor.text("h1").startswith("One thread at a time") and "too big" in visitor.text(".tale") or "reads" in visitor.text(".tale")
 
 
 def test_a_numbered_run_is_the_same_for_all(visitor, another):

@@ -148,6 +148,12 @@ class Browser:
         self.at.process.wait()
         self.folder.cleanup()
 
+    def is_alive(self):
+        try:
+            return self.script("return true")
+        except (Failed, OSError):
+            return False
+
     def go(self, address):
         self.at.command("go", {"url": address})
 

@@ -165,24 +165,6 @@ module _ (sz : Sizes) (t : ℕ) (vs : ℕ → View) (first now : ℕ) (ws : List
       → WordStep false sz t ws used a ws' used' change → LeavesHolder sz t ws used a ws' used' change
   alone mine c = (c, λ u d e. absurd (d (omega arith)))
 
-  go_1 : l.pc ≡ 1 → done ≡ false → Goal
-  go_1 e d =
-      let a = Exchange 0 0 (t + 1) in
-      let on : Local = record l { pc = 2 } in let again : Local = record l { pc = 1 } in
-      elim (same_or_not (slice_index ws 0) 0) [
-        | inl z ↦
-            (let is = if_same (slice_index ws 0) 0 z on again in
-            passes a (slice_set ws 0 (t + 1)) on (rw (e, regs.thread) refl) (rw (e, is) refl) (rw e refl)
-            (takes 0 (omega arith) (inl refl) z, λ u k f. absurd (omega arith))
-            (keep sz t 2 l.reply l regs, refl, refl, λ x. omega arith)
-            (at2 refl d (set_same ws 0 (t + 1) (omega (arith, M.words)))))
-        | inr z ↦
-            (let is = if_other (slice_index ws 0) 0 z on again in
-            passes a ws again (rw (e, regs.thread) refl) (rw (e, is) refl) (rw e refl)
-            (fails 0 0 (t + 1) (omega arith) z (λ x. (refl, refl)), λ u k f. (refl, refl))
-            (keep sz t 1 l.reply l regs, refl, refl, λ x. omega arith) (at1 refl d))
-      ]
-
   even_next : (a : ℕ) → InChain V a → node_link ws a ≡ 2 * (node_link ws a / 2)
   even_next a i = let z : node_link ws a % 2 ≡ 0 = M.marked a (in_chain_published V M.ordered a i) in omega arith
 
@@ -201,8 +183,41 @@ module _ (sz : Sizes) (t : ℕ) (vs : ℕ → View) (first now : ℕ) (ws : List
       → Walking V (t + 1) (target l.call) a (node_link ws a / 2)
   walks a mine i lt = record { mine = mine; at = i; follows = even_next a i; below = lt }
 
-  go_2 : l.pc ≡ 2 → done ≡ false → slice_index ws 0 ≡ t + 1 → Goal
-  go_2 e d mine =
+  -- what is known stays when the own slot is written
+  window_on : (w : View) → Quiet V w → w.list_lock ≡ slice_index ws 0 → Window V t l → Window w t l
+  window_on w quiet lock x =
+      let pred = in_chain_published V M.ordered l.pred x.at in
+      record {
+        mine = lock ∙ x.mine;
+        at = quiet_keeps V w M.ordered quiet l.pred x.at;
+        follows = quiet.links l.pred pred ∙ x.follows;
+        below = rw (quiet.keys l.pred pred) x.below;
+      }
+
+  adding_on : (w : View) → Quiet V w → w.used t ≡ used t → Window V t l → Adding V t sz.quota l.curr l.call
+      → Adding w t sz.quota l.curr l.call
+  adding_on w quiet count x a =
+      record { call = a.call; room = rw count a.room; above = rw (quiet.keys l.curr (curr_published x)) a.above }
+
+  go : At sz.quota t vs first now (view sz ws used) done l → l.pc ≢ 0 → Goal
+  go (at0 e) busy = absurd (busy e)
+  go (at1 e d) busy =
+      let a = Exchange 0 0 (t + 1) in
+      let on : Local = record l { pc = 2 } in let again : Local = record l { pc = 1 } in
+      elim (same_or_not (slice_index ws 0) 0) [
+        | inl z ↦
+            (let is = if_same (slice_index ws 0) 0 z on again in
+            passes a (slice_set ws 0 (t + 1)) on (rw (e, regs.thread) refl) (rw (e, is) refl) (rw e refl)
+            (takes 0 (omega arith) (inl refl) z, λ u k f. absurd (omega arith))
+            (keep sz t 2 l.reply l regs, refl, refl, λ x. omega arith)
+            (at2 refl d (set_same ws 0 (t + 1) (omega (arith, M.words)))))
+        | inr z ↦
+            (let is = if_other (slice_index ws 0) 0 z on again in
+            passes a ws again (rw (e, regs.thread) refl) (rw (e, is) refl) (rw e refl)
+            (fails 0 0 (t + 1) (omega arith) z (λ x. (refl, refl)), λ u k f. (refl, refl))
+            (keep sz t 1 l.reply l regs, refl, refl, λ x. omega arith) (at1 refl d))
+      ]
+  go (at2 e d mine) busy =
       let s : ℕ = node_link ws 0 in
       let head : node_key ws 0 ≡ 0 = M.head_key in
       let w : Walking V (t + 1) (target l.call) 0 (s / 2) = walks 0 mine ([], refl) (omega arith) in
@@ -214,9 +229,7 @@ module _ (sz : Sizes) (t : ℕ) (vs : ℕ → View) (first now : ℕ) (ws : List
         λ x. omega arith,
       )
       (at3 refl d w)
-
-  go_3 : l.pc ≡ 3 → done ≡ false → Window V t l → Goal
-  go_3 e d w =
+  go (at3 e d w) busy =
       let k : ℕ = target l.call in let s : ℕ = node_key ws l.curr in
       let l0 : Local = record l { pc = 3; ckey = s } in
       let inn : l.curr < node_count sz = regs.curr in
@@ -247,9 +260,7 @@ module _ (sz : Sizes) (t : ℕ) (vs : ℕ → View) (first now : ℕ) (ws : List
               ]
             ])
       ]
-
-  go_4 : l.pc ≡ 4 → done ≡ false → Window V t l → node_key ws l.curr < target l.call → Goal
-  go_4 e d w lt =
+  go (at4 e d w lt) busy =
       let s : ℕ = node_link ws l.curr in let inn : l.curr < node_count sz = regs.curr in
       let next : Walking V (t + 1) (target l.call) l.curr (s / 2) = walks l.curr w.mine (curr_at w) lt in
       passes (Load (link_index l.curr)) ws (record l { pc = 3; pred = l.curr; curr = s / 2 })
@@ -260,25 +271,7 @@ module _ (sz : Sizes) (t : ℕ) (vs : ℕ → View) (first now : ℕ) (ws : List
         λ x. omega arith,
       )
       (at3 refl d next)
-
-  -- what is known stays when the own slot is written
-  window_on : (w : View) → Quiet V w → w.list_lock ≡ slice_index ws 0 → Window V t l → Window w t l
-  window_on w quiet lock x =
-      let pred = in_chain_published V M.ordered l.pred x.at in
-      record {
-        mine = lock ∙ x.mine;
-        at = quiet_keeps V w M.ordered quiet l.pred x.at;
-        follows = quiet.links l.pred pred ∙ x.follows;
-        below = rw (quiet.keys l.pred pred) x.below;
-      }
-
-  adding_on : (w : View) → Quiet V w → w.used t ≡ used t → Window V t l → Adding V t sz.quota l.curr l.call
-      → Adding w t sz.quota l.curr l.call
-  adding_on w quiet count x a =
-      record { call = a.call; room = rw count a.room; above = rw (quiet.keys l.curr (curr_published x)) a.above }
-
-  go_5 : l.pc ≡ 5 → done ≡ false → Window V t l → Adding V t sz.quota l.curr l.call → Goal
-  go_5 e d w a =
+  go (at5 e d w a) busy =
       let o : ℕ = own_of sz.quota t used in let k : ℕ = target l.call in
       let ws' : List ℕ = slice_set ws (key_index o) k in
       let quiet = at_own_key false sz ws used M t tn k a.room in
@@ -287,10 +280,7 @@ module _ (sz : Sizes) (t : ℕ) (vs : ℕ → View) (first now : ℕ) (ws : List
       (keep sz t 6 l.reply l regs, refl, refl, λ x. omega arith)
       (at6 refl d (window_on (view sz ws' used) quiet (list_lock_after_key ws o k) w) (adding_on (view sz ws' used) quiet refl w a)
       (key_wrote false sz ws used M o k (own_in false sz ws used M t tn a.room)))
-
-  go_6 : l.pc ≡ 6 → done ≡ false → Window V t l → Adding V t sz.quota l.curr l.call
-      → node_key ws (own_of sz.quota t used) ≡ target l.call → Goal
-  go_6 e d w a key =
+  go (at6 e d w a key) busy =
       let o : ℕ = own_of sz.quota t used in let x : ℕ = 2 * l.curr in
       let ws' : List ℕ = slice_set ws (link_index o) x in
       let quiet = at_own_link false sz ws used M t tn x a.room in
@@ -299,10 +289,7 @@ module _ (sz : Sizes) (t : ℕ) (vs : ℕ → View) (first now : ℕ) (ws : List
       (keep sz t 7 l.reply l regs, refl, refl, λ x. omega arith)
       (at7 refl d (window_on (view sz ws' used) quiet (list_lock_after_link ws o x) w) (adding_on (view sz ws' used) quiet refl w a)
       (key_after_link ws o x o ∙ key) (link_wrote false sz ws used M o x (own_in false sz ws used M t tn a.room)))
-
-  go_7 : l.pc ≡ 7 → done ≡ false → Window V t l → Adding V t sz.quota l.curr l.call
-      → node_key ws (own_of sz.quota t used) ≡ target l.call → node_link ws (own_of sz.quota t used) ≡ 2 * l.curr → Goal
-  go_7 e d w a key link =
+  go (at7 e d w a key link) busy =
       let x : ℕ = 2 * own_of sz.quota t used in
       let count : l.used ≡ used t = th.counts in
       let more : one_more used t t ≡ used t + 1 = one_more_same used t in
@@ -313,9 +300,7 @@ module _ (sz : Sizes) (t : ℕ) (vs : ℕ → View) (first now : ℕ) (ws : List
       link key w.below a.above)) (a.call, d, a.room)
       (keep_more sz t 10 l (rw count a.room) regs) refl (omega arith) (λ x. omega arith)
       (at10 refl (list_lock_after_link ws l.pred x ∙ w.mine) True refl refl)
-
-  go_8 : l.pc ≡ 8 → done ≡ false → Window V t l → Removing V l.curr l.call → Goal
-  go_8 e d w a =
+  go (at8 e d w a) busy =
       let s : ℕ = node_link ws l.curr in let inn : l.curr < node_count sz = regs.curr in
       passes (Load (link_index l.curr)) ws (record l { pc = 9; succ = s / 2 })
       (rw e refl) (rw e refl) (rw e refl) (alone w.mine (reads (link_index l.curr) (omega arith))) (
@@ -326,9 +311,7 @@ module _ (sz : Sizes) (t : ℕ) (vs : ℕ → View) (first now : ℕ) (ws : List
         λ x. omega arith,
       )
       (at9 refl d w a refl)
-
-  go_9 : l.pc ≡ 9 → done ≡ false → Window V t l → Removing V l.curr l.call → node_link ws l.curr / 2 ≡ l.succ → Goal
-  go_9 e d w a next =
+  go (at9 e d w a next) busy =
       let x : ℕ = 2 * l.succ in
       changes (Store (link_index l.pred) x) (slice_set ws (link_index l.pred) x) used
       (record l { pc = 10; reply = Some True }) (key_of l.call) false
@@ -337,32 +320,17 @@ module _ (sz : Sizes) (t : ℕ) (vs : ℕ → View) (first now : ℕ) (ws : List
       (found_no_tail M a regs.low) w.follows next a.found)) (a.call, d)
       (keep sz t 10 (Some True) l regs) refl th.counts (λ x. omega arith)
       (at10 refl (list_lock_after_link ws l.pred x ∙ w.mine) True refl refl)
-
-  go_10 : l.pc ≡ 10 → slice_index ws 0 ≡ t + 1 → (r : Reply) → l.reply ≡ Some r → Due done sz.quota vs first now t l.call r → Goal
-  go_10 e mine r ry due =
+  go (at10 e mine r ry due) busy =
       answers (Store 0 0) (slice_set ws 0 0) (record l { pc = 0 }) r
       (rw e refl) (rw (e, ry) refl) (rw e refl) (alone mine (gives 0 (omega arith) (inl refl) mine)) due
       (keep sz t 0 l.reply l regs) refl refl refl (at0 refl)
 
-  go : At sz.quota t vs first now (view sz ws used) done l → l.pc ≢ 0 → Goal
-  go (at0 e) busy = absurd (busy e)
-  go (at1 e d) busy = go_1 e d
-  go (at2 e d m) busy = go_2 e d m
-  go (at3 e d w) busy = go_3 e d w
-  go (at4 e d w x) busy = go_4 e d w x
-  go (at5 e d w a) busy = go_5 e d w a
-  go (at6 e d w a x) busy = go_6 e d w a x
-  go (at7 e d w a x y) busy = go_7 e d w a x y
-  go (at8 e d w a) busy = go_8 e d w a
-  go (at9 e d w a x) busy = go_9 e d w a x
-  go (at10 e m r y z) busy = go_10 e m r y z
-
 pub coarse_follows : Follows coarse one_lock At
 coarse_follows = record {
-  idle_at = λ q t vs v. at0 refl;
+  idle_at = λ op lim t vs. at0 refl;
   begun = λ call l. record { called = refl; used = refl; opened = λ e. omega arith; alike = refl };
   begin_registers = λ sz t call l low r. registers_begun sz t 1 call l low r;
-  begins = λ q t vs now v call l e s k. at1 refl refl;
+  begins = λ q t vs now v call l e s k was. at1 refl refl;
   stands = λ q t vs first now v w done l present r at. stays q t vs first now v w done l r at;
   turn = λ sz t vs first now ws used done l h th tn busy. go sz t vs first now ws used done l h th tn th.at busy;
 }

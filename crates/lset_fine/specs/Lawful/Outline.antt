@@ -17,10 +17,10 @@ use Rattle.lset_steps.proofs.Replies.{Adding, Removing, registers_begun, keep_mo
 use Rattle.lset_steps.specs.Rows.{decided_on, goes_to, own_slot}
 use Rattle.lset_steps.proofs.Held.{Held, Behind, Between, Leaves, LockedStep, in_chain, head_held, leaves_of, held_on, below_on}
 use Rattle.lset_steps.proofs.Held.{behind_on, between_on, adding_on, removing_on, own_key_on, own_link_on, reads_word, frees}
-use Rattle.lset_steps.proofs.Held.{writes_own_key, writes_own_link, puts_between, held_from, behind_from, curr_is_not_pred}
+use Rattle.lset_steps.proofs.Held.{writes_own_key, writes_own_link, puts_behind, held_from, behind_from, curr_is_not_pred}
 use Rattle.lset_steps.proofs.Held.{found_next, drops_between, leaves_locked, held_past, leaves_own_key, leaves_own_link}
 use Rattle.lset_steps.proofs.Decision.{decides}
-use Rattle.lset_steps.proofs.Turns.{Turn, Follows, node_locks, due_on, due_now, tries}
+use Rattle.lset_steps.proofs.Turns.{Turn, Follows, node_locks, locks_nodes, due_on, due_now, tries}
 use Rattle.lset_steps.proofs.Turns.Turn.{passes, changes, answers}
 use Rattle.lset_fine.specs.Fine.{fine, targets}
 
@@ -93,16 +93,15 @@ module _ (sz : Sizes) (t : ℕ) (vs : ℕ → View) (first now : ℕ) (ws : List
   even : (a : ℕ) → Held V t a → node_link ws a % 2 ≡ 0
   even a x = M.marked a x.published
 
-  go_1 : l.pc ≡ 1 → done ≡ false → Goal
-  go_1 e d = tries 0 (record l { pc = 2; pred = 0 }) (record l { pc = 1 }) (omega arith)
+  go : At sz.quota t vs first now (view sz ws used) done l → l.pc ≢ 0 → Goal
+  go (at0 e) busy = absurd (busy e)
+  go (at1 e d) busy = tries (locks_nodes false) 0 (record l { pc = 2; pred = 0 }) (record l { pc = 1 }) (omega arith)
       (rw (e, regs.thread) refl) (rw e refl) (rw e refl)
       (keep_walk sz t 2 0 l.curr l (omega arith) regs.curr regs, refl, refl, λ x. omega arith)
       (keep sz t 1 l.reply l regs, refl, refl, λ x. omega arith)
       (λ free. at2 refl d refl (head_held (inl (omega arith)) (lock_wrote false sz ws used M 0 (t + 1) (omega arith))))
       (at1 refl d)
-
-  go_2 : l.pc ≡ 2 → done ≡ false → l.pred ≡ 0 → Held V t 0 → Goal
-  go_2 e d p x =
+  go (at2 e d p x) busy =
       let s : ℕ = node_link ws 0 in
       let head : node_key ws 0 ≡ 0 = M.head_key in
       let b : Behind V t (target l.call) 0 (s / 2) = behind_from M x (even 0 x) (omega arith) regs.low in
@@ -111,9 +110,7 @@ module _ (sz : Sizes) (t : ℕ) (vs : ℕ → View) (first now : ℕ) (ws : List
       (rw e refl) (rw e refl) (rw e refl) (reads_word (link_index 0) (omega arith))
       (keep_walk sz t 3 l.pred (s / 2) l regs.pred inn regs, refl, refl, λ x. omega arith)
       (at3 refl d (subst (λ y. Behind V t (target l.call) y (s / 2)) (sym p) b))
-
-  go_3 : l.pc ≡ 3 → done ≡ false → Behind V t (target l.call) l.pred l.curr → Goal
-  go_3 e d b = tries l.curr (record l { pc = 4 }) (record l { pc = 3 }) regs.curr
+  go (at3 e d b) busy = tries (locks_nodes false) l.curr (record l { pc = 4 }) (record l { pc = 3 }) regs.curr
       (rw (e, regs.thread) refl) (rw e refl) (rw e refl)
       (keep sz t 4 l.reply l regs, refl, refl, λ x. omega arith)
       (keep sz t 3 l.reply l regs, refl, refl, λ x. omega arith)
@@ -122,9 +119,7 @@ module _ (sz : Sizes) (t : ℕ) (vs : ℕ → View) (first now : ℕ) (ws : List
         mine = lock_wrote false sz ws used M l.curr (t + 1) regs.curr;
       }))
       (at3 refl d b)
-
-  go_4 : l.pc ≡ 4 → done ≡ false → Window V t l → Goal
-  go_4 e d b =
+  go (at4 e d b) busy =
       let k : ℕ = target l.call in let s : ℕ = node_key ws l.curr in
       let l0 : Local = record l { pc = 4; ckey = s } in
       let inn : l.curr < node_count sz = regs.curr in
@@ -156,17 +151,13 @@ module _ (sz : Sizes) (t : ℕ) (vs : ℕ → View) (first now : ℕ) (ws : List
               ]
             ])
       ]
-
-  go_5 : l.pc ≡ 5 → done ≡ false → Window V t l → node_key ws l.curr < target l.call → Goal
-  go_5 e d b lt =
+  go (at5 e d b lt) busy =
       passes (Store (lock_index l.pred) 0) (slice_set ws (lock_index l.pred) 0) (record l { pc = 6 })
       (rw e refl) (rw e refl) (rw e refl) (frees l.pred regs.pred b.walk.held.mine)
       (keep sz t 6 l.reply l regs, refl, refl, λ x. omega arith)
       (at6 refl d (held_past M tn l.pred (curr_is_not_pred M b.walk) (held_from M b.mine (in_chain b.walk)))
       (rw (key_after_lock ws (lock_index l.pred) 0 l.curr (inr (l.pred, refl))) lt))
-
-  go_6 : l.pc ≡ 6 → done ≡ false → Held V t l.curr → node_key ws l.curr < target l.call → Goal
-  go_6 e d x lt =
+  go (at6 e d x lt) busy =
       let s : ℕ = node_link ws l.curr in let cn : l.curr < node_count sz = regs.curr in
       let b : Behind V t (target l.call) l.curr (s / 2) = behind_from M x (even l.curr x) lt regs.low in
       let inn : s / 2 < node_count sz = inside false sz ws used M (s / 2) b.next in
@@ -174,9 +165,7 @@ module _ (sz : Sizes) (t : ℕ) (vs : ℕ → View) (first now : ℕ) (ws : List
       (rw e refl) (rw e refl) (rw e refl) (reads_word (link_index l.curr) (omega arith))
       (keep_walk sz t 3 l.curr (s / 2) l regs.curr inn regs, refl, refl, λ x. omega arith)
       (at3 refl d b)
-
-  go_7 : l.pc ≡ 7 → done ≡ false → Window V t l → Adding V t sz.quota l.curr l.call → Goal
-  go_7 e d b a =
+  go (at7 e d b a) busy =
       let o : ℕ = own_of sz.quota t used in let k : ℕ = target l.call in
       let s = leaves_own_key M tn k a.room in
       let own = own_in false sz ws used M t tn a.room in
@@ -184,11 +173,7 @@ module _ (sz : Sizes) (t : ℕ) (vs : ℕ → View) (first now : ℕ) (ws : List
       (rw (e, own_is) refl) (rw e refl) (rw e refl) (writes_own_key k a.room)
       (keep sz t 8 l.reply l regs, refl, refl, λ x. omega arith)
       (at8 refl d (between_on s b) (adding_on s b.walk.next a) (key_wrote false sz ws used M o k own))
-
-  go_8 : l.pc ≡ 8 → done ≡ false → Window V t l → Adding V t sz.quota l.curr l.call →
-      node_key ws (own_of sz.quota t used) ≡ target l.call
-      → Goal
-  go_8 e d b a key =
+  go (at8 e d b a key) busy =
       let o : ℕ = own_of sz.quota t used in let x : ℕ = 2 * l.curr in
       let s = leaves_own_link M tn x a.room in
       let own = own_in false sz ws used M t tn a.room in
@@ -197,32 +182,24 @@ module _ (sz : Sizes) (t : ℕ) (vs : ℕ → View) (first now : ℕ) (ws : List
       (keep sz t 9 l.reply l regs, refl, refl, λ x. omega arith)
       (at9 refl d (between_on s b) (adding_on s b.walk.next a) (key_after_link ws o x o ∙ key)
       (link_wrote false sz ws used M o x own))
-
-  go_9 : l.pc ≡ 9 → done ≡ false → Window V t l → Adding V t sz.quota l.curr l.call →
-      node_key ws (own_of sz.quota t used) ≡ target l.call
-      → node_link ws (own_of sz.quota t used) ≡ 2 * l.curr → Goal
-  go_9 e d b a key link =
+  go (at9 e d b a key link) busy =
       let x : ℕ = 2 * own_of sz.quota t used in
       let count : l.used ≡ used t = th.counts in
       let more : one_more used t t ≡ used t + 1 = one_more_same used t in
       changes (Store (link_index l.pred) x) (slice_set ws (link_index l.pred) x) (one_more used t)
       (record l { pc = 12; reply = Some True; used = l.used + 1 }) (key_of l.call) true
-      (rw (e, own_is) refl) (rw e refl) (rw e refl) (puts_between b a key link) (a.call, d, a.room)
+      (rw (e, own_is) refl) (rw e refl) (rw e refl) (puts_behind b.walk a key link) (a.call, d, a.room)
       (keep_more sz t 12 l (rw count a.room) regs) refl (omega arith) (λ x. omega arith)
       (at12 refl (lock_after_link ws l.pred x l.pred ∙ b.walk.held.mine) (lock_after_link ws l.pred x l.curr ∙ b.mine)
       (curr_is_not_pred M b.walk) True refl refl)
-
-  go_10 : l.pc ≡ 10 → done ≡ false → Window V t l → Removing V l.curr l.call → Goal
-  go_10 e d b a =
+  go (at10 e d b a) busy =
       let s : ℕ = node_link ws l.curr in let cn : l.curr < node_count sz = regs.curr in
       let inn : s / 2 < node_count sz = inside false sz ws used M (s / 2) (found_next M b.walk a regs.low) in
       passes (Load (link_index l.curr)) ws (record l { pc = 11; succ = s / 2 })
       (rw e refl) (rw e refl) (rw e refl) (reads_word (link_index l.curr) (omega arith))
       (keep_succ sz t 11 (s / 2) l.reply l inn regs, refl, refl, λ x. omega arith)
       (at11 refl d b a refl)
-
-  go_11 : l.pc ≡ 11 → done ≡ false → Window V t l → Removing V l.curr l.call → node_link ws l.curr / 2 ≡ l.succ → Goal
-  go_11 e d b a next =
+  go (at11 e d b a next) busy =
       let x : ℕ = 2 * l.succ in
       changes (Store (link_index l.pred) x) (slice_set ws (link_index l.pred) x) used
       (record l { pc = 12; reply = Some True }) (key_of l.call) false
@@ -230,46 +207,24 @@ module _ (sz : Sizes) (t : ℕ) (vs : ℕ → View) (first now : ℕ) (ws : List
       (keep sz t 12 (Some True) l regs) refl th.counts (λ x. omega arith)
       (at12 refl (lock_after_link ws l.pred x l.pred ∙ b.walk.held.mine) (lock_after_link ws l.pred x l.curr ∙ b.mine)
       (curr_is_not_pred M b.walk) True refl refl)
-
-  go_12 : l.pc ≡ 12 → node_lock ws l.pred ≡ t + 1 → node_lock ws l.curr ≡ t + 1 → l.curr ≢ l.pred
-      → (r : Reply) → l.reply ≡ Some r → Due done sz.quota vs first now t l.call r → Goal
-  go_12 e pred curr apart r ry due =
+  go (at12 e pred curr apart r ry due) busy =
       passes (Store (lock_index l.curr) 0) (slice_set ws (lock_index l.curr) 0) (record l { pc = 13 })
       (rw e refl) (rw e refl) (rw e refl) (frees l.curr regs.curr curr)
       (keep sz t 13 l.reply l regs, refl, refl, λ x. omega arith)
       (at13 refl (lock_after_lock ws l.curr 0 l.pred (λ f. apart (sym f)) ∙ pred) r ry
       (due_on done sz.quota vs first now t l.call r due))
-
-  go_13 : l.pc ≡ 13 → node_lock ws l.pred ≡ t + 1 → (r : Reply) → l.reply ≡ Some r → Due done sz.quota vs first now t l.call r →
-      Goal
-  go_13 e mine r ry due =
+  go (at13 e mine r ry due) busy =
       answers (Store (lock_index l.pred) 0) (slice_set ws (lock_index l.pred) 0) (record l { pc = 0 }) r
       (rw e refl) (rw (e, ry) refl) (rw e refl) (frees l.pred regs.pred mine) due
       (keep sz t 0 l.reply l regs) refl refl refl
       (at0 refl)
 
-  go : At sz.quota t vs first now (view sz ws used) done l → l.pc ≢ 0 → Goal
-  go (at0 e) busy = absurd (busy e)
-  go (at1 e d) busy = go_1 e d
-  go (at2 e d p x) busy = go_2 e d p x
-  go (at3 e d b) busy = go_3 e d b
-  go (at4 e d b) busy = go_4 e d b
-  go (at5 e d b lt) busy = go_5 e d b lt
-  go (at6 e d x lt) busy = go_6 e d x lt
-  go (at7 e d b a) busy = go_7 e d b a
-  go (at8 e d b a x) busy = go_8 e d b a x
-  go (at9 e d b a x y) busy = go_9 e d b a x y
-  go (at10 e d b a) busy = go_10 e d b a
-  go (at11 e d b a x) busy = go_11 e d b a x
-  go (at12 e p c x r y due) busy = go_12 e p c x r y due
-  go (at13 e p r y due) busy = go_13 e p r y due
-
 pub fine_follows : Follows fine (node_locks false) At
 fine_follows = record {
-  idle_at = λ q t vs v. at0 refl;
+  idle_at = λ op lim t vs. at0 refl;
   begun = λ call l. record { called = refl; used = refl; opened = λ e. omega arith; alike = refl };
   begin_registers = λ sz t call l low r. registers_begun sz t 1 call l low r;
-  begins = λ q t vs now v call l e s k. at1 refl refl;
+  begins = λ q t vs now v call l e s k was. at1 refl refl;
   stands = λ q t vs first now v w done l present r at. stays q t vs first now v w done l r at;
   turn = λ sz t vs first now ws used done l h th tn busy. go sz t vs first now ws used done l h th tn th.at busy;
 }

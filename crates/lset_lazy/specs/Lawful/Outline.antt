@@ -8,11 +8,10 @@ use Rattle.lset_words.specs.declared.Reply.TheVariants.{True}
 use Rattle.lset_steps.specs.declared.Local.{Local}
 use Rattle.lset_steps.specs.declared.Action.TheVariants.{Load, Store}
 use Rattle.lset_steps.specs.Chain.{View, view, node_key, node_link, node_lock}
-use Rattle.lset_steps.proofs.MarkMove.{mark_keeps}
 use Rattle.lset_steps.specs.Laws.{Registers, Due}
-use Rattle.lset_steps.proofs.Memory.{Memory, own_of, one_more, one_more_same, at_mark, inner, own_in, goes_on, link_wrote}
+use Rattle.lset_steps.proofs.Memory.{Memory, own_of, one_more, one_more_same, own_in, goes_on, link_wrote}
 use Rattle.lset_steps.proofs.Memory.{key_wrote, lock_wrote}
-use Rattle.lset_steps.proofs.AfterWrite.{lock_after_link, link_after_link, key_after_link, lock_after_lock}
+use Rattle.lset_steps.proofs.AfterWrite.{lock_after_link, key_after_link, lock_after_lock}
 use Rattle.lset_steps.proofs.Rely.{Rely}
 use Rattle.lset_steps.proofs.Discipline.{Here, Thread}
 use Rattle.lset_steps.proofs.Replies.{Adding, Removing, removing_kept, registers_begun, keep_more, keep, keep_ckey, keep_succ, keep_walk}
@@ -20,26 +19,20 @@ use Rattle.lset_steps.specs.Rows.{decided_on, goes_to, own_slot}
 use Rattle.lset_steps.specs.ReadRows.{first_row, read_action, read_fed, continued}
 use Rattle.lset_steps.proofs.ReadTables.{HasReadRows, in_each_read_row}
 use Rattle.lset_steps.proofs.ReadOutline.{Reading, begun_reading_is, reading_on, call_begins, reads_on, even_or_odd}
-use Rattle.lset_steps.proofs.Held.{Between, Leaves, LockedStep, in_chain, leaves_of, between_on, adding_on, removing_on, own_key_on}
-use Rattle.lset_steps.proofs.Held.{own_link_on, reads_word, frees, writes_own_key, writes_own_link, puts_between, marks_between}
-use Rattle.lset_steps.proofs.Held.{cuts_between, curr_is_not_pred, found_no_tail, leaves_own_key, leaves_own_link}
+use Rattle.lset_steps.proofs.Held.{Between, Both, Leaves, LockedStep, both_of, leaves_of, between_on, both_on, both_after, adding_on}
+use Rattle.lset_steps.proofs.Held.{removing_on, own_key_on, own_link_on, reads_word, frees, writes_own_key, writes_own_link, puts_behind}
+use Rattle.lset_steps.proofs.Held.{marks_between, cuts_between, between_marked, leaves_own_key, leaves_own_link}
 use Rattle.lset_steps.proofs.UnlockedWalk.{Spot, Found, spot_kept, found_kept, found_apart, spot_behind, spot_behind_head}
-use Rattle.lset_steps.proofs.UnlockedWalk.{next_inside, small_key, keeps_locked}
-use Rattle.lset_steps.proofs.ReadWalk.{ShowsReading, low_row}
+use Rattle.lset_steps.proofs.UnlockedWalk.{next_inside, small_key, keeps_locked, behind_of_load}
+use Rattle.lset_steps.proofs.ReadWalk.{ShowsReading}
 use Rattle.lset_steps.proofs.Decision.{decides}
-use Rattle.lset_steps.proofs.Turns.{Turn, Follows, Outcome, node_locks, outcome_on, due_now, tries}
+use Rattle.lset_steps.proofs.Turns.{Turn, Follows, Outcome, node_locks, locks_nodes, outcome_on, due_now, tries}
 use Rattle.lset_steps.proofs.Turns.Turn.{passes, changes, answers}
 use Rattle.lset_lazy.specs.Lazy.{lazy, targets, next_action, at_key, gives_up, at_pred, at_curr, released, fed_by, effect_of}
 
 -- what is known at the rows from the locks on
 abbrev Window : View → ℕ → Local → Type 0
 Window v t l = Between v t (target l.call) l.pred l.curr
-
--- both locks, of different nodes
-pub record Both (v : View) (t pred curr : ℕ) : Type 0 where
-  pub pred_mine : v.lock pred ≡ t + 1
-  pub curr_mine : v.lock curr ≡ t + 1
-  pub distinct : curr ≢ pred
 
 -- one line for each place, and one for those of a contains or a ceiling
 pub data At (q t : ℕ) (vs : ℕ → View) (first now : ℕ) (v : View) (done : Bool) (l : Local) : Type 0 where
@@ -67,20 +60,10 @@ pub data At (q t : ℕ) (vs : ℕ → View) (first now : ℕ) (v : View) (done :
   at14 : l.pc ≡ 14 → v.lock l.pred ≡ t + 1 → Outcome done q vs first now t l.call l.reply → At q t vs first now v done l
   at_read : Reading vs first now done l → At q t vs first now v done l
 
-both_of : {v : View} {t key pred curr : ℕ} → curr ≢ pred → Between v t key pred curr → Both v t pred curr
-both_of d b = record { pred_mine = b.walk.held.mine; curr_mine = b.mine; distinct = d }
-
 -- what the others leave of it
 module _ (q t : ℕ) (vs : ℕ → View) (first now : ℕ) (v w : View) (done : Bool) (l : Local) (r : Rely v w q t) where
   s : Leaves v w t
   s = leaves_of r
-
-  both_on : Both v t l.pred l.curr → Both w t l.pred l.curr
-  both_on b = record {
-    pred_mine = s.locks l.pred b.pred_mine;
-    curr_mine = s.locks l.curr b.curr_mine;
-    distinct = b.distinct;
-  }
 
   below_on : Spot v (target l.call) l.pred l.curr → v.key l.curr < target l.call → w.key l.curr < target l.call
   below_on x lt = rw (r.goes.keys l.curr x.curr_published) lt
@@ -92,7 +75,7 @@ module _ (q t : ℕ) (vs : ℕ → View) (first now : ℕ) (v w : View) (done : 
   stays (at3 e d x lt) = at3 e d (spot_kept r.goes x) (below_on x lt)
   stays (at4 e d x) = at4 e d (found_kept r.goes x)
   stays (at5 e d x p) = at5 e d (found_kept r.goes x) (s.locks l.pred p)
-  stays (at6 e d x b) = at6 e d (found_kept r.goes x) (both_on b)
+  stays (at6 e d x b) = at6 e d (found_kept r.goes x) (both_on s b)
   stays (at7 e d x b) = at7 e d (found_kept r.goes x) (between_on s b)
   stays (at8 e d b a) = at8 e d (between_on s b) (adding_on s b.walk.next a)
   stays (at9 e d b a x) = at9 e d (between_on s b) (adding_on s b.walk.next a) (own_key_on r (target l.call) a.room x)
@@ -101,7 +84,7 @@ module _ (q t : ℕ) (vs : ℕ → View) (first now : ℕ) (v w : View) (done : 
       (own_link_on r (2 * l.curr) a.room y)
   stays (at11 e d b a x) = at11 e d (between_on s b) (removing_on s b.walk.next a) (s.links l.curr b.walk.next b.mine ∙ x)
   stays (at12 e d b a x) = at12 e d (between_on s b) (removing_on s b.walk.next a) (s.links l.curr b.walk.next b.mine ∙ x)
-  stays (at13 e b o) = at13 e (both_on b) (outcome_on done q vs first now t l.call l.reply o)
+  stays (at13 e b o) = at13 e (both_on s b) (outcome_on done q vs first now t l.call l.reply o)
   stays (at14 e p o) = at14 e (s.locks l.pred p) (outcome_on done q vs first now t l.call l.reply o)
   stays (at_read a) = at_read (reading_on a)
 
@@ -134,16 +117,29 @@ module _ (sz : Sizes) (t : ℕ) (vs : ℕ → View) (first now : ℕ) (ws : List
   own_is : own_slot l ≡ own_of sz.quota t used
   own_is = rw (th.registers.thread, th.registers.quota, th.counts) refl
 
-  go_1 : l.pc ≡ 1 → done ≡ false → Goal
-  go_1 e d =
+  freed : l.pc ≡ 14 → fed_by l 0 ≡ released l.reply l
+  freed e = rw e refl
+
+  go_14 : l.pc ≡ 14 → node_lock ws l.pred ≡ t + 1 → (r : Option Reply) → l.reply ≡ r
+      → Outcome done sz.quota vs first now t l.call r → Goal
+  go_14 e mine None y o =
+      passes (Store (lock_index l.pred) 0) (slice_set ws (lock_index l.pred) 0) (record l { pc = 1 })
+      (rw e refl) (freed e ∙ ap (λ z. released z l) y) (rw e refl) (frees l.pred regs.pred mine)
+      (keep sz t 1 l.reply l regs, refl, refl, λ x. omega arith) (at1 refl o)
+  go_14 e mine (Some r) y o =
+      answers (Store (lock_index l.pred) 0) (slice_set ws (lock_index l.pred) 0) (record l { pc = 0 }) r
+      (rw e refl) (freed e ∙ ap (λ z. released z l) y) (rw e refl) (frees l.pred regs.pred mine) o
+      (keep sz t 0 l.reply l regs) refl refl refl (at0 refl)
+
+  go : At sz.quota t vs first now (view sz ws used) done l → l.pc ≢ 0 → Goal
+  go (at0 e) busy = absurd (busy e)
+  go (at1 e d) busy =
       let s : ℕ = node_link ws 0 in
       passes (Load (link_index 0)) ws (record l { pc = 2; pred = 0; curr = s / 2 })
       (rw e refl) (rw e refl) (rw e refl) (reads_word (link_index 0) (omega arith))
       (keep_walk sz t 2 0 (s / 2) l (omega arith) (next_inside M 0 M.ordered.head_published) regs, refl, refl, λ x. omega arith)
       (at2 refl d (spot_behind_head M (omega arith)))
-
-  go_2 : l.pc ≡ 2 → done ≡ false → Spot V (target l.call) l.pred l.curr → Goal
-  go_2 e d x =
+  go (at2 e d x) busy =
       let s : ℕ = node_key ws l.curr in let k : ℕ = target l.call in
       let inn : l.curr < node_count sz = regs.curr in
       let small : s ≤ tail_word = small_key M l.curr x.curr_published in
@@ -161,26 +157,20 @@ module _ (sz : Sizes) (t : ℕ) (vs : ℕ → View) (first now : ℕ) (ws : List
             (keep_ckey sz t 4 s l.reply l small regs, refl, refl, λ y. omega arith)
             (at4 refl d (record { spot = x; is = refl; above = ge }))
       ]
-
-  go_3 : l.pc ≡ 3 → done ≡ false → Spot V (target l.call) l.pred l.curr → node_key ws l.curr < target l.call → Goal
-  go_3 e d x lt =
+  go (at3 e d x lt) busy =
       let s : ℕ = node_link ws l.curr in let inn : l.curr < node_count sz = regs.curr in
       passes (Load (link_index l.curr)) ws (record l { pc = 2; pred = l.curr; curr = s / 2 })
       (rw e refl) (rw e refl) (rw e refl) (reads_word (link_index l.curr) (omega arith))
       (keep_walk sz t 2 l.curr (s / 2) l regs.curr (next_inside M l.curr x.curr_published) regs, refl, refl, λ y. omega arith)
       (at2 refl d (spot_behind M l.curr x.curr_published lt))
-
-  go_4 : l.pc ≡ 4 → done ≡ false → Found V (target l.call) l.pred l.curr l.ckey → Goal
-  go_4 e d x = tries l.pred (record l { pc = 5 }) (record l { pc = 4 }) regs.pred
+  go (at4 e d x) busy = tries (locks_nodes true) l.pred (record l { pc = 5 }) (record l { pc = 4 }) regs.pred
       (rw (e, regs.thread) refl) (rw e refl) (rw e refl)
       (keep sz t 5 l.reply l regs, refl, refl, λ y. omega arith)
       (keep sz t 4 l.reply l regs, refl, refl, λ y. omega arith)
       (λ free. at5 refl d (found_kept (keeps_locked M tn l.pred regs.pred free) x)
       (lock_wrote true sz ws used M l.pred (t + 1) regs.pred))
       (at4 refl d x)
-
-  go_5 : l.pc ≡ 5 → done ≡ false → Found V (target l.call) l.pred l.curr l.ckey → node_lock ws l.pred ≡ t + 1 → Goal
-  go_5 e d x mine = tries l.curr (record l { pc = 6 }) (record l { pc = 5 }) regs.curr
+  go (at5 e d x mine) busy = tries (locks_nodes true) l.curr (record l { pc = 6 }) (record l { pc = 5 }) regs.curr
       (rw (e, regs.thread) refl) (rw e refl) (rw e refl)
       (keep sz t 6 l.reply l regs, refl, refl, λ y. omega arith)
       (keep sz t 5 l.reply l regs, refl, refl, λ y. omega arith)
@@ -190,9 +180,7 @@ module _ (sz : Sizes) (t : ℕ) (vs : ℕ → View) (first now : ℕ) (ws : List
         distinct = found_apart x;
       }))
       (at5 refl d x mine)
-
-  go_6 : l.pc ≡ 6 → done ≡ false → Found V (target l.call) l.pred l.curr l.ckey → Both V t l.pred l.curr → Goal
-  go_6 e d x b =
+  go (at6 e d x b) busy =
       let s : ℕ = node_link ws l.pred in let inn : l.pred < node_count sz = regs.pred in
       let read : LockedStep true sz t ws used (Load (link_index l.pred)) ws used None =
       reads_word (link_index l.pred) (omega arith) in
@@ -201,28 +189,13 @@ module _ (sz : Sizes) (t : ℕ) (vs : ℕ → View) (first now : ℕ) (ws : List
         | inl y ↦ passes (Load (link_index l.pred)) ws (record l { pc = 7 }) (rw e refl)
             (feeds ∙ ap continued (if_same s (2 * l.curr) y (record l { pc = 7 }) (gives_up l))) (rw e refl) read
             (keep sz t 7 l.reply l regs, refl, refl, λ z. omega arith)
-            (at7 refl d x (record {
-              walk = record {
-                held = record {
-                  mine = b.pred_mine;
-                  at = M.marked l.pred x.spot.pred_published (omega arith);
-                  published = x.spot.pred_published;
-                };
-                inner = inner true sz ws used M l.pred (target l.call) x.spot.below regs.low;
-                follows = y;
-                below = x.spot.below;
-                next = x.spot.curr_published;
-              };
-              mine = b.curr_mine;
-            }))
+            (at7 refl d x (record { walk = behind_of_load M regs.low x.spot b.pred_mine y; mine = b.curr_mine }))
         | inr y ↦ passes (Load (link_index l.pred)) ws (record l { pc = 13; reply = None }) (rw e refl)
             (feeds ∙ ap continued (if_other s (2 * l.curr) y (record l { pc = 7 }) (gives_up l))) (rw e refl) read
             (keep sz t 13 None l regs, refl, refl, λ z. omega arith)
             (at13 refl b d)
       ]
-
-  go_7 : l.pc ≡ 7 → done ≡ false → Found V (target l.call) l.pred l.curr l.ckey → Window V t l → Goal
-  go_7 e d x b =
+  go (at7 e d x b) busy =
       let s : ℕ = node_link ws l.curr in let inn : l.curr < node_count sz = regs.curr in
       let l0 : Local = record l { succ = s / 2 } in
       let next : s / 2 < node_count sz = next_inside M l.curr b.walk.next in
@@ -230,12 +203,10 @@ module _ (sz : Sizes) (t : ℕ) (vs : ℕ → View) (first now : ℕ) (ws : List
       let read : LockedStep true sz t ws used (Load (link_index l.curr)) ws used None =
       reads_word (link_index l.curr) (omega arith) in
       let feeds : fed_by l s ≡ continued (at_curr s l) = rw e refl in
-      let is : l.ckey ≡ node_key ws l.curr = sym x.is in
-      let above : target l.call ≤ l.ckey = x.above in
       elim (even_or_odd s) [
         | inl even ↦
             (let on = feeds ∙ ap continued (if_same (s % 2) 0 even (decided_on targets l.ckey l0) (gives_up l)) in
-            elim (decides M t targets l.ckey l0 b.walk.held.at b.walk.inner b.walk.follows b.walk.below even is (omega arith) regs.low
+            elim (decides M t targets l.ckey l0 b.walk.held.at b.walk.inner b.walk.follows b.walk.below even (sym x.is) x.above regs.low
             (M.room t tn) th.counts regs.quota) [
               | inl r ↦ passes a ws (goes_to 13 (Some r.0) l0) (rw e refl) (on ∙ ap continued r.1) (rw e refl) read
                   (keep_succ sz t 13 (s / 2) (Some r.0) l next regs, refl, refl, λ z. omega arith)
@@ -253,9 +224,7 @@ module _ (sz : Sizes) (t : ℕ) (vs : ℕ → View) (first now : ℕ) (ws : List
             (keep sz t 13 None l regs, refl, refl, λ z. omega arith)
             (at13 refl (both_of (found_apart x) b) d)
       ]
-
-  go_8 : l.pc ≡ 8 → done ≡ false → Window V t l → Adding V t sz.quota l.curr l.call → Goal
-  go_8 e d b a =
+  go (at8 e d b a) busy =
       let o : ℕ = own_of sz.quota t used in let k : ℕ = target l.call in
       let s = leaves_own_key M tn k a.room in
       let own = own_in true sz ws used M t tn a.room in
@@ -263,11 +232,7 @@ module _ (sz : Sizes) (t : ℕ) (vs : ℕ → View) (first now : ℕ) (ws : List
       (rw (e, own_is) refl) (rw e refl) (rw e refl) (writes_own_key k a.room)
       (keep sz t 9 l.reply l regs, refl, refl, λ x. omega arith)
       (at9 refl d (between_on s b) (adding_on s b.walk.next a) (key_wrote true sz ws used M o k own))
-
-  go_9 : l.pc ≡ 9 → done ≡ false → Window V t l → Adding V t sz.quota l.curr l.call →
-      node_key ws (own_of sz.quota t used) ≡ target l.call
-      → Goal
-  go_9 e d b a key =
+  go (at9 e d b a key) busy =
       let o : ℕ = own_of sz.quota t used in let x : ℕ = 2 * l.curr in
       let s = leaves_own_link M tn x a.room in
       let own = own_in true sz ws used M t tn a.room in
@@ -276,30 +241,16 @@ module _ (sz : Sizes) (t : ℕ) (vs : ℕ → View) (first now : ℕ) (ws : List
       (keep sz t 10 l.reply l regs, refl, refl, λ x. omega arith)
       (at10 refl d (between_on s b) (adding_on s b.walk.next a) (key_after_link ws o x o ∙ key)
       (link_wrote true sz ws used M o x own))
-
-  -- a write of a link leaves the locks
-  both_after : (p x : ℕ) (used' : ℕ → ℕ) → Window V t l → Both (view sz (slice_set ws (link_index p) x) used') t l.pred l.curr
-  both_after p x used' b = record {
-    pred_mine = lock_after_link ws p x l.pred ∙ b.walk.held.mine;
-    curr_mine = lock_after_link ws p x l.curr ∙ b.mine;
-    distinct = curr_is_not_pred M b.walk;
-  }
-
-  go_10 : l.pc ≡ 10 → done ≡ false → Window V t l → Adding V t sz.quota l.curr l.call →
-      node_key ws (own_of sz.quota t used) ≡ target l.call
-      → node_link ws (own_of sz.quota t used) ≡ 2 * l.curr → Goal
-  go_10 e d b a key link =
+  go (at10 e d b a key link) busy =
       let x : ℕ = 2 * own_of sz.quota t used in
       let count : l.used ≡ used t = th.counts in
       let more : one_more used t t ≡ used t + 1 = one_more_same used t in
       changes (Store (link_index l.pred) x) (slice_set ws (link_index l.pred) x) (one_more used t)
       (record l { pc = 13; reply = Some True; used = l.used + 1 }) (key_of l.call) true
-      (rw (e, own_is) refl) (rw e refl) (rw e refl) (puts_between b a key link) (a.call, d, a.room)
+      (rw (e, own_is) refl) (rw e refl) (rw e refl) (puts_behind b.walk a key link) (a.call, d, a.room)
       (keep_more sz t 13 l (rw count a.room) regs) refl (omega arith) (λ x. omega arith)
-      (at13 refl (both_after l.pred x (one_more used t) b) refl)
-
-  go_11 : l.pc ≡ 11 → done ≡ false → Window V t l → Removing V l.curr l.call → node_link ws l.curr ≡ 2 * l.succ → Goal
-  go_11 e d b a next =
+      (at13 refl (both_after M l.pred x (one_more used t) b) refl)
+  go (at11 e d b a next) busy =
       let x : ℕ = 2 * l.succ + 1 in
       let even : node_link ws l.curr % 2 ≡ 0 = omega arith in
       let is : 2 * l.succ + 1 ≡ node_link ws l.curr + 1 = omega arith in
@@ -308,75 +259,25 @@ module _ (sz : Sizes) (t : ℕ) (vs : ℕ → View) (first now : ℕ) (ws : List
       marks_between M x refl b a even is regs.low in
       let g = goes_on true sz ws used M t tn (Store (link_index l.curr) x) (slice_set ws (link_index l.curr) x) used
       (Some (key_of l.call, false)) c.0 in
-      let apart : l.curr ≢ l.pred = curr_is_not_pred M b.walk in
       changes (Store (link_index l.curr) x) (slice_set ws (link_index l.curr) x) used (record l { pc = 12 })
       (key_of l.call) false
       (rw e refl) (rw e refl) (rw e refl) c (a.call, d)
       (keep sz t 12 l.reply l regs) refl th.counts (λ x. omega arith)
-      (at12 refl refl (record {
-        walk = record {
-          held = record {
-            mine = lock_after_link ws l.curr x l.pred ∙ b.walk.held.mine;
-            at = mark_keeps V (view sz (slice_set ws (link_index l.curr) x) used) M.ordered l.curr (key_of l.call).0
-                (at_mark true sz ws used M t tn l.curr x (key_of l.call).0 (in_chain b.walk) (found_no_tail M a regs.low)
-                even is a.found)
-                l.pred b.walk.held.at;
-            published = b.walk.held.published;
-          };
-          inner = b.walk.inner;
-          follows = link_after_link ws l.curr x l.pred (λ f. apart (sym f)) ∙ b.walk.follows;
-          below = rw (g.keys l.pred b.walk.held.published) b.walk.below;
-          next = b.walk.next;
-        };
-        mine = lock_after_link ws l.curr x l.curr ∙ b.mine;
-      }) (removing_kept g b.walk.next a) (link_wrote true sz ws used M l.curr x regs.curr))
-
-  go_12 : l.pc ≡ 12 → done ≡ true → Window V t l → Removing V l.curr l.call → node_link ws l.curr ≡ 2 * l.succ + 1 → Goal
-  go_12 e d b a next =
+      (at12 refl refl (between_marked M tn x b a even is regs.low) (removing_kept g b.walk.next a)
+      (link_wrote true sz ws used M l.curr x regs.curr))
+  go (at12 e d b a next) busy =
       let x : ℕ = 2 * l.succ in
       let due : Due done sz.quota vs first (suc now) t l.call True = rw d refl in
       passes (Store (link_index l.pred) x) (slice_set ws (link_index l.pred) x) (record l { pc = 13; reply = Some True })
       (rw e refl) (rw e refl) (rw e refl) (cuts_between M l.succ b a next regs.low)
       (keep sz t 13 (Some True) l regs, refl, refl, λ x. omega arith)
-      (at13 refl (both_after l.pred x used b) due)
-
-  go_13 : l.pc ≡ 13 → Both V t l.pred l.curr → Outcome done sz.quota vs first now t l.call l.reply → Goal
-  go_13 e b o =
+      (at13 refl (both_after M l.pred x used b) due)
+  go (at13 e b o) busy =
       passes (Store (lock_index l.curr) 0) (slice_set ws (lock_index l.curr) 0) (record l { pc = 14 })
       (rw e refl) (rw e refl) (rw e refl) (frees l.curr regs.curr b.curr_mine)
       (keep sz t 14 l.reply l regs, refl, refl, λ x. omega arith)
       (at14 refl (lock_after_lock ws l.curr 0 l.pred (λ f. b.distinct (sym f)) ∙ b.pred_mine)
       (outcome_on done sz.quota vs first now t l.call l.reply o))
-
-  freed : l.pc ≡ 14 → fed_by l 0 ≡ released l.reply l
-  freed e = rw e refl
-
-  go_14 : l.pc ≡ 14 → node_lock ws l.pred ≡ t + 1 → (r : Option Reply) → l.reply ≡ r
-      → Outcome done sz.quota vs first now t l.call r → Goal
-  go_14 e mine None y o =
-      passes (Store (lock_index l.pred) 0) (slice_set ws (lock_index l.pred) 0) (record l { pc = 1 })
-      (rw e refl) (freed e ∙ ap (λ z. released z l) y) (rw e refl) (frees l.pred regs.pred mine)
-      (keep sz t 1 l.reply l regs, refl, refl, λ x. omega arith) (at1 refl o)
-  go_14 e mine (Some r) y o =
-      answers (Store (lock_index l.pred) 0) (slice_set ws (lock_index l.pred) 0) (record l { pc = 0 }) r
-      (rw e refl) (freed e ∙ ap (λ z. released z l) y) (rw e refl) (frees l.pred regs.pred mine) o
-      (keep sz t 0 l.reply l regs) refl refl refl (at0 refl)
-
-  go : At sz.quota t vs first now (view sz ws used) done l → l.pc ≢ 0 → Goal
-  go (at0 e) busy = absurd (busy e)
-  go (at1 e d) busy = go_1 e d
-  go (at2 e d x) busy = go_2 e d x
-  go (at3 e d x lt) busy = go_3 e d x lt
-  go (at4 e d x) busy = go_4 e d x
-  go (at5 e d x p) busy = go_5 e d x p
-  go (at6 e d x b) busy = go_6 e d x b
-  go (at7 e d x b) busy = go_7 e d x b
-  go (at8 e d b a) busy = go_8 e d b a
-  go (at9 e d b a x) busy = go_9 e d b a x
-  go (at10 e d b a x y) busy = go_10 e d b a x y
-  go (at11 e d b a x) busy = go_11 e d b a x
-  go (at12 e d b a x) busy = go_12 e d b a x
-  go (at13 e b o) busy = go_13 e b o
   go (at14 e p o) busy = go_14 e p l.reply refl o
   go (at_read a) busy =
       reads_on lazy (node_locks true) At sz t vs first now ws used done l h th has_read_rows (λ l' b. at_read b)
@@ -384,29 +285,15 @@ module _ (sz : Sizes) (t : ℕ) (vs : ℕ → View) (first now : ℕ) (ws : List
 
 -- what it says of a contains and of a ceiling
 pub shows_reading : ShowsReading At
-shows_reading q t vs first now v done l row (at0 e) = low_row l.pc 0 e (omega arith) row
-shows_reading q t vs first now v done l row (at1 e a) = low_row l.pc 1 e (omega arith) row
-shows_reading q t vs first now v done l row (at2 e a b) = low_row l.pc 2 e (omega arith) row
-shows_reading q t vs first now v done l row (at3 e a b c) = low_row l.pc 3 e (omega arith) row
-shows_reading q t vs first now v done l row (at4 e a b) = low_row l.pc 4 e (omega arith) row
-shows_reading q t vs first now v done l row (at5 e a b c) = low_row l.pc 5 e (omega arith) row
-shows_reading q t vs first now v done l row (at6 e a b c) = low_row l.pc 6 e (omega arith) row
-shows_reading q t vs first now v done l row (at7 e a b c) = low_row l.pc 7 e (omega arith) row
-shows_reading q t vs first now v done l row (at8 e a b c) = low_row l.pc 8 e (omega arith) row
-shows_reading q t vs first now v done l row (at9 e a b c d) = low_row l.pc 9 e (omega arith) row
-shows_reading q t vs first now v done l row (at10 e a b c d f) = low_row l.pc 10 e (omega arith) row
-shows_reading q t vs first now v done l row (at11 e a b c d) = low_row l.pc 11 e (omega arith) row
-shows_reading q t vs first now v done l row (at12 e a b c d) = low_row l.pc 12 e (omega arith) row
-shows_reading q t vs first now v done l row (at13 e a b) = low_row l.pc 13 e (omega arith) row
-shows_reading q t vs first now v done l row (at14 e a b) = low_row l.pc 14 e (omega arith) row
 shows_reading q t vs first now v done l row (at_read a) = a
+shows_reading q t vs first now v done l row at = grind arith
 
 pub lazy_follows : Follows lazy (node_locks true) At
 lazy_follows = record {
-  idle_at = λ q t vs v. at0 refl;
+  idle_at = λ op lim t vs. at0 refl;
   begun = begun_reading_is;
   begin_registers = λ sz t call l low r. registers_begun sz t (first_row call) call l low r;
-  begins = λ q t vs now v call l e s k. call_begins At q t vs now v call l e k (λ l' e. at1 e refl) (λ l' r. at_read r);
+  begins = λ q t vs now v call l e s k was. call_begins At q t vs now v call l e k (λ l' e. at1 e refl) (λ l' r. at_read r);
   stands = λ q t vs first now v w done l present r at. stays q t vs first now v w done l r at;
   turn = λ sz t vs first now ws used done l h th tn busy. go sz t vs first now ws used done l h th tn th.at busy;
 }

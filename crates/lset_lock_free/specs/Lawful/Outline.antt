@@ -30,7 +30,7 @@ use Rattle.lset_steps.specs.ReadRows.{first_row, read_action, read_fed, continue
 use Rattle.lset_steps.proofs.ReadTables.{HasReadRows, in_each_read_row}
 use Rattle.lset_steps.proofs.ReadOutline.{Reading, begun_reading_is, reading_on, call_begins, reads_on, even_or_odd}
 use Rattle.lset_steps.proofs.UnlockedWalk.{Spot, spot_kept, spot_behind_head, next_inside}
-use Rattle.lset_steps.proofs.ReadWalk.{ShowsReading, low_row}
+use Rattle.lset_steps.proofs.ReadWalk.{ShowsReading}
 use Rattle.lset_steps.proofs.Turns.{Turn, due_of, Follows, no_locks}
 use Rattle.lset_steps.proofs.Turns.Turn.{passes, changes, answers, ends}
 use Rattle.lset_lock_free.specs.LockFree.{lock_free, targets, decision_of, at_key, at_link, again, next_action, fed_by, effect_of}
@@ -191,15 +191,6 @@ module _ (sz : Sizes) (t : ℕ) (vs : ℕ → View) (first now : ℕ) (ws : List
   restarts : Registers sz t (record l { pc = 1 })
   restarts = keep sz t 1 l.reply l regs
 
-  go_1 : l.pc ≡ 1 → done ≡ false → Goal
-  go_1 e d =
-      let s : ℕ = node_link ws 0 in
-      let x : Spot V (target l.call) 0 (s / 2) = spot_behind_head M (omega arith) in
-      passes (Load (link_index 0)) ws (record l { pc = 2; pred = 0; curr = s / 2 })
-      (rw e refl) (rw e refl) (rw e refl) (reads (link_index 0) (omega arith))
-      (keep_walk sz t 2 0 (s / 2) l (omega arith) (next_inside M 0 M.ordered.head_published) regs, refl, refl, λ y. omega arith)
-      (at2 refl d x (was_on refl (is_now (λ y. y.key 0 < target l.call) h.present th.begun ([], refl) refl x.below)))
-
   go_2 : l.pc ≡ 2 → done ≡ false → Spot V (target l.call) l.pred l.curr
       → Link vs first now (target l.call) l.pred l.curr t (used t) → Goal
   unfolding was_on is_now
@@ -220,41 +211,6 @@ module _ (sz : Sizes) (t : ℕ) (vs : ℕ → View) (first now : ℕ) (ws : List
             (rw e refl) (feeds ∙ if_other (x % 2) 0 (omega arith) open_at marked_at) (rw e refl) read
             (keep_succ sz t 3 (x / 2) l.reply l (next_inside M l.curr s.curr_published) regs, refl, refl, λ y. omega arith)
             (at3 refl d s next (omega arith))
-      ]
-
-  go_3 : l.pc ≡ 3 → done ≡ false → Spot V (target l.call) l.pred l.curr → V.published l.succ
-      → node_link ws l.curr ≡ 2 * l.succ + 1 → Goal
-  go_3 e d s p m =
-      let old : ℕ = 2 * l.curr in let new : ℕ = 2 * l.succ in
-      let on : Fed = continued (record l { pc = 2; curr = l.succ }) in
-      elim (same_or_not (node_link ws l.pred) old) [
-        | inl y ↦
-            (let tail : node_link ws 1 ≡ 2 = M.tail_link in
-            let user : l.curr ≢ 1 = λ f. (let g : node_link ws l.curr ≡ node_link ws 1 = ap (node_link ws) f in omega arith) in
-            let c : WordStep true sz t ws used (Exchange (link_index l.pred) old new) (slice_set ws (link_index l.pred) new)
-            used None =
-            cuts (Exchange (link_index l.pred) old new) l.pred l.curr l.succ (writes_at l.pred old new y)
-            (live l.pred s.pred_published (omega arith)) (below_tail l.pred s.below) user y m in
-            let g = goes_on true sz ws used M t tn (Exchange (link_index l.pred) old new)
-            (slice_set ws (link_index l.pred) new) used None c in
-            let M' = memory_after true sz ws used M t tn (Exchange (link_index l.pred) old new)
-            (slice_set ws (link_index l.pred) new) used None c in
-            let wrote : node_link (slice_set ws (link_index l.pred) new) l.pred ≡ new =
-            link_wrote true sz ws used M l.pred new regs.pred in
-            let at : Spot (view sz (slice_set ws (link_index l.pred) new) used) (target l.call) l.pred l.succ = record {
-              pred_published = s.pred_published;
-              below = (spot_kept g s).below;
-              curr_published = p;
-            } in
-            let begun : first ≤ now = th.begun in
-            passes (Exchange (link_index l.pred) old new) (slice_set ws (link_index l.pred) new)
-            (record l { pc = 2; curr = l.succ })
-            (rw e refl) (rw e (if_same (node_link ws l.pred) old y on (again l))) (rw e refl) c
-            (keep_curr sz t 2 l.succ l regs.succ regs, refl, refl, λ x. omega arith)
-            (at2_now refl d at (omega arith) (M'.marked l.pred s.pred_published (omega arith)) (omega arith)))
-        | inr y ↦ passes (Exchange (link_index l.pred) old new) ws (record l { pc = 1 })
-            (rw e refl) (rw e (if_other (node_link ws l.pred) old y on (again l))) (rw e refl)
-            (fails_at l.pred old new regs.pred y) (restarts, refl, refl, λ x. omega arith) (at1 refl d)
       ]
 
   abbrev Fitting : Reply → Type 0
@@ -340,10 +296,55 @@ module _ (sz : Sizes) (t : ℕ) (vs : ℕ → View) (first now : ℕ) (ws : List
         (in_chain_published (vs k.at) ord l.curr inn) o.holds)))
   ]
 
-  go_4 : l.pc ≡ 4 → done ≡ false → Spot V (target l.call) l.pred l.curr → V.published l.succ
-      → (k : Link vs first now (target l.call) l.pred l.curr t (used t)) → (o : Open vs first now l.curr l.succ t (used t))
-      → k.at ≤ o.at → Goal
-  go_4 e d s p k o b =
+  found_inner : Removing V l.curr l.call → l.curr ≢ 1
+  found_inner a f =
+      let g : node_key ws l.curr ≡ node_key ws 1 = ap (node_key ws) f in let tail : node_key ws 1 ≡ tail_word = M.tail_key in
+      let found : node_key ws l.curr ≡ target l.call = a.found in let low : target l.call < tail_word = regs.low in omega arith
+
+  go : At sz.quota t vs first now (view sz ws used) done l → l.pc ≢ 0 → Goal
+  go (at0 e) busy = absurd (busy e)
+  go (at1 e d) busy =
+      let s : ℕ = node_link ws 0 in
+      let x : Spot V (target l.call) 0 (s / 2) = spot_behind_head M (omega arith) in
+      passes (Load (link_index 0)) ws (record l { pc = 2; pred = 0; curr = s / 2 })
+      (rw e refl) (rw e refl) (rw e refl) (reads (link_index 0) (omega arith))
+      (keep_walk sz t 2 0 (s / 2) l (omega arith) (next_inside M 0 M.ordered.head_published) regs, refl, refl, λ y. omega arith)
+      (at2 refl d x (was_on refl (is_now (λ y. y.key 0 < target l.call) h.present th.begun ([], refl) refl x.below)))
+  go (at2 e d s k) busy = go_2 e d s k
+  go (at2_now e d s f i x) busy = go_2 e d s (is_now (λ y. y.key l.pred < target l.call) h.present f i x s.below)
+  go (at3 e d s p m) busy =
+      let old : ℕ = 2 * l.curr in let new : ℕ = 2 * l.succ in
+      let on : Fed = continued (record l { pc = 2; curr = l.succ }) in
+      elim (same_or_not (node_link ws l.pred) old) [
+        | inl y ↦
+            (let tail : node_link ws 1 ≡ 2 = M.tail_link in
+            let user : l.curr ≢ 1 = λ f. (let g : node_link ws l.curr ≡ node_link ws 1 = ap (node_link ws) f in omega arith) in
+            let c : WordStep true sz t ws used (Exchange (link_index l.pred) old new) (slice_set ws (link_index l.pred) new)
+            used None =
+            cuts (Exchange (link_index l.pred) old new) l.pred l.curr l.succ (writes_at l.pred old new y)
+            (live l.pred s.pred_published (omega arith)) (below_tail l.pred s.below) user y m in
+            let g = goes_on true sz ws used M t tn (Exchange (link_index l.pred) old new)
+            (slice_set ws (link_index l.pred) new) used None c in
+            let M' = memory_after true sz ws used M t tn (Exchange (link_index l.pred) old new)
+            (slice_set ws (link_index l.pred) new) used None c in
+            let wrote : node_link (slice_set ws (link_index l.pred) new) l.pred ≡ new =
+            link_wrote true sz ws used M l.pred new regs.pred in
+            let at : Spot (view sz (slice_set ws (link_index l.pred) new) used) (target l.call) l.pred l.succ = record {
+              pred_published = s.pred_published;
+              below = (spot_kept g s).below;
+              curr_published = p;
+            } in
+            let begun : first ≤ now = th.begun in
+            passes (Exchange (link_index l.pred) old new) (slice_set ws (link_index l.pred) new)
+            (record l { pc = 2; curr = l.succ })
+            (rw e refl) (rw e (if_same (node_link ws l.pred) old y on (again l))) (rw e refl) c
+            (keep_curr sz t 2 l.succ l regs.succ regs, refl, refl, λ x. omega arith)
+            (at2_now refl d at (omega arith) (M'.marked l.pred s.pred_published (omega arith)) (omega arith)))
+        | inr y ↦ passes (Exchange (link_index l.pred) old new) ws (record l { pc = 1 })
+            (rw e refl) (rw e (if_other (node_link ws l.pred) old y on (again l))) (rw e refl)
+            (fails_at l.pred old new regs.pred y) (restarts, refl, refl, λ x. omega arith) (at1 refl d)
+      ]
+  go (at4 e d s p k o b) busy =
       let x : ℕ = node_key ws l.curr in let key : ℕ = target l.call in let curr : l.curr < node_count sz = regs.curr in
       let read : WordStep true sz t ws used (Load (key_index l.curr)) ws used None = reads (key_index l.curr) (omega arith) in
       let on : Fed = continued (record l { pc = 2; pred = l.curr; curr = l.succ }) in
@@ -379,9 +380,7 @@ module _ (sz : Sizes) (t : ℕ) (vs : ℕ → View) (first now : ℕ) (ws : List
           ]
         ]
       ]
-
-  go_5 : l.pc ≡ 5 → done ≡ false → Spot V (target l.call) l.pred l.curr → Adding V t sz.quota l.curr l.call → Goal
-  go_5 e d s a =
+  go (at5 e d s a) busy =
       let own : ℕ = own_of sz.quota t used in let k : ℕ = target l.call in
       let c : WordStep true sz t ws used (Store (key_index own) k) (slice_set ws (key_index own) k) used None =
       own_key k a.room in
@@ -390,10 +389,7 @@ module _ (sz : Sizes) (t : ℕ) (vs : ℕ → View) (first now : ℕ) (ws : List
       (rw (e, own_is) refl) (rw e refl) (rw e refl) c (keep sz t 6 l.reply l regs, refl, refl, λ x. omega arith)
       (at6 refl d (spot_kept g s) (adding_kept g refl s.curr_published a)
       (key_wrote true sz ws used M own k (own_in true sz ws used M t tn a.room)))
-
-  go_6 : l.pc ≡ 6 → done ≡ false → Spot V (target l.call) l.pred l.curr → Adding V t sz.quota l.curr l.call
-      → node_key ws (own_of sz.quota t used) ≡ target l.call → Goal
-  go_6 e d s a key =
+  go (at6 e d s a key) busy =
       let own : ℕ = own_of sz.quota t used in let x : ℕ = 2 * l.curr in
       let c : WordStep true sz t ws used (Store (link_index own) x) (slice_set ws (link_index own) x) used None =
       own_link l.curr a.room in
@@ -402,10 +398,7 @@ module _ (sz : Sizes) (t : ℕ) (vs : ℕ → View) (first now : ℕ) (ws : List
       (rw (e, own_is) refl) (rw e refl) (rw e refl) c (keep sz t 7 l.reply l regs, refl, refl, λ y. omega arith)
       (at7 refl d (spot_kept g s) (adding_kept g refl s.curr_published a) (key_after_link ws own x own ∙ key)
       (link_wrote true sz ws used M own x (own_in true sz ws used M t tn a.room)))
-
-  go_7 : l.pc ≡ 7 → done ≡ false → Spot V (target l.call) l.pred l.curr → Adding V t sz.quota l.curr l.call
-      → node_key ws (own_of sz.quota t used) ≡ target l.call → node_link ws (own_of sz.quota t used) ≡ 2 * l.curr → Goal
-  go_7 e d s a key link =
+  go (at7 e d s a key link) busy =
       let old : ℕ = 2 * l.curr in let new : ℕ = 2 * own_of sz.quota t used in let count : l.used ≡ used t = th.counts in
       let more : one_more used t t ≡ used t + 1 = one_more_same used t in
       let on : Fed = leaves_with True (record l { used = l.used + 1 }) in
@@ -422,23 +415,14 @@ module _ (sz : Sizes) (t : ℕ) (vs : ℕ → View) (first now : ℕ) (ws : List
             (rw e (if_other (node_link ws l.pred) old y (Some (key_of l.call, true)) None))
             (fails_at l.pred old new regs.pred y) (restarts, refl, refl, λ x. omega arith) (at1 refl d)
       ]
-
-  found_inner : Removing V l.curr l.call → l.curr ≢ 1
-  found_inner a f =
-      let g : node_key ws l.curr ≡ node_key ws 1 = ap (node_key ws) f in let tail : node_key ws 1 ≡ tail_word = M.tail_key in
-      let found : node_key ws l.curr ≡ target l.call = a.found in let low : target l.call < tail_word = regs.low in omega arith
-
-  go_8 : l.pc ≡ 8 → done ≡ false → Spot V (target l.call) l.pred l.curr → Removing V l.curr l.call → Goal
-  go_8 e d s a =
+  go (at8 e d s a) busy =
       let x : ℕ = node_link ws l.curr in let curr : l.curr < node_count sz = regs.curr in
       let next : V.published (x / 2) = next_published l.curr s.curr_published in
       passes (Load (link_index l.curr)) ws (record l { pc = 9; succ = x / 2 })
       (rw e refl) (rw e refl) (rw e refl) (reads (link_index l.curr) (omega arith))
       (keep_succ sz t 9 (x / 2) l.reply l (next_inside M l.curr s.curr_published) regs, refl, refl, λ y. omega arith)
       (at9 refl d s a next)
-
-  go_9 : l.pc ≡ 9 → done ≡ false → Spot V (target l.call) l.pred l.curr → Removing V l.curr l.call → V.published l.succ → Goal
-  go_9 e d s a p =
+  go (at9 e d s a p) busy =
       let old : ℕ = 2 * l.succ in let new : ℕ = 2 * l.succ + 1 in
       let on : Fed = continued (record l { pc = 10 }) in
       elim (same_or_not (node_link ws l.curr) old) [
@@ -463,10 +447,7 @@ module _ (sz : Sizes) (t : ℕ) (vs : ℕ → View) (first now : ℕ) (ws : List
             (rw e (if_other (node_link ws l.curr) old y (Some (key_of l.call, false)) None))
             (fails_at l.curr old new regs.curr y) (restarts, refl, refl, λ x. omega arith) (at1 refl d)
       ]
-
-  go_10 : l.pc ≡ 10 → done ≡ true → Spot V (target l.call) l.pred l.curr → Removing V l.curr l.call
-      → node_link ws l.curr ≡ 2 * l.succ + 1 → Goal
-  go_10 e d s a m =
+  go (at10 e d s a m) busy =
       let old : ℕ = 2 * l.curr in let new : ℕ = 2 * l.succ in
       let due : Due done sz.quota vs first now t l.call True = rw d refl in
       elim (same_or_not (node_link ws l.pred) old) [
@@ -479,46 +460,21 @@ module _ (sz : Sizes) (t : ℕ) (vs : ℕ → View) (first now : ℕ) (ws : List
             (rw e refl) (rw e refl) (rw e refl) (fails_at l.pred old new regs.pred y)
             due (keep sz t 0 l.reply l regs) refl refl refl (at0 refl)
       ]
-
-  go : At sz.quota t vs first now (view sz ws used) done l → l.pc ≢ 0 → Goal
-  go (at0 e) busy = absurd (busy e)
-  go (at1 e d) busy = go_1 e d
-  go (at2 e d s k) busy = go_2 e d s k
-  go (at2_now e d s f i x) busy = go_2 e d s (is_now (λ y. y.key l.pred < target l.call) h.present f i x s.below)
-  go (at3 e d s p m) busy = go_3 e d s p m
-  go (at4 e d s p k o b) busy = go_4 e d s p k o b
-  go (at5 e d s a) busy = go_5 e d s a
-  go (at6 e d s a x) busy = go_6 e d s a x
-  go (at7 e d s a x y) busy = go_7 e d s a x y
-  go (at8 e d s a) busy = go_8 e d s a
-  go (at9 e d s a p) busy = go_9 e d s a p
-  go (at10 e d s a m) busy = go_10 e d s a m
   go (at_read a) busy =
       reads_on lock_free (no_locks true) At sz t vs first now ws used done l h th has_read_rows (λ l' b. at_read b)
       (λ l' b. at0 b) a
 
 -- what it says of a contains and of a ceiling
 pub shows_reading : ShowsReading At
-shows_reading q t vs first now v done l row (at0 e) = low_row l.pc 0 e (omega arith) row
-shows_reading q t vs first now v done l row (at1 e a) = low_row l.pc 1 e (omega arith) row
-shows_reading q t vs first now v done l row (at2 e a b c) = low_row l.pc 2 e (omega arith) row
-shows_reading q t vs first now v done l row (at2_now e a b c d f) = low_row l.pc 2 e (omega arith) row
-shows_reading q t vs first now v done l row (at3 e a b c d) = low_row l.pc 3 e (omega arith) row
-shows_reading q t vs first now v done l row (at4 e a b c d f g) = low_row l.pc 4 e (omega arith) row
-shows_reading q t vs first now v done l row (at5 e a b c) = low_row l.pc 5 e (omega arith) row
-shows_reading q t vs first now v done l row (at6 e a b c d) = low_row l.pc 6 e (omega arith) row
-shows_reading q t vs first now v done l row (at7 e a b c d f) = low_row l.pc 7 e (omega arith) row
-shows_reading q t vs first now v done l row (at8 e a b c) = low_row l.pc 8 e (omega arith) row
-shows_reading q t vs first now v done l row (at9 e a b c d) = low_row l.pc 9 e (omega arith) row
-shows_reading q t vs first now v done l row (at10 e a b c d) = low_row l.pc 10 e (omega arith) row
 shows_reading q t vs first now v done l row (at_read a) = a
+shows_reading q t vs first now v done l row at = grind arith
 
 pub lock_free_follows : Follows lock_free (no_locks true) At
 lock_free_follows = record {
-  idle_at = λ q t vs v. at0 refl;
+  idle_at = λ op lim t vs. at0 refl;
   begun = begun_reading_is;
   begin_registers = λ sz t call l low r. registers_begun sz t (first_row call) call l low r;
-  begins = λ q t vs now v call l e s k. call_begins At q t vs now v call l e k (λ l' e. at1 e refl) (λ l' r. at_read r);
+  begins = λ q t vs now v call l e s k was. call_begins At q t vs now v call l e k (λ l' e. at1 e refl) (λ l' r. at_read r);
   stands = λ q t vs first now v w done l present r at. stays q t vs first now v w done l present r at;
   turn = λ sz t vs first now ws used done l h th tn busy. go sz t vs first now ws used done l h th tn th.at busy;
 }

@@ -19,13 +19,13 @@ use Rattle.lset_steps.proofs.Replies.{Adding, Removing, registers_begun, keep_mo
 use Rattle.lset_steps.specs.Rows.{decided_on, goes_to, own_slot}
 use Rattle.lset_steps.proofs.Held.{Held, Behind, Between, Leaves, LockedStep, head_held, rely_same, leaves_of, held_on}
 use Rattle.lset_steps.proofs.Held.{between_on, adding_on, removing_on, own_key_on, own_link_on, reads_word, frees, writes_own_key}
-use Rattle.lset_steps.proofs.Held.{writes_own_link, puts_between, held_from, behind_from, curr_is_not_pred, found_next}
+use Rattle.lset_steps.proofs.Held.{writes_own_link, puts_behind, held_from, behind_from, curr_is_not_pred, found_next}
 use Rattle.lset_steps.proofs.Held.{drops_between, stays_behind, leaves_locked, leaves_own_key, leaves_own_link}
 use Rattle.lset_steps.proofs.UnlockedWalk.{Spot, Found, found_apart, same_key_kept, spot_kept, found_kept, spot_behind}
 use Rattle.lset_steps.proofs.UnlockedWalk.{spot_behind_head, next_inside, small_key, keeps_locked}
 use Rattle.lset_steps.proofs.SecondWalk.{SecondWalk, second_walk_begins, second_walk_on, second_walk_goes, second_walk_arrives}
 use Rattle.lset_steps.proofs.Decision.{decides}
-use Rattle.lset_steps.proofs.Turns.{Turn, Follows, Outcome, node_locks, outcome_on, due_now, tries}
+use Rattle.lset_steps.proofs.Turns.{Turn, Follows, Outcome, node_locks, locks_nodes, outcome_on, due_now, tries}
 use Rattle.lset_steps.proofs.Turns.Turn.{passes, changes, answers}
 use Rattle.lset_optimistic.specs.Optimistic.{optimistic, targets}
 
@@ -145,8 +145,30 @@ module _ (sz : Sizes) (t : ℕ) (vs : ℕ → View) (first now : ℕ) (ws : List
   own_is : own_slot l ≡ own_of sz.quota t used
   own_is = rw (th.registers.thread, th.registers.quota, th.counts) refl
 
-  go_1 : l.pc ≡ 1 → done ≡ false → Goal
-  go_1 e d =
+  go_14 : l.pc ≡ 14 → node_lock ws l.pred ≡ t + 1 → node_lock ws l.curr ≡ t + 1 → l.curr ≢ l.pred
+      → Outcome done sz.quota vs first now t l.call l.reply → Goal
+  go_14 e pred curr apart o =
+      passes (Store (lock_index l.pred) 0) (slice_set ws (lock_index l.pred) 0) (record l { pc = 15 })
+      (rw e refl) (rw e refl) (rw e refl) (frees l.pred regs.pred pred)
+      (keep sz t 15 l.reply l regs, refl, refl, λ x. omega arith)
+      (at15 refl (lock_after_lock ws l.pred 0 l.curr apart ∙ curr) (outcome_on done sz.quota vs first now t l.call l.reply o))
+
+  go_15 : l.pc ≡ 15 → node_lock ws l.curr ≡ t + 1 → (r : Option Reply) → l.reply ≡ r
+      → Outcome done sz.quota vs first now t l.call r → Goal
+  go_15 e mine None y o =
+      passes (Store (lock_index l.curr) 0) (slice_set ws (lock_index l.curr) 0) (record l { pc = 1 })
+      (rw e refl) (rw (e, y) refl) (rw e refl) (frees l.curr regs.curr mine)
+      (keep sz t 1 l.reply l regs, refl, refl, λ x. omega arith)
+      (at1 refl o)
+  go_15 e mine (Some r) y o =
+      answers (Store (lock_index l.curr) 0) (slice_set ws (lock_index l.curr) 0) (record l { pc = 0 }) r
+      (rw e refl) (rw (e, y) refl) (rw e refl) (frees l.curr regs.curr mine) o
+      (keep sz t 0 l.reply l regs) refl refl refl
+      (at0 refl)
+
+  go : At sz.quota t vs first now (view sz ws used) done l → l.pc ≢ 0 → Goal
+  go (at0 e) busy = absurd (busy e)
+  go (at1 e d) busy =
       let s : ℕ = node_link ws 0 in
       passes (Load (link_index 0)) ws (record l { pc = 2; pred = 0; pkey = 0; curr = s / 2 })
       (rw e refl) (rw e refl) (rw e refl) (reads_word (link_index 0) (omega arith)) (
@@ -156,9 +178,7 @@ module _ (sz : Sizes) (t : ℕ) (vs : ℕ → View) (first now : ℕ) (ws : List
         λ x. omega arith,
       )
       (at2 refl d (spot_behind_head M (omega arith)) M.head_key)
-
-  go_2 : l.pc ≡ 2 → done ≡ false → Spot V (target l.call) l.pred l.curr → node_key ws l.pred ≡ l.pkey → Goal
-  go_2 e d x k =
+  go (at2 e d x k) busy =
       let key : ℕ = target l.call in let s : ℕ = node_key ws l.curr in
       let inn : l.curr < node_count sz = regs.curr in
       let on : Local = record l { pc = 3; ckey = s } in let found : Local = record l { pc = 4; ckey = s } in
@@ -177,9 +197,7 @@ module _ (sz : Sizes) (t : ℕ) (vs : ℕ → View) (first now : ℕ) (ws : List
             (keep_ckey sz t 4 s l.reply l (small_key M l.curr c) regs, refl, refl, λ x. omega arith)
             (at4 refl d (record { found = record { spot = x; is = refl; above = ge }; low = k })))
       ]
-
-  go_3 : l.pc ≡ 3 → done ≡ false → V.published l.curr → node_key ws l.curr ≡ l.ckey → l.ckey < target l.call → Goal
-  go_3 e d c k lt =
+  go (at3 e d c k lt) busy =
       let s : ℕ = node_link ws l.curr in
       let inn : l.curr < node_count sz = regs.curr in
       let below : node_key ws l.curr < target l.call = omega arith in
@@ -191,9 +209,7 @@ module _ (sz : Sizes) (t : ℕ) (vs : ℕ → View) (first now : ℕ) (ws : List
         λ x. omega arith,
       )
       (at2 refl d (spot_behind M l.curr c below) k)
-
-  go_4 : l.pc ≡ 4 → done ≡ false → Window V l → Goal
-  go_4 e d f = tries l.pred (record l { pc = 5 }) (record l { pc = 4 }) regs.pred
+  go (at4 e d f) busy = tries (locks_nodes false) l.pred (record l { pc = 5 }) (record l { pc = 4 }) regs.pred
       (rw (e, regs.thread) refl) (rw e refl) (rw e refl)
       (keep sz t 5 l.reply l regs, refl, refl, λ x. omega arith)
       (keep sz t 4 l.reply l regs, refl, refl, λ x. omega arith)
@@ -201,9 +217,7 @@ module _ (sz : Sizes) (t : ℕ) (vs : ℕ → View) (first now : ℕ) (ws : List
       at5 refl d (reached_kept (keeps_locked M tn l.pred regs.pred free) f)
       (lock_wrote false sz ws used M l.pred (t + 1) regs.pred))
       (at4 refl d f)
-
-  go_5 : l.pc ≡ 5 → done ≡ false → Window V l → node_lock ws l.pred ≡ t + 1 → Goal
-  go_5 e d f p =
+  go (at5 e d f p) busy =
       let key : ℕ = target l.call in
       let mine = lock_wrote false sz ws used M l.curr (t + 1) regs.curr in
       let low : node_key ws l.pred < key = f.found.spot.below in
@@ -212,7 +226,7 @@ module _ (sz : Sizes) (t : ℕ) (vs : ℕ → View) (first now : ℕ) (ws : List
       elim (same_or_not l.pred 0) [
         | inl z ↦
             (let is = if_same l.pred 0 z (record l { pc = 8; node = 0 }) (record l { pc = 6; node = 0 }) in
-            tries l.curr (record l { pc = 8; node = 0 }) again regs.curr
+            tries (locks_nodes false) l.curr (record l { pc = 8; node = 0 }) again regs.curr
             (rw (e, regs.thread) refl) (rw (e, is) refl) (rw e refl)
             (keep_node sz t 8 0 l (omega arith) regs, refl, refl, λ x. omega arith)
             (keep sz t 5 l.reply l regs, refl, refl, λ x. omega arith)
@@ -225,7 +239,7 @@ module _ (sz : Sizes) (t : ℕ) (vs : ℕ → View) (first now : ℕ) (ws : List
             (at5 refl d f p))
         | inr z ↦
             (let is = if_other l.pred 0 z (record l { pc = 8; node = 0 }) (record l { pc = 6; node = 0 }) in
-            tries l.curr (record l { pc = 6; node = 0 }) again regs.curr
+            tries (locks_nodes false) l.curr (record l { pc = 6; node = 0 }) again regs.curr
             (rw (e, regs.thread) refl) (rw (e, is) refl) (rw e refl)
             (keep_node sz t 6 0 l (omega arith) regs, refl, refl, λ x. omega arith)
             (keep sz t 5 l.reply l regs, refl, refl, λ x. omega arith)
@@ -238,10 +252,7 @@ module _ (sz : Sizes) (t : ℕ) (vs : ℕ → View) (first now : ℕ) (ws : List
             (second_walk_begins vs (suc now) (s.locks l.pred p) f.found.spot.pred_published M.ordered.head_published))
             (at5 refl d f p))
       ]
-
-  go_6 : l.pc ≡ 6 → done ≡ false → Window V l → node_lock ws l.curr ≡ t + 1 → node_key ws l.node ≤ l.pkey
-      → (start : ℕ) → first ≤ start → SecondWalk vs start now V t l.pred l.node → Goal
-  go_6 e d f c k start g x =
+  go (at6 e d f c k start g x) busy =
       let s : ℕ = node_link ws l.node in
       let inn : l.node < node_count sz = regs.node in
       let pkey : node_key ws l.pred ≡ l.pkey = f.low in let pred : node_key ws l.pred < target l.call = f.found.spot.below in
@@ -251,10 +262,7 @@ module _ (sz : Sizes) (t : ℕ) (vs : ℕ → View) (first now : ℕ) (ws : List
       (keep_node sz t 7 (s / 2) l (next_inside M l.node x.node_published) regs, refl, refl, λ y. omega arith)
       (at7 refl d f c start g
       (second_walk_goes vs h.present h.course M.ordered (inner false sz ws used M l.node (target l.call) below regs.low) x))
-
-  go_7 : l.pc ≡ 7 → done ≡ false → Window V l → node_lock ws l.curr ≡ t + 1
-      → (start : ℕ) → first ≤ start → SecondWalk vs start now V t l.pred l.node → Goal
-  go_7 e d f c start g x =
+  go (at7 e d f c start g x) busy =
       let s : ℕ = node_key ws l.node in
       let inn : l.node < node_count sz = regs.node in
       let past : Local = record l { pc = 14; reply = None } in
@@ -287,9 +295,7 @@ module _ (sz : Sizes) (t : ℕ) (vs : ℕ → View) (first now : ℕ) (ws : List
                   (at6 refl d f c ge start g walks))
             ])
       ]
-
-  go_8 : l.pc ≡ 8 → done ≡ false → Window V l → node_lock ws l.curr ≡ t + 1 → Held V t l.pred → l.node ≡ l.pred → Goal
-  go_8 e d f c x a =
+  go (at8 e d f c x a) busy =
       let s : ℕ = node_link ws l.pred in
       let inn : l.pred < node_count sz = regs.pred in
       let past : Local = record l { pc = 14; reply = None } in
@@ -323,9 +329,7 @@ module _ (sz : Sizes) (t : ℕ) (vs : ℕ → View) (first now : ℕ) (ws : List
               ]
             ])
       ]
-
-  go_9 : l.pc ≡ 9 → done ≡ false → Neighbours V t l → Adding V t sz.quota l.curr l.call → Goal
-  go_9 e d b a =
+  go (at9 e d b a) busy =
       let o : ℕ = own_of sz.quota t used in let k : ℕ = target l.call in
       let s = leaves_own_key M tn k a.room in
       let own = own_in false sz ws used M t tn a.room in
@@ -333,10 +337,7 @@ module _ (sz : Sizes) (t : ℕ) (vs : ℕ → View) (first now : ℕ) (ws : List
       (rw (e, own_is) refl) (rw e refl) (rw e refl) (writes_own_key k a.room)
       (keep sz t 10 l.reply l regs, refl, refl, λ x. omega arith)
       (at10 refl d (between_on s b.0, b.1) (adding_on s b.0.walk.next a) (key_wrote false sz ws used M o k own))
-
-  go_10 : l.pc ≡ 10 → done ≡ false → Neighbours V t l → Adding V t sz.quota l.curr l.call
-      → node_key ws (own_of sz.quota t used) ≡ target l.call → Goal
-  go_10 e d b a key =
+  go (at10 e d b a key) busy =
       let o : ℕ = own_of sz.quota t used in let x : ℕ = 2 * l.curr in
       let s = leaves_own_link M tn x a.room in
       let own = own_in false sz ws used M t tn a.room in
@@ -345,31 +346,24 @@ module _ (sz : Sizes) (t : ℕ) (vs : ℕ → View) (first now : ℕ) (ws : List
       (keep sz t 11 l.reply l regs, refl, refl, λ x. omega arith)
       (at11 refl d (between_on s b.0, b.1) (adding_on s b.0.walk.next a) (key_after_link ws o x o ∙ key)
       (link_wrote false sz ws used M o x own))
-
-  go_11 : l.pc ≡ 11 → done ≡ false → Neighbours V t l → Adding V t sz.quota l.curr l.call
-      → node_key ws (own_of sz.quota t used) ≡ target l.call → node_link ws (own_of sz.quota t used) ≡ 2 * l.curr → Goal
-  go_11 e d b a key link =
+  go (at11 e d b a key link) busy =
       let x : ℕ = 2 * own_of sz.quota t used in
       let count : l.used ≡ used t = th.counts in
       let more : one_more used t t ≡ used t + 1 = one_more_same used t in
       changes (Store (link_index l.pred) x) (slice_set ws (link_index l.pred) x) (one_more used t)
       (record l { pc = 14; reply = Some True; used = l.used + 1 }) (key_of l.call) true
-      (rw (e, own_is) refl) (rw e refl) (rw e refl) (puts_between b.0 a key link) (a.call, d, a.room)
+      (rw (e, own_is) refl) (rw e refl) (rw e refl) (puts_behind b.0.walk a key link) (a.call, d, a.room)
       (keep_more sz t 14 l (rw count a.room) regs) refl (omega arith) (λ x. omega arith)
       (at14 refl (lock_after_link ws l.pred x l.pred ∙ b.0.walk.held.mine) (lock_after_link ws l.pred x l.curr ∙ b.0.mine)
       (curr_is_not_pred M b.0.walk) (λ y. stays_behind M x (one_more used t) b.0.walk.held.at) refl)
-
-  go_12 : l.pc ≡ 12 → done ≡ false → Neighbours V t l → Removing V l.curr l.call → Goal
-  go_12 e d b a =
+  go (at12 e d b a) busy =
       let s : ℕ = node_link ws l.curr in let cn : l.curr < node_count sz = regs.curr in
       let inn : s / 2 < node_count sz = inside false sz ws used M (s / 2) (found_next M b.0.walk a regs.low) in
       passes (Load (link_index l.curr)) ws (record l { pc = 13; succ = s / 2 })
       (rw e refl) (rw e refl) (rw e refl) (reads_word (link_index l.curr) (omega arith))
       (keep_succ sz t 13 (s / 2) l.reply l inn regs, refl, refl, λ x. omega arith)
       (at13 refl d b a refl)
-
-  go_13 : l.pc ≡ 13 → done ≡ false → Neighbours V t l → Removing V l.curr l.call → node_link ws l.curr / 2 ≡ l.succ → Goal
-  go_13 e d b a next =
+  go (at13 e d b a next) busy =
       let x : ℕ = 2 * l.succ in
       changes (Store (link_index l.pred) x) (slice_set ws (link_index l.pred) x) used
       (record l { pc = 14; reply = Some True }) (key_of l.call) false
@@ -377,52 +371,15 @@ module _ (sz : Sizes) (t : ℕ) (vs : ℕ → View) (first now : ℕ) (ws : List
       (keep sz t 14 (Some True) l regs) refl th.counts (λ x. omega arith)
       (at14 refl (lock_after_link ws l.pred x l.pred ∙ b.0.walk.held.mine) (lock_after_link ws l.pred x l.curr ∙ b.0.mine)
       (curr_is_not_pred M b.0.walk) (λ y. stays_behind M x used b.0.walk.held.at) refl)
-
-  go_14 : l.pc ≡ 14 → node_lock ws l.pred ≡ t + 1 → node_lock ws l.curr ≡ t + 1 → l.curr ≢ l.pred
-      → Outcome done sz.quota vs first now t l.call l.reply → Goal
-  go_14 e pred curr apart o =
-      passes (Store (lock_index l.pred) 0) (slice_set ws (lock_index l.pred) 0) (record l { pc = 15 })
-      (rw e refl) (rw e refl) (rw e refl) (frees l.pred regs.pred pred)
-      (keep sz t 15 l.reply l regs, refl, refl, λ x. omega arith)
-      (at15 refl (lock_after_lock ws l.pred 0 l.curr apart ∙ curr) (outcome_on done sz.quota vs first now t l.call l.reply o))
-
-  go_15 : l.pc ≡ 15 → node_lock ws l.curr ≡ t + 1 → (r : Option Reply) → l.reply ≡ r
-      → Outcome done sz.quota vs first now t l.call r → Goal
-  go_15 e mine None y o =
-      passes (Store (lock_index l.curr) 0) (slice_set ws (lock_index l.curr) 0) (record l { pc = 1 })
-      (rw e refl) (rw (e, y) refl) (rw e refl) (frees l.curr regs.curr mine)
-      (keep sz t 1 l.reply l regs, refl, refl, λ x. omega arith)
-      (at1 refl o)
-  go_15 e mine (Some r) y o =
-      answers (Store (lock_index l.curr) 0) (slice_set ws (lock_index l.curr) 0) (record l { pc = 0 }) r
-      (rw e refl) (rw (e, y) refl) (rw e refl) (frees l.curr regs.curr mine) o
-      (keep sz t 0 l.reply l regs) refl refl refl
-      (at0 refl)
-
-  go : At sz.quota t vs first now (view sz ws used) done l → l.pc ≢ 0 → Goal
-  go (at0 e) busy = absurd (busy e)
-  go (at1 e d) busy = go_1 e d
-  go (at2 e d x k) busy = go_2 e d x k
-  go (at3 e d c k b) busy = go_3 e d c k b
-  go (at4 e d f) busy = go_4 e d f
-  go (at5 e d f p) busy = go_5 e d f p
-  go (at6 e d f c k start g x) busy = go_6 e d f c k start g x
-  go (at7 e d f c start g x) busy = go_7 e d f c start g x
-  go (at8 e d f c x a) busy = go_8 e d f c x a
-  go (at9 e d b a) busy = go_9 e d b a
-  go (at10 e d b a x) busy = go_10 e d b a x
-  go (at11 e d b a x y) busy = go_11 e d b a x y
-  go (at12 e d b a) busy = go_12 e d b a
-  go (at13 e d b a x) busy = go_13 e d b a x
   go (at14 e p c x i o) busy = go_14 e p c x o
   go (at15 e c o) busy = go_15 e c l.reply refl o
 
 pub optimistic_follows : Follows optimistic (node_locks false) At
 optimistic_follows = record {
-  idle_at = λ q t vs v. at0 refl;
+  idle_at = λ op lim t vs. at0 refl;
   begun = λ call l. record { called = refl; used = refl; opened = λ e. omega arith; alike = refl };
   begin_registers = λ sz t call l low r. registers_begun sz t 1 call l low r;
-  begins = λ q t vs now v call l e s k. at1 refl refl;
+  begins = λ q t vs now v call l e s k was. at1 refl refl;
   stands = λ q t vs first now v w done l present r at. stays q t vs first now v w done l present r at;
   turn = λ sz t vs first now ws used done l h th tn busy. go sz t vs first now ws used done l h th tn th.at busy;
 }

@@ -1,14 +1,18 @@
-ghost use Rattle.std.specs.Prelude.{◌≡◌, ◌++◌, ◌∷◌, [], true, IfOk, OnOk};
+ghost use Rattle.std.specs.Prelude.{◌≡◌, [], true, IfOk, OnOk};
+ghost use Rattle.lset_words.specs.Words.{IsWithin, empty};
+ghost use Rattle.lset_history.specs.History.{with_begun};
 ghost use Rattle.lset_report.specs.ReportReading.{may_follow};
 ghost use Rattle.lset_report.specs.ReportCalls.{Tracks, threads_of, end_moment, is_open, is_last_end, ends_well_by};
 
+use lset_history::History;
 use lset_words::CallRecord;
 use std::alloc::{AllocError, Global};
 
 /// The calls of a report that were read so far, and what decides whether a call may follow them.
 #[derive(Drop)]
 pub struct CallsSoFar {
-    pub calls: Vec<CallRecord>,
+    /// The calls, of a set that opens empty.
+    pub history: History,
     /// When the last call began; 0 before the first one.
     pub last_begun: u32,
     /// For each thread, when its last call ended; 0 before its first one, and while a call is open.
@@ -36,14 +40,14 @@ fn is_open(made: CallRecord) -> bool
 }
 
 impl CallsSoFar {
-    /// Returns no calls, of `threads` threads. Allocates.
-    pub fn new(alloc: Global, threads: u32) -> Result<CallsSoFar, AllocError>
+    /// Returns no calls, of `threads` threads with `quota` slots each. Allocates.
+    pub fn new(alloc: Global, threads: u32, quota: u32) -> Result<CallsSoFar, AllocError>
+        requires { IsWithin (record { threads = threads; quota = quota; opening = 0 }) }
         ensures tracks { IfOk result (λ s. Tracks s) }
-        ensures threads { IfOk result (λ s. threads_of s ≡ threads) }
-        ensures none { IfOk result (λ s. s.calls.items ≡ []) }
+        ensures none { IfOk result (λ s. s.history ≡ record { opening = empty threads quota; calls = [] }) }
     {
         Ok(CallsSoFar {
-            calls: Vec::new(alloc),
+            history: History::new(alloc, threads, quota),
             last_begun: 0,
             last_ends: vec![in alloc; 0; threads as usize]?,
             busy: vec![in alloc; false; threads as usize]?,
@@ -70,7 +74,7 @@ impl CallsSoFar {
     /// it: so these ends are looked at, and no set of moments is kept.
     pub fn may_follow(&self, made: CallRecord) -> bool
         requires { Tracks self.now }
-        ensures { result ≡ may_follow (threads_of self.now) self.now.calls.items made }
+        ensures { result ≡ may_follow (threads_of self.now) self.now.history.calls made }
     {
         let thread = made.thread as usize;
         if thread >= self.last_ends.len() {
@@ -86,12 +90,11 @@ impl CallsSoFar {
     /// Adds a call that may follow. May allocate.
     pub fn push(&mut self, made: CallRecord) -> Result<(), AllocError>
         requires tracks { Tracks self.old }
-        requires may { may_follow (threads_of self.old) self.old.calls.items made ≡ true }
+        requires may { may_follow (threads_of self.old) self.old.history.calls made ≡ true }
         ensures tracks { OnOk result (Tracks self.new) }
-        ensures threads { OnOk result (threads_of self.new ≡ threads_of self.old) }
-        ensures pushed { OnOk result (self.new.calls.items ≡ self.old.calls.items ++ made ∷ []) }
+        ensures pushed { OnOk result (self.new.history ≡ with_begun self.old.history made) }
     {
-        self.calls.push(made)?;
+        self.history.push(made)?;
         self.last_begun = made.begun;
         self.last_ends[made.thread as usize] = end_moment(made);
         self.busy[made.thread as usize] = is_open(made);

@@ -1,6 +1,5 @@
-use Rattle.std.proofs.Common.{◌≡◌, Some, length, map, refl, ap, sym, ◌∙◌, arith}
+use Rattle.std.proofs.Common.{◌≡◌, length, refl, ap, arith}
 use Rattle.std.specs.Vec.Iter.{into_iter_items}
-use Rattle.lset_live.specs.Seats.{gather_onto}
 use Rattle.lset_live.proofs.Handing.{all_rest}
 use Rattle.ffi_sets.proofs.holding.gathered.Goals as goal
 
@@ -12,7 +11,6 @@ loop-other-init g c =
       into = c.requires.seat;
       spare = rw e c.requires.spare;
       held = rw e refl;
-      past = rw e refl;
     }
 
 pub gather-requires-clause-from : goal.gather-requires-clause-from
@@ -31,5 +29,4 @@ loop-other-preserved g c =
       into = c.gather.ensures.seat;
       spare = all.1;
       held = omega arith;
-      past = rw c.gather.ensures.record (sym (ap (λ l. gather_onto (Some c.loop-other.into.past) (map (λ s. s.past) l)) step) ∙ c.loop-other.invariant.past);
     }

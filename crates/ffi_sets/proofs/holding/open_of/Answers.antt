@@ -1,6 +1,4 @@
-use Rattle.std.proofs.Common.{◌≡◌, ◌∙◌, IfSome, length, ap, sym, subst, arith}
-use Rattle.std.proofs.lemmas.List.FromFn.{length-map-range_with_len}
-use Rattle.lset_live.specs.Seats.{new_seat}
+use Rattle.std.proofs.Common.{◌≡◌, ◌∙◌, IfSome, sym, subst}
 use Rattle.ffi_sets.specs.Facts.{AreOf}
 use Rattle.ffi_sets.proofs.Adding.{opened_are}
 use Rattle.ffi_sets.proofs.holding.open_of.Goals as goal
@@ -15,8 +13,3 @@ invariant_of-result g c =
       seat_of = subst (λ v. IfSome c.pop-seat.result (λ s. s.set ≡ v)) set are.0;
       spare_of = subst (λ v. AreOf v rest) set are.1;
     }
-
-pub returns-clause-seat : goal.returns-clause-seat
-returns-clause-seat g c =
-    let many = ap length c.in_ok-set.ensures.opened.1 ∙ length-map-range_with_len (new_seat c.in_ok-set.set) 0 c.args.seats in
-    c.pop-seat.ensures.variant.1 (omega (arith, many, c.in_ok-set.ensures.within.within.some))

@@ -16,26 +16,16 @@ loop-low-preserved c =
       | then-moments-middle w ↦ (
           let middle : c.if-moments-middle.low ≡ c.loop-low.low + (c.loop-low.high - c.loop-low.low) / 2 + 1 = w.low-is in
           let top : c.if-moments-middle.high ≡ c.loop-low.high = w.high-is in
-          let test : get_or c.args.moments.now (c.loop-low.low + (c.loop-low.high - c.loop-low.low) / 2) 0 ≤ c.args.at =
-          search rules in
+          let test : get_or c.args.moments.now (c.loop-low.low + (c.loop-low.high - c.loop-low.low) / 2) 0 ≤ c.args.at = search rules in
           record {
             inside = omega arith;
             ordered = omega arith;
-            upto = λ i l. let a : get_or c.args.moments.now i 0 ≤ get_or c.args.moments.now
-                (c.loop-low.low + (c.loop-low.high - c.loop-low.low) / 2) 0 =
-                below_rises c.args.moments.now c.requires i (c.loop-low.low + (c.loop-low.high - c.loop-low.low) / 2)
-                (omega arith) (omega arith) in
-                omega arith;
+            upto = grind (arith, below_rises);
             past = λ i l m. c.loop-low.invariant.past i (omega arith) m;
             looked = λ b l m. let old = c.loop-low.invariant.looked b l m in
                 let few : c.loop-low.looked ≤ b = old.0 in
                 let h = halved (b - c.loop-low.looked) c.loop-low.low c.loop-low.high c.if-moments-middle.low
-                c.if-moments-middle.high old.1 low (omega arith) in
-                let more : 0 < b - c.loop-low.looked = h.0 in (
-                  omega arith,
-                  subst (λ z. c.if-moments-middle.high - c.if-moments-middle.low < 2 ^ z)
-                      (let e : b - c.loop-low.looked - 1 ≡ b - (c.loop-low.looked + 1) = omega arith in e) h.1,
-                );
+                c.if-moments-middle.high old.1 low (omega arith) in grind arith;
             needed = λ b m. subst (λ z. 2 ^ z ≤ c.if-moments-middle.high - c.if-moments-middle.low + 1)
                 (let e : b - c.loop-low.looked - 1 ≡ b - (c.loop-low.looked + 1) = omega arith in e)
                 (half_needed (b - c.loop-low.looked) c.loop-low.low c.loop-low.high c.if-moments-middle.low
@@ -44,26 +34,16 @@ loop-low-preserved c =
       | else-moments-middle w ↦ (
           let middle : c.if-moments-middle.low ≡ c.loop-low.low = w.low-is in
           let top : c.if-moments-middle.high ≡ c.loop-low.low + (c.loop-low.high - c.loop-low.low) / 2 = w.high-is in
-          let test : c.args.at < get_or c.args.moments.now (c.loop-low.low + (c.loop-low.high - c.loop-low.low) / 2) 0 =
-          search rules in
+          let test : c.args.at < get_or c.args.moments.now (c.loop-low.low + (c.loop-low.high - c.loop-low.low) / 2) 0 = search rules in
           record {
             inside = omega arith;
             ordered = omega arith;
             upto = λ i l. c.loop-low.invariant.upto i (omega arith);
-            past = λ i l m. let a : get_or c.args.moments.now (c.loop-low.low + (c.loop-low.high - c.loop-low.low) / 2) 0 ≤ get_or
-                c.args.moments.now i 0 =
-                below_rises c.args.moments.now c.requires (c.loop-low.low + (c.loop-low.high - c.loop-low.low) / 2) i
-                (omega arith) m in
-                omega arith;
+            past = grind (arith, below_rises);
             looked = λ b l m. let old = c.loop-low.invariant.looked b l m in
                 let few : c.loop-low.looked ≤ b = old.0 in
                 let h = halved (b - c.loop-low.looked) c.loop-low.low c.loop-low.high c.if-moments-middle.low
-                c.if-moments-middle.high old.1 low (omega arith) in
-                let more : 0 < b - c.loop-low.looked = h.0 in (
-                  omega arith,
-                  subst (λ z. c.if-moments-middle.high - c.if-moments-middle.low < 2 ^ z)
-                      (let e : b - c.loop-low.looked - 1 ≡ b - (c.loop-low.looked + 1) = omega arith in e) h.1,
-                );
+                c.if-moments-middle.high old.1 low (omega arith) in grind arith;
             needed = λ b m. subst (λ z. 2 ^ z ≤ c.if-moments-middle.high - c.if-moments-middle.low + 1)
                 (let e : b - c.loop-low.looked - 1 ≡ b - (c.loop-low.looked + 1) = omega arith in e)
                 (half_needed (b - c.loop-low.looked) c.loop-low.low c.loop-low.high c.if-moments-middle.low
@@ -72,7 +52,4 @@ loop-low-preserved c =
     ]
 
 pub returns-clause-needed : goal.returns-clause-needed
-returns-clause-needed c = λ b m.
-    let over : c.loop-low.high ≤ c.loop-low.low = c.loop-low-test.false in
-    let left : 2 ^ (b - c.loop-low.looked) ≤ c.loop-low.high - c.loop-low.low + 1 = c.loop-low.invariant.needed b m in
-    let none : b - c.loop-low.looked ≡ 0 = no_look_left (b - c.loop-low.looked) (omega arith) in omega arith
+returns-clause-needed c = grind (arith, no_look_left)

@@ -10,12 +10,7 @@ use Rattle.lset_history.proofs.checker.check_order.Goals as goal
 
 pub returns-in-Some-first_missing-clause-first_fault : goal.returns-in-Some-first_missing-clause-first_fault
 returns-in-Some-first_missing-clause-first_fault c =
-    let h = c.args.history.now in
-    let order = c.args.order.now in
-    let calls = c.calls-calls.result.now in
-    let marks = c.first_twice.new.placed in
-    missing_fault h calls order c.args.keys.now marks c.in-Some-first_missing.number
-    (stands_once h calls order marks c.calls-calls.ensures.value c.in_default.ensures
+    missing_fault _ _ _ c.args.keys.now _ _ (stands_once c.args.history.now _ _ _ c.calls-calls.ensures.value c.in_default.ensures
     c.in_default-first_twice.ensures.once c.in_default-first_twice.ensures.marks)
     c.in-Some-first_missing.ensures
 
@@ -30,18 +25,11 @@ first_wrong_reply-requires-clause-threads c =
 
 pub returns-in-Some-2-clause-first_fault : goal.returns-in-Some-2-clause-first_fault
 returns-in-Some-2-clause-first_fault c =
-    let h = c.args.history.now in
-    let order = c.args.order.now in
-    let calls = c.calls-calls.result.now in
-    let marks = c.first_twice.new.placed in
-    let oracle = c.in_ok-oracle.oracle in
-    let left = leaves_none_out h calls order marks oracle
-    (stands_once h calls order marks c.calls-calls.ensures.value c.in_default.ensures
-    c.in_default-first_twice.ensures.once c.in_default-first_twice.ensures.marks)
-    c.in_default-first_missing.ensures c.in_ok-oracle.ensures in
-    let wrong = MatchOption-at_some _ (RefusesFirst (HasWrongReply oracle.quota oracle.state calls order) order) _
-    c.in-Some-2.is c.in_ok-number.ensures.answers in
-    wrong_reply_fault h calls order c.args.keys.now marks oracle c.in-Some-2.number left wrong
+    let left = leaves_none_out _ _ _ _ _ (stands_once _ _ _ _ c.calls-calls.ensures.value c.in_default.ensures
+    c.in_default-first_twice.ensures.once c.in_default-first_twice.ensures.marks) c.in_default-first_missing.ensures
+    c.in_ok-oracle.ensures in
+    let wrong = MatchOption-at_some _ _ _ c.in-Some-2.is c.in_ok-number.ensures.answers in
+    wrong_reply_fault _ _ _ c.args.keys.now _ _ _ left wrong
 
 pub returns-in-Some-2-clause-not_explained : goal.returns-in-Some-2-clause-not_explained
 returns-in-Some-2-clause-not_explained c =
@@ -49,54 +37,29 @@ returns-in-Some-2-clause-not_explained c =
 
 pub returns-in-Some-first_too_early-clause-first_fault : goal.returns-in-Some-first_too_early-clause-first_fault
 returns-in-Some-first_too_early-clause-first_fault c =
-    let h = c.args.history.now in
-    let order = c.args.order.now in
-    let calls = c.calls-calls.result.now in
-    let marks = c.first_twice.new.placed in
-    let oracle = c.in_ok-oracle.oracle in
-    let left = leaves_none_out h calls order marks oracle
-    (stands_once h calls order marks c.calls-calls.ensures.value c.in_default.ensures
-    c.in_default-first_twice.ensures.once c.in_default-first_twice.ensures.marks)
-    c.in_default-first_missing.ensures c.in_ok-oracle.ensures in
-    let replies = MatchOption-at_none
-    (HasReplies oracle calls order × (c.first_wrong_reply.new.oracle ≡ after_order oracle calls order)) _
-    c.in_default-2.is c.in_ok-number.ensures.answers in
-    too_early_fault h calls order c.args.keys.now marks oracle c.in-Some-first_too_early.number left replies.0
-    c.in-Some-first_too_early.ensures
+    let left = leaves_none_out _ _ _ _ _ (stands_once _ _ _ _ c.calls-calls.ensures.value c.in_default.ensures
+    c.in_default-first_twice.ensures.once c.in_default-first_twice.ensures.marks) c.in_default-first_missing.ensures
+    c.in_ok-oracle.ensures in
+    let replies = MatchOption-at_none _ _ c.in_default-2.is c.in_ok-number.ensures.answers in
+    too_early_fault _ _ _ c.args.keys.now _ _ _ left replies.0 c.in-Some-first_too_early.ensures
 
 pub returns-then-ne-clause-first_fault : goal.returns-then-ne-clause-first_fault
 returns-then-ne-clause-first_fault c =
-    let h = c.args.history.now in
-    let order = c.args.order.now in
-    let calls = c.calls-calls.result.now in
-    let marks = c.first_twice.new.placed in
-    let oracle = c.in_ok-oracle.oracle in
-    let left = leaves_none_out h calls order marks oracle
-    (stands_once h calls order marks c.calls-calls.ensures.value c.in_default.ensures
-    c.in_default-first_twice.ensures.once c.in_default-first_twice.ensures.marks)
-    c.in_default-first_missing.ensures c.in_ok-oracle.ensures in
-    let replies = MatchOption-at_none
-    (HasReplies oracle calls order × (c.first_wrong_reply.new.oracle ≡ after_order oracle calls order)) _
-    c.in_default-2.is c.in_ok-number.ensures.answers in
+    let left = leaves_none_out _ _ _ _ _ (stands_once _ _ _ _ c.calls-calls.ensures.value c.in_default.ensures
+    c.in_default-first_twice.ensures.once c.in_default-first_twice.ensures.marks) c.in_default-first_missing.ensures
+    c.in_ok-oracle.ensures in
+    let replies = MatchOption-at_none _ _ c.in_default-2.is c.in_ok-number.ensures.answers in
     let other = other_text _ c.args.keys.now (sym (not-true _ (sym c.if-ne.ensures))) in
-    wrong_set_fault h calls order c.args.keys.now marks oracle c.first_wrong_reply.new.oracle left replies.0
+    wrong_set_fault _ _ _ _ _ _ _ left replies.0
     c.in_default-first_too_early.ensures replies.1 (λ same. other (c.as_slice.ensures.value ∙ c.in_ok-keys.ensures.keys ∙ same))
 
 pub returns-clause-explained : goal.returns-clause-explained
 returns-clause-explained c =
-    let h = c.args.history.now in
-    let order = c.args.order.now in
-    let calls = c.calls-calls.result.now in
-    let marks = c.first_twice.new.placed in
-    let oracle = c.in_ok-oracle.oracle in
-    let left = leaves_none_out h calls order marks oracle
-    (stands_once h calls order marks c.calls-calls.ensures.value c.in_default.ensures
-    c.in_default-first_twice.ensures.once c.in_default-first_twice.ensures.marks)
-    c.in_default-first_missing.ensures c.in_ok-oracle.ensures in
-    let replies = MatchOption-at_none
-    (HasReplies oracle calls order × (c.first_wrong_reply.new.oracle ≡ after_order oracle calls order)) _
-    c.in_default-2.is c.in_ok-number.ensures.answers in
+    let left = leaves_none_out _ _ _ _ _ (stands_once _ _ _ _ c.calls-calls.ensures.value c.in_default.ensures
+    c.in_default-first_twice.ensures.once c.in_default-first_twice.ensures.marks) c.in_default-first_missing.ensures
+    c.in_ok-oracle.ensures in
+    let replies = MatchOption-at_none _ _ c.in_default-2.is c.in_ok-number.ensures.answers in
     let same = same_text _ c.args.keys.now (sym (not-false _ (sym c.if-ne.ensures))) in
-    explained h calls order c.args.keys.now marks oracle c.first_wrong_reply.new.oracle left replies.0
+    explained _ _ _ _ _ _ _ left replies.0
     c.in_default-first_too_early.ensures replies.1 (sym c.in_ok-keys.ensures.keys ∙ sym c.as_slice.ensures.value ∙ same)
     c.in_ok-keys.ensures.rising

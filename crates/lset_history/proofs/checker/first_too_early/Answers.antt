@@ -1,37 +1,12 @@
-use Rattle.std.proofs.Common.{◌≡◌, ℕ, suc, ◌<◌, ◌-◌, [], length, sym, ap, ◌∙◌, subst, arith}
+use Rattle.std.proofs.Common.{◌≡◌, ℕ, suc, ◌<◌, ◌-◌, [], length, ap, subst, arith}
 use Rattle.std.proofs.lemmas.List.{get_or_default}
 use Rattle.std.proofs.lemmas.Bool.{both_ways}
 use Rattle.lset_words.specs.declared.history.CallRecord.{CallRecord}
 use Rattle.lset_words.specs.History.{no_call}
 use Rattle.lset_history.specs.Faults.{place_at}
-use Rattle.lset_history.proofs.Early.{EndsLeast, FindsEarly, least_some, least_none, early_here, early_later, early_first}
+use Rattle.lset_history.proofs.Early.{EndsLeast, FindsEarly, least_more, early_here, early_later, early_first}
 use Rattle.lset_history.proofs.checker.first_too_early.Goals as goal
 use Rattle.lset_history.proofs.checker.first_too_early.Goals.{then-is_below, else-is_below}
-
-pub loop-i-preserved-in-Some : goal.loop-i-preserved-in-Some
-loop-i-preserved-in-Some c =
-    let calls = c.args.calls.now in
-    let order = c.args.order.now in
-    let i = c.loop-i.i in
-    let j = i - 1 in
-    let inside : j < length order = omega arith in
-    let next : i ≡ suc j = omega arith in
-    let read = get_or_default calls (place_at order j).call _ no_call (c.requires j (place_at [] 0) inside) in
-    let L : ℕ → Type 0 = λ n. EndsLeast calls order n c.loop-i.least_end in
-    let F : ℕ → Type 0 = λ n. FindsEarly calls order n c.loop-i.early in
-    let least = subst L next c.loop-i.invariant.least in
-    let begun = ap (λ (x : CallRecord). x.begun) read in
-    let ended = sym (ap (λ (x : CallRecord). x.ended) read) ∙ c.in-Some.is in
-    record {
-      in_range = omega arith;
-      least = rw c.lesser.ensures (least_some calls order j _ _ _ inside ended least);
-      found = elim c.if-is_below.branch [
-        | then-is_below w ↦ rw w.early-is (early_here calls order j _ _ inside begun least
-            (c.is_below.ensures.0 w.if-is_below.true))
-        | else-is_below w ↦ rw w.early-is (early_later calls order j _ _ _ begun least
-            (λ h. both_ways _ w.if-is_below.false (c.is_below.ensures.1 h)) (subst F next c.loop-i.invariant.found))
-      ];
-    }
 
 pub loop-i-preserved : goal.loop-i-preserved
 loop-i-preserved c =
@@ -46,10 +21,9 @@ loop-i-preserved c =
     let F : ℕ → Type 0 = λ n. FindsEarly calls order n c.loop-i.early in
     let least = subst L next c.loop-i.invariant.least in
     let begun = ap (λ (x : CallRecord). x.begun) read in
-    let ended = sym (ap (λ (x : CallRecord). x.ended) read) ∙ c.in_default.is in
     record {
       in_range = omega arith;
-      least = least_none calls order j _ ended least;
+      least = rw c.lesser-least_end.ensures (least_more calls order j _ _ inside (ap (λ (x : CallRecord). x.ended) read) least);
       found = elim c.if-is_below.branch [
         | then-is_below w ↦ rw w.early-is (early_here calls order j _ _ inside begun least
             (c.is_below.ensures.0 w.if-is_below.true))

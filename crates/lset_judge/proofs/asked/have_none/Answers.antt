@@ -12,11 +12,11 @@ returns-in-NotLinearizable c = λ t threads below.
     let k = c.args.key in let there = c.args.there in let calls = c.args.calls.now in
     let took = subst (TookAll k there calls) c.in-Some.is c.in_ok-stream.ensures in
     let s = took threads below in (
-      s.history,
+      s.stream.history,
       subst (λ (o : Option Bool). HaveNone threads k there o (records calls)) (sym c.in-None.is)
           (none_cut_off threads k there calls c.in-NotLinearizable.field-0
           (subst (IsStreamVerdictCutOff (stream_history threads (key_if there k) (records calls))) c.in-NotLinearizable.is
-          (c.verdict_cut_off.ensures.said threads (key_if there k) (records calls) (c.in_ok-come_to_end.ensures.kept threads (key_if there k) (records calls) s)))),
+          (c.verdict_cut_off.ensures.said threads (key_if there k) (records calls) (c.in_ok-come_to_end.ensures.kept threads (key_if there k) (records calls) s).stream))),
     )
 
 pub returns-in-NotLinearizable-verdict : goal.returns-in-NotLinearizable-verdict
@@ -25,10 +25,10 @@ returns-in-NotLinearizable-verdict c = λ t threads below.
     let took = subst (TookAll k there calls) c.in-Some.is c.in_ok-stream.ensures in
     let s = took threads below in
     let h = stream_history threads (key_if there k) (records calls) in (
-      s.history,
+      s.stream.history,
       subst (λ (o : Option Bool). HaveNone threads k there o (records calls)) (sym c.in-Some-left.is)
           (none_left threads k there left calls c.in-NotLinearizable-verdict.field-0
           (subst (λ (keys : List ℕ). IsStreamVerdict h keys (NotLinearizable c.in-NotLinearizable-verdict.field-0)) (c.deref.ensures.value ∙ c.in_ok-keys-in-Some-left.ensures.are)
           (subst (IsStreamVerdict h c.deref.result.now) c.in-NotLinearizable-verdict.is
-          (c.verdict.ensures.said threads (key_if there k) (records calls) (c.in_ok-come_to_end.ensures.kept threads (key_if there k) (records calls) s))))),
+          (c.verdict.ensures.said threads (key_if there k) (records calls) (c.in_ok-come_to_end.ensures.kept threads (key_if there k) (records calls) s).stream)))),
     )

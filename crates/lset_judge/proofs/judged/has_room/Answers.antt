@@ -1,23 +1,30 @@
-use Rattle.std.proofs.Common.{◌≡◌, ◌≤◌, ◌<◌, ℕ, arith, subst, sym, length, get_or}
-use Rattle.std.specs.Prelude.{All}
-use Rattle.lset_words.specs.declared.history.CallRecord.{CallRecord}
+use Rattle.std.proofs.Common.{◌≤◌, inl, inr, ap, sym, refl, subst, arith}
+use Rattle.std.proofs.lemmas.Bool.{true≢false}
+use Rattle.lset_words.proofs.Numbers.{same_or_not}
 use Rattle.lset_judge.specs.Verdict.{adds_of}
-use Rattle.lset_judge.proofs.Adding.{few_threads, room_within, within_room}
+use Rattle.lset_judge.proofs.Adding.{room_for_all}
 use Rattle.lset_judge.proofs.judged.has_room.Goals as goal
 
-pub counted_adds-requires-clause-threads : goal.counted_adds-requires-clause-threads
-counted_adds-requires-clause-threads c =
-    subst (All (λ (x : CallRecord). x.thread < 64)) (sym c.calls.ensures.value)
-    (few_threads c.args.history.now.opening c.args.history.now.calls c.calls.ensures.history c.quota-quota.ensures.opens)
+pub loop-thread-preserved : goal.loop-thread-preserved
+loop-thread-preserved c = λ k low. elim (same_or_not k c.loop-thread.thread) [
+  | inl e ↦ (let is = c.adds_of.ensures in let few = c.if-adds_of-quota.false in let same = ap (λ n. adds_of n c.calls-calls.result.now) e in
+      omega (arith, is, few, same))
+  | inr ne ↦ c.loop-thread.invariant k (omega (arith, low, ne))
+]
+
+pub returns-then-adds_of-quota : goal.returns-then-adds_of-quota
+returns-then-adds_of-quota c = (
+  λ t. absurd (true≢false (sym t)),
+  λ room. absurd (let is = c.adds_of.ensures in let many = c.if-adds_of-quota.true in let few = room c.loop-thread.thread in
+      let same = ap (adds_of c.loop-thread.thread) c.calls-calls.ensures.value in let quota = c.quota-quota.ensures.value in
+      omega (arith, is, many, few, same, quota)),
+)
 
 pub returns : goal.returns
 returns c =
-    let h = c.args.history.now in let quota = c.quota-quota.ensures.value in let counts = c.counted_adds.result in
-    let long : length counts ≡ 64 = omega arith in
-    let few = few_threads h.opening h.calls c.calls.ensures.history c.quota-quota.ensures.opens in
-    let counted = subst (λ cs. (t : ℕ) → t < 64 → get_or counts t 0 ≡ adds_of t cs) c.calls.ensures.value c.counted_adds.ensures in (
-      λ within. within_room h.opening.quota h.calls few counts long counted
-          (subst (λ q. All (λ n. n ≤ q) counts) quota (c.are_within.ensures.0 within)),
-      λ room. c.are_within.ensures.1 (subst (λ q. All (λ n. n ≤ q) counts) (sym quota)
-          (room_within h.opening.quota h.calls few counts long counted room)),
+    let h = c.args.history.now in let quota = c.quota-quota.ensures.value in (
+      λ t. room_for_all h.opening h.calls h.opening.quota c.calls-calls.ensures.history c.quota-quota.ensures.opens (λ k low.
+          let few = subst (λ cs. adds_of k cs ≤ c.quota-quota.result) c.calls-calls.ensures.value (c.loop-thread.invariant k (omega arith)) in
+          omega (arith, few, quota)),
+      λ room. refl,
     )

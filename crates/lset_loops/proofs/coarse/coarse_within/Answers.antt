@@ -1,12 +1,10 @@
-use Rattle.lset_coarse.specs.Coarse.{coarse}
-use Rattle.lset_loops.proofs.Calling.{may_begin, is_call, ended}
+use Rattle.std.proofs.Common.{refl}
+use Rattle.lset_loops.proofs.Calling.{called}
 use Rattle.lset_loops.proofs.coarse.coarse_within.Goals as goal
 
-pub make-requires-clause-begins : goal.make-requires-clause-begins
-make-requires-clause-begins g c = may_begin _ c.requires
-
-pub make-requires-clause-call : goal.make-requires-clause-call
-make-requires-clause-call g c = is_call _ c.requires
-
 pub returns : goal.returns
-returns g c = ended coarse c.args.call c.args.place.now c.make.new.place c.make.result c.make.ensures
+returns g c = let left = c.act-answer.ensures in
+    called _ _ _ c.new-caller.ensures.origin (_, c.release_last.ensures _ left.3 _ refl, refl)
+
+pub walk-requires : goal.walk-requires
+walk-requires g c = (_, c.in_ok-begin_locked.ensures)

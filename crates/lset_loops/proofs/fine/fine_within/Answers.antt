@@ -1,12 +1,13 @@
-use Rattle.lset_fine.specs.Fine.{fine}
-use Rattle.lset_loops.proofs.Calling.{may_begin, is_call, ended}
+use Rattle.std.proofs.Common.{refl}
+use Rattle.lset_loops.proofs.Calling.{asks, called}
 use Rattle.lset_loops.proofs.fine.fine_within.Goals as goal
 
-pub make-requires-clause-begins : goal.make-requires-clause-begins
-make-requires-clause-begins g c = may_begin _ c.requires
-
-pub make-requires-clause-call : goal.make-requires-clause-call
-make-requires-clause-call g c = is_call _ c.requires
-
 pub returns : goal.returns
-returns g c = ended fine c.args.call c.args.place.now c.make.new.place c.make.result c.make.ensures
+returns g c = called _ _ _ c.new-caller.ensures.origin
+    (_, c.unlock_last.ensures _ (c.unlock.ensures.leads _ c.act-answer.ensures.1) _ refl, refl)
+
+pub unlock_last-requires : goal.unlock_last-requires
+unlock_last-requires g c = asks (c.unlock.ensures.leads _ c.act-answer.ensures.1) refl
+
+pub walk-requires : goal.walk-requires
+walk-requires g c = (_, c.in_ok-begin_locked.ensures)

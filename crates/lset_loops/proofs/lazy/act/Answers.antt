@@ -3,40 +3,31 @@ use Rattle.lset_words.specs.Words.{key_index}
 use Rattle.lset_steps.specs.declared.Action.TheVariants.{Store}
 use Rattle.lset_lazy.specs.Lazy.{targets}
 use Rattle.lset_loops.specs.Calling.{slot}
-use Rattle.lset_loops.proofs.Calling.{moved, to_slots}
+use Rattle.lset_loops.proofs.Calling.{moved, step, stores, to_slots}
 use Rattle.lset_loops.proofs.lazy.act.Goals as goal
 
 pub put_in-requires : goal.put_in-requires
 put_in-requires g c = let at = moved c.requires.1 (c.in-PutIn.ensures.deed targets _ c.args.caller.now.is_call.0 refl refl) in
-    record {
-      held = _;
-      holds = at;
-      stores = (
-        ap (Store (key_index (slot c.args.caller.now.slots))) c.args.caller.now.is_key,
-        λ n. refl,
-        (refl, λ n. refl, (refl, λ n. refl, tt)),
-      );
-    }
+    stores at c.args.caller.now.is_key (refl, λ n. refl, (refl, λ n. refl, (refl, λ n. refl, tt)))
 
 pub returns-in-PutIn : goal.returns-in-PutIn
 returns-in-PutIn g c =
     let at = moved c.requires.1 (c.in-PutIn.ensures.deed targets _ c.args.caller.now.is_call.0 refl refl) in
     (_, to_slots c.one_more.ensures (c.put_in.ensures.leads _ at))
 
-pub store_mark-requires : goal.store_mark-requires
-store_mark-requires g c =
-    let at = moved c.requires.1 (c.in-TakeOut.ensures.deed targets _ c.args.caller.now.is_call.0 refl refl) in
-    record { held = _; holds = at; acts = refl; goes_on = λ n. refl }
-
 pub store_link-requires : goal.store_link-requires
 store_link-requires g c =
+    step (moved c.requires.1 (c.in-TakeOut.ensures.deed targets _ c.args.caller.now.is_call.0 refl refl)) refl (λ n. refl)
+
+pub store_link-requires-in-TakeOut : goal.store_link-requires-in-TakeOut
+store_link-requires-in-TakeOut g c =
     let at = moved c.requires.1 (c.in-TakeOut.ensures.deed targets _ c.args.caller.now.is_call.0 refl refl) in
-    record { held = _; holds = c.store_mark.ensures.leads _ at; acts = refl; goes_on = λ n. refl }
+    step (c.store_link.ensures.leads _ at) refl (λ n. refl)
 
 pub returns-in-TakeOut : goal.returns-in-TakeOut
 returns-in-TakeOut g c =
     let at = moved c.requires.1 (c.in-TakeOut.ensures.deed targets _ c.args.caller.now.is_call.0 refl refl) in
-    (_, c.store_link.ensures.leads _ (c.store_mark.ensures.leads _ at))
+    (_, c.store_link-in-TakeOut.ensures.leads _ (c.store_link.ensures.leads _ at))
 
 pub returns-in-Answer : goal.returns-in-Answer
 returns-in-Answer g c =

@@ -3,4 +3,4 @@ use Rattle.lset_loops.specs.Lazy.{AtKey}
 use Rattle.lset_loops.proofs.lazy.walk.Given as goal
 
 abbrev pub invariant-loop-round : goal.invariant-loop-round
-invariant-loop-round g l = AtKey g.O.Origin.begun l.fn.caller.slots l.pred.number l.curr.number l.place
+invariant-loop-round g l = AtKey l.fn.caller.origin l.fn.caller.slots l.pred.number l.curr.number l.place

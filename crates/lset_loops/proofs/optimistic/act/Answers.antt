@@ -3,20 +3,12 @@ use Rattle.lset_words.specs.Words.{key_index, link_index}
 use Rattle.lset_steps.specs.declared.Action.TheVariants.{Store}
 use Rattle.lset_optimistic.specs.Optimistic.{targets}
 use Rattle.lset_loops.specs.Calling.{slot}
-use Rattle.lset_loops.proofs.Calling.{moved, to_slots}
+use Rattle.lset_loops.proofs.Calling.{moved, step, stores, to_slots}
 use Rattle.lset_loops.proofs.optimistic.act.Goals as goal
 
 pub put_in-requires : goal.put_in-requires
 put_in-requires g c = let at = moved c.requires.1 (c.in-PutIn.ensures.deed targets _ c.args.caller.now.is_call.0 refl refl) in
-    record {
-      held = _;
-      holds = at;
-      stores = (
-        ap (Store (key_index (slot c.args.caller.now.slots))) c.args.caller.now.is_key,
-        λ n. refl,
-        (refl, λ n. refl, (refl, λ n. refl, tt)),
-      );
-    }
+    stores at c.args.caller.now.is_key (refl, λ n. refl, (refl, λ n. refl, (refl, λ n. refl, tt)))
 
 pub returns-in-PutIn : goal.returns-in-PutIn
 returns-in-PutIn g c = let at = moved c.requires.1 (c.in-PutIn.ensures.deed targets _ c.args.caller.now.is_call.0 refl refl) in
@@ -24,18 +16,12 @@ returns-in-PutIn g c = let at = moved c.requires.1 (c.in-PutIn.ensures.deed targ
 
 pub load_link-link-requires : goal.load_link-link-requires
 load_link-link-requires g c =
-    let at = moved c.requires.1 (c.in-TakeOut.ensures.deed targets _ c.args.caller.now.is_call.0 refl refl) in
-    record { held = _; holds = at; acts = refl; goes_on = λ n. refl }
+    step (moved c.requires.1 (c.in-TakeOut.ensures.deed targets _ c.args.caller.now.is_call.0 refl refl)) refl (λ n. refl)
 
 pub store_link-requires : goal.store_link-requires
 store_link-requires g c = let at = moved c.requires.1 (c.in-TakeOut.ensures.deed targets _ c.args.caller.now.is_call.0 refl refl)
     in
-    record {
-      held = _;
-      holds = c.load_link-link.ensures.leads _ at;
-      acts = ap (λ n. Store (link_index c.args.found.pred.number) (2 * n)) c.behind.ensures;
-      goes_on = λ n. refl;
-    }
+    step (c.load_link-link.ensures.leads _ at) (ap (λ n. Store (link_index c.args.found.pred.number) (2 * n)) c.behind.ensures) (λ n. refl)
 
 pub returns-in-TakeOut : goal.returns-in-TakeOut
 returns-in-TakeOut g c =

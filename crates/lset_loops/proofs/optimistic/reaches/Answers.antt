@@ -34,7 +34,7 @@ loop-round-preserved g c =
     λ e. c.if-node-pred.false (c.behind-node.ensures ∙ e) in
     let at6 = moved at' (if_other (c.load_link-link.result / 2) c.args.stopped.found.pred.number ne _ _) in (
       c.loop-round.invariant.0,
-      moved at6 (ap (λ n. row c.args.caller.now.slots g.O.Origin.begun.call 6 None
+      moved at6 (ap (λ n. row c.args.caller.now.slots c.args.caller.now.origin.call 6 None
           c.args.stopped.found.pred.number c.args.stopped.found.curr.number
           (record c.loop-round.invariant.0 { pkey = c.args.stopped.before; ckey = c.args.stopped.found.word; node = n }))
           (sym c.behind-node.ensures)),

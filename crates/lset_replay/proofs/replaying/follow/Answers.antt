@@ -65,8 +65,5 @@ loop-index-preserved g c = record {
 }
 
 pub returns-clause-followed : goal.returns-clause-followed
-returns-clause-followed g c = subst (λ m. HasFollowed g.M.Machine.table c.args.recorder.now.history.opening
-    (events_from c.args.first c.args.lines.now) m c.loop-index.world c.loop-index.recorder)
-    (all_behind c.args.first c.args.lines.now c.loop-index.index c.loop-index.events c.loop-index-test.false
-    c.loop-index.invariant.ahead)
-    c.loop-index.invariant.followed
+returns-clause-followed g c = rw
+    (← all_behind c.args.first c.args.lines.now c.loop-index.index c.loop-index.events c.loop-index-test.false c.loop-index.invariant.ahead) c.loop-index.invariant.followed

@@ -41,9 +41,7 @@ pub returns-in_err-follow-clause-replays : goal.returns-in_err-follow-clause-rep
 returns-in_err-follow-clause-replays g c =
     let p = err_from_is_err_and c.from_residual-in_err-follow.result c.from_residual-in_err-follow.ensures.1 in
     subst (λ r. Replays g.M.Machine.table (view c.args.schedule.now) r) (sym p.1)
-    (subst (λ e. IsRefusal g.M.Machine.table (opening_in (view c.args.schedule.now)) (events_of (view c.args.schedule.now)) e)
-    (sym p.2)
-    (of_schedule (λ op es. IsRefusal g.M.Machine.table op es c.in_err-follow.field-0.0)
+    (rw p.2 (of_schedule (λ op es. IsRefusal g.M.Machine.table op es c.in_err-follow.field-0.0)
     (view c.args.schedule.now) _ _ _ c.in_ok-recorder.ensures.opening c.first_event_line.ensures c.deref.ensures.value
     c.in_err-follow.ensures.refused))
 

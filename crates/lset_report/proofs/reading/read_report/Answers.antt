@@ -1,14 +1,8 @@
 use Rattle.std.proofs.lemmas.Result.{IfOk-weaker}
 use Rattle.lset_report.specs.Report.{view}
-use Rattle.lset_report.proofs.ReportTexts.{found_in, has_words, only_in}
+use Rattle.lset_report.proofs.ReportTexts.{found_in, has_words}
 use Rattle.lset_report.proofs.reading.read_report.Goals as goal
-
-pub returns-clause-found : goal.returns-clause-found
-returns-clause-found c = found_in c.args.bytes.now c.report.result c.report.ensures
 
 pub returns-clause-words : goal.returns-clause-words
 returns-clause-words c =
     IfOk-weaker c.report.result _ _ (λ s h. has_words (view s) h.0) (found_in c.args.bytes.now c.report.result c.report.ensures)
-
-pub returns-clause-only : goal.returns-clause-only
-returns-clause-only c = only_in c.args.bytes.now c.report.result c.report.ensures

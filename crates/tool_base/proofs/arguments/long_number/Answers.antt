@@ -9,7 +9,7 @@ use Rattle.std.proofs.lemmas.Bool.{or_cases}
 use Rattle.std.proofs.lemmas.Str.Parse.{IsNumeralModel, numerals_by_value, tells_all_ascii_digits, digit_at, parse_plain}
 use Rattle.lset_text.specs.Numbers.{number_in, is_number, is_between}
 use Rattle.lset_text.proofs.NumberLaws.{is_spelled}
-use Rattle.tool_base.specs.Generating.{IsPlain}
+use Rattle.tool_base.specs.Arguments.{IsPlain}
 use Rattle.tool_base.specs.declared.arguments.TheConstants.{MOST_SEED}
 use Rattle.tool_base.proofs.arguments.long_number.Goals as goal
 

@@ -1,4 +1,5 @@
-use Rattle.std.proofs.Common.{◌≡◌, ℕ, Bool, List, ◌≤◌, ◌<◌, [], ◌∷◌, ◌++◌, length, Some, None, get_or, sym, subst, ap, ◌∙◌, arith, rules}
+use Rattle.std.proofs.Common.{◌≡◌, ℕ, Bool, List, ◌≤◌, ◌<◌, [], ◌∷◌, ◌++◌, length, Some, None, get_or, refl, sym, subst, ◌∙◌, arith}
+use Rattle.std.proofs.Common.{rules}
 use Rattle.std.specs.Prelude.{if◌then◌else◌}
 use Rattle.lset_words.specs.SequentialSet.{has_key}
 use Rattle.lset_history.specs.Changes.{ChangesValue, IsFirst, moments_of, noted_of, is_present}
@@ -11,7 +12,7 @@ use Rattle.lset_history.proofs.changes.Changes.first.Goals.{then-next-to, else-n
 moments_are : (self : ChangesValue) (key : ℕ) (opens : Bool) (noted : List ℕ) → opens ≡ has_key key self.opening
     → noted ≡ noted_of self key → moments_of self key ≡ (if opens then 0 ∷ [] else []) ++ noted
 moments_are self key opens noted e f =
-    ap (λ b. (if b then 0 ∷ [] else []) ++ noted_of self key) (sym e) ∙ ap (λ z. (if opens then 0 ∷ [] else []) ++ z) (sym f)
+    rw (e, f) refl
 
 pub count_upto-before-requires : goal.count_upto-before-requires
 count_upto-before-requires c = c.noted-noted.ensures.rises
@@ -26,9 +27,7 @@ returns-then-before-opens_with-clause-first c =
 
 pub returns-then-before-opens_with-clause-few : goal.returns-then-before-opens_with-clause-few
 returns-then-before-opens_with-clause-few c = λ few.
-    let is = moments_are c.args.self.now c.args.key _ _ c.opens_with.ensures c.noted-noted.ensures.value in
-    let a : c.count_upto-before.result.1 ≤ 20 =
-    few_looks c.opens_with.result c.noted-noted.result.now (moments_of c.args.self.now c.args.key) is c.count_upto-before.result.1
+    let a : c.count_upto-before.result.1 ≤ 20 = few_looks _ _ _ (moments_are c.args.self.now c.args.key _ _ c.opens_with.ensures c.noted-noted.ensures.value) _
     c.count_upto-before.ensures.looked few in
     omega arith
 
@@ -43,9 +42,7 @@ returns-then-before-noted-clause-first c =
 
 pub returns-then-before-noted-clause-few : goal.returns-then-before-noted-clause-few
 returns-then-before-noted-clause-few c = λ few.
-    let is = moments_are c.args.self.now c.args.key _ _ c.opens_with.ensures c.noted-noted.ensures.value in
-    let a : c.count_upto-before.result.1 ≤ 20 =
-    few_looks c.opens_with.result c.noted-noted.result.now (moments_of c.args.self.now c.args.key) is c.count_upto-before.result.1
+    let a : c.count_upto-before.result.1 ≤ 20 = few_looks _ _ _ (moments_are c.args.self.now c.args.key _ _ c.opens_with.ensures c.noted-noted.ensures.value) _
     c.count_upto-before.ensures.looked few in
     omega arith
 
@@ -78,8 +75,6 @@ returns-clause-first c =
 
 pub returns-clause-few : goal.returns-clause-few
 returns-clause-few c = λ few.
-    let is = moments_are c.args.self.now c.args.key _ _ c.opens_with.ensures c.noted-noted.ensures.value in
-    let a : c.count_upto-before.result.1 ≤ 20 =
-    few_looks c.opens_with.result c.noted-noted.result.now (moments_of c.args.self.now c.args.key) is c.count_upto-before.result.1
+    let a : c.count_upto-before.result.1 ≤ 20 = few_looks _ _ _ (moments_are c.args.self.now c.args.key _ _ c.opens_with.ensures c.noted-noted.ensures.value) _
     c.count_upto-before.ensures.looked few in
     omega arith

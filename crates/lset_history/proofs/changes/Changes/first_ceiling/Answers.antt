@@ -1,4 +1,4 @@
-use Rattle.std.proofs.Common.{◌≡◌, ◌≤◌, ℕ, Bool, true, false, Some, sym, subst, ◌∙◌}
+use Rattle.std.proofs.Common.{rules, ◌≡◌, ◌≤◌, ℕ, Bool, true, false, Some, sym, subst, ◌∙◌}
 use Rattle.lset_history.specs.Changes.{moments_of}
 use Rattle.lset_history.proofs.Raises.{past_the_end, some_there, none_is_least, it_is_least, it_is_absent, it_is_too_low}
 use Rattle.lset_history.proofs.changes.Changes.first_ceiling.Goals as goal
@@ -40,7 +40,5 @@ returns-else-moment-to-clause-first c = elim c.else-moment-to.branch [
         (sym w.was_present-is_there.ensures ∙ sym w.is_there-is ∙ v.if-is_there.false)
     | in-None w ↦ no_two c.match-found.is_there v.if-is_there.false w.is_there-is
   ]
-  | else-moment-to-via-else-moment-to v ↦ past_the_end (moments_of c.args.self.now) c.args.key c.args.found c.args.from
-      c.candidate-moment.result
-      c.candidate-moment.ensures c.args.to v.if-moment-to.false
+  | else-moment-to-via-else-moment-to v ↦ search (rules, past_the_end)
 ]

@@ -1,5 +1,5 @@
-use Rattle.std.proofs.Common.{refl, sym, ◌∙◌, arith}
-use Rattle.lset_history.proofs.Keeping.{may_begin, too_early, kept_begun}
+use Rattle.std.proofs.Common.{refl, sym, ◌∙◌}
+use Rattle.lset_history.proofs.Keeping.{may_begin, too_early, begun_follows}
 use Rattle.lset_history.proofs.history.History.begin.Goals as goal
 
 pub returns-then-at-self-clause-refused : goal.returns-then-at-self-clause-refused
@@ -22,9 +22,6 @@ returns-in_default-clause-refused c =
     rw (← c.self.view_is) (may_begin _ c.self.inside.busy c.self.inside.latest _ _ c.self.invariant c.if-thread-self.false
     c.if-self-thread.false c.if-at-self.false)
 
-pub invariant_of-self-2 : goal.invariant_of-self-2
-invariant_of-self-2 c =
-    let may = may_begin _ c.self.inside.busy c.self.inside.latest c.args.thread c.args.at c.self.invariant
-    c.if-thread-self.false c.if-self-thread.false c.if-at-self.false in
-    rw c.in-Ok.ensures.items (kept_begun _ c.self.inside.busy c.self.inside.latest _ c.self.invariant may c.if-at-self.false
-    (omega arith) refl)
+pub push-requires : goal.push-requires
+push-requires c = rw (← c.self.view_is) (begun_follows _ _ (may_begin _ c.self.inside.busy c.self.inside.latest _ _ c.self.invariant
+    c.if-thread-self.false c.if-self-thread.false c.if-at-self.false) refl)

@@ -1,12 +1,10 @@
+use Rattle.std.proofs.Common.{arith}
 use Rattle.std.proofs.lemmas.Map.Keys.{IsStrictlyIncreasing-from_sorted}
 use Rattle.lset_history.proofs.SetReplies.{removed}
 use Rattle.lset_history.proofs.oracle.Oracle.remove.Goals as goal
 
 pub invariant_of-self : goal.invariant_of-self
-invariant_of-self c = record {
-  rising = IsStrictlyIncreasing-from_sorted _ c.remove.ensures.ordered;
-  few = c.self.invariant.few;
-}
+invariant_of-self c = grind (arith, IsStrictlyIncreasing-from_sorted)
 
 pub returns : goal.returns
 returns c = λ thread.

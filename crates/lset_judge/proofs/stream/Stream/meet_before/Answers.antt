@@ -3,8 +3,7 @@ use Rattle.std.specs.Prelude.{All, Contains}
 use Rattle.std.proofs.lemmas.List.Elements.{All-contains_itself, All-tail}
 use Rattle.std.proofs.lemmas.List.Sorted.{All-permutation, length_permutation}
 use Rattle.lset_judge.specs.declared.stream.Pending.{Pending}
-use Rattle.lset_judge.specs.Log.{AreLogged, LogsEnd}
-use Rattle.lset_judge.specs.Stream.{IsStreamOf}
+use Rattle.lset_judge.specs.Log.{IsStreamKept, LogsEnd}
 use Rattle.lset_judge.proofs.Begun.{end_met}
 use Rattle.lset_judge.proofs.Logs.{end_logged}
 use Rattle.lset_judge.proofs.stream.Stream.meet_before.Goals as goal
@@ -12,7 +11,6 @@ use Rattle.lset_judge.proofs.stream.Stream.meet_before.Goals as goal
 pub loop-next-init : goal.loop-next-init
 loop-next-init c = record {
   kept = λ threads opening calls is. is;
-  logged = λ threads opening calls is logged. logged;
   before = λ low. low;
   some = All-contains_itself c.args.self.now.pending;
 }
@@ -28,14 +26,13 @@ loop-next-preserved c =
     let s = c.loop-next.self in let t = c.end.new.self in let p = c.in-Some.next in let rest = c.next_before.new.self in
     let next = c.in-Some.ensures in let met = c.in_ok-end.ensures.met in let was = c.args.self.now.pending in record {
       kept = λ threads opening calls is.
-          end_met threads opening calls s t c.args.moment p rest c.requires next met.pending met.at_moment met.by
-          (c.loop-next.invariant.kept threads opening calls is);
-      logged = λ threads opening calls is logged.
           let now = c.loop-next.invariant.kept threads opening calls is in
-          let so = end_met threads opening calls s t c.args.moment p rest c.requires next met.pending met.at_moment met.by now in
-          end_logged threads opening calls s t c.args.moment p rest next met.pending met.at_moment now so s.failed t.failed met.by
-          (subst (λ (ps : List Pending). LogsEnd s.states ps p.call t.states s.failed t.failed) (sym met.pending) c.in_ok-end.ensures.logs) so.judged
-          (c.loop-next.invariant.logged threads opening calls is logged);
+          let so = end_met threads opening calls s t c.args.moment p rest c.requires next met.pending met.at_moment met.by now.stream in record {
+            stream = so;
+            logged = end_logged threads opening calls s t c.args.moment p rest next met.pending met.at_moment now.stream so s.failed t.failed met.by
+                (subst (λ (ps : List Pending). LogsEnd s.states ps p.call t.states s.failed t.failed) (sym met.pending) c.in_ok-end.ensures.logs) so.judged
+                now.logged;
+          };
       before = λ low. let at = met.at_moment in let early = next.early in omega (arith, at, early);
       some = subst (All (Contains was)) (sym met.pending)
           (All-tail (Contains was) p rest (All-permutation (Contains was) s.pending (p ∷ rest) next.is c.loop-next.invariant.some));
@@ -43,13 +40,8 @@ loop-next-preserved c =
 
 pub returns-clause-kept : goal.returns-clause-kept
 returns-clause-kept c = λ threads opening calls is.
-    subst (λ (ps : List Pending). IsStreamOf threads opening calls (record c.loop-next.self { pending = ps })) (sym c.in_default.ensures.0)
+    subst (λ (ps : List Pending). IsStreamKept threads opening calls (record c.loop-next.self { pending = ps })) (sym c.in_default.ensures.0)
     (c.loop-next.invariant.kept threads opening calls is)
-
-pub returns-clause-logged : goal.returns-clause-logged
-returns-clause-logged c = λ threads opening calls is logged.
-    subst (λ (ps : List Pending). AreLogged threads opening calls (record c.loop-next.self { pending = ps })) (sym c.in_default.ensures.0)
-    (c.loop-next.invariant.logged threads opening calls is logged)
 
 pub returns-clause-some : goal.returns-clause-some
 returns-clause-some c = subst (All (Contains c.args.self.now.pending)) (sym c.in_default.ensures.0) c.loop-next.invariant.some

@@ -10,8 +10,3 @@ begin-requires-clause-may c =
 pub returns-clause-taken : goal.returns-clause-taken
 returns-clause-taken c = λ threads opening calls low is.
     c.in_ok-begin.ensures.begun threads opening calls low (c.in_ok-meet_before.ensures.kept threads opening calls is)
-
-pub returns-clause-logged : goal.returns-clause-logged
-returns-clause-logged c = λ threads opening calls is logged.
-    c.in_ok-begin.ensures.logged threads opening calls (c.in_ok-meet_before.ensures.kept threads opening calls is)
-    (c.in_ok-meet_before.ensures.logged threads opening calls is logged)

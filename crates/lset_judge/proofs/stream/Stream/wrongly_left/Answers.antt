@@ -1,4 +1,4 @@
-use Rattle.std.proofs.Common.{◌≡◌, ℕ, List, ◌∷◌, [], ◌++◌, true, false, refl, sym, ap, ◌∙◌, map, rules, subst, inl, inr, Bor}
+use Rattle.std.proofs.Common.{◌≡◌, ℕ, List, ◌∷◌, [], ◌++◌, true, false, sym, ap, ◌∙◌, map, rules, subst, inl, inr, Bor}
 use Rattle.std.specs.Prelude.{All, MatchOption, Option, Some, None, IsSome, ◌⊎◌}
 use Rattle.std.specs.Bool.{nat_eq}
 use Rattle.std.specs.Cmp.{nat_eq_equiv}

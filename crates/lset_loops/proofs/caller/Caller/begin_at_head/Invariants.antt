@@ -1,4 +1,4 @@
 use Rattle.lset_loops.proofs.caller.Caller.begin_at_head.Given as goal
 
-abbrev pub ghosts-load_first : goal.ghosts-load_first
-ghosts-load_first g a = record { call = a.call }
+abbrev pub ghosts-start_on : goal.ghosts-start_on
+ghosts-start_on g a = record { call = a.call }

@@ -1,4 +1,4 @@
 use Rattle.lset_loops.proofs.caller.Caller.begin_locked.Given as goal
 
-abbrev pub ghosts-exchange_first : goal.ghosts-exchange_first
-ghosts-exchange_first g a = record { call = a.call }
+abbrev pub ghosts-start_on : goal.ghosts-start_on
+ghosts-start_on g a = record { call = a.call }

@@ -10,7 +10,7 @@ pub invariant_of-node : goal.invariant_of-node
 invariant_of-node g c =
     let h = c.requires in
     let few : key_index (slot c.args.self.now.slots) < MOST_WORDS =
-    few_held g.M.Machine.table g.O.Origin.begun g.met.M.Machine.lawful h.held _ c.args.place.now h.holds h.stores.0 in
+    few_held g.M.Machine.table c.args.self.now.origin g.met.M.Machine.lawful h.held _ c.args.place.now h.holds h.stores.0 in
     let is : c.slot_node.result ≡ slot c.args.self.now.slots = c.slot_node.ensures in record { small = omega arith }
 
 pub store_key-requires : goal.store_key-requires

@@ -22,6 +22,6 @@ returns g c =
     let T = g.M.Machine.table in
     let filled = slot_stores c.args.self.now.slots c.args.self.now.key c.args.found.curr.number in
     record {
-      leads = λ l h. subst (λ n. Holds T g.O.Origin.begun (T.feed (feeds T l filled) (2 * n)).local c.store_link.new.place)
+      leads = λ l h. subst (λ n. Holds T c.args.self.now.origin (T.feed (feeds T l filled) (2 * n)).local c.store_link.new.place)
           c.fill_slot-node.ensures.node (c.store_link.ensures.leads _ (c.fill_slot-node.ensures.stored.leads l h));
     }

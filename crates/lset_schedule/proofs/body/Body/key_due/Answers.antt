@@ -1,14 +1,12 @@
-use Rattle.std.proofs.Common.{◌≡◌, ℕ, List, [], length, sym, ap, ◌∙◌, Bor}
-use Rattle.std.proofs.lemmas.Bool.{eqb-true, eqb-false}
+use Rattle.std.proofs.Common.{arith, ℕ, List, sym, ◌∙◌, Bor}
+use Rattle.std.proofs.lemmas.Bool.{eqb-true}
 use Rattle.std.proofs.lemmas.List.{nil_from_length}
 use Rattle.lset_schedule.proofs.BodyLoops.{key_told, not_due}
-use Rattle.lset_schedule.proofs.body.Body.key_due.Goals.{in_default-via-in-Two+else-is_empty, in_default-via-in_default}
 use Rattle.lset_schedule.proofs.body.Body.key_due.Goals as goal
 
 pub returns-in-Two : goal.returns-in-Two
 returns-in-Two g c =
-    let none : c.args.self.now.lines.items ≡ [] =
-    nil_from_length c.args.self.now.lines.items
+    let none = nil_from_length c.args.self.now.lines.items
     (sym c.args.self.now.lines.ok.0 ∙ eqb-true c.args.self.now.lines.len 0 (sym c.is_empty.ensures ∙ c.if-is_empty.true)) in
     let now : Bor (List ℕ) → List ℕ = λ key. key.now in
     rw c.in-Two.is (key_told g.L.EventLine.lines c.args.self.now.lines.items c.args.line.now now c.opening_piece.result none
@@ -17,9 +15,4 @@ returns-in-Two g c =
 pub returns-in_default : goal.returns-in_default
 returns-in_default g c =
     not_due g.L.EventLine.lines c.args.version c.args.self.now.lines.items c.args.line.now
-    (elim c.in_default.branch [
-      | in_default-via-in-Two+else-is_empty w ↦ λ two none.
-          eqb-false c.args.self.now.lines.len 0 (sym w.is_empty.ensures ∙ w.if-is_empty.false)
-          (c.args.self.now.lines.ok.0 ∙ ap (λ (ls : List g.row.L.Denot). length ls) none)
-      | in_default-via-in_default w ↦ λ two none. absurd (w.in_default.not-Two two)
-    ])
+    (grind arith)

@@ -7,8 +7,8 @@ returns-clause-tracks c =
     let ends : c.in_ok-vec.field-0.items ≡ replicate c.args.threads 0 = search rules in
     let busy : c.in_ok-vec-2.field-0.items ≡ replicate c.args.threads false = search rules in
     tracks_none (record {
-      calls = c.new.result;
+      history = c.new.result;
       last_begun = 0;
       last_ends = c.in_ok-vec.field-0;
       busy = c.in_ok-vec-2.field-0;
-    }) c.args.threads c.new.ensures.items refl ends busy
+    }) c.args.threads c.args.quota c.new.ensures refl ends busy

@@ -1,0 +1,72 @@
+"""The lists, as crates.txt has them: their names, and the places that name them outside their own crates."""
+
+import os
+import re
+import subprocess
+
+from crates_txt import TOP, lines_of
+
+
+class List:
+    """The names of a list: its word in files (lock-free), its table, its Kind, its crate and its type."""
+
+    def __init__(self, word):
+        self.word, self.table = word, word.replace("-", "_")
+        self.kind = "".join(it.capitalize() for it in word.split("-"))
+        self.crate, self.type = f"lset_{self.table}", f"{self.kind}List"
+
+    def has_reads(self, root=TOP):
+        """Whether its contains and its ceiling take no lock, in rows of their own."""
+        return f"impl OpenReads for {self.type}" in (root / "crates" / self.crate / "src/lib.rt").read_text()
+
+
+def lists(root=TOP):
+    """The lists, in the order of crates.txt: a list's crate has a proof outline."""
+    found = [it for it in lines_of(root) if (root / "crates" / it / "specs/Lawful/Outline.antt").is_file()]
+    return [List(it.removeprefix("lset_").replace("_", "-")) for it in found]
+
+
+# Where a list is named so that the program has it, and by which names. build/new_list writes these
+CODE = {
+    "crates/lset_words/src/lib.rt": ["    {kind},"],
+    "crates/lset_text/src/words.rt": ['Kind::{kind} => "{word}"', "is_word_of(piece, Kind::{kind})"],
+    "crates/lset_text/specs/Spellings.antt": ['kind_text kind.{kind} = codes "{word}"', "kind.{kind} ∷"],
+    "crates/lset_lists/specs/Tables.antt": ["table_of kind.{kind} = {table}"],
+    "crates/lset_lists/src/lib.rt": ["impl List for {type}", "Kind::{kind} => task.run::<{type}>()"],
+    "crates/lset_live/src/running.rt": ["impl Running for {type}"],
+    "crates/tool_trace/src/running.rt": ["Kind::{kind} => trace_on::<{type}"],
+    "crates/tool_threads/src/running.rt": ["Kind::{kind} => run_rounds::<{type}"],
+    "crates/tool_threads/src/serving.rt": ["Kind::{kind} => serve_list::<{type}"],
+}
+# The crates that use each list's crate, in crates.txt
+USERS = ["lset_lists", "lset_live", "tool_trace", "tool_threads"]
+# What is said of the lists in words: written by hand
+TEXTS = {
+    "crates/tool_base/src/faults.rt": ["{word}"],
+    "crates/lset_command/src/command_line.rt": ["{word}"],
+    "docs/TABLES.md": ["## {type}"],
+    "docs/TEXTS.md": ["`{word}`"],
+    "docs/make/believed.txt": ["{crate}/specs/{kind}.antt"],
+    "tests/harness/lists_model.py": ['"{word}": table('],
+}
+
+
+def add_exercises(root):
+    """Adds the crates of examples/lists to a copy of the repository: of each, the list that its page copies, with its patch."""
+    for patch in sorted((root / "examples/lists").glob("*.patch")):
+        words = re.search(r"build/new_list (\S+) (\S+)", patch.with_suffix(".md").read_text()).groups()
+        subprocess.run([root / "build/new_list", *words], stdout=subprocess.DEVNULL, check=True)
+        # (not as a part of a repository of git that the copy may lie in)
+        outside = {**os.environ, "GIT_CEILING_DIRECTORIES": str(root.parent)}
+        subprocess.run(["git", "apply", "--whitespace=nowarn", patch], cwd=root, env=outside, check=True)
+
+
+def missing(one, places, root=TOP):
+    """The places that lack a list: each as its path, and what is not there."""
+    texts = {path: (root / path).read_text() for path in places}
+    wanted = [(path, form.format(**vars(one))) for path, forms in places.items() for form in forms]
+    lacks = [f"{path}: {words}" for path, words in wanted if words not in texts[path]]
+    if places is CODE:
+        users = lines_of(root)
+        lacks += [f"crates.txt, the line of {it}: {one.crate}" for it in USERS if not re.search(rf"\b{one.crate}\b", users[it].partition(":")[2])]
+    return lacks

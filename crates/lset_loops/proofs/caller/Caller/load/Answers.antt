@@ -1,0 +1,9 @@
+use Rattle.lset_loops.proofs.Calling.{few_words, leads}
+use Rattle.lset_loops.proofs.caller.Caller.load.Goals as goal
+
+pub index-requires : goal.index-requires
+index-requires g c = few_words g.M.Machine.table c.args.self.now.origin g.met.M.Machine.lawful _ c.args.place.now c.requires
+
+pub returns : goal.returns
+returns g c = leads g.M.Machine.table c.args.self.now.origin _ c.args.place.now c.step_on-seen.result c.step_on-seen.new.place
+    c.requires c.step_on-seen.ensures.place c.step_on-seen.ensures.goes

@@ -1,0 +1,5 @@
+use Rattle.lset_loops.proofs.Calling.{few_asks}
+use Rattle.lset_loops.proofs.caller.Caller.look_at.Goals as goal
+
+pub index-requires : goal.index-requires
+index-requires g c = few_asks g.M.Machine.table c.args.self.now.origin g.met.M.Machine.lawful _ c.args.place.now c.requires

@@ -1,5 +1,0 @@
-use Rattle.lset_loops.specs.Begun.{begun_at}
-use Rattle.lset_loops.proofs.fine.fine_within.Given as goal
-
-abbrev pub ghosts-make : goal.ghosts-make
-ghosts-make g a = record { begun = begun_at a.call a.place.now }

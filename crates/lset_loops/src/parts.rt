@@ -1,0 +1,48 @@
+//! The words of a node, and what its link says.
+ghost use Rattle.std.specs.Prelude.{◌≡◌, ◌<◌};
+ghost use Rattle.lset_words.specs.declared.TheConstants.{MOST_WORDS};
+ghost use Rattle.lset_loops.specs.Nodes.{index_of, word_of};
+
+use crate::node::Node;
+use lset_steps::rows::{key_index, link_index, lock_index};
+
+/// A word of a node.
+#[derive(Clone, Copy)]
+pub enum Part {
+    Key(Node),
+    Link(Node),
+    Lock(Node),
+}
+
+impl Part {
+    /// The index of the word in the table.
+    pub fn index(self) -> u64
+        requires { index_of self < MOST_WORDS }
+        ensures { result ≡ index_of self }
+    {
+        match self {
+            Part::Key(node) => key_index(node.number),
+            Part::Link(node) => link_index(node.number),
+            Part::Lock(node) => lock_index(node.number),
+        }
+    }
+}
+
+/// What the link of a node says: the next node, and whether the node itself is marked.
+#[derive(Clone, Copy)]
+pub enum Link {
+    To(Node),
+    Marked(Node),
+}
+
+impl Link {
+    /// The value of the link word.
+    pub fn word(self) -> u64
+        ensures { result ≡ word_of self }
+    {
+        match self {
+            Link::To(next) => 2 * next.number,
+            Link::Marked(next) => 2 * next.number + 1,
+        }
+    }
+}

@@ -1,0 +1,109 @@
+//! Calls that come one after another: which fault is named if one has several, and what is said of calls without an order.
+
+use crate::made::{FIVE, reply_of};
+use crate::prelude::*;
+
+fn add_of_six(thread: u32, begun: u64, ended: Option<(u64, Reply)>) -> StreamCall {
+    StreamCall {
+        thread,
+        call: Call::Add(Key(6)),
+        begun,
+        ended,
+    }
+}
+
+/// Calls of key 6, each with a reply with which the judge does not take it.
+const NOT_PLAIN: [(Call, Reply); 5] = [
+    (Call::Add(Key(6)), Reply::Full),
+    (Call::Remove(Key(6)), Reply::Nothing),
+    (Call::Contains(Key(6)), Reply::At(Key(6))),
+    (Call::Ceiling(Key(6)), Reply::At(Key(6))),
+    (Call::Ceiling(Key(6)), Reply::True),
+];
+
+/// One of these calls, by thread 3.
+fn not_plain(made: (Call, Reply), begun: u64, end: u64) -> StreamCall {
+    let (call, reply) = made;
+    StreamCall {
+        thread: 3,
+        call,
+        begun,
+        ended: Some((end, reply)),
+    }
+}
+
+/// Calls after one of thread 3 from moment 2 to 7, each with all the faults that come after the one that is named, as far as one call
+/// can have them.
+fn with_faults(made: (Call, Reply)) -> [(StreamCall, StreamFault); 10] {
+    let late = LAST_MOMENT + 1;
+    [
+        (not_plain(made, 2, 2), StreamFault::Early),
+        (not_plain(made, 0, 0), StreamFault::Early),
+        (not_plain(made, late, 7), StreamFault::Early),
+        (not_plain(made, 5, late), StreamFault::Early),
+        (not_plain(made, 7, late), StreamFault::Early),
+        (not_plain(made, 5, 5), StreamFault::Ends),
+        (not_plain(made, 5, 1), StreamFault::Ends),
+        (not_plain(made, 7, 7), StreamFault::Ends),
+        (not_plain(made, 5, 7), StreamFault::NotPlain),
+        (not_plain(made, 7, 9), StreamFault::NotPlain),
+    ]
+}
+
+#[test]
+fn the_first_fault_of_a_call_is_named(rt: HostRuntime) -> Result<(), Fail> {
+    let mut judge = Judge::new(rt.alloc(), &[])?;
+    judge.add(add_of_six(3, 2, Some((7, Reply::True))))?;
+    for made in NOT_PLAIN {
+        for (call, fault) in with_faults(made) {
+            assert_eq!(rt; judge.add(call), Err(fault), "{call:?}");
+        }
+    }
+    let taken = add_of_six(3, 5, Some((7, Reply::False)));
+    assert_eq!(rt; judge.add(taken), Err(StreamFault::Taken));
+    // A later pending call takes the end, and an earlier one is of the thread.
+    judge.add(add_of_six(4, 3, Some((8, Reply::True))))?;
+    let both = add_of_six(3, 5, Some((8, Reply::True)));
+    assert!(rt; judge.add(both) == Err(StreamFault::Taken));
+    // An earlier call ends at its begin, and one that is still pending is of the thread.
+    judge.add(add_of_six(5, 4, Some((6, Reply::True))))?;
+    let begins_taken = add_of_six(3, 6, Some((9, Reply::True)));
+    assert!(rt; judge.add(begins_taken) == Err(StreamFault::Taken));
+    Ok(())
+}
+
+/// So many calls do not find key 5, then one does, and the next does not, while a long `add` is pending.
+const LOOKS: u64 = 102;
+
+#[test]
+fn of_many_calls_those_that_show_the_error_are_left(rt: HostRuntime) -> Result<(), Fail> {
+    let mut judge = Judge::new(rt.alloc(), &[])?;
+    judge.add(StreamCall {
+        thread: 0,
+        call: Call::Add(FIVE),
+        begun: 1,
+        ended: Some((1000, Reply::True)),
+    })?;
+    for number in 1..=LOOKS {
+        judge.add(StreamCall {
+            thread: 1,
+            call: Call::Contains(FIVE),
+            begun: 2 * number,
+            ended: Some((2 * number + 1, reply_of(number == LOOKS - 1))),
+        })?;
+    }
+    let Verdict::NotLinearizable(refusal, Some(window)) = judge.close(&[5])? else {
+        return Err(Fail::new("the calls are not refused"));
+    };
+    assert!(rt; refusal.key == FIVE && refusal.moment == Some(205));
+    let begins: [u64; 2] = [202, 204];
+    assert!(rt; window.calls.iter().map(|call| call.begun).eq(begins));
+    assert!(rt; window.since == 0 && !window.there && window.before.is_none());
+    let hidden = Hidden {
+        count: LOOKS - 1,
+        first: 1,
+        last: 200,
+    };
+    assert!(rt; window.hidden == Some(hidden));
+    Ok(())
+}

@@ -1,0 +1,50 @@
+use lset_live::{Bounded, Running, RunningReads};
+use lset_steps::{Action, Fed, Local, Machine, OpenReads};
+use lset_words::{Call, Key, Kind};
+use std::marker::PhantomData;
+
+/// The list `M` by its table alone, with which its plain loops are compared, by tests and by `bench/run`. Its calls on threads are the default bodies of `Bounded` and `Running`, the interpreter.
+pub struct Stepped<M: Machine> {
+    list: PhantomData<M>,
+}
+
+impl<M: Machine> Machine for Stepped<M> {
+    const KIND: Kind = M::KIND;
+
+    ghost KIND = { M.KIND };
+
+    ghost table = { M.table };
+
+    #[inline(always)]
+    fn begin(call: Call, local: &Local) -> Local {
+        M::begin(call, local)
+    }
+
+    #[inline(always)]
+    fn next(local: &Local) -> Action {
+        M::next(local)
+    }
+
+    #[inline(always)]
+    fn feed(local: &Local, seen: u64) -> Fed {
+        M::feed(local, seen)
+    }
+
+    fn effect(local: &Local, seen: u64) -> Option<(Key, bool)> {
+        M::effect(local, seen)
+    }
+
+    ghost lawful = { M.lawful };
+}
+
+impl<M: OpenReads> OpenReads for Stepped<M> {
+    ghost reads = { M.reads };
+
+    ghost walks = { M.walks };
+}
+
+impl<M: Machine> Bounded for Stepped<M> {}
+
+impl<M: Machine> Running for Stepped<M> {}
+
+impl<M: OpenReads> RunningReads for Stepped<M> {}

@@ -1,0 +1,35 @@
+-- What `gen` makes of its values.
+use Rattle.std.specs.Prelude.{◌≡◌, ℕ, List, Result, Ok, Err}
+use Rattle.lset_steps.specs.Steps.{Table}
+use Rattle.lset_lists.specs.Tables.{table_of}
+use Rattle.lset_text.specs.declared.words.Version.TheVariants.{One}
+use Rattle.lset_schedule.specs.Drawing.{AreOfSeed}
+use Rattle.lset_schedule.specs.Generating.{IsGenerated}
+use Rattle.lset_schedule.specs.Plan.{Plan, IsSchedule, schedule_text}
+use Rattle.tool_base.specs.declared.trouble.Trouble.TheVariants.{Memory, Bad}
+use Rattle.tool_base.specs.declared.trouble.ValueName.{ValueName}
+use Rattle.tool_base.specs.declared.arguments.RandomRequest.{RandomRequest}
+use Rattle.tool_base.specs.Arguments.{random_request_of}
+use Rattle.tool_base.specs.Tools.{Made}
+
+-- A schedule as a request asks for it, of the machine of this table:
+pub record IsRequested (T : Table) (request : RandomRequest) (p : Plan) : Type 0 where
+  pub version_is : p.version ≡ One
+  pub kind_is : p.kind ≡ request.kind
+  pub threads_are : p.threads ≡ request.threads
+  pub quota_is : p.quota ≡ request.quota
+  pub schedule : IsSchedule p
+  -- its events are enabled, and its calls and keys are within those asked for
+  pub generated : IsGenerated T request.threads request.quota request.calls request.keys p.lines
+  -- they are the lines that the seed stands for
+  pub drawn : AreOfSeed T request.threads request.quota request.calls request.keys request.seed p.lines
+
+-- what is made of a request: the text of a schedule as it asks for it, or that an allocation failed; a wrong value is named
+abbrev pub Answers : Result RandomRequest ValueName → Made → Type 0
+Answers (Ok request) (Ok answer) =
+    (p : Plan) × IsRequested (table_of request.kind) request p × (answer ≡ record { text = schedule_text p; status = 0 })
+Answers (Ok request) (Err t) = t ≡ Memory
+Answers (Err wrong) made = made ≡ Err (Bad wrong)
+
+abbrev pub Generates : List (List ℕ) → Made → Type 0
+Generates values made = Answers (random_request_of values) made

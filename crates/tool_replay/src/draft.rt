@@ -1,0 +1,50 @@
+ghost use Rattle.std.specs.Prelude.{◌<◌, ◌≤◌, length};
+ghost use Rattle.std.specs.List.Sorted.{IsStrictlyIncreasing};
+ghost use Rattle.lset_words.specs.declared.TheConstants.{MOST_OPENING, MOST_QUOTA, MOST_THREADS};
+
+use lset_schedule::{FIRST_LINE, Line};
+use lset_words::Kind;
+
+/// The largest row to which a line of a draft may send a thread.
+pub const MOST_ROW: u32 = 255;
+
+/// A line of a draft. `Plain` is a line of a schedule. `Out(thread)`: the thread makes steps until its call has ended.
+/// `To(thread, row)`: it makes steps until it is at that row of its list's table, 1 to 255. Both make at least one step.
+#[derive(Clone, Copy)]
+pub enum DraftLine {
+    Plain(Line),
+    Out(u32),
+    To(u32, u32),
+}
+
+impl DraftLine {
+    /// The least number of events for which the line can come to stand.
+    pub(crate) fn least_count(self) -> u32 {
+        match self {
+            DraftLine::Plain(line) => line.event_count(),
+            DraftLine::Out(_) | DraftLine::To(_, _) => 1,
+        }
+    }
+}
+
+/// A draft of a schedule: the kind of list, its threads, 1 to 64, the slots of each, 0 to 16,384, the keys with which its
+/// set opens, at most 1,048,576 and in strictly increasing order, and its lines, of at most 1,000,000 events if each line
+/// without a count counts as one.
+#[derive(Drop)]
+pub struct Draft {
+    pub kind: Kind,
+    pub threads: u32,
+    pub quota: u32,
+    pub opening: Vec<u32>,
+    pub lines: Vec<DraftLine>,
+    ghost rising: { IsStrictlyIncreasing opening.items },
+    ghost within: { (0 < threads) × (threads ≤ MOST_THREADS) × (quota ≤ MOST_QUOTA) × (length opening.items ≤ MOST_OPENING) },
+}
+
+impl Draft {
+    /// Returns the number of the line of the first event, counted from 1, in the text of this draft and in that of its
+    /// schedule.
+    pub fn first_event_line(&self) -> u64 {
+        FIRST_LINE + self.opening.len() as u64
+    }
+}

@@ -1,0 +1,116 @@
+ghost use Rattle.std.specs.Prelude.{◌≤◌, length};
+ghost use Rattle.std.specs.List.Sorted.{IsStrictlyIncreasing};
+ghost use Rattle.lset_words.specs.declared.TheConstants.{MOST_OPENING};
+
+use crate::draft::{Draft, DraftLine, MOST_ROW};
+use lset_schedule::{EventLine, FIRST_LINE, Line, MOST_EVENTS, Version};
+use lset_text::{Cause, LineFault, cut, is_above, number, read_header};
+use lset_words::MOST_OPENING;
+use std::alloc::Global;
+
+/// The first line of a draft.
+const TITLE: &str = "listset-draft 2";
+
+/// Reads a line `go T out` or `go T to ROW`; `None` for any other line.
+fn stop(line: &[u8]) -> Option<Result<DraftLine, Cause>> {
+    let (b"go", rest) = cut(line, b' ')? else {
+        return None;
+    };
+    let (thread, place) = cut(rest, b' ')?;
+    if place == b"out".as_slice() {
+        return Some(out(thread));
+    }
+    match cut(place, b' ')? {
+        (b"to", row) if !row.contains(&b' ') => Some(to(thread, row)),
+        _ => None,
+    }
+}
+
+fn out(thread: &[u8]) -> Result<DraftLine, Cause> {
+    let thread = number(thread, 0, u32::MAX).ok_or(Cause::Number)?;
+    Ok(DraftLine::Out(thread))
+}
+
+fn to(thread: &[u8], row: &[u8]) -> Result<DraftLine, Cause> {
+    let thread = number(thread, 0, u32::MAX).ok_or(Cause::Number)?;
+    let row = number(row, 1, MOST_ROW).ok_or(Cause::Number)?;
+    Ok(DraftLine::To(thread, row))
+}
+
+fn event(line: &[u8]) -> Result<DraftLine, Cause> {
+    match stop(line) {
+        Some(stop) => stop,
+        None => Ok(DraftLine::Plain(Line::read(Version::Two, line)?)),
+    }
+}
+
+/// The field of the key in a line `opening K`; `None` for any other line.
+fn opening_piece(line: &[u8]) -> Option<&[u8]> {
+    match cut(line, b' ')? {
+        (b"opening", key) if !key.contains(&b' ') => Some(key),
+        _ => None,
+    }
+}
+
+/// Puts an opening key behind the others.
+#[tactic(auto, using(lset_text::proofs::OpeningLaws::rises_more))]
+fn add_opening(opening: &mut Vec<u32>, key: u32) -> Result<(), Cause>
+    requires rising { IsStrictlyIncreasing opening.old.items }
+    requires few { length opening.old.items ≤ MOST_OPENING }
+    ensures rising { IsStrictlyIncreasing opening.new.items }
+    ensures few { length opening.new.items ≤ MOST_OPENING }
+{
+    if opening.len() >= MOST_OPENING as usize {
+        return Err(Cause::TooMany);
+    }
+    if !is_above(opening, key) {
+        return Err(Cause::Opening);
+    }
+    opening.push(key)?;
+    Ok(())
+}
+
+impl Draft {
+    /// Adds a line, where so many events are left, and returns how many are left after it.
+    fn add_line(&mut self, line: &[u8], left: u32) -> Result<u32, Cause> {
+        if self.lines.is_empty()
+            && let Some(key) = opening_piece(line)
+        {
+            let key = number(key, 0, u32::MAX).ok_or(Cause::Number)?;
+            add_opening(&mut self.opening, key)?;
+            return Ok(left);
+        }
+        let event = event(line)?;
+        let left = left.checked_sub(event.least_count()).ok_or(Cause::TooMany)?;
+        self.lines.push(event)?;
+        Ok(left)
+    }
+}
+
+/// Reads a draft from its bytes. A line without a count counts as one event. Allocates.
+///
+/// # Errors
+///
+/// The first line that is wrong, and the first check that it fails, in the order in which `read_schedule` makes them on a
+/// schedule of version 2. A thread or a row that is not a number is `Number`, and so is a row outside 1 to 255.
+pub fn read_draft(alloc: Global, bytes: &[u8]) -> Result<Draft, LineFault> {
+    let (header, text) = read_header(TITLE.as_bytes(), bytes)?;
+    let mut draft = Draft {
+        kind: header.kind,
+        threads: header.threads,
+        quota: header.quota,
+        opening: Vec::new(alloc),
+        lines: Vec::new(alloc),
+    };
+    let mut left = MOST_EVENTS;
+    let mut number = FIRST_LINE;
+    let mut rest = text;
+    while !rest.is_empty() {
+        let fault = |cause| LineFault::at(number, cause);
+        let (line, after) = cut(rest, b'\n').ok_or(fault(Cause::NotEnded))?;
+        left = draft.add_line(line, left).map_err(fault)?;
+        number = number.saturating_add(1);
+        rest = after;
+    }
+    Ok(draft)
+}

@@ -1,0 +1,237 @@
+//! What is drawn of a picture in a window: a column for each moment at which something happens.
+use crate::MOST_WIDTH;
+use crate::beginning::clash_begins;
+use crate::moments::{moments_shown, next_moment};
+use crate::picture::{Picture, Window, are_known, points_of, standing_at};
+use crate::sets::{go_on, reached_at_first, set_text};
+use lset_text::{call_word, reply_word};
+use lset_words::{Call, CallRecord, Reply};
+use std::alloc::{AllocError, Global};
+
+/// What is drawn on a thread's row at a moment: a call begins, takes effect and changes the set, takes effect and changes
+/// nothing, ends.
+#[derive(Clone, Copy)]
+pub enum Sign {
+    Begin(Call),
+    Change,
+    Fit,
+    End(Reply),
+}
+
+/// A sign, and the thread on whose row it is drawn.
+#[derive(Clone, Copy)]
+pub struct Mark {
+    pub thread: u32,
+    pub sign: Sign,
+}
+
+/// What is drawn at a moment: the signs of the rows, the text of the set, if it is shown there, and its width in characters.
+#[derive(Drop)]
+pub struct Column {
+    pub moment: u32,
+    pub marks: Vec<Mark>,
+    pub set: String,
+    pub width: usize,
+}
+
+/// Where something is: at moments before those that are drawn, after them, or at least in part at them.
+#[derive(Clone, Copy)]
+pub enum Side {
+    Before,
+    Within,
+    After,
+}
+
+/// The columns of a picture, whether its points are known, the first and last moment that are drawn, and whether something
+/// happens before or after them.
+#[derive(Drop)]
+pub struct Drawing {
+    pub columns: Vec<Column>,
+    pub known: bool,
+    pub from: u32,
+    pub last: u32,
+    pub before: bool,
+    pub after: bool,
+}
+
+impl Drawing {
+    /// Whether something happens at moments that are not drawn.
+    pub fn is_cut(&self) -> bool {
+        self.before || self.after
+    }
+
+    /// Returns the window to draw instead of all moments, if they do not fit: of a refused order it begins at the clash.
+    pub fn window_of_clash(&self, picture: &Picture, window: Window) -> Option<Window> {
+        if !(self.after && window.is_whole()) {
+            return None;
+        }
+        let from = clash_begins(picture)?;
+        Some(Window { from, ..window })
+    }
+
+    /// Returns where a stretch of moments is, from its first one to its last, if it has one.
+    pub fn side_of(&self, first: u32, last: Option<u32>) -> Side {
+        if self.last < first {
+            Side::After
+        } else if last.is_some_and(|last| last < self.from) {
+            Side::Before
+        } else {
+            Side::Within
+        }
+    }
+
+    /// Returns where the bar of a call is.
+    pub fn side_of_bar(&self, made: CallRecord) -> Side {
+        self.side_of(made.begun, made.ended.map(|(end, _)| end))
+    }
+}
+
+fn add_begun(marks: &mut Vec<Mark>, picture: &Picture, moment: u32) -> Result<(), AllocError> {
+    for made in picture.history.calls() {
+        if made.begun == moment {
+            let sign = Sign::Begin(made.call);
+            let thread = made.thread;
+            marks.push(Mark { thread, sign })?;
+        }
+    }
+    Ok(())
+}
+
+fn add_standing(marks: &mut Vec<Mark>, picture: &Picture, moment: u32) -> Result<(), AllocError> {
+    for (index, point) in points_of(picture).iter().enumerate() {
+        if point.moment != moment {
+            continue;
+        }
+        let Some(standing) = standing_at(picture, index) else {
+            return Ok(());
+        };
+        if let Some(made) = standing.made {
+            let sign = if point.change {
+                Sign::Change
+            } else {
+                Sign::Fit
+            };
+            let thread = made.thread;
+            marks.push(Mark { thread, sign })?;
+        }
+    }
+    Ok(())
+}
+
+fn add_ended(marks: &mut Vec<Mark>, picture: &Picture, moment: u32) -> Result<(), AllocError> {
+    for made in picture.history.calls() {
+        if let Some((end, reply)) = made.ended {
+            if end == moment {
+                let sign = Sign::End(reply);
+                let thread = made.thread;
+                marks.push(Mark { thread, sign })?;
+            }
+        }
+    }
+    Ok(())
+}
+
+/// Appends a call, such as `add 5`.
+pub fn put_call(out: &mut String, call: Call) -> Result<(), AllocError> {
+    let word = call_word(call);
+    let key = call.key().0;
+    write!(out, "{word} {key}")
+}
+
+/// Writes a sign with what parts it from the next: the bar goes on after each sign but the last.
+fn put_sign(out: &mut String, sign: Sign) -> Result<(), AllocError> {
+    match sign {
+        Sign::Begin(call) => {
+            out.push_str("[")?;
+            put_call(out, call)?;
+            out.push_str("-")
+        }
+        Sign::Change => out.push_str("*-"),
+        Sign::Fit => out.push_str("o-"),
+        Sign::End(reply) => {
+            let word = reply_word(reply);
+            write!(out, "{word}] ")
+        }
+    }
+}
+
+/// Appends the signs of a thread among those of a moment, such as `[add 5-*-`.
+pub fn put_signs(out: &mut String, marks: &[Mark], thread: u32) -> Result<(), AllocError> {
+    for mark in marks {
+        if mark.thread == thread {
+            put_sign(out, mark.sign)?;
+        }
+    }
+    Ok(())
+}
+
+/// How many characters a column is wide: as its longest piece, with what parts it from the next.
+fn width_of(alloc: Global, moment: u32, marks: &[Mark], set: &str) -> Result<usize, AllocError> {
+    let mut most = format!(in alloc; "{moment} ")?.len();
+    if set.len() >= most {
+        most = set.len() + 1;
+    }
+    for mark in marks {
+        let mut signs = String::new(alloc);
+        put_signs(&mut signs, marks, mark.thread)?;
+        most = most.max(signs.len());
+    }
+    Ok(most.min(MOST_WIDTH))
+}
+
+/// The columns of these moments. The set is shown, if points are known, in the first one and in those with a change.
+fn columns_at(
+    alloc: Global,
+    picture: &Picture,
+    moments: &[u32],
+) -> Result<Vec<Column>, AllocError> {
+    let known = are_known(picture);
+    let mut reached = reached_at_first(alloc, picture)?;
+    let mut columns = Vec::new(alloc);
+    for moment in moments {
+        let moment = *moment;
+        let mut marks = Vec::new(alloc);
+        add_begun(&mut marks, picture, moment)?;
+        add_standing(&mut marks, picture, moment)?;
+        add_ended(&mut marks, picture, moment)?;
+        let mut set = String::new(alloc);
+        if known
+            && (columns.is_empty() || marks.iter().any(|mark| matches!(mark.sign, Sign::Change)))
+        {
+            go_on(&mut reached, picture, moment)?;
+            set = set_text(alloc, &reached)?;
+        }
+        let width = width_of(alloc, moment, &marks, &set)?;
+        columns.push(Column {
+            moment,
+            marks,
+            set,
+            width,
+        })?;
+    }
+    Ok(columns)
+}
+
+/// Returns what is drawn of a picture in a window. Allocates.
+pub fn drawing_in(alloc: Global, picture: &Picture, window: Window) -> Result<Drawing, AllocError> {
+    let moments = moments_shown(alloc, picture, window)?;
+    let columns = columns_at(alloc, picture, &moments)?;
+    let mut drawing = Drawing {
+        columns,
+        known: are_known(picture),
+        from: window.from,
+        last: window.to,
+        before: next_moment(picture, 0).is_some_and(|moment| moment < window.from),
+        after: false,
+    };
+    end_at_last(picture, &mut drawing);
+    Ok(drawing)
+}
+
+/// Ends a drawing with its last column.
+pub fn end_at_last(picture: &Picture, drawing: &mut Drawing) {
+    if let Some(column) = drawing.columns.last() {
+        drawing.last = column.moment;
+    }
+    drawing.after = next_moment(picture, u64::from(drawing.last) + 1).is_some();
+}

@@ -1,0 +1,179 @@
+//! The lines above and below the rows of a picture: its heading, which moments are drawn, and its order.
+use crate::columns::{Drawing, Side, put_call};
+use crate::picture::{Picture, Standing, standing_at};
+use crate::refusal::Refusal;
+use crate::sets::put_keys_line;
+use lset_text::{kind_word, reply_word};
+use lset_words::Placed;
+use std::alloc::AllocError;
+
+/// Writes how many there are of something, as `2 calls` or `1 call`.
+fn put_counted(out: &mut String, count: usize, word: &str) -> Result<(), AllocError> {
+    let plural = if count == 1 { "" } else { "s" };
+    write!(out, "{count} {word}{plural}")
+}
+
+/// Appends the heading, such as `fine list, 2 threads, quota 4: 3 calls in 35 events`.
+pub fn put_heading(out: &mut String, picture: &Picture) -> Result<(), AllocError> {
+    let kind = kind_word(picture.kind);
+    write!(out, "{kind} list, ")?;
+    put_counted(out, picture.history.threads() as usize, "thread")?;
+    let quota = picture.history.quota();
+    write!(out, ", quota {quota}: ")?;
+    put_counted(out, picture.history.calls().len(), "call")?;
+    if let Some(count) = picture.events {
+        out.push_str(" in ")?;
+        put_counted(out, count as usize, "event")?;
+    }
+    Ok(())
+}
+
+/// Appends which moments are drawn, and which options draw those before and after them:
+/// `moments 20 to 33 of 35; --to 19 goes before; --from 34 goes on`.
+pub fn put_cut(out: &mut String, picture: &Picture, drawing: &Drawing) -> Result<(), AllocError> {
+    let first = drawing.from.max(1);
+    let last = drawing.last;
+    write!(out, "moments {first} to {last}")?;
+    if let Some(count) = picture.events {
+        write!(out, " of {count}")?;
+    }
+    if drawing.before {
+        let before = drawing.from.saturating_sub(1);
+        write!(out, "; --to {before} goes before")?;
+    }
+    if drawing.after {
+        let next = u64::from(last) + 1;
+        write!(out, "; --from {next} goes on")?;
+    }
+    Ok(())
+}
+
+/// Writes a place of the order, as `   2  at 21    thread 0  add 5 true`.
+fn put_place(out: &mut String, number: usize, standing: Standing) -> Result<(), AllocError> {
+    write!(out, "{number:>4}  ")?;
+    match standing.point {
+        Some(point) => {
+            let moment = point.moment;
+            write!(out, "at {moment:<5} ")?;
+        }
+        None => out.push_str("         ")?,
+    }
+    match standing.made {
+        Some(made) => {
+            let thread = made.thread;
+            write!(out, "thread {thread}  ")?;
+            put_call(out, made.call)?;
+        }
+        None => {
+            let call = standing.placed.call;
+            write!(out, "call {call}")?;
+        }
+    }
+    let reply = reply_word(standing.placed.reply);
+    let fit = standing.point.is_some_and(|point| !point.change);
+    let open = standing.made.is_some_and(|made| made.ended.is_none());
+    let no_change = if fit { "  (no change)" } else { "" };
+    let still_open = if open { "  (still open)" } else { "" };
+    writeln!(out, " {reply}{no_change}{still_open}")
+}
+
+/// Where a place is: its point or, if that is not known, the bar of its call. Of a call that the history has not, it is
+/// nowhere.
+fn side_of(standing: Standing, drawing: &Drawing) -> Option<Side> {
+    match standing.point {
+        Some(point) => Some(drawing.side_of(point.moment, Some(point.moment))),
+        None => Some(drawing.side_of_bar(standing.made?)),
+    }
+}
+
+/// Whether a place that is nowhere is shown: if all is drawn, or the refusal is of its call.
+fn is_told(picture: &Picture, drawing: &Drawing, place: Placed) -> bool {
+    match &picture.refusal {
+        _ if !drawing.is_cut() => true,
+        Some(Refusal::Unknown { call, .. }) => place.call == *call,
+        _ => false,
+    }
+}
+
+/// How many places are not drawn: before the moments that are, after them, and of calls that the history has not.
+struct LeftOut {
+    before: usize,
+    after: usize,
+    unknown: usize,
+}
+
+/// Writes the places that are drawn, and gives how many are not.
+fn put_places(
+    out: &mut String,
+    picture: &Picture,
+    drawing: &Drawing,
+) -> Result<LeftOut, AllocError> {
+    let mut before = 0usize;
+    let mut after = 0usize;
+    let mut unknown = 0usize;
+    for index in 0..picture.order.len() {
+        let Some(standing) = standing_at(picture, index) else {
+            break;
+        };
+        match side_of(standing, drawing) {
+            Some(Side::Before) => before = before.saturating_add(1),
+            Some(Side::After) => after = after.saturating_add(1),
+            None if !is_told(picture, drawing, standing.placed) => {
+                unknown = unknown.saturating_add(1);
+            }
+            _ => put_place(out, index + 1, standing)?,
+        }
+    }
+    Ok(LeftOut {
+        before,
+        after,
+        unknown,
+    })
+}
+
+/// Writes how many places are not drawn.
+fn put_left_out(out: &mut String, left: LeftOut) -> Result<(), AllocError> {
+    let LeftOut {
+        before,
+        after,
+        unknown,
+    } = left;
+    if unknown > 0 {
+        return writeln!(
+            out,
+            "{before} before, {after} after, {unknown} of unknown calls"
+        );
+    }
+    if before > 0 || after > 0 {
+        writeln!(out, "{before} before, {after} after")?;
+    }
+    Ok(())
+}
+
+fn put_order(out: &mut String, picture: &Picture, drawing: &Drawing) -> Result<(), AllocError> {
+    if picture.history.calls().is_empty() {
+        return out.push_str("no calls\n");
+    }
+    out.push_str("order\n")?;
+    let left = put_places(out, picture, drawing)?;
+    put_left_out(out, left)
+}
+
+/// Appends what is below the rows: the order, as far as its points are drawn, with how many places are left out, and the
+/// remaining keys; `legend`, if there are points; and last, if an event of a schedule is refused, which.
+pub fn put_lines_below(
+    out: &mut String,
+    picture: &Picture,
+    drawing: &Drawing,
+    legend: &str,
+) -> Result<(), AllocError> {
+    put_order(out, picture, drawing)?;
+    put_keys_line(out, &picture.keys)?;
+    if drawing.known && !picture.order.is_empty() {
+        writeln!(out, "\n{legend}")?;
+    }
+    match picture.refused {
+        Some((line, cause)) => writeln!(out, "\nrefused line {line} {cause}"),
+        None => Ok(()),
+    }
+}

@@ -1,0 +1,230 @@
+//! A picture as text: a row for each thread, a bar for each call, a point where the call takes effect, the set below
+//! them, and the order.
+use crate::MOST_COLUMNS;
+use crate::columns::{Column, Drawing, Mark, Sign, drawing_in, end_at_last, put_signs};
+use crate::orders::{put_cut, put_heading, put_lines_below};
+use crate::picture::{Picture, Window};
+use crate::refusals::put_refusal;
+use lset_words::CallRecord;
+use std::alloc::{AllocError, Global};
+
+/// How many characters a row has before its cells.
+const LABEL: usize = 10;
+
+const LEGEND: &str = "* changes the set    o changes nothing, its reply fits there    > still open";
+
+const LEGEND_OF_CUT: &str =
+    "* changes the set    o changes nothing, its reply fits there    > goes on    < began before";
+
+/// Whether the bar of a thread goes on after the signs of a moment.
+fn goes_on(marks: &[Mark], thread: u32, before: bool) -> bool {
+    let mut drawn = before;
+    for mark in marks {
+        if mark.thread == thread {
+            drawn = match mark.sign {
+                Sign::Begin(_) => true,
+                Sign::Change | Sign::Fit => drawn,
+                Sign::End(_) => false,
+            };
+        }
+    }
+    drawn
+}
+
+/// Fills what a row has from `start` on up to a width.
+fn fill(row: &mut String, start: usize, width: usize, with: char) -> Result<(), AllocError> {
+    for _done in row.len().saturating_sub(start)..width {
+        row.push(with)?;
+    }
+    Ok(())
+}
+
+/// Adds the cell of a thread at a column, where its bar is drawn before it or not: whether it is drawn after it. A bar that
+/// began before the first column has a start there.
+fn put_cell(
+    row: &mut String,
+    column: &Column,
+    thread: u32,
+    is_first: bool,
+    before: bool,
+) -> Result<bool, AllocError> {
+    let start = row.len();
+    put_signs(row, &column.marks, thread)?;
+    if is_first && before && row.len() == start {
+        row.push_str("<")?;
+    }
+    let drawn = goes_on(&column.marks, thread, before);
+    fill(row, start, column.width, if drawn { '-' } else { ' ' })?;
+    Ok(drawn)
+}
+
+/// Whether the bar of a call of the thread is drawn already before a moment.
+fn spans(made: &CallRecord, thread: u32, moment: u32) -> bool {
+    made.thread == thread && made.begun < moment && made.ended.is_none_or(|(end, _)| moment <= end)
+}
+
+/// Ends a row: it has no white space at its end.
+fn put_row(out: &mut String, row: &str) -> Result<(), AllocError> {
+    out.push_str(row.trim_end())?;
+    out.push_str("\n")
+}
+
+fn put_lane(
+    alloc: Global,
+    out: &mut String,
+    picture: &Picture,
+    drawing: &Drawing,
+    thread: u32,
+) -> Result<(), AllocError> {
+    let calls = picture.history.calls();
+    let mut drawn = calls.iter().any(|made| spans(made, thread, drawing.from));
+    let mut row = format!(in alloc; "thread {thread}")?;
+    fill(&mut row, 0, LABEL, ' ')?;
+    let mut is_first = true;
+    for column in &drawing.columns {
+        drawn = put_cell(&mut row, column, thread, is_first, drawn)?;
+        is_first = false;
+    }
+    if drawn {
+        row.push_str(">")?;
+    }
+    put_row(out, &row)
+}
+
+fn put_moments(alloc: Global, out: &mut String, columns: &[Column]) -> Result<(), AllocError> {
+    let mut row = String::from_str(alloc, "moment    ")?;
+    for column in columns {
+        let start = row.len();
+        let moment = column.moment;
+        write!(&mut row, "{moment}")?;
+        fill(&mut row, start, column.width, ' ')?;
+    }
+    put_row(out, &row)
+}
+
+fn put_sets(alloc: Global, out: &mut String, columns: &[Column]) -> Result<(), AllocError> {
+    let mut row = String::from_str(alloc, "set       ")?;
+    for column in columns {
+        let start = row.len();
+        row.push_str(&column.set)?;
+        fill(&mut row, start, column.width, ' ')?;
+    }
+    put_row(out, &row)
+}
+
+/// Writes the rows: the moments, the threads and, if points are known, the set.
+fn put_rows(
+    alloc: Global,
+    out: &mut String,
+    picture: &Picture,
+    drawing: &Drawing,
+) -> Result<(), AllocError> {
+    put_moments(alloc, out, &drawing.columns)?;
+    for thread in 0..picture.history.threads() {
+        put_lane(alloc, out, picture, drawing, thread)?;
+    }
+    if drawing.known {
+        put_sets(alloc, out, &drawing.columns)?;
+    }
+    Ok(())
+}
+
+fn has_longer(rows: &str, width: u32) -> bool {
+    rows.lines().any(|row| row.len() > width as usize)
+}
+
+/// Whether no row of a drawing is longer than the width.
+fn fits(
+    alloc: Global,
+    picture: &Picture,
+    drawing: &Drawing,
+    width: u32,
+) -> Result<bool, AllocError> {
+    let mut rows = String::new(alloc);
+    // The row of the moments is the first to be too long, in all but few pictures.
+    put_moments(alloc, &mut rows, &drawing.columns)?;
+    if has_longer(&rows, width) {
+        return Ok(false);
+    }
+    put_rows(alloc, &mut rows, picture, drawing)?;
+    Ok(!has_longer(&rows, width))
+}
+
+/// Takes columns off the end of a drawing until its rows fit the width; a first column is drawn at any width.
+fn fit(
+    alloc: Global,
+    picture: &Picture,
+    drawing: &mut Drawing,
+    width: u32,
+) -> Result<(), AllocError> {
+    for _taken in 0..MOST_COLUMNS {
+        if drawing.columns.len() <= 1 || fits(alloc, picture, drawing, width)? {
+            break;
+        }
+        drawing.columns.pop();
+    }
+    end_at_last(picture, drawing);
+    Ok(())
+}
+
+/// What is drawn in a window in rows that fit the width.
+fn fitted(
+    alloc: Global,
+    picture: &Picture,
+    window: Window,
+    width: u32,
+) -> Result<Drawing, AllocError> {
+    let mut drawing = drawing_in(alloc, picture, window)?;
+    fit(alloc, picture, &mut drawing, width)?;
+    if let Some(window) = drawing.window_of_clash(picture, window) {
+        drawing = drawing_in(alloc, picture, window)?;
+        fit(alloc, picture, &mut drawing, width)?;
+    }
+    Ok(drawing)
+}
+
+/// Writes which moments are drawn, if not all, and the rows; of a history without calls nothing.
+fn put_drawn_rows(
+    alloc: Global,
+    out: &mut String,
+    picture: &Picture,
+    drawing: &Drawing,
+) -> Result<(), AllocError> {
+    if picture.history.calls().is_empty() {
+        return Ok(());
+    }
+    if drawing.is_cut() {
+        put_cut(out, picture, drawing)?;
+        out.push_str("\n")?;
+    }
+    put_rows(alloc, out, picture, drawing)?;
+    out.push_str("\n")
+}
+
+/// Draws a picture as text: a row for each thread, with a bar for each call and its point; the set; and the order.
+///
+/// It draws the moments, counted from 1, from `window.from` to `window.to`: of those only the first 64 at which something
+/// happens, and only as many as let each row have at most `width` characters, but at least one. If a window of all moments
+/// is not drawn whole, it begins, of a refused order, with the call that the refusal is about. Allocates; `AllocError` if
+/// that fails. (The picture with bars and points is Herlihy and Wing's.)
+pub fn write_picture(
+    alloc: Global,
+    picture: &Picture,
+    window: Window,
+    width: u32,
+) -> Result<Vec<u8>, AllocError> {
+    let drawing = fitted(alloc, picture, window, width)?;
+    let mut out = String::new(alloc);
+    put_heading(&mut out, picture)?;
+    out.push_str("\n")?;
+    put_refusal(&mut out, picture)?;
+    out.push_str("\n")?;
+    put_drawn_rows(alloc, &mut out, picture, &drawing)?;
+    let legend = if drawing.is_cut() {
+        LEGEND_OF_CUT
+    } else {
+        LEGEND
+    };
+    put_lines_below(&mut out, picture, &drawing, legend)?;
+    Ok(out.into_bytes())
+}

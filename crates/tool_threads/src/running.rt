@@ -1,0 +1,153 @@
+use crate::troubles::{opening_trouble, work_trouble};
+use lset_coarse::CoarseList;
+use lset_fine::FineList;
+use lset_lazy::LazyList;
+use lset_live::{Running, open_with};
+use lset_lock_free::LockFreeList;
+use lset_optimistic::OptimisticList;
+use lset_schedule::programs;
+use lset_words::{Kind, Reply};
+use lset_work::{Always, Outcome, work};
+use std::alloc::{AllocError, Global};
+use std::io::Write;
+use std::sync::Wait;
+use std::thread::Threads;
+use tool_base::{
+    Answer, LivesRequest, RandomRequest, Trouble, deliver, put_keys, put_number, read_lives_request,
+};
+
+/// How many calls were made, and how many of them returned true, false and full.
+#[derive(Clone, Copy)]
+struct Counts {
+    calls: u64,
+    trues: u64,
+    falses: u64,
+    fulls: u64,
+}
+
+impl Counts {
+    /// Counts one call more.
+    fn add(&mut self, reply: Reply) {
+        self.calls = self.calls.wrapping_add(1);
+        match reply {
+            Reply::True => self.trues = self.trues.wrapping_add(1),
+            Reply::False => self.falses = self.falses.wrapping_add(1),
+            Reply::Full => self.fulls = self.fulls.wrapping_add(1),
+            Reply::At(_) | Reply::Nothing => {}
+        }
+    }
+}
+
+/// Runs the programs of a round in threads, on a set of the list `M`, which must be that of the request, and which opens with
+/// these keys. `SystemCause::Opening` if they are more than 1,048,576.
+fn run_round<M: Running + Send + Sync, R: Threads + Wait + Sync>(
+    rt: &R,
+    alloc: Global,
+    request: RandomRequest,
+    opening: &[u32],
+) -> Result<Outcome, Trouble> {
+    let RandomRequest {
+        threads,
+        quota,
+        calls,
+        keys,
+        seed,
+        ..
+    } = request;
+    let programs = programs(alloc, threads, calls, keys, seed)?;
+    let (set, seats) = open_with::<M>(alloc, threads, quota, opening).map_err(opening_trouble)?;
+    match work(rt, alloc, set, seats, programs, &Always) {
+        Ok(outcome) => Ok(outcome),
+        Err(fault) => Err(work_trouble(fault.cause)),
+    }
+}
+
+/// The counts, the number of keys, and each key.
+fn summary_text(alloc: Global, counts: Counts, keys: &[u32]) -> Result<Vec<u8>, AllocError> {
+    let mut out = String::new(alloc);
+    put_number(&mut out, "calls", counts.calls)?;
+    put_number(&mut out, "true", counts.trues)?;
+    put_number(&mut out, "false", counts.falses)?;
+    put_number(&mut out, "full", counts.fulls)?;
+    put_number(&mut out, "keys", keys.len() as u64)?;
+    put_keys(&mut out, keys)?;
+    Ok(out.into_bytes())
+}
+
+/// Runs the rounds on sets of the list `M`, which is that of the request. The first set opens empty.
+fn run_rounds<M: Running + Send + Sync, R: Threads + Wait + Sync>(
+    rt: &R,
+    alloc: Global,
+    lives: LivesRequest,
+) -> Result<Vec<u8>, Trouble> {
+    let mut counts = Counts {
+        calls: 0,
+        trues: 0,
+        falses: 0,
+        fulls: 0,
+    };
+    let mut keys = Vec::new(alloc);
+    for number in 0..lives.lives {
+        let seed = lives.run.seed.wrapping_add(64 * u64::from(number));
+        let request = RandomRequest { seed, ..lives.run };
+        let Outcome {
+            replies,
+            keys: left,
+        } = run_round::<M, R>(rt, alloc, request, &keys)?;
+        for list in &replies {
+            for reply in list {
+                counts.add(*reply);
+            }
+        }
+        keys = left;
+    }
+    Ok(summary_text(alloc, counts, &keys)?)
+}
+
+/// Runs random programs in threads, in rounds on one set after another. The answer says what came of them, with status 0.
+///
+/// Round `i`, from 0, runs its programs at the same time on one set. They are drawn from the wrapping sum of the seed and
+/// `64 * i`. The first set opens empty, each other one with the keys that the round before left. The text has the lines
+/// `calls N`, `true N`, `false N`, `full N`, `keys N` and each key (`key k`) that the last round left, in increasing order.
+/// Allocates, and blocks until its threads have ended.
+pub fn run_lives<R: Threads + Wait + Sync>(
+    rt: &R,
+    alloc: Global,
+    request: LivesRequest,
+) -> Result<Answer, Trouble> {
+    let text = match request.run.kind {
+        Kind::Coarse => run_rounds::<CoarseList, R>(rt, alloc, request),
+        Kind::Fine => run_rounds::<FineList, R>(rt, alloc, request),
+        Kind::Optimistic => run_rounds::<OptimisticList, R>(rt, alloc, request),
+        Kind::Lazy => run_rounds::<LazyList, R>(rt, alloc, request),
+        Kind::LockFree => run_rounds::<LockFreeList, R>(rt, alloc, request),
+    };
+    Ok(Answer {
+        text: text?,
+        status: 0,
+    })
+}
+
+fn run_values<R: Threads + Wait + Sync>(
+    rt: &R,
+    alloc: Global,
+    values: &[String],
+) -> Result<Answer, Trouble> {
+    let request = read_lives_request(values)?;
+    run_lives(rt, alloc, request)
+}
+
+/// Does what `run` does on these values, which are those of `read_lives_request`: writes the answer of `run_lives` to
+/// `output`, and returns the exit status. It is 0 if that was written. Else one line on `faults` says why, if it can be
+/// written: 2 for the first argument that is missing or wrong, 3 if an allocation failed, 1 for anything else, such as a
+/// round that would open with more than 1,048,576 keys. Allocates, and blocks until its threads have ended.
+pub fn tool_run<R: Threads + Wait + Sync, W: Write, F: Write>(
+    rt: &R,
+    alloc: Global,
+    values: &[String],
+    output: &mut W,
+    faults: &mut F,
+) -> u8 {
+    let made = run_values(rt, alloc, values);
+    deliver(made, output, faults)
+}

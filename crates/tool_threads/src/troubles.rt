@@ -1,0 +1,36 @@
+use lset_live::OpenFault;
+use lset_server::ServeCause;
+use lset_work::WorkCause;
+use tool_base::{SystemCause, Trouble, ValueName};
+
+/// The error of a set that is not opened. Its seats and quota were read, so they are within the limits.
+pub fn opening_trouble(fault: OpenFault) -> Trouble {
+    match fault {
+        OpenFault::Seats => Trouble::Bad(ValueName::Threads),
+        OpenFault::Quota => Trouble::Bad(ValueName::Quota),
+        OpenFault::Opening => Trouble::Work(SystemCause::Opening),
+        OpenFault::Memory => Trouble::Memory,
+    }
+}
+
+/// The error of programs that were not run to their ends.
+pub fn work_trouble(cause: WorkCause) -> Trouble {
+    match cause {
+        WorkCause::Programs => Trouble::Work(SystemCause::Programs),
+        WorkCause::Spawn => Trouble::Work(SystemCause::Spawn),
+        WorkCause::Gate => Trouble::Work(SystemCause::Gate),
+        WorkCause::Memory => Trouble::Memory,
+    }
+}
+
+/// The error of sessions that were not served to their ends.
+pub fn serve_trouble(cause: ServeCause) -> Trouble {
+    match cause {
+        ServeCause::Seats => Trouble::Serve(SystemCause::Seats),
+        ServeCause::Accept => Trouble::Serve(SystemCause::Accept),
+        ServeCause::Spawn => Trouble::Serve(SystemCause::Spawn),
+        ServeCause::Send => Trouble::Serve(SystemCause::Send),
+        ServeCause::Memory => Trouble::Memory,
+        ServeCause::Left => Trouble::Serve(SystemCause::Left),
+    }
+}

@@ -1,0 +1,335 @@
+package judge
+
+import (
+	"bytes"
+	"errors"
+	"fmt"
+	"io"
+	"os"
+	"os/exec"
+	"path/filepath"
+	"regexp"
+	"sort"
+	"strconv"
+	"strings"
+	"sync/atomic"
+)
+
+// recording is the text of a run: as it grows it is written into a file, and given to the judge.
+type recording struct {
+	seed     int64
+	name     string
+	file     *os.File
+	isKept   bool
+	by       *judgeFound
+	asked    asked
+	trouble  string // how the run came to no end, and the calls under way, if it did not
+	underWay string
+}
+
+func newRecording(seed int64, name, record string, by *judgeFound) (*recording, error) {
+	r, folder, err := &recording{seed: seed, name: name, isKept: record != "", by: by}, record, error(nil)
+	if r.isKept {
+		if err = os.MkdirAll(folder, 0o777); err == nil {
+			r.file, err = os.Create(filepath.Join(folder, fmt.Sprintf("seed-%d.calls", seed)))
+		}
+	} else {
+		folder = os.TempDir()
+		r.file, err = os.CreateTemp(folder, fmt.Sprintf("listset-seed-%d-*.calls", seed))
+	}
+	if err != nil {
+		return nil, fmt.Errorf(sayNoFolder, folder)
+	}
+	if r.asked, err = by.ask(); err != nil {
+		r.close()
+	}
+	return r, err
+}
+
+func (s *slot) line(end uint32) string {
+	words := []string{"add", "remove", "contains"}
+	if end == 0 || s.reply == unknown {
+		return fmt.Sprintf("call %d %s %d %d - -\n", s.thread, words[s.call], s.key, s.begin)
+	}
+	return fmt.Sprintf("call %d %s %d %d %d %t\n", s.thread, words[s.call], s.key, s.begin, end, s.reply == yes)
+}
+
+func linesOf(word string, there []byte) (lines string) {
+	for key, is := range there {
+		if is == 1 {
+			lines += fmt.Sprintf("%s %d\n", word, key)
+		}
+	}
+	return lines
+}
+
+// write writes the part of a run that was made, the last if there is trouble, and lets the run go on.
+func (r *recording) write(a *area, round int) error {
+	lines, begins := map[uint32]string{}, []uint32{}
+	for i := range a.slots[:a.threads*a.rows()] {
+		s := &a.slots[i]
+		end, begin := atomic.LoadUint32(&s.end), atomic.LoadUint32(&s.begin)
+		if begin > 0 {
+			lines[begin], begins = s.line(end), append(begins, begin)
+			if end == 0 {
+				r.underWay += s.line(0)
+			}
+		}
+	}
+	sort.Slice(begins, func(i, j int) bool { return begins[i] < begins[j] })
+	var text strings.Builder
+	if round == 1 {
+		text.WriteString("listset-calls 1\n" + linesOf("opening", a.opening))
+	}
+	for _, begin := range begins {
+		text.WriteString(lines[begin])
+	}
+	if r.trouble != "" {
+		text.WriteString("cut\n")
+	} else if round == a.rounds() {
+		text.WriteString(linesOf("key", a.left) + "end\n")
+	} else {
+		for i := range a.slots {
+			a.slots[i] = slot{}
+		}
+		atomic.StoreUint32(&a.at, going)
+	}
+	io.WriteString(r.asked, text.String()) // (one that has ended reads no further)
+	_, err := r.file.WriteString(text.String())
+	return err
+}
+
+// judged is how many calls overlapped a change of their key, by the judge; the error says what is wrong with the run.
+func (r *recording) judged(a *area) (int, error) {
+	overlapped, refused, err := r.by.judged(r.asked.answer())
+	if err != nil || refused == "" && r.trouble == "" {
+		return overlapped, err
+	}
+	r.isKept = true
+	said := sayExplained
+	if refused != "" {
+		said = refused.explained(r.file.Name()) + keyLine(a, refused.key())
+	}
+	if r.trouble == "" {
+		return 0, &NotLinearizable{Failed{r.seed, r.name, said, r.file.Name(), r.by.String()}, refused}
+	}
+	said = fmt.Sprintf(sayUnderWay, r.trouble, r.underWay, said)
+	return 0, &NotEnded{Failed{r.seed, r.name, said, r.file.Name(), r.by.String()}}
+}
+
+// keyLine tells which key of which set has this number in the recording, if the number does not say so.
+func keyLine(a *area, number int) string {
+	set, shown := "", a.source.shown(a.number(number%a.keys))
+	if a.sets > 1 {
+		set = fmt.Sprintf(sayInSet, number/a.keys+1)
+	}
+	if shown == strconv.Itoa(number) && set == "" {
+		return ""
+	}
+	return "\n" + fmt.Sprintf(sayKeyIs, number, shown) + set
+}
+
+func (r *recording) close() {
+	r.file.Close()
+	if !r.isKept {
+		os.Remove(r.file.Name())
+	}
+}
+
+// ---- a refusal, as it is told
+
+// refusal is what a judge says of a recording that no order explains.
+type refusal string
+
+var (
+	callLine = regexp.MustCompile(`(?m)^call (\d+) (\w+) (\d+) (\d+) (\d+|-) (\w+|-)$`)
+	ofKey    = regexp.MustCompile(`of key (\d+) `)
+)
+
+func (r refusal) key() int {
+	key := 0
+	if found := ofKey.FindStringSubmatch(string(r)); found != nil {
+		key, _ = strconv.Atoi(found[1])
+	}
+	return key
+}
+
+func (r refusal) calls() [][]string { return callLine.FindAllStringSubmatch(string(r), -1) }
+
+// rank is the number of its calls; a refusal of one call alone comes last.
+func (r refusal) rank() int {
+	if calls := len(r.calls()); calls > 1 && !strings.Contains(string(r), " belong to these") {
+		return calls
+	}
+	return 999
+}
+
+// explained is what the judge says, with a picture; or, in place of many calls, what their count shows.
+func (r refusal) explained(file string) string {
+	if r.rank() > manyReadable {
+		if text, err := os.ReadFile(file); err == nil {
+			if counted := countOf(string(text), strconv.Itoa(r.key())); counted != "" {
+				return strings.Join(append(strings.SplitN(string(r), "\n", 3)[:2], counted), "\n")
+			}
+		}
+	}
+	return string(r) + pictureOf(r.calls())
+}
+
+// countOf says that the calls of a key that answered true do not fit to how it was; else nothing.
+func countOf(recorded, key string) string {
+	count := map[string]int{}
+	for _, call := range callLine.FindAllStringSubmatch(recorded, -1) {
+		if call[3] == key {
+			count[call[2]+" "+call[6]]++
+			count[call[6]]++
+		}
+	}
+	was, left := strings.Count(recorded, "\nopening "+key+"\n"), strings.Count(recorded, "\nkey "+key+"\n")
+	adds, removes := count["add true"], count["remove true"]
+	if count["-"] > 0 || strings.HasSuffix(recorded, "cut\n") || was+adds == left+removes {
+		return ""
+	}
+	word := []string{sayNotThere, sayThere}
+	return fmt.Sprintf(sayCounted, adds, removes, key, word[was], word[left])
+}
+
+// pictureOf has the calls as bars, one below another, from their begins to their ends; one call has none.
+func pictureOf(calls [][]string) string {
+	if len(calls) < 2 {
+		return ""
+	}
+	type bar struct {
+		begin, end int
+		head, tail string
+	}
+	bars, moments := make([]bar, len(calls)), []int{}
+	for i, call := range calls {
+		begin, _ := strconv.Atoi(call[4])
+		bars[i] = bar{begin, 1 << 62, fmt.Sprintf("[%s %s", call[2], call[3]), ".."}
+		if end, err := strconv.Atoi(call[5]); err == nil {
+			bars[i].end, bars[i].tail = end, call[6]+"]"
+		}
+		moments = append(moments, begin, bars[i].end)
+	}
+	sort.Ints(moments)
+	places, place, text := map[int]int{}, 0, ""
+	for _, moment := range moments {
+		if _, is := places[moment]; is {
+			continue
+		}
+		for _, b := range bars {
+			if least := places[b.begin] + len(b.head+b.tail); b.end == moment && least > place {
+				place = least
+			}
+		}
+		places[moment] = place
+		place++
+	}
+	for i, b := range bars {
+		dashes := strings.Repeat("-", places[b.end]-places[b.begin]-len(b.head+b.tail)+1)
+		text += fmt.Sprintf("\n%-10s %*s%s%s%s", "thread "+calls[i][1], places[b.begin], "", b.head, dashes, b.tail)
+	}
+	return text
+}
+
+// ---- the judge
+
+// judgeFound is the judge underneath: its name, what it says of its proof, and how it is asked.
+type judgeFound struct {
+	name, proof string
+	ask         func() (asked, error)
+}
+
+// asked is a judge that is given a recording as it grows.
+type asked interface {
+	io.Writer
+	answer() (status int, said string)
+}
+
+// library is liblistset, in a test with the tag `listset` (library.go).
+var library *judgeFound
+
+func (j *judgeFound) String() string { return j.name + ", " + j.proof }
+
+func findJudge() (*judgeFound, error) {
+	if library != nil {
+		return library, nil
+	}
+	name, isNamed := os.LookupEnv("LISTSET")
+	if !isNamed {
+		name = "listset"
+	}
+	command := []string{name}
+	if strings.HasSuffix(name, ".js") {
+		command = []string{"node", name}
+	}
+	status, version := 127, ""
+	if asked, err := start(append(command, "--version", "--long"), os.Stderr); err == nil {
+		status, version = asked.answer()
+	}
+	switch {
+	case status != 127:
+		ask := func() (asked, error) { return start(append(command, "judge", "-"), nil) }
+		return &judgeFound{name, proofIn(version), ask}, nil
+	case len(command) > 1:
+		return nil, fmt.Errorf(sayNoNode, name)
+	case isNamed:
+		return nil, fmt.Errorf(sayNoNamed, name)
+	}
+	return nil, errors.New(sayNoJudge)
+}
+
+// proofIn is the line in which a judge says whether it is proved.
+func proofIn(version string) string {
+	if found := regexp.MustCompile("(?m)^proof .*$").FindString(version); found != "" {
+		return found
+	}
+	return "proof unknown"
+}
+
+// program is a command, which is given its input as it grows.
+type program struct {
+	io.WriteCloser
+	made      *exec.Cmd
+	out, errs bytes.Buffer
+}
+
+// start starts a command, whose standard error goes there, or is kept.
+func start(words []string, errs io.Writer) (p *program, err error) {
+	p = &program{made: exec.Command(words[0], words[1:]...)}
+	p.made.Stdout, p.made.Stderr = &p.out, &p.errs
+	if errs != nil {
+		p.made.Stderr = errs
+	}
+	if p.WriteCloser, err = p.made.StdinPipe(); err == nil {
+		err = p.made.Start()
+	}
+	return p, err
+}
+
+// answer gives the status of a command, and what it said.
+func (p *program) answer() (int, string) {
+	p.Close()
+	p.made.Wait()
+	said := strings.TrimSpace(p.out.String())
+	if said == "" {
+		said = strings.TrimSpace(p.errs.String())
+	}
+	return p.made.ProcessState.ExitCode(), said
+}
+
+// judged is what a judge's answer says of a recording: how many calls overlapped a change of their key, or why none explains it.
+func (j *judgeFound) judged(status int, said string) (overlapped int, refused refusal, err error) {
+	if _, err := fmt.Sscanf(said, "ok %d calls\n%d of them", new(int), &overlapped); status == 0 && err == nil {
+		return overlapped, "", nil
+	}
+	if status == 1 && strings.HasPrefix(said, "not linearizable") {
+		return 0, refusal(said), nil
+	}
+	first := strings.SplitN(said, "\n", 2)[0]
+	if first == "" {
+		first = "nothing"
+	}
+	return 0, "", fmt.Errorf(sayNoVerdict, j.name, first)
+}

@@ -1,0 +1,20 @@
+// So many tests of a published set, and how many of them refused it.
+#include "../cpp/listset_judge.hpp"
+#include <iostream>
+
+// The words are the number of tests, and the name of the one set that is judged if not all are.
+template <class S> void judge(const char *name, char **words, void (*begins)() = nullptr) {
+    const unsigned tests = words[1] ? unsigned(std::stoul(words[1])) : 1;
+    if (words[1] && words[2] && words[2] != std::string(name)) return;
+    unsigned refused = 0;
+    std::string shortest;
+    for (unsigned i = 0; i < tests; i++) {
+        listset::options how;
+        how.begins = begins, how.seed = 1 + 1000 * i;
+        const listset::verdict verdict = listset::judge<S>(how);
+        if (verdict) continue;
+        if (refused++ == 0 || verdict.said.size() < shortest.size()) shortest = verdict.said;
+        std::remove(verdict.file.c_str());
+    }
+    std::cout << name << ": refused in " << refused << " of " << tests << " tests\n" << shortest << (refused ? "\n" : "") << std::flush;
+}

@@ -1,0 +1,60 @@
+// The addresses of the scenes, as #story=2, #ask=snip, #code=lazy&opening=3.7&s=b0.add.5,g0.4, #teachers, and of an assignment. Both ways.
+import { levelOfNumber } from "../data/chapter.js";
+import { AddressFault, addressOf, LONGEST_ADDRESS, longLine } from "../run/address.js";
+import { startOfLacking } from "../run/broken.js";
+import { eventsAsked } from "../run/schedule_text.js";
+
+const SCENES = /** @type {const} */ (["assignment", "story", "ask", "code", "teachers"]); // `break` is in run/address.js, with its schedules
+const SCENE_VIEWS = ["lecture", "embed"];
+
+// The scene that an address names, or null; whether there is such a screen or question says its view.
+export function sceneOfHash(hash) {
+  const { view = null, ...parts } = Object.fromEntries(new URLSearchParams(hash.replace(/^#/, "")));
+  const activity = SCENES.find((name) => name in parts);
+  if (activity === undefined) return null;
+  if (view !== null && !SCENE_VIEWS.includes(view)) throw new AddressFault(`"${view.slice(0, 60)}" is no view of a page`);
+  const { [activity]: id, ...given } = parts;
+  return { activity, id, given, view };
+}
+
+export const START_OF_CODE = [3, 7];
+const shortLine = (line) => `${line[0]}${line.split(" ").slice(1).join(".")}`;
+export const linesOfCode = (s) => s.split(",").filter((line) => /^(b\d+\.[a-z]+\.\d+|g\d+\.\d+)$/.test(line)).map(longLine);
+
+export const SET_OF_CODE = { threads: 2, quota: 9 };
+
+// Of a list to step by its code: the numbers in it at first, the lines of a run, and how many threads and adds of each it has.
+export function addressOfCode(list, opening, lines, set = SET_OF_CODE) {
+  const ofOpening = opening.join() === START_OF_CODE.join() && lines.length === 0 ? "" : `&opening=${opening.join(".")}`;
+  const ofSet = ["threads", "quota"].map((name) => (set[name] === SET_OF_CODE[name] ? "" : `&${name}=${set[name]}`)).join("");
+  return `#code=${list}${ofSet}${ofOpening}${lines.length > 0 ? `&s=${lines.map(shortLine).join()}` : ""}`;
+}
+
+// A level with the run in it, where that is another one than at its start.
+function addressOfLevel({ id }, { text }) {
+  const name = levelOfNumber(id);
+  if (id === "" || text === "" || text === startOfLacking(name)) return id === "" ? "#break" : `#break=${id}`;
+  return `#break=${id}&${addressOf(text, eventsAsked(text))?.slice(1) ?? ""}`;
+}
+
+// Of a lesson its course, unless it is the book's, its name, and the try: as much of that as an address has room for.
+function addressOfLesson({ id }, { text }, { course }) {
+  const named = `${course === null ? "#" : `${course}&`}learn${id === "" ? "" : `=${id}`}`;
+  const own = text === "" ? null : addressOf(text, eventsAsked(text));
+  const whole = own === null ? named : `${named}&${own.slice(1)}`;
+  return whole.length <= LONGEST_ADDRESS ? whole : named;
+}
+
+const ADDRESSES = {
+  story: ({ id }) => `#story=${id}`,
+  ask: ({ id }) => (id === "" ? "#ask" : `#ask=${id}`),
+  code: ({ id, given }, { text }) => (text === "" ? `#${new URLSearchParams({ code: id, ...given })}` : text),
+  break: addressOfLevel,
+  learn: addressOfLesson,
+  teachers: () => "#teachers",
+  assignment: ({ id, given }) => `#${new URLSearchParams({ assignment: id, ...given })}`.replaceAll("%2C", ","),
+};
+
+// `given` has what is not of the state: the packed course, or null for the book's.
+export const addressOfScene = ({ place, scene }, given) =>
+  `${ADDRESSES[place.activity](place, scene, given)}${place.view === null ? "" : `&view=${place.view}`}`;

@@ -1,0 +1,114 @@
+// What if: a run of a question may be changed from any moment on. The question stays above, each branch is kept, and one press leads
+// back. Beside them the same run, or another one, on a list that lacks the check.
+import { now } from "../page/now.js";
+import { tag } from "../run/markup.js";
+import { CHECK_WORDS, itemOf, takeBranch } from "./ask_figure.js";
+import { LiveRun } from "./live_run.js";
+import { drawLedger, isOddRun, part, scene, setScene } from "./scene.js";
+
+
+function takeOwnBranch(branch) {
+  const figure = takeBranch({ ...branch, isFree: true });
+  Object.assign(figure, { onFork: fork, onStep: grow });
+  return figure;
+}
+
+// A thread is going to step where later events stand: they stay in their branch, and a new one begins here.
+function fork(figure) {
+  const { branches, at } = now.scene;
+  const { lacks, opening, isFixed } = branches[at];
+  const isOwn = at > 0 && !isFixed && figure.run.count === figure.run.trace.total;
+  if (isOwn) return;
+  const number = 1 + branches.filter((one, index) => index > 0 && !one.isFixed).length;
+  const lines = figure.run.linesHere();
+  const own = { name: `What if ${number}`, lines, lacks, opening, from: figure.run.count };
+  figure.run.take(lines);
+  setScene({ branches: [...branches, own], at: branches.length });
+}
+
+function grow(figure) {
+  const { branches, at } = now.scene;
+  if (at === 0 || branches[at].isFixed) return;
+  const lines = [...figure.run.lines];
+  figure.isLost = figure.run.isBroken();
+  setScene({ branches: branches.map((one, index) => (index === at ? { ...one, lines } : one)), stage: "task" });
+  figure.draw();
+}
+
+export async function openBranch(at, plays = false) {
+  const branch = now.scene.branches[at];
+  const figure = takeOwnBranch(branch);
+  figure.isLost = figure.run.isBroken();
+  figure.set({ hidesDock: at === 0 || branch.isFixed === true });
+  setScene({ at, stage: plays ? "playing" : "done" });
+  if (!plays) return;
+  const asked = now.scene.branches[0].from;
+  const hasOwnRun = itemOf(now.place).without !== undefined;
+  await figure.replay(hasOwnRun ? 0 : Math.min(asked, figure.run.trace.total - 1));
+  if (scene.figure !== figure) return;
+  setScene({ stage: "done" });
+  part("#talk").scrollIntoView({ block: "nearest", behavior: "smooth" });
+}
+
+export const goBack = () => openBranch(0);
+export const seeAgain = () => scene.figure.replay(now.scene.branches[0].from);
+
+// The threads' buttons come when they are asked for.
+export function whatIf() {
+  const { figure } = scene;
+  figure.set({ hidesDock: false });
+  if (now.scene.at === 0) figure.moveTo(now.scene.branches[0].from);
+  setScene({ stage: "task" });
+  part("#figure").scrollIntoView({ block: "center", behavior: "smooth" });
+}
+
+// The same run on a list that lacks the check, where that breaks it; else another one that does.
+export function withoutCheck(item) {
+  const { branches } = now.scene;
+  const known = branches.findIndex(({ isFixed }) => isFixed);
+  if (known !== -1) return openBranch(known, true);
+  const { lines = sameLines(item), opening } = item.without ?? {};
+  setScene({ branches: [...branches, { name: "Without this check", lines, opening, lacks: item.lacks, isFixed: true }] });
+  openBranch(branches.length, true);
+}
+
+function sameLines({ list, opening, lines, rest, lacks }) {
+  const whole = new LiveRun({ list, opening, lines: [...lines, ...rest] });
+  const broken = new LiveRun({ list, lacks, opening });
+  broken.take(whole.lines);
+  return [...broken.linesHere(), ...[0, 1].filter((thread) => !broken.isIdle(thread)).map((thread) => `go ${thread} out`)];
+}
+
+// ---- what is said of a branch
+
+const ownWords = ({ from, lacks = null }, isBroken) => {
+  const proved = "Whatever you choose, some order of the calls explains their answers: that is proved of each run of this list.";
+  const broken = "No order of its calls explains their answers and what is left: you have broken this list.";
+  return `<b>Your own branch.</b> It leaves the example at step ${from}. ${isBroken ? broken : lacks === null ? proved : ""}`;
+};
+
+function fixedWords({ lacks }, isBroken) {
+  const { without, broken } = itemOf(now.place);
+  const which = `This is ${without === undefined ? "the same run" : "a run"} of a list with one check less: ${CHECK_WORDS[lacks]}.`;
+  const proved = "No order of the calls explains their answers and what is left; that is proved.";
+  return `<b>${isBroken ? broken : "Not broken yet."}</b> ${which} ${isBroken ? proved : "Some order still explains the answers."}`;
+}
+
+export function talkOfBranch(branch) {
+  const { run } = scene.figure;
+  const isBroken = run.isBroken();
+  const ledger = isBroken && isOddRun(run) ? drawLedger(run) : "";
+  const words = branch.isFixed ? fixedWords(branch, isBroken) : ownWords(branch, isBroken);
+  const change = branch.isFixed ? '<button data-do="if">Change it from here on</button>' : "";
+  return `<div class="reveal${isBroken ? " bad" : ""}">${ledger}<div><p class="why">${words}</p>
+    <p class="line"><button data-do="home">← Back to the example</button>${change}</p></div></div>`;
+}
+
+export function drawBranches({ branches, at }) {
+  const box = part("#branches");
+  box.hidden = branches.length === 1;
+  part("#what-if-mark").hidden = at === 0 || branches[at].isFixed === true;
+  const button = ({ name }, index) =>
+    tag("button", { class: "small", "data-do": "branch", "data-branch": index, "aria-pressed": index === at }, index === 0 ? "" : "↳ ", name);
+  box.innerHTML = branches.map(button).join("");
+}

@@ -1,0 +1,114 @@
+// Ask, then show: a run stops at its question; the reader says what comes; the run plays on, and the reply says why. Then it may be
+// changed (ask_branches.js).
+import { now } from "../page/now.js";
+import { QUESTIONS } from "./ask.js";
+import { drawBranches, goBack, openBranch, seeAgain, talkOfBranch, whatIf, withoutCheck } from "./ask_branches.js";
+import { ALL, itemOf, takeBranch } from "./ask_figure.js";
+import { isNarrow } from "./figure_parts.js";
+import { keepStory, keptStory } from "./kept_story.js";
+import { LiveRun } from "./live_run.js";
+import { FIGURE_AND_TALK, head, LIST_WORDS, numberOfKey, optionButtons, part, replyTo, scene, setScene, talk, threadOfKey } from "./scene.js";
+
+const here = () => itemOf(now.place);
+const isEmbed = () => now.place.view === "embed";
+
+function html(place) {
+  const item = itemOf(place);
+  const at = ALL.indexOf(item);
+  const next = ALL[(at + 1) % ALL.length];
+  const which = QUESTIONS.includes(item) ? `${at + 1} of ${QUESTIONS.length}` : "beyond the chapter";
+  const kicker = `<a href="#ask">Guess, then see</a> · ${which} · ${LIST_WORDS[item.list]}`;
+  const out = `<a class="button quiet small" target="_blank" href="${location.pathname}#ask=${item.name}">open in a page ↗</a>`;
+  return `<section class="screen">${head(kicker, `<span id="what-if-mark" class="what-if" hidden>What if?</span>${item.question}`)}
+    <div id="branches" class="branches" hidden></div>${FIGURE_AND_TALK}</section>
+    <footer class="foot"><a class="button quiet" href="#ask">All questions</a><span class="spread"></span>${isEmbed() ? out : ""}
+    <button id="show-me" class="primary" data-do="show">${isNarrow() ? "Show me" : "I do not know: show me"}</button>
+    <a id="go-on" class="button quiet" href="#ask=${next.name}">Skip →</a></footer>`;
+}
+
+function begin(place) {
+  const { lines, rest } = itemOf(place);
+  const whole = { name: "The example", lines: [...lines, ...rest] };
+  takeBranch({ lines, opening: undefined }).set({ hidesDock: true, isOpen: false });
+  setScene({ stage: "guess", branches: [whole], at: 0 });
+}
+
+async function guessed(index) {
+  const item = here();
+  const { figure } = scene;
+  if (now.scene.stage !== "guess") return;
+  const isRight = item.options[index]?.right === true;
+  if (keptStory().asks[item.name] === undefined) keepStory({ asks: { ...keptStory().asks, [item.name]: isRight ? "right" : "wrong" } });
+  setScene({ stage: "playing", chosen: index });
+  const asked = figure.run.count;
+  figure.run = new LiveRun({ ...figure.spec, lines: now.scene.branches[0].lines });
+  figure.isOpen = true;
+  await figure.show(asked);
+  if (scene.figure !== figure) return;
+  setScene({ branches: [{ ...now.scene.branches[0], from: asked }] });
+  openBranch(0);
+  part("#talk").scrollIntoView({ block: "nearest", behavior: "smooth" });
+}
+
+// ---- what follows from how far one is
+
+function talkOf({ stage, chosen, at, branches }) {
+  const item = here();
+  const reply = replyTo(item.options, chosen);
+  if (stage === "guess") return optionButtons(item.options.map(({ text }) => text));
+  if (stage === "playing") return at === 0 ? reply || '<p class="you">Let us see.</p>' : '<p class="you">Now on a list without its check.</p>';
+  if (at > 0) return talkOfBranch(branches[at]);
+  if (stage === "task") {
+    return `<p class="ask">This was the question. Go to any moment with the slider, and let the other thread go on.</p>
+      <p class="line"><button data-do="home">← Back to the example</button></p>`;
+  }
+  const without = item.lacks === undefined ? "" : '<button data-do="without">And without this check?</button>';
+  return `<div class="reveal"><div>${reply}<p class="why">${item.why}</p><p class="line more"><button data-do="if">What if …?</button> ${without}
+    <button data-do="again" class="quiet">See it again</button></p></div></div>`;
+}
+
+function draw(state) {
+  if (state.stage === "") return;
+  talk(talkOf(state));
+  drawBranches(state);
+  const [show, on] = [part("#show-me"), part("#go-on")];
+  const isGuess = state.stage === "guess";
+  show.hidden = !isGuess;
+  on.textContent = isGuess || state.stage === "playing" ? "Skip →" : "Next question →";
+  on.className = isGuess || state.stage === "playing" ? "button quiet" : "button primary";
+}
+
+function press(event) {
+  const { figure } = scene;
+  const { stage } = now.scene;
+  const number = numberOfKey(event);
+  if (stage === "guess" && number !== -1 && number < here().options.length) return guessed(number);
+  if (stage === "guess") return;
+  if (stage === "playing") return void (figure.isHurried = true);
+  const step = { ArrowLeft: -1, ArrowRight: 1, PageUp: -1, PageDown: 1 }[event.key];
+  if (step !== undefined) figure.moveTo(figure.run.count + step);
+  else if (threadOfKey(event) !== -1 && figure.shown.includes(threadOfKey(event))) {
+    if (figure.hidesDock) whatIf();
+    figure.press(threadOfKey(event));
+  }
+}
+
+/** @type {import("./scene.js").View} */
+export const askView = {
+  kind: "ask-one",
+  fault: ({ id }) => (ALL.some(({ name }) => name === id) ? null : `there is no question "${id}"`),
+  title: (place) => `${itemOf(place).title}: ${itemOf(place).question}`,
+  html,
+  begin,
+  draw,
+  press,
+  deeds: {
+    answer: ({ dataset }) => guessed(Number(dataset.option)),
+    show: () => guessed(-1),
+    again: seeAgain,
+    if: whatIf,
+    home: goBack,
+    without: () => withoutCheck(here()),
+    branch: ({ dataset }) => openBranch(Number(dataset.branch)),
+  },
+};

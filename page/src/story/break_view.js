@@ -1,0 +1,167 @@
+// Break it: a list lacks one check. Let the threads step until no order of the calls explains their answers; then say which check is
+// missing. It is struck out of the code then, and the winning run is played once more.
+import { LACKING } from "../../made/classics.js";
+import { LISTS } from "../../made/rows.js";
+import { CHAPTER, levelOfNumber, numberOfLevel, whyWrong } from "../data/chapter.js";
+import { BREAK_LEVELS } from "../data/levels.js";
+import { askNow, now } from "../page/now.js";
+import { addressOf } from "../run/address.js";
+import { departureOf, isTaskDone, NO_TASK } from "../run/broken.js";
+import { Figure } from "./figure.js";
+import { isBrokenOnce, isNamed, keepBrokenLine, keepNamed } from "./kept_story.js";
+import { runOfText } from "./run_of_text.js";
+import {
+  FIGURE_AND_TALK, drawLedger, foot, head, hintAndOn, isOddRun, LIST_WORDS, numberOfKey, optionButtons, part, scene, setScene, takeFigure, talk, threadOfKey,
+} from "./scene.js";
+
+const HINTS = 3;
+const levelOf = ({ id }) => levelOfNumber(id);
+const nameNow = () => levelOf(now.place);
+
+function html(place) {
+  const name = levelOf(place);
+  const at = CHAPTER.indexOf(name);
+  const next = CHAPTER[(at + 1) % CHAPTER.length];
+  const which = at === -1 ? "beyond the chapter" : `${at + 1} of ${CHAPTER.length}`;
+  const kicker = `<a href="#break">Break it</a> · ${which} · ${LISTS[LACKING[name]].name} without one check`;
+  return `<section class="screen">${head(kicker, BREAK_LEVELS[name].story)}${FIGURE_AND_TALK}</section>
+    ${foot('<a class="button quiet" href="#break">All lists</a>', hintAndOn(`#break=${numberOfLevel(next)}`))}`;
+}
+
+function begin(place) {
+  const name = levelOf(place);
+  const { start } = BREAK_LEVELS[name];
+  const list = LACKING[name];
+  const isOfCeiling = name === "mark-in-ceiling";
+  const given = place.given.text === undefined ? { opening: [3, 7] } : runOfText(place.given.text);
+  const figure = new Figure(part("#figure"), {
+    list, lacks: name, ...given, chosen: { 0: start[0], 1: start[1] }, free: true, strip: true, short: true, high: 0.24, roomFor: 694,
+    operations: ["add", "remove", "contains", ...(isOfCeiling ? ["ceiling"] : [])], codeTitle: LIST_WORDS[list],
+    codeNote: "One check of this code is not made here.",
+  });
+  figure.onStep = looked;
+  takeFigure(figure);
+  setScene({ stage: "task", text: figure.run.schedule });
+  if (place.given.text !== undefined) looked();
+}
+
+// ---- after each deed the proved judge is asked
+
+// Whether the run is the one that was opened, broken as it is: that was shown, and not found.
+const isShown = (run) => now.place.given.text !== undefined && run.lines.join() === run.first.join() && !isBrokenOnce(nameNow());
+
+function looked() {
+  const { run } = scene.figure;
+  const name = nameNow();
+  setScene({ text: run.schedule });
+  const verdict = run.verdict();
+  const isBroken = isTaskDone(name, verdict);
+  if (now.scene.stage !== "task") return scene.figure.set({ isLost: isBroken });
+  if (!isBroken) return setScene({ note: verdict.kind === "points" ? POINTS : "" });
+  const wasShown = isShown(run);
+  if (!wasShown) keepBrokenLine(name, `break ${name} ${addressOf(run.schedule, run.trace.total, name)}`);
+  scene.figure.set({ isLost: true });
+  setScene({ stage: "done", note: whyOf(verdict, wasShown) });
+  part("#talk").scrollIntoView({ block: "nearest", behavior: "smooth" });
+}
+
+const POINTS = "The moments at which these calls take effect are out of order. But another order explains their answers: not broken yet.";
+
+const whyOf = ({ why }, wasShown) => {
+  const ofList = why.replace(/the set (has|does not have) it/, "the list $1 it"); // no set is this
+  return `${ofList}. No order of the calls explains that; it is proved.${wasShown ? " This run was shown to you: find one of your own." : ""}`;
+};
+
+// ---- what follows from how far one is
+
+const NOBODY_KNOWS = "Nobody knows a run that breaks this list. Try it, and say why.";
+
+function taskHtml({ hints, note }) {
+  const items = BREAK_LEVELS[nameNow()].hints.slice(0, hints).map((text) => `<li>${text}</li>`);
+  const list = items.length === 0 ? "" : `<ol class="hints">${items.join("")}</ol>`;
+  const ask = nameNow() === NO_TASK ? NOBODY_KNOWS : "Let A and B step, until no order of their calls explains what they answer.";
+  return `<p class="ask">${ask}</p>${note === "" ? "" : `<p class="again">${note}</p>`}${list}`;
+}
+
+const optionsOf = (name) => [BREAK_LEVELS[name].lacks, ...Object.keys(BREAK_LEVELS[name].others)].sort();
+
+function wonHtml({ note, wrong }) {
+  const name = nameNow();
+  const { run } = scene.figure;
+  const isDone = isNamed(name);
+  const { lacks, shortest } = BREAK_LEVELS[name];
+  const reply = wrong.length === 0 ? "" : whyWrong(name, wrong.at(-1));
+  const asked = `<p class="ask">Which check is missing?</p>${optionButtons(optionsOf(name), wrong)}<p role="status">${reply}</p>`;
+  const { total } = run.trace;
+  const own = `${total} steps; ${total < shortest[0] ? "the shortest known before had" : "the shortest known has"} ${shortest[0]}.`;
+  const named = `<p><b class="yes">✓ ${lacks}</b> It is struck out in the code. <span class="small">Yours has ${own}</span></p>
+    <p class="line"><button data-do="replay">See your run again</button> <button data-do="afresh" class="quiet">Break it in another way</button></p>`;
+  const ledger = isOddRun(run) ? drawLedger(run) : "";
+  return `<div class="reveal won">${ledger}<div><p class="why"><b>Broken.</b> ${note}</p>${isDone ? named : asked}</div></div>`;
+}
+
+function draw(state) {
+  if (state.stage === "") return;
+  const isDone = state.stage === "done";
+  if (!isDone || !scene.figure.isBusy) talk(isDone ? wonHtml(state) : taskHtml(state));
+  const hint = part("#hint");
+  hint.hidden = isDone;
+  hint.textContent = state.hints === 0 ? "Hint" : state.hints < HINTS ? "Another hint" : "Start over";
+  const on = part("#go-on");
+  on.textContent = isDone ? "Next list →" : "Skip →";
+  on.className = isDone ? "button primary ready" : "button quiet";
+  if (isDone && isNamed(nameNow())) strike();
+}
+
+function strike() {
+  const { figure } = scene;
+  const { missing, lacks } = BREAK_LEVELS[nameNow()];
+  if (figure.spec.struck !== undefined) return;
+  figure.spec.struck = missing;
+  figure.part("code-note").textContent = lacks;
+  figure.part("codebox").open = true;
+  figure.draw();
+}
+
+function answer(index) {
+  const name = nameNow();
+  const sentence = optionsOf(name)[index];
+  if (now.scene.stage !== "done" || isNamed(name) || sentence === undefined) return;
+  if (sentence !== BREAK_LEVELS[name].lacks) return setScene({ wrong: [...new Set([...now.scene.wrong, sentence])] });
+  keepNamed(name);
+  setScene({ wrong: [] });
+  replay();
+}
+
+// The winning run once more, from where the whole list would have gone another way.
+function replay() {
+  const { figure } = scene;
+  const departs = departureOf(askNow, figure.run.trace);
+  figure.replay(Math.max(0, (departs?.event ?? 1) - 2));
+}
+
+function hint() {
+  if (now.scene.hints === HINTS) return scene.figure.again();
+  setScene({ hints: now.scene.hints + 1 });
+}
+
+function afresh() {
+  if (now.place.given.text !== undefined) return (location.hash = `#break=${now.place.id}`);
+  setScene({ stage: "task", note: "" });
+  scene.figure.again();
+}
+
+/** @type {import("./scene.js").View} */
+export const breakView = {
+  kind: "ask-one",
+  fault: ({ id }) => (levelOfNumber(id) === undefined ? `there is no level ${id}` : null),
+  title: (place) => `Break it: ${BREAK_LEVELS[levelOf(place)].story}`,
+  html,
+  begin,
+  draw,
+  press: (event) => {
+    if (now.scene.stage === "done" && numberOfKey(event) !== -1) answer(numberOfKey(event));
+    else if (threadOfKey(event) !== -1) scene.figure.press(threadOfKey(event));
+  },
+  deeds: { answer: ({ dataset }) => answer(Number(dataset.option)), hint, replay, afresh },
+};

@@ -1,0 +1,77 @@
+// Step by the code: one list, two threads, any calls. The lines are the buttons. The run is in the address.
+import { LISTS } from "../../made/rows.js";
+import { now } from "../page/now.js";
+import { addressOfCode, linesOfCode, SET_OF_CODE, START_OF_CODE } from "../page/scene_address.js";
+import { linkTo } from "../page/visit.js";
+import { tag } from "../run/markup.js";
+import { Figure } from "./figure.js";
+import { copyText } from "./give.js";
+import { head, LIST_WORDS, part, scene, setScene, takeFigure, threadOfKey } from "./scene.js";
+
+const OPERATIONS = ["add", "remove", "contains"];
+const listOf = ({ id }) => (id in LISTS ? id : "lazy");
+const numbersIn = (text) => [...new Set(text.split(/\D+/).filter((key) => /^\d{1,3}$/.test(key)).map(Number))].sort((one, other) => one - other);
+const numberIn = (text, least, most) => (/^\d{1,5}$/.test(text ?? "") ? Math.max(least, Math.min(most, Number(text))) : null);
+/** @param {any} place */
+const setOfPlace = ({ given: { threads, quota } }) =>
+  ({ threads: numberIn(threads, 1, 64) ?? SET_OF_CODE.threads, quota: numberIn(quota, 0, 16384) ?? SET_OF_CODE.quota });
+/** @param {any} place */
+const openingOf = ({ given: { opening, s } }) => (opening === undefined ? (s === undefined ? START_OF_CODE : []) : numbersIn(opening));
+
+function html(place) {
+  const list = listOf(place);
+  const tab = ([kind, name]) => tag("button", { class: "small", "data-do": "list", "data-list": kind, "aria-pressed": kind === list }, name);
+  const prose = `<p class="prose">Each thread’s letter stands at the line that it makes next. Press that line to make it; press another line, and
+    the thread runs there. Let an idle thread begin any call.</p>`;
+  return `<section class="screen">${head("", "Press a line, and its thread makes it.", prose)}
+    <div class="line"><span class="branches">${Object.entries(LIST_WORDS).map(tab).join("")}</span>
+    <label class="small">begins with <input id="code-opening" value="${openingOf(place).join(" ")}" size="8"></label></div>
+    <div id="figure"></div><div class="talk"><p id="code-told" class="again" role="status" hidden></p></div></section>
+    <footer class="foot"><span class="small" id="scene-told" role="status"></span><span class="spread"></span>
+    <button class="quiet" data-do="copy">Copy link</button><button class="primary" data-do="step">Step</button></footer>`;
+}
+
+function figureOf(place, lines) {
+  const list = listOf(place);
+  return new Figure(part("#figure"), {
+    list, lines, opening: openingOf(place), ...setOfPlace(place), operations: OPERATIONS, free: true, strip: true, short: true,
+    roomFor: 694, high: 0.27,
+    codeTitle: LIST_WORDS[list], chosen: { 0: ["add", 5], 1: [list === "coarse" ? "contains" : "remove", 7] },
+  });
+}
+
+function begin(place) {
+  let figure = takeFigure(figureOf(place, linesOfCode(place.given.s ?? "")));
+  if (figure.run.trace.refused !== null) {
+    figure = takeFigure(figureOf(place, []));
+    part("#code-told").hidden = false;
+    part("#code-told").textContent = "These steps cannot be made on this list; it begins anew.";
+  }
+  figure.onStep = () => setScene({ text: addressOfCode(listOf(place), openingOf(place), figure.run.lines, setOfPlace(place)) });
+  figure.onStep();
+  part("#code-opening").onchange = ({ target }) => (location.hash = addressOfCode(listOf(place), numbersIn(target.value), [], setOfPlace(place)));
+}
+
+// Another list takes the threads' first calls along.
+function takeList({ dataset }) {
+  const begins = scene.figure.run.lines.filter((line) => line.startsWith("begin"));
+  const first = new Map(begins.map((line) => [line.split(" ")[1], line]).reverse());
+  location.hash = addressOfCode(dataset.list, openingOf(now.place), [...first.values()], setOfPlace(now.place));
+}
+
+// The button of ink: the thread that moved last goes on; an idle one begins the call that is chosen for it.
+function stepOn() {
+  const { figure } = scene;
+  const thread = figure.run.isIdle(figure.active) ? (figure.shown.find((one) => !figure.run.isIdle(one)) ?? figure.active) : figure.active;
+  figure.press(thread);
+}
+
+/** @type {import("./scene.js").View} */
+export const codeView = {
+  kind: "code-place",
+  title: (place) => `${LISTS[listOf(place)].name}, step by the code`,
+  html,
+  begin,
+  press: (event) => threadOfKey(event) !== -1 && scene.figure.press(threadOfKey(event)),
+  deeds: { list: takeList, copy: () => copyText(linkTo(now.scene.text), "The link to this run, at this step, is copied."), step: stepOn },
+};

@@ -1,0 +1,90 @@
+// Below the list of a figure: of each thread what it wants and what it does next, the history, and the slider of the moments.
+import { drawContents } from "../draw/contents.js";
+import { drawCalls, scaleOf } from "../draw/history.js";
+import { redraw } from "../page/dom.js";
+import { callText, colourOf, tag } from "../run/markup.js";
+import { phaseText } from "./phases.js";
+import { answerText, chip, letterOf } from "./tale.js";
+
+const AGAIN = `<span class="again"><button data-undo class="quiet small" title="take the last press back">↶ One back</button>
+  <button data-again class="quiet small">↺ Start over</button></span>`;
+
+// A row for each thread; none while nothing can be pressed.
+export function showDock(figure) {
+  const { spec, run } = figure;
+  const isChanged = run.lines.length !== run.first.length && spec.again !== false;
+  const rows = figure.shown.map((thread) => rowOf(figure, thread)).join("");
+  const isShut = spec.dock === false || figure.hidesDock;
+  redraw(figure.part("dock"), isShut ? "" : rows + (isChanged ? AGAIN : ""));
+}
+
+function rowOf(figure, thread) {
+  const { run, spec } = figure;
+  const own = run.trace.calls.filter((call) => call.thread === thread && call.begun <= run.count);
+  const [next] = figure.left(thread);
+  const isIdle = run.isIdle(thread);
+  if (isIdle && next === undefined) return spec.free ? chooser(figure, thread, own) : restOf(run, thread, own.at(-1));
+  const call = isIdle ? { operation: next[0], key: next[1] } : own.at(-1);
+  const plan = run.nextOf(thread, next);
+  const words = spec.words?.[plan.phase] ?? phaseText(plan.phase, call);
+  const key = letterOf(thread).toLowerCase();
+  const given = { class: "step", "data-step": thread, "aria-keyshortcuts": key, ...(figure.isOpen ? {} : { disabled: "" }) };
+  const button = tag("button", given, words, `<kbd aria-hidden="true">${key}</kbd>`);
+  const waits = plan.waits && plan.steps === 1 ? '<span class="waits">has to wait</span>' : "";
+  return threadRow(thread, `<code>${callText(call)}</code> ${button} ${waits}`);
+}
+
+function threadRow(thread, inside) {
+  const given = { class: `thread ${colourOf(thread)}`, "data-thread": thread, role: "group", "aria-label": `thread ${letterOf(thread)}` };
+  return tag("div", given, chip(thread), " ", inside);
+}
+
+// A thread that has nothing left to do, with its last answer.
+function restOf(run, thread, last) {
+  if (last === undefined) return threadRow(thread, "");
+  const reply = last.ended !== null && run.count >= last.ended ? `<b class="reply ${last.reply}">${answerText(last.reply)}</b>` : "";
+  return threadRow(thread, `<code>${callText(last)}</code> <span class="does">${reply}</span>`);
+}
+
+// An idle thread may begin any call; its last answer stands beside that.
+function chooser(figure, thread, own) {
+  const last = own.at(-1);
+  const [operation, key] = figure.chosen[thread] ?? [last?.operation ?? "add", last?.key ?? 5];
+  const names = figure.spec.operations ?? ["add", "remove", "contains"];
+  const options = names.map((name) => tag("option", name === operation ? { selected: "" } : {}, name));
+  const letter = letterOf(thread);
+  const field = { type: "number", min: 0, max: 999, value: key, "data-key": thread, "aria-label": `number of ${letter}’s call` };
+  const fields = tag("select", { "data-call": thread, "aria-label": `call of ${letter}` }, ...options) + tag("input", field);
+  const reply = last === undefined ? "" : `<small>${callText(last)}: <b class="reply ${last.reply}">${answerText(last.reply)}</b></small>`;
+  return threadRow(thread, `<span class="choose">${fields}<button data-begin="${thread}">begin</button></span> ${reply}`);
+}
+
+// The calls as bars, and what is in the set at each time.
+export function showStrip(figure, lettered) {
+  const { run } = figure;
+  const box = figure.part("strip");
+  const wide = Math.max(280, box.clientWidth);
+  const room = 26 + 9 * `{${run.promised().join(", ")}}`.length; // right of the last event, for what is in the set then
+  const scale = scaleOf(run.trace, run.count, wide - room, true);
+  Object.assign(scale, { edge: scale.edge + room, width: wide });
+  box.innerHTML = drawCalls(run.trace, scale) + drawContents(run.trace, scale);
+  box.querySelectorAll("svg").forEach(lettered);
+}
+
+const SCRUB = `<button class="small" data-move="-1" aria-label="one step back">◂</button>
+  <input type="range" min="0" aria-label="moment of the run"><button class="small" data-move="1" aria-label="one step on">▸</button>
+  <span class="small count"></span>`;
+
+export function showScrub(figure) {
+  const box = figure.part("scrub");
+  const { count, trace } = figure.run;
+  if (box.firstElementChild === null) {
+    box.innerHTML = SCRUB;
+    box.querySelector("input").oninput = ({ target }) => figure.moveTo(Number(target.value));
+  }
+  const slider = box.querySelector("input");
+  Object.assign(slider, { max: trace.total, value: count });
+  slider.setAttribute("aria-valuetext", `step ${count} of ${trace.total}: ${figure.part("tale").textContent}`);
+  box.querySelector(".count").textContent = `${count} of ${trace.total}`;
+  box.hidden = !figure.isOpen;
+}

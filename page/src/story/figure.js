@@ -1,0 +1,198 @@
+// A live figure: the list, a sentence, the code, and a button for each thread. Pressing a button lets that thread do its next bit.
+import { momentAt } from "../run/sentences.js";
+import { drawFigure, frameOf, isNarrow, markLostNodes } from "./figure_parts.js";
+import { beginOwn, chooseCall, pressed } from "./figure_press.js";
+import { LiveRun } from "./live_run.js";
+
+const BIT = 300; // milliseconds between two steps of one press
+const BETWEEN = 450; // and between two presses that the page makes
+const wantsStill = () => matchMedia("(prefers-reduced-motion: reduce)").matches;
+const sleep = (time) => new Promise((done) => setTimeout(done, time));
+const drawn = { count: 0 };
+
+/**
+ * @typedef {import("./live_run.js").RunSpec & { [name: string]: any }} FigureSpec  What a run needs; `calls`, of each thread those
+ *   that it is to make; `shown`, the threads with a button; `dock`, `code`, `strip`, `scrub`: what is shown besides the list.
+ */
+export class Figure {
+  id = `f${drawn.count++}`;
+  past = []; // what stood there before each deed
+  isBusy = false; // steps are being shown
+  isHurried = false;
+  isEnded = false;
+  isOpen = true; // the reader may step
+  hidesDock = false;
+  isGuess = false; // what would tell the answer is not shown
+  isLost = false; // the nodes that are lost are lit
+  wide = 0;
+  told = null;
+  onStep = null;
+  onFork = null;
+
+  /** @param {any} box @param {FigureSpec} spec */
+  constructor(box, spec) {
+    this.box = box;
+    this.spec = spec;
+    this.run = new LiveRun(spec);
+    this.shown = spec.shown ?? Array.from({ length: this.run.spec.threads }, (_, thread) => thread);
+    this.active = spec.active ?? 0;
+    this.chosen = spec.chosen ?? {}; // of an idle thread, the call that stands in its fields
+    this.most = { width: 0, height: spec.tall && !isNarrow() ? 262 : 0 }; // room for a node that is sure to come
+    frameOf(this);
+    box.addEventListener("click", (event) => pressed(this, event));
+    box.addEventListener("input", ({ target }) => target.closest(".choose") !== null && chooseCall(this, target.closest("[data-thread]")));
+    this.stretch = new ResizeObserver(() => {
+      if (this.part("list").clientWidth !== this.wide) requestAnimationFrame(() => this.isEnded || this.draw());
+    });
+    this.stretch.observe(this.part("list"));
+    this.draw();
+  }
+
+  end() {
+    this.stretch.disconnect();
+    this.isEnded = true;
+  }
+
+  part(name) {
+    return this.box.querySelector(`.${name}`);
+  }
+
+  // Sets what can be pressed and what is hidden, and draws that.
+  set(given) {
+    Object.assign(this, given);
+    this.draw();
+  }
+
+  get canStep() {
+    return this.isOpen && !this.hidesDock && this.spec.dock !== false;
+  }
+
+  // The calls that a thread has not begun yet.
+  left(thread) {
+    const own = this.spec.calls?.[thread] ?? [];
+    return own.slice(this.run.trace.calls.filter((call) => call.thread === thread).length);
+  }
+
+  reset() {
+    this.run.take(this.run.first);
+    Object.assign(this, { past: [], told: null, isLost: false });
+    this.draw();
+  }
+
+  // What is shown now is left by a deed: it may be taken back.
+  leaves() {
+    this.onFork?.(this);
+    this.past.push([...this.run.lines]);
+  }
+
+  // The next bit of a thread, with its call's begin where it is idle.
+  async step(thread) {
+    if (!this.isOpen) return;
+    if (this.isBusy) {
+      this.isHurried = true;
+      return;
+    }
+    const [call] = this.left(thread);
+    if (this.run.isIdle(thread) && call === undefined) return;
+    this.leaves();
+    const next = this.run.nextOf(thread, call);
+    const before = this.run.trace.total;
+    if (next.isBegin) this.run.begin(thread, call);
+    await this.play(thread, next.steps, before);
+  }
+
+  // A thread by its key: it steps, or begins the call that stands in its fields.
+  press(thread) {
+    if (!this.canStep || !this.shown.includes(thread)) return;
+    if (this.run.isIdle(thread) && this.left(thread).length === 0 && this.spec.free) beginOwn(this, thread);
+    else this.step(thread);
+  }
+
+  // Makes the steps, and shows what came since a moment one after the other.
+  async play(thread, steps, from) {
+    this.active = thread;
+    this.run.go(thread, steps);
+    await this.show(from);
+    if (!this.isEnded) this.onStep?.(this);
+  }
+
+  // Shows the steps from a moment to the end of the run; another press meanwhile shows the end at once.
+  async show(from) {
+    const { total } = this.run.trace;
+    this.isBusy = true;
+    this.isHurried = false;
+    document.body.dataset.busy = "yes";
+    for (let count = Math.min(from + 1, total); count <= total; count++) {
+      if (this.isEnded) return;
+      if (count < total && (this.isHurried || wantsStill() || this.isHidden(count))) continue;
+      this.run.moveTo(count);
+      this.part("tale").setAttribute("aria-live", count < total ? "off" : "polite"); // of a play only the last sentence is read out
+      this.isBusy = count < total;
+      this.draw(true);
+      if (count < total) await sleep(BIT);
+    }
+    this.isBusy = false;
+    document.body.dataset.busy = "no";
+  }
+
+  // Plays the whole run, or the part of it behind a moment, once more.
+  async replay(from = 0) {
+    if (this.isBusy) return;
+    this.run.moveTo(from);
+    this.draw();
+    await this.show(from);
+  }
+
+  // Whether an event is passed over in silence, since it is of the lock that this list ignores.
+  isHidden(count) {
+    return this.spec.plain === true && this.run.trace.event(count).word === "list.lock";
+  }
+
+  // Plays what a list of deeds makes: [thread] is its next bit, [thread, n] are n bits, [thread, "out"] is all of its call.
+  async act(deeds) {
+    const { onStep } = this;
+    this.onStep = null;
+    for (const [thread, many = 1] of deeds) {
+      for (let bit = 0; many === "out" ? bit === 0 || !this.run.isIdle(thread) : bit < many; bit++) {
+        if (this.isEnded) return;
+        await this.step(thread);
+        await sleep(wantsStill() ? 0 : BETWEEN);
+      }
+    }
+    this.onStep = onStep;
+  }
+
+  // Takes the last press back; or all of them.
+  undo() {
+    if (this.isBusy || this.past.length === 0) return;
+    this.run.take(this.past.pop());
+    this.isLost = false;
+    this.draw(true);
+    this.onStep?.(this);
+  }
+
+  again() {
+    if (this.isBusy) return;
+    this.reset();
+    this.onStep?.(this);
+  }
+
+  tell(text) {
+    this.told = text;
+    this.part("tale").innerHTML = text;
+  }
+
+  draw(isNear = false) {
+    if (isNear) this.told = null;
+    drawFigure(this, momentAt(this.run.state, this.run.count), isNear);
+    if (this.isLost && this.run.count === this.run.trace.total) markLostNodes(this);
+  }
+
+  // Shows another moment of the run.
+  moveTo(count) {
+    if (this.isBusy) return;
+    const isNear = Math.abs(count - this.run.count) <= 1;
+    this.run.moveTo(count);
+    this.draw(isNear);
+  }
+}

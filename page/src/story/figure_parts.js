@@ -1,0 +1,155 @@
+// What a figure looks like: the list in the middle of its stage, the sentence, the code, the threads' buttons, the history.
+import { glide } from "../draw/glide.js";
+import { drawList } from "../draw/list.js";
+import { arranged, shapeFor } from "../draw/places.js";
+import { callText, colourOf } from "../run/markup.js";
+import { momentAt } from "../run/sentences.js";
+import { drawOwnCode } from "./code.js";
+import { showDock, showScrub, showStrip } from "./dock.js";
+import { inLetters, letterOf, taleOf } from "./tale.js";
+
+const MOST_SCALE = 1.75;
+const MOST_HEIGHT = 0.4; // of the window, for the list
+const NARROW = "(max-width: 760px)";
+export const isNarrow = () => matchMedia(NARROW).matches;
+
+// ---- the frame
+
+const codeBox = ({ codeTitle, codeNote = "" }) => `<details class="codebox" ${isNarrow() ? "" : "open"}><summary><b>${codeTitle}</b></summary>
+    <p class="small code-note" ${codeNote === "" ? "hidden" : ""}>${codeNote}</p><span class="runs"></span><div class="lines"></div>
+    <p class="small hint">Press the lit line to step, another line to run there.</p></details>`;
+
+export function frameOf({ box, spec }) {
+  box.innerHTML = `<div class="stage"><div class="list" tabindex="0" role="group" aria-label="the list"></div>
+    <p class="tale" aria-live="polite"></p><div class="strip"></div><div class="scrub"></div><div class="dock"></div></div>
+    ${spec.code === false ? "" : codeBox(spec)}`;
+  box.classList.add("fig");
+  box.classList.toggle("wide", spec.code === false);
+  box.classList.toggle("plain", spec.plain === true);
+  box.classList.toggle("short", spec.short === true);
+  box.classList.toggle("undoes", spec.again !== false);
+}
+
+export function drawFigure(figure, moment, isNear) {
+  const { run, spec, box } = figure;
+  placeTheList(figure, moment, isNear);
+  const tale = figure.told ?? taleHere(figure, moment);
+  const words = tale === "" ? (spec.tale ?? "") : tale;
+  if (figure.part("tale").innerHTML !== words) figure.part("tale").innerHTML = words;
+  box.classList.toggle("at-end", run.count === run.trace.total);
+  box.classList.toggle("shut", !figure.canStep);
+  showCode(figure, moment);
+  showDock(figure);
+  if (spec.strip) showStrip(figure, lettered);
+  if (spec.scrub) showScrub(figure);
+}
+
+// The sentence of a moment. Where the lock is left out, its last step tells what the one before did.
+function taleHere({ run, spec }, moment) {
+  if (moment.event === null) return "";
+  const isOfLock = spec.plain === true && moment.event.word === "list.lock";
+  if (!isOfLock || moment.event.answer === undefined) return taleOf(moment, spec);
+  const { answer, call } = moment.event;
+  const before = taleOf(momentAt(run.state, run.count - 1), spec);
+  run.state.moveTo(run.count);
+  return `${before} <b>${callText(call)} answers ${answer}.</b>`;
+}
+
+// ---- the list
+
+function placeTheList(figure, { state, event }, isNear) {
+  const box = figure.part("list");
+  const room = box.clientWidth;
+  figure.wide = room;
+  if (room === 0) return;
+  const size = arranged(state, event, { ...shapeFor(room), least: 0 });
+  figure.most.height = Math.max(figure.most.height, size.height);
+  const draw = () => {
+    box.innerHTML = drawList(state, event, room, Infinity, { width: 0, height: figure.most.height }, figure.id);
+    const svg = box.firstElementChild;
+    fitList(figure, svg, room, size);
+    if (event !== null) svg.classList.add(colourOf(event.thread));
+    lettered(svg);
+    for (const sign of svg.querySelectorAll("text.pointer")) plainSign(figure.spec, sign);
+    for (const name of svg.querySelectorAll("text.name")) if (/^n\d+$/.test(name.textContent)) name.remove();
+  };
+  glide(box, draw, isNear);
+}
+
+// The drawing in the middle of the stage, as large as it has room.
+function fitList({ spec, most }, svg, room, size) {
+  const [, top, , high] = svg.getAttribute("viewBox").split(" ").map(Number);
+  const isCompact = shapeFor(room).node < 90;
+  most.width = Math.max(most.width, size.width, (spec.roomFor ?? 0) * (isCompact ? 0.76 : 1));
+  const wide = most.width;
+  const tall = Math.max(innerHeight * (spec.high ?? MOST_HEIGHT), spec.least ?? 180);
+  const scale = Math.max(0.5, Math.min(MOST_SCALE, (room - 4) / wide, tall / high));
+  svg.setAttribute("viewBox", `${(size.width - wide) / 2} ${top} ${wide} ${high}`);
+  svg.setAttribute("width", wide * scale);
+  svg.setAttribute("height", high * scale);
+}
+
+// A thread's fingers are pred and curr; succ is told only where the code names it, and the finger of a second walk by what it does.
+function plainSign(spec, sign) {
+  const [, letter, given] = /^(▲ \w+) (.*)$/.exec(sign.textContent);
+  const isTold = spec.list === "lock-free" && spec.isPath !== true;
+  const names = given.split(", ").filter((name) => name !== "succ" || isTold).map((name) => (name === "node" ? "2nd walk" : name));
+  if (names.length === 0) sign.remove();
+  else sign.textContent = `${letter} ${names.join(", ")}`;
+}
+
+// The letters of the threads in place of their numbers, in what is drawn and in what a reader of the screen says.
+function lettered(svg) {
+  for (const text of svg.querySelectorAll("text, title, tspan")) {
+    if (text.children.length === 0) text.textContent = inLetters(text.textContent);
+  }
+  const label = svg.getAttribute("aria-label");
+  if (label !== null) svg.setAttribute("aria-label", inLetters(label));
+}
+
+// The nodes of the keys that were promised and are not in the list.
+export function markLostNodes({ run, box }) {
+  const has = run.has();
+  const isLost = ({ key }) => run.promised().some((one) => String(one) === key && !has.includes(one));
+  for (const [name, node] of Object.entries(run.state.nodes)) {
+    if (isLost(node)) box.querySelector(`.list [data-part="node ${name}"]`)?.classList.add("lost");
+  }
+}
+
+// ---- the code
+
+function operationsOf({ spec, run, isGuess }) {
+  const planned = Object.values(spec.calls ?? {}).flat().map(([operation]) => operation);
+  const begun = run.trace.calls.map(({ operation }) => operation);
+  const hidden = isGuess ? (spec.hidden?.operations ?? []) : [];
+  return [...new Set([...(spec.operations ?? []), ...planned, ...begun])].filter((name) => !hidden.includes(name));
+}
+
+function showCode(figure, { state, event, before }) {
+  const box = figure.part("lines");
+  if (box === null) return;
+  const { spec, run, canStep } = figure;
+  const { list, plain, fresh, struck, instead } = spec;
+  const isAble = (thread) => !run.isIdle(thread) || figure.left(thread).length > 0;
+  if (!isAble(figure.active)) figure.active = figure.shown.find(isAble) ?? figure.active;
+  const { active } = figure;
+  const made = event === null || event.deed === "begin" ? null : { row: before.pc, thread: event.thread };
+  const next = state.threads.map((own, thread) => ({ thread, row: own.pc })).filter(({ row }) => row !== 0);
+  const hides = (figure.isGuess ? spec.hidden?.hides : undefined) ?? spec.hides; // some is not told before the guess
+  const scroll = box.scrollTop;
+  box.innerHTML = drawOwnCode({ list, plain, fresh, struck, hides, instead, operations: operationsOf(figure), next, made, canStep, active });
+  box.scrollTop = scroll;
+  const toggles = figure.shown.filter(isAble).map((thread) => toggleOf(thread, active));
+  figure.part("runs").innerHTML = canStep && toggles.length > 1 ? toggles.join("") : "";
+  scrollToLit(box, active);
+}
+
+const toggleOf = (thread, active) => `<button class="who ${colourOf(thread)}" data-active="${thread}" aria-pressed="${thread === active}"
+  title="${letterOf(thread)} runs to another line that is pressed">${letterOf(thread)}</button>`;
+
+function scrollToLit(box, active) {
+  const line = box.querySelector(`.lit.${colourOf(active)}`) ?? box.querySelector(".lit") ?? box.querySelector(".made");
+  if (line === null || box.scrollHeight <= box.clientHeight) return;
+  const y = line.offsetTop - box.offsetTop;
+  if (y < box.scrollTop + 10 || y > box.scrollTop + box.clientHeight - 50) box.scrollTop = y - box.clientHeight / 2;
+}

@@ -1,0 +1,37 @@
+// What the browser keeps of the story: the screens that are done, what was answered, the lists that were broken, the student's name.
+import { LACKING } from "../../made/classics.js";
+import { isText, keepUnder, keptUnder } from "../page/kept.js";
+import { change } from "../page/now.js";
+
+const STORY = "listset-story";
+const BROKEN = "listset-broken"; // of each list that was broken the line that is handed in
+const NAMED = "listset-named-checks"; // the lists of which the reader has said what they lack
+const NOTHING = { at: 1, done: {}, asks: {}, student: "", number: "" };
+
+/** @returns {{ at: number, done: Record<string, boolean>, asks: Record<string, string>, student: string, number: string }} */
+export const keptStory = () => ({ ...NOTHING, ...keptUnder(STORY) });
+export const keepStory = (change) => keepUnder(STORY, { ...keptStory(), ...change });
+
+const isBrokenLine = ([name, line]) => Object.hasOwn(LACKING, name) && isText(line);
+export const brokenLines = () => Object.entries(keptUnder(BROKEN) ?? {}).filter(isBrokenLine);
+export const isBrokenOnce = (name) => brokenLines().some(([one]) => one === name);
+export const keepBrokenLine = (name, line) => keepUnder(BROKEN, { ...keptUnder(BROKEN), [name]: line });
+export const isNamed = (name) => (keptUnder(NAMED) ?? []).includes(name);
+export const keepNamed = (name) => keepUnder(NAMED, [...new Set([...(keptUnder(NAMED) ?? []), name])]);
+
+// All that the page has kept in this browser goes, for whoever comes next, once the button is pressed a second time.
+export function startAfresh(button) {
+  if (button.dataset.isSure !== "yes") {
+    button.dataset.isSure = "yes";
+    button.textContent = "Press again: all that is kept here goes";
+    return;
+  }
+  change("text", { text: "" }); // and is not kept anew
+  try {
+    for (const name of Object.keys(localStorage)) if (name.startsWith("listset-")) localStorage.removeItem(name);
+  } catch {
+    // nothing is kept in this browser
+  }
+  location.hash = "#story=1";
+  location.reload();
+}

@@ -1,0 +1,154 @@
+// Solve it, a lesson: the reader chooses which thread makes the next step, until the run shows what is asked. After each deed what it
+// shows gets a tick. No answer is told unasked.
+import { conditionTexts } from "../course/lesson.js";
+import { setHtml } from "../page/dom.js";
+import { now } from "../page/now.js";
+import { versionOf } from "../run/schedule_text.js";
+import { escaped, tag } from "../run/markup.js";
+import { Figure } from "./figure.js";
+import { learning } from "./learning.js";
+import { linesOf } from "./live_run.js";
+import { runOfText } from "./run_of_text.js";
+import { FIGURE_AND_TALK, foot, head, hintAndOn, LIST_WORDS, part, scene, setScene, takeFigure, talk, threadOfKey } from "./scene.js";
+import { inLetters } from "./tale.js";
+
+const HINT = 1; // of `hints`, in the scene: the hint is shown; the answer is shown
+const ANSWER = 2;
+const shown = { verdict: null, ticks: new Set() }; // of the run that is shown, and what was met before
+
+function html({ id }) {
+  const { panel } = learning;
+  const lesson = panel.lessonNamed(id);
+  const { lessons, name } = panel.course;
+  const at = lessons.indexOf(lesson);
+  const next = lessons[at + 1];
+  const numbers = lesson.opening.length === 0 ? "no numbers at first" : `${lesson.opening.join(", ")} at first`;
+  const kicker = `<a href="#learn">${escaped(name)}</a> · ${at + 1} of ${lessons.length} · ${LIST_WORDS[lesson.list]}, ${numbers}`;
+  const asked = `<p class="asked">${escaped(inLetters(lesson.question))}</p>`;
+  const goal = '<div class="goal"><p class="kicker">A solution shows</p><div id="goal" aria-live="polite"></div></div>';
+  return `<section class="screen"><div class="two">${head(kicker, escaped(lesson.title), asked)}${goal}</div>${FIGURE_AND_TALK}</section>
+    ${foot('<a class="button quiet" href="#learn">All lessons</a>', hintAndOn(`#learn${next === undefined ? "" : `=${next.name}`}`))}`;
+}
+
+function begin({ id, given }) {
+  const { panel } = learning;
+  panel.choose(panel.lessonNamed(id));
+  const { lesson } = panel;
+  const own = given.text ?? panel.lastTry();
+  Object.assign(shown, { verdict: null, ticks: new Set() });
+  const more = /ceiling/.test(lesson.begun + (lesson.solution ?? "") + lesson.question) ? ["ceiling"] : [];
+  const figure = new Figure(part("#figure"), {
+    ...runOfText(lesson.begun), version: versionOf(lesson.begun), list: lesson.list, lacks: lesson.lacks, free: true, strip: true, scrub: true,
+    short: true, high: 0.24, roomFor: 694, operations: ["add", "remove", "contains", ...more], codeTitle: LIST_WORDS[lesson.list],
+    codeNote: lesson.lacks === null ? "" : "One check of this code is not made here.",
+  });
+  takeFigure(figure);
+  figure.onStep = looked;
+  figure.onFork = goOnFromHere;
+  if (own !== null && own !== lesson.begun && fits(own)) takeTry(figure, linesOf(own));
+  looked();
+}
+
+// Whether a text is a try of this lesson, and not one of another list.
+const fits = (text) => text.split("\n")[1] === learning.panel.lesson.begun.split("\n")[1];
+
+function takeTry(figure, lines) {
+  figure.run.take(lines);
+  if (figure.run.trace.refused !== null) figure.run.take(figure.run.first);
+  figure.draw();
+}
+
+// A step at an earlier moment drops what came after it.
+function goOnFromHere({ run }) {
+  if (run.count < run.trace.total) run.take(run.linesHere());
+}
+
+function looked() {
+  const { run } = scene.figure;
+  const { panel } = learning;
+  const verdict = panel.judge(run.schedule);
+  shown.verdict = verdict;
+  for (const { says, isMet } of verdict.conditions) if (isMet) shown.ticks.add(says);
+  const isBegun = run.lines.join() !== run.first.join();
+  if (isBegun) panel.keepTry(run.schedule);
+  setScene({ text: isBegun ? run.schedule : "", stage: verdict.isSolved && !verdict.isShown ? "done" : "task" });
+}
+
+// ---- what follows from how far one is
+
+function conditionsHtml() {
+  const met = new Set(shown.verdict.conditions.filter(({ isMet }) => isMet).map(({ says }) => says));
+  const line = (says) => {
+    const state = met.has(says) ? "met" : shown.ticks.has(says) ? "was-met" : "unmet";
+    const more = state === "was-met" ? " <small>(before, not in this run)</small>" : "";
+    return tag("li", { class: state }, state === "unmet" ? "○ " : "✓ ", escaped(inLetters(says)), more);
+  };
+  return tag("ul", { class: "conditions" }, ...conditionTexts(learning.panel.lesson).map(line));
+}
+
+function taskHtml({ hints }) {
+  const { lesson } = learning.panel;
+  const { isShown, isSolved, deadEnd, reason, isKept } = shown.verdict;
+  const notes = [
+    isSolved && isShown ? "This is the answer that was shown to you. Find another one." : "",
+    deadEnd === null ? "" : inLetters(deadEnd),
+    reason ?? "",
+    isKept ? "" : "This browser keeps nothing: hand in before you leave the page.",
+  ].filter((note) => note !== "");
+  const hint = hints >= HINT && lesson.hint !== "" ? `<p><b>Hint.</b> ${escaped(inLetters(lesson.hint))}</p>` : "";
+  const answer = hints >= ANSWER ? '<p class="line">There is more than one answer. <button data-do="answer">See one of them</button></p>' : "";
+  return `${notes.map((note) => `<p class="again">${escaped(note)}</p>`).join("")}${hint}${answer}`;
+}
+
+function solvedHtml() {
+  const { lesson } = learning.panel;
+  const teaches = lesson.teaches === "" ? "" : escaped(inLetters(lesson.teaches));
+  return `<div class="reveal"><div><p class="why"><b>Solved.</b> ${teaches}</p>
+    <p class="line"><button data-do="replay">See your run again</button>
+    <button data-do="afresh" class="quiet">Solve it in another way</button></p></div></div>`;
+}
+
+function draw(state) {
+  if (state.stage === "" || shown.verdict === null) return;
+  const isDone = state.stage === "done";
+  setHtml(part("#goal"), conditionsHtml());
+  talk(isDone ? solvedHtml() : taskHtml(state));
+  const { lesson } = learning.panel;
+  const hint = part("#hint");
+  const last = lesson.answer.length > 0 ? ANSWER : HINT;
+  const words = lesson.hint !== "" && state.hints < HINT ? "Hint" : state.hints < last ? "Show an answer" : "Start over";
+  hint.hidden = isDone;
+  if (hint.textContent !== words) hint.textContent = words;
+  const on = part("#go-on");
+  on.textContent = !isDone ? "Skip →" : learning.panel.after() === undefined ? "All lessons →" : "Next lesson →";
+  on.className = isDone ? "button primary ready" : "button quiet";
+}
+
+function hint() {
+  const { lesson } = learning.panel;
+  const next = lesson.hint === "" && now.scene.hints === 0 ? ANSWER : now.scene.hints + 1;
+  if (next > ANSWER || (next === ANSWER && lesson.answer.length === 0)) return scene.figure.again();
+  if (next === ANSWER) learning.panel.lookAtAnswer();
+  setScene({ hints: next });
+}
+
+async function seeAnswer() {
+  const { figure } = scene;
+  const { lesson } = learning.panel;
+  figure.past.push([...figure.run.lines]);
+  figure.run.take(linesOf(lesson.solution));
+  await figure.replay(linesOf(lesson.begun).length === 0 ? 0 : 1);
+  if (scene.figure === figure) looked();
+}
+
+/** @type {import("./scene.js").View} */
+export const learnView = {
+  kind: "ask-one",
+  fault: ({ id }) => (learning.panel.lessonNamed(id) === undefined ? `no course that is kept here has a lesson "${id}"` : null),
+  title: ({ id }) => `Solve it: ${learning.panel.lessonNamed(id).title}`,
+  html,
+  begin,
+  draw,
+  press: (event) => threadOfKey(event) !== -1 && scene.figure.press(threadOfKey(event)),
+  deeds: { hint, answer: seeAnswer, replay: () => scene.figure.replay(), afresh: () => scene.figure.again() },
+};

@@ -1,0 +1,106 @@
+// Solve, what is open: the course, its lesson, the tries of that which are kept, and the verdict on a run. No part of the page is drawn
+// here.
+import { BOOK, BOOK_NAME } from "../../made/book.js";
+import { courseAddress } from "../course/course_link.js";
+import { judged, triedCourse } from "../course/lesson.js";
+import { works } from "../page/kept.js";
+import { askNow } from "../page/now.js";
+import { visit } from "../page/visit.js";
+import { eventsAsked } from "../run/schedule_text.js";
+import { bookCourse } from "./assignment.js";
+import { KeptLessons } from "./kept_lessons.js";
+import { linesOf } from "./live_run.js";
+
+class Learning {
+  constructor() {
+    this.kept = new KeptLessons();
+    const text = this.kept.courses.get(this.kept.course) ?? BOOK;
+    const course = text === BOOK ? bookCourse() : triedCourse(askNow, text);
+    this.takeCourse(course.faults.length === 0 ? course : bookCourse());
+  }
+
+  // Takes a course without faults, and the lesson that was chosen in it last. Its link is packed meanwhile.
+  takeCourse(course) {
+    this.course = course;
+    this.kept.course = course.name;
+    this.own = this.kept.ofCourse(course.name);
+    if (course.name !== BOOK_NAME) this.kept.courses.set(course.name, course.text);
+    this.lesson = course.lessons.find(({ name }) => name === this.own.chosen) ?? course.lessons[0];
+    visit.course = null;
+    if (course.name === BOOK_NAME) return;
+    const take = (address) => this.course === course && (visit.course = address);
+    courseAddress(course.text).then(take, () => null);
+  }
+
+  takeBook() {
+    this.takeCourse(bookCourse());
+  }
+
+  // The lesson of this name: of the course that is open, else of the book, else of a course that is kept, which is opened.
+  lessonNamed(name) {
+    const find = ({ lessons }) => lessons.find((lesson) => lesson.name === name);
+    if (find(this.course) !== undefined) return find(this.course);
+    for (const text of [BOOK, ...this.kept.courses.values()]) {
+      const course = text === BOOK ? bookCourse() : triedCourse(askNow, text);
+      if (course.faults.length > 0 || find(course) === undefined) continue;
+      this.takeCourse(course);
+      return find(course);
+    }
+    return undefined;
+  }
+
+  choose(lesson) {
+    this.lesson = lesson;
+    this.own.chosen = lesson.name;
+  }
+
+  isSolved(name) {
+    return this.own.solutions.has(name);
+  }
+
+  firstUnsolved() {
+    return this.course.lessons.find(({ name }) => !this.isSolved(name));
+  }
+
+  after() {
+    return this.course.lessons[this.course.lessons.indexOf(this.lesson) + 1];
+  }
+
+  // ---- the tries: each is kept among the works, under the name of its lesson
+
+  get workName() {
+    return `lesson ${this.lesson.name}${this.course.name === BOOK_NAME ? "" : ` of ${this.course.name}`}`;
+  }
+
+  // The text of the last try that is kept, or null.
+  lastTry() {
+    const { course, lesson } = this;
+    const isTry = ({ task }) => task.kind === "lesson" && task.course === course.name && task.id === lesson.name;
+    return works.byName.get(works.last(isTry))?.text ?? null;
+  }
+
+  keepTry(text) {
+    const task = { kind: "lesson", id: this.lesson.name, course: this.course.name };
+    works.set(this.workName, { text, box: text, count: eventsAsked(text), lacks: this.lesson.lacks, task });
+  }
+
+  // What is said of a try. A solution is kept, unless it is the answer that the reader has looked at.
+  judge(text) {
+    const { lesson, own } = this;
+    const { name, solution } = lesson;
+    const verdict = judged(askNow, lesson, text);
+    const isShown = own.looked.has(name) && solution !== null && linesOf(text).join() === linesOf(solution).join() && !own.solutions.has(name);
+    if (verdict.isSolved && !isShown && !own.solutions.has(name)) own.solutions.set(name, text);
+    const isKept = this.kept.save();
+    return { ...verdict, isShown, isKept };
+  }
+
+  // From now on the answer itself is no solution of this reader's own.
+  lookAtAnswer() {
+    this.own.looked.add(this.lesson.name);
+    this.kept.save();
+  }
+}
+
+export const learning = { panel: null }; // once the engine is there
+export const startLearning = () => (learning.panel = new Learning());

@@ -1,0 +1,154 @@
+// A run that is made while it is watched: the engine is asked for each deed, and what the reader chose is one schedule.
+// No step is computed here: how far a thread goes in one deed is read off the engine's own trace.
+import { askNow } from "../page/now.js";
+import { askList, verdictOnLacking } from "../run/broken.js";
+import { scheduleOfDraft } from "../run/draft.js";
+import { isFailed, isLock } from "../run/outcomes.js";
+import { scheduleOfTrace, titleOf } from "../run/schedule_text.js";
+import { keysInChain, promisedKeys, State } from "../run/state.js";
+import { isTrace, Trace } from "../run/trace.js";
+import { joinedRows, phaseAt } from "./phases.js";
+
+const MOST_STEPS = 80; // of one call, in the short lists of the story
+
+export const linesOf = (schedule) => schedule.split("\n").filter((line) => /^(begin|go) /.test(line));
+
+/**
+ * @typedef {object} RunSpec
+ * @property {string} list
+ * @property {string | null} [lacks]  the check that the list lacks
+ * @property {number} [threads]
+ * @property {number} [quota]
+ * @property {number[]} [opening]
+ * @property {string[]} [lines]  the schedule's first lines, also those of a draft
+ * @property {number} [version]  of the schedule's text
+ * @property {boolean} [free]  the reader may begin any call, and stop before each look
+ * @property {boolean} [plain]  the list's lock is ignored, and nothing is told of it
+ */
+export class LiveRun {
+  /** @param {RunSpec} spec */
+  constructor(spec) {
+    this.spec = { lacks: null, threads: 2, quota: 2, opening: [], plain: false, version: 2, ...spec };
+    this.first = this.expanded(spec.lines ?? []);
+    this.take(this.first);
+  }
+
+  // Lines in which `go T out` and `go T to ROW` may stand, as the schedule that the engine makes of them.
+  expanded(lines) {
+    const { text, fault } = scheduleOfDraft(askNow, this.textOf(lines), this.spec.lacks);
+    if (fault !== null) throw new Error(fault);
+    return linesOf(text);
+  }
+
+  textOf(lines) {
+    const { list, threads, quota, opening, version } = this.spec;
+    const head = [titleOf(version), `list ${list}`, `threads ${threads}`, `quota ${quota}`];
+    return `${[...head, ...opening.map((key) => `opening ${key}`), ...lines].join("\n")}\n`;
+  }
+
+  traceOf(lines) {
+    const { text } = askList(askNow, "listset_trace", this.spec.lacks, this.textOf(lines));
+    if (!isTrace(text)) throw new Error(text.trim());
+    return new Trace(text, this.spec.version);
+  }
+
+  take(lines) {
+    this.lines = [...lines];
+    this.trace = this.traceOf(this.lines);
+    this.state = new State(this.trace);
+    this.moveTo(this.trace.total);
+  }
+
+  // The lines that lead to the moment that is shown.
+  linesHere() {
+    return linesOf(scheduleOfTrace(this.trace, this.count));
+  }
+
+  get schedule() {
+    return this.textOf(this.lines);
+  }
+
+  moveTo(count) {
+    this.count = Math.max(0, Math.min(this.trace.total, count));
+    this.state.moveTo(this.count);
+  }
+
+  rowOf(thread) {
+    return this.state.threads[thread].pc;
+  }
+
+  isIdle(thread) {
+    return this.rowOf(thread) === 0;
+  }
+
+  // What a thread would do next, up to where something else begins: the number of its steps, its phase, and whether it waits.
+  nextOf(thread, call = null) {
+    const isBegin = this.isIdle(thread);
+    const lines = isBegin ? [...this.lines, `begin ${thread} ${call.join(" ")}`] : this.lines;
+    const trace = this.traceOf([...lines, `go ${thread} ${MOST_STEPS}`]);
+    const begun = this.trace.total + lines.length - this.lines.length;
+    const row = isBegin ? trace.event(begun).changes.pc : this.rowOf(thread);
+    return { ...this.chunk(trace, begun, row), thread, row, isBegin };
+  }
+
+  chunk(trace, begun, row) {
+    const { list, plain } = this.spec;
+    const phase = phaseAt(list, row, plain);
+    const joined = this.spec.free && !plain ? [] : joinedRows(list, plain);
+    let steps = 0;
+    let before = row;
+    for (let number = begun + 1; number <= trace.total; number++) {
+      const event = trace.event(number);
+      steps++;
+      if (event.answer !== undefined) break;
+      const after = event.changes.pc;
+      const ofLock = isFailed(event) && isLock(event.word);
+      const waits = ofLock && after === before; // a broken list may go on all the same
+      if (waits || (isFailed(event) && !ofLock)) return { steps, phase, waits };
+      before = after;
+      if (phaseAt(list, after, plain) !== phase && !joined.includes(after)) break;
+    }
+    return { steps, phase, waits: false };
+  }
+
+  // How many steps lead a thread to where this is so, end its call, or lead to a lock for which it waits.
+  stepsUntil(thread, isThere) {
+    const { total } = this.trace;
+    const trace = this.traceOf([...this.lines, `go ${thread} ${MOST_STEPS}`]);
+    for (let number = total + 1; number <= trace.total; number++) {
+      const event = trace.event(number);
+      if (event.answer !== undefined || isThere(event) || this.waitsAt(event)) return number - total;
+    }
+    return 1;
+  }
+
+  waitsAt(event) {
+    return isFailed(event) && isLock(event.word) && this.spec.lacks !== "lock";
+  }
+
+  begin(thread, [operation, key]) {
+    this.take([...this.lines, `begin ${thread} ${operation} ${key}`]);
+  }
+
+  go(thread, steps) {
+    this.take([...this.lines, `go ${thread} ${steps}`]);
+  }
+
+  // The keys that the answers promise, and those that a walk over the list finds.
+  promised() {
+    return promisedKeys(this.trace);
+  }
+
+  has() {
+    return keysInChain(this.state);
+  }
+
+  // What the proved judge says of the run: whether some order of the calls explains their answers and what is left.
+  verdict() {
+    return verdictOnLacking(askNow, this.spec.lacks, this.schedule);
+  }
+
+  isBroken() {
+    return this.spec.lacks !== null && this.verdict().kind === "broken";
+  }
+}

@@ -1,0 +1,136 @@
+// The places of the story: each has a view, which says what stands there, draws how far one is, and does what is pressed.
+//
+// A button with `data-do` does the deed of its view that has this name.
+import { change, dispatch, now } from "../page/now.js";
+import { byId, setHtml } from "../page/dom.js";
+import { tag } from "../run/markup.js";
+
+/**
+ * @typedef {object} View
+ * @property {string} kind  the class of the place
+ * @property {(place: import("../page/state.js").Place) => string} title
+ * @property {(place: any) => string | null} [fault]  why there is no such place, or null
+ * @property {(place: import("../page/state.js").Place) => string} html
+ * @property {(place: import("../page/state.js").Place) => void} [begin]  once its parts are there: its figure, its first stage
+ * @property {(scene: import("../page/state.js").Scene) => void} [draw]  what follows from how far one is
+ * @property {() => void} [end]  before its parts go
+ * @property {Record<string, (target: any) => any>} [deeds]
+ * @property {(event: KeyboardEvent) => any} [press]  a key
+ */
+
+/** @type {Record<string, View>} of an activity, or of one without an id its map */
+export const VIEWS = {};
+export const scene = { key: "", view: null, figure: null, isFirst: true };
+
+export const part = (selector) => byId("scene").querySelector(selector);
+const viewOf = ({ activity, id }) => (id === "" ? VIEWS[`${activity} map`] : undefined) ?? VIEWS[activity];
+export const titleOfScene = (place) => viewOf(place).title(place);
+export const faultOfScene = (place) => viewOf(place).fault?.(place) ?? null;
+export const isScene = ({ place }) => place.screen === "scene";
+export const setScene = (given) => dispatch("scene", given);
+export const talk = (html) => setHtml(part("#talk"), html);
+
+// A figure in place of the one that is shown.
+export function takeFigure(figure) {
+  scene.figure?.end();
+  scene.figure = figure;
+  return figure;
+}
+
+export function leaveScene() {
+  if (scene.view === null) return;
+  scene.view?.end?.();
+  takeFigure(null);
+  Object.assign(scene, { key: "", view: null });
+  byId("scene").innerHTML = "";
+}
+
+export function renderScene({ place, scene: state }) {
+  const key = JSON.stringify([place.activity, place.id, place.given, place.view === "embed"]);
+  if (key === scene.key) return scene.view.draw?.(state);
+  scene.view?.end?.();
+  takeFigure(null);
+  const view = viewOf(place);
+  Object.assign(scene, { key, view });
+  const box = byId("scene");
+  box.className = view.kind;
+  box.innerHTML = view.html(place);
+  scrollTo(0, 0);
+  view.begin?.(place);
+  view.draw?.(now.scene);
+  if (!scene.isFirst && document.activeElement === document.body) box.querySelector("h1")?.focus({ preventScroll: true });
+  scene.isFirst = false; // who comes by a key goes on at the title of what is opened
+}
+
+// Shows a place of the story.
+export function openScene({ activity, id = "", given = {}, view = null }) {
+  scene.key = ""; // also where it is shown already, it begins anew
+  change("view", { view });
+  dispatch("place", { activity, screen: "scene", id, given });
+}
+
+export function listenToScene() {
+  byId("scene").addEventListener("click", (event) => {
+    const target = event.target.closest("[data-do]");
+    if (target !== null && byId("scene").contains(target)) scene.view?.deeds?.[target.dataset.do]?.(target);
+  });
+}
+
+export const pressInScene = (event) => scene.view?.press?.(event);
+
+// ---- parts that several places have
+
+export const head = (kicker, title, more = "", kind = "") =>
+  `<div class="head">${kicker === "" ? "" : `<p class="kicker">${kicker}</p>`}<h1 class="${kind}" tabindex="-1">${title}</h1>${more}</div>`;
+
+export const FIGURE_AND_TALK = '<div id="figure"></div><div id="talk" class="talk" aria-live="polite"></div>';
+
+// The buttons of a task at its right: a hint, and on to the next one.
+export const hintAndOn = (next) =>
+  `<button id="hint" class="primary" data-do="hint"></button>${tag("a", { id: "go-on", class: "button quiet", href: next }, "Skip →")}`;
+
+// The bar at the bottom.
+export const foot = (left, right) => tag("footer", { class: "foot" }, left, tag("span", { class: "spread" }), right);
+
+export const optionButtons = (texts, wrong = []) => {
+  const button = (text, at) => {
+    const given = { class: "option", "data-do": "answer", "data-option": at, ...(wrong.includes(text) ? { "aria-disabled": "true" } : {}) };
+    return tag("button", given, `<b aria-hidden="true">${at + 1}</b> `, tag("span", {}, text));
+  };
+  return tag("div", { class: "options" }, ...texts.map(button));
+};
+
+const lowered = (text) => text[0].toLowerCase() + text.slice(1);
+
+// What the reader has said, and the reply to it.
+export function replyTo(options, chosen) {
+  const option = options?.[chosen];
+  if (option === undefined) return "";
+  const { text, say, right = false } = option;
+  const said = `You said: ${lowered(text)}${text.endsWith("?") ? "" : "."}`;
+  return `<p class="you ${right ? "right" : "wrong"}"><b>${said}</b> ${say || (right ? "Let us see." : "")}</p>`;
+}
+
+// What the answers promise against what the list has: the whole contradiction in two rows.
+export function drawLedger(run) {
+  const [promised, has] = [run.promised(), run.has()];
+  const all = [...new Set([...promised, ...has])].sort((one, other) => one - other);
+  const cell = (keys, others) => (key) => {
+    const isIn = keys.includes(key);
+    return tag("td", { class: isIn ? (others.includes(key) ? "" : "odd") : "gap" }, isIn ? key : "");
+  };
+  const row = (name, keys, others) => tag("tr", {}, tag("th", { scope: "row" }, name), ...all.map(cell(keys, others)));
+  return tag("table", { class: "ledger" }, row("What the answers promise", promised, has), row("What the list has", has, promised));
+}
+
+export const isOddRun = (run) => run.promised().join() !== run.has().join();
+
+// The thread of a letter that is a key here, or -1.
+export function threadOfKey({ key, ctrlKey, metaKey, altKey }) {
+  if (!now.prefs.letters || ctrlKey || metaKey || altKey || !/^[a-z]$/.test(key)) return -1;
+  return key.charCodeAt(0) - "a".charCodeAt(0);
+}
+
+export const numberOfKey = ({ key }) => (now.prefs.letters && /^[1-9]$/.test(key) ? Number(key) - 1 : -1);
+
+export const LIST_WORDS = { coarse: "One lock", fine: "Hand over hand", optimistic: "Optimistic", lazy: "Lazy", "lock-free": "Lock-free" };

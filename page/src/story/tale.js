@@ -1,0 +1,119 @@
+// One short sentence about an event, for who has not read the book: nodes go by their numbers, threads by their letters.
+import { isLock, ownerIn } from "../run/outcomes.js";
+import { callText, colourOf, keyText, tag } from "../run/markup.js";
+import { phaseAt } from "./phases.js";
+
+export const letterOf = (thread) => (thread < 26 ? String.fromCharCode(65 + Number(thread)) : String(thread));
+export const chip = (thread) => tag("span", { class: `who ${colourOf(Number(thread))}` }, letterOf(thread));
+// A text about "thread 0", with the letters of the threads.
+export function inLetters(text) {
+  const letters = (numbers) => numbers.replace(/\d+/g, (number) => letterOf(Number(number)));
+  const some = text.replace(/\bthreads (\d+(?:, \d+)*(?:,? and \d+)?)/gi, (_, numbers) => letters(numbers));
+  return some.replace(/\bthread (\d+)/gi, (_, number) => letterOf(Number(number))).replace(/\bt(\d+)\b/g, (_, number) => letterOf(Number(number)));
+}
+
+const bold = (text) => `<b>${text}</b>`;
+
+const nodeName = (state, name) => {
+  if (name === "head") return "the head";
+  if (name === "tail") return "the end";
+  return name in state.nodes ? keyText(state.nodes[name].key) : "";
+};
+const bare = (link) => link.replace("*", "");
+
+// An answer as it is told: that of a ceiling is a number.
+export const answerText = (answer) => answer.replace(/^at-/, "");
+
+export function taleOf(moment, { plain = false } = {}) {
+  const { event } = moment;
+  if (event === null) return "";
+  const said = toldBy(moment, plain);
+  const { call } = event;
+  const answer = event.answer === undefined ? "" : ` ${bold(`${callText(call)} answers ${answerText(event.answer)}.`)}`;
+  return `${chip(event.thread)} ${said}${answer}`;
+}
+
+function toldBy(moment, plain) {
+  const { trace, state, event, before, held } = moment;
+  const { kind } = trace;
+  if (event.deed === "begin") return `begins ${bold(callText(event.call))}.`;
+  const owner = ownerIn(event.word);
+  const who = nodeName(state, owner);
+  if (isLock(event.word)) return lockTold(event, who, plain, event.changes.pc === before.pc);
+  const phase = phaseAt(kind, before.pc, plain);
+  const key = event.call.key;
+  if (event.deed === "load" && event.word.endsWith(".key")) return keyTold(event, owner, key, phase, held);
+  if (event.deed === "load") return linkTold(moment, owner, who, phase);
+  if (event.deed === "store" && event.word.endsWith(".key")) return `makes a node for ${key}. Nobody else sees it yet.`;
+  return writeTold(moment, owner, who);
+}
+
+function lockTold(event, who, plain, waits) {
+  if (plain) return event.deed === "store" ? "is done." : "sets out.";
+  const what = who === undefined || event.word === "list.lock" ? "the lock" : `the lock of ${who}`;
+  if (event.deed === "store") return `gives back ${what}.`;
+  if (event.saw === event.from) return `takes ${what}.`;
+  return `wants ${what}, but ${chip(event.saw.slice(1))} has it. ${bold(waits ? "It waits." : "It goes on all the same.")}`;
+}
+
+function keyTold(event, owner, key, phase, held) {
+  if (phase === "again") {
+    if (held.pc === 14 && held.reply === "none") return `is past the place of its pred, and has not met it: ${bold("pred is not in the list any more.")} It lets go and starts again.`;
+    return held.node === held.pred ? "meets its pred: it is still in the list." : "walks on: this is not its pred.";
+  }
+  if (owner === "tail") return "has come to the end: here is the place.";
+  const seen = Number(event.saw);
+  if (seen < key) return `reads ${bold(seen)}: too small, it goes on.`;
+  if (event.call.operation === "ceiling") return `reads ${bold(seen)}: big enough.`;
+  if (seen === key) return `reads ${bold(seen)}: found.`;
+  return `reads ${bold(seen)}: too big. The place of ${key} is just before it.`;
+}
+
+function linkTold(moment, owner, who, phase) {
+  const { trace, state, event, held, before } = moment;
+  const isMarked = event.saw.endsWith("*");
+  const to = nodeName(state, bare(event.saw));
+  if (phase === "look" || (event.answer !== undefined && isMarked)) return isMarked ? `sees the mark: ${bold(`this ${who} has been removed.`)}` : `sees no mark: ${who} is in.`;
+  if (phase === "check") {
+    if (held.reply === "none" && held.pc === 13) {
+      if (owner === before.pred && isMarked) return `sees a mark on its pred: ${bold("it was removed meanwhile.")} It lets go and starts again.`;
+      return isMarked ? `sees a mark on ${who}. It lets go and starts again.` : `sees that ${who} points to ${to} now. It lets go and starts again.`;
+    }
+    return owner === before.pred ? "sees no mark on its pred, which still points to curr." : `sees no mark on ${who}. It may write.`;
+  }
+  if (phase === "again") {
+    if (owner === before.pred && before.pc === 8) {
+      if (held.pc === 14 && held.reply === "none") return `sees that ${who} points to ${to} now: ${bold("something came in between.")} It lets go and starts again.`;
+      return "sees that pred still points to curr.";
+    }
+    return `walks from ${who} once more.`;
+  }
+  if (phase === "unlink" || before.pc === 8) return `looks what comes after ${who}: ${to}.`;
+  if (trace.kind === "lock-free" && event.changes.curr === undefined) {
+    return isMarked ? `meets ${who}, which is marked: it will take it out on its way.` : `looks at the arrow of ${who}: no mark.`;
+  }
+  return owner === "head" ? `sets out from the head: curr is on ${to}.` : `moves on: curr is on ${to}.`;
+}
+
+function writeTold(moment, owner, who) {
+  const { state, event, before } = moment;
+  const key = event.call.key;
+  const to = nodeName(state, bare(event.to ?? ""));
+  const isDone = event.deed === "store" || event.saw === event.from;
+  if (event.to.endsWith("*")) {
+    if (isDone) return `marks ${who}: ${bold(`${key} is removed.`)}`;
+    return event.saw.endsWith("*") ? `wants to mark ${who}, but it is marked already. ${bold("It was too late")}, and looks again.` : `wants to mark ${who}, but its arrow has changed. It looks again.`;
+  }
+  if (!state.nodes[owner].reached && event.put === undefined && event.took === undefined && event.deed === "store" && owner !== before.pred) {
+    return `lets its node point to ${to}.`;
+  }
+  if (event.put !== undefined) {
+    const isIn = state.chain().includes(bare(event.to));
+    return isIn ? `lets ${who} point to ${key}: ${bold(`${key} is in.`)}` : `lets its pred point to ${key}. ${bold("But that pred is not in the list.")}`;
+  }
+  if (!isDone) {
+    const rest = event.answer !== undefined ? "That does not matter: the mark counts." : "It looks again.";
+    return `wants to change the arrow of ${who}, but it is not what it saw. ${rest}`;
+  }
+  return `lets ${who} point to ${to}: ${nodeName(state, before.curr)} is out of the chain.`;
+}

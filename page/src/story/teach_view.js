@@ -1,0 +1,99 @@
+// For teachers: a lecture as links, a question for one's own pages, homework as one link, and what a class handed in.
+import { LISTS } from "../../made/rows.js";
+import { OWN_COURSE } from "../data/own_course.js";
+import { linkTo } from "../page/visit.js";
+import { escaped, tag } from "../run/markup.js";
+import { QUESTIONS } from "./ask.js";
+import { copyText } from "./give.js";
+import { beginHandIns, handInDeeds, handInsHtml } from "./handins_view.js";
+import { beginHomework, homeworkDeeds, homeworkHtml } from "./homework_view.js";
+import { startAfresh } from "./kept_story.js";
+import { head, part } from "./scene.js";
+
+// Of each slide its minutes, its title, its address, and what to ask.
+/** @type {[number, string, string, string][]} */
+const LECTURE = [
+  [2, "Lose a number", "#story=2&view=lecture", "No lock. Let the class call out A or B until a number is lost."],
+  [3, "One lock", "#story=3&view=lecture", "A has the lock and is stopped. How far does B get? Let the class guess, then press 1, 2 or 3."],
+  [5, "Why a second walk", "#ask=stale-pred&view=lecture", "May A write? After the answer, press “And without this check?”: 5 is lost."],
+  [4, "In another thread’s step", "#ask=read-in-anothers-step&view=lecture", "A will answer false. When is that right? In a step of B."],
+  [3, "Who waits?", "#sides=coarse.lazy&quota=4&calls=0.add.5,1.contains.5&turns=0.0.0.0&view=lecture",
+    "Press 1 three times: LazyList has answered, CoarseList tries its lock."],
+  [3, "Everybody judges", "#seed=lazy.2.5.2.17&judge", "Write the link on the board. All get the same run, without its answers."],
+];
+const PANELS = { slides: "Lecture", embed: "Embed", homework: "Homework", handins: "Hand-ins", own: "Your own lessons" };
+
+function lectureHtml() {
+  const slide = ([minutes, title, href, says]) =>
+    tag("li", {}, tag("span", { class: "minutes" }, `${minutes}′`), `<div><b>${title}</b><p class="small">${says}</p></div>`,
+      tag("a", { class: "button", href, target: "_blank" }, "Open slide ↗"),
+      tag("button", { class: "quiet", "data-do": "link", "data-link": href }, "Copy link"));
+  const sum = LECTURE.reduce((total, [minutes]) => total + minutes, 0);
+  return `<section class="panel" id="slides"><h2>A lecture of ${sum} minutes</h2>
+    <p class="prose">Each link opens one slide, as large as the screen. A presenter’s keys and the arrows step; A and B let a thread go on; Escape
+    leads back. Ask the class first, then step.</p><ol class="plan">${LECTURE.map(slide).join("")}</ol></section>`;
+}
+
+// ---- a question in one's own page
+
+const titleOf = (name) => QUESTIONS.find((item) => item.name === name).title;
+const snippetOf = (name) =>
+  `<iframe src="${linkTo(`#ask=${name}&view=embed`)}" width="800" height="420" style="border:0" loading="lazy" title="${titleOf(name)}"></iframe>`;
+
+function embedHtml() {
+  const option = ({ name, title, list }) => tag("option", { value: name }, `${title} (${LISTS[list].name})`);
+  return `<section class="panel" id="embed"><h2>A question in your own page</h2>
+    <p class="prose">The question, the list, the answers, then the run: in 800 × 420 pixels, for a course page or a blog.</p>
+    <div class="line"><label>Question <select id="embed-which">${QUESTIONS.map(option).join("")}</select></label>
+    <button data-do="snippet">Copy the snippet</button></div><pre id="embed-text" class="snippet" tabindex="0"></pre>
+    <div class="frame"><iframe id="embed-frame" width="800" height="420" title="how it looks" loading="lazy"></iframe></div></section>`;
+}
+
+function beginEmbed() {
+  const which = part("#embed-which");
+  which.value = "two-removers";
+  which.onchange = () => {
+    part("#embed-text").textContent = snippetOf(which.value);
+    part("#embed-frame").src = `${location.pathname}?embed=${which.value}#ask=${which.value}&view=embed`; // a frame of its own, not this page
+  };
+  which.onchange();
+}
+
+const OWN = `<section class="panel" id="own"><h2>Lessons of your own</h2>
+  <p class="prose">A course is a text: of each lesson a question, a list, the numbers in it, and what a solution shows. Write it under Solve,
+  “Courses”: it names errors by their lines, and makes a link with the whole course in it. The start of a lesson must not reach its goal. With
+  <code>lacks</code> and the name of a check below its list, a lesson is solved when that list is broken. <a class="button" href="#learn">Open Solve</a></p>
+  <details><summary>A course of one lesson</summary><pre class="snippet" tabindex="0">${escaped(OWN_COURSE)}</pre></details>
+  <h2>A computer that others use too</h2><p class="prose">Names and solutions are kept in the browser. <button data-do="afresh">Start afresh</button>
+  takes all of them away.</p></section>`;
+
+function html() {
+  const jump = ([id, name]) => tag("button", { class: "quiet", "data-do": "jump", "data-panel": id }, name);
+  const lead = `<p class="lead">A lecture of twenty minutes, figures for your own pages, homework as one link, and hand-ins that check themselves.
+    No account, no server: all of it happens in the browser.</p><p class="jump">${Object.entries(PANELS).map(jump).join("")}</p>`;
+  return `${head("", "For teachers", lead, "title")}${lectureHtml()}${embedHtml()}${homeworkHtml()}${handInsHtml()}${OWN}
+    <footer class="foot"><span id="scene-told" class="small" role="status"></span><span class="spread"></span>
+    <button class="primary" data-do="jump" data-panel="homework">Put homework together</button></footer>`;
+}
+
+function begin() {
+  beginEmbed();
+  beginHomework();
+  beginHandIns();
+}
+
+/** @type {import("./scene.js").View} */
+export const teachView = {
+  kind: "teach",
+  title: () => "For teachers · Why not just one lock?",
+  html,
+  begin,
+  deeds: {
+    ...homeworkDeeds,
+    ...handInDeeds,
+    jump: ({ dataset }) => part(`#${dataset.panel}`).scrollIntoView({ behavior: "smooth" }),
+    link: ({ dataset }) => copyText(linkTo(dataset.link), "The link is copied."),
+    snippet: () => copyText(snippetOf(part("#embed-which").value), "The snippet is copied."),
+    afresh: startAfresh,
+  },
+};

@@ -1,0 +1,97 @@
+"""Guess, then see: each question is answered, shown, changed and left."""
+
+DONE = "return document.querySelector('.reveal') !== null && document.body.dataset.busy !== 'yes'"
+
+
+def idle(visitor):
+    visitor.wait("return document.body.dataset.busy !== 'yes'")
+
+
+def hurried(visitor):
+    """The run is shown to its end at once by a key."""
+    visitor.press("Right")
+    visitor.wait(DONE)
+
+
+def test_each_question_is_shown_changed_and_left(visitor):
+    visitor.open("#ask")
+    names = visitor.script("return [...document.querySelectorAll('#scene .card')].map((it) => it.hash.slice(5))")
+    assert len(names) == 18
+    for name in names:
+        visitor.open(f"#ask={name}")
+        visitor.click("[data-option]")
+        hurried(visitor)
+        assert len(visitor.text(".reveal .you")) > 20 and len(visitor.text(".reveal .why")) > 40, name
+        if visitor.is_seen("[data-do=without]"):
+            visitor.click("[data-do=without]")
+            visitor.press("Right")
+            visitor.wait("return document.querySelector('[data-do=home]') !== null && document.body.dataset.busy !== 'yes'")
+            assert "that is proved" in visitor.text(".reveal") and visitor.is_seen(".steps del"), name
+            visitor.click("[data-do=home]")
+            assert visitor.is_seen("[data-do=if]"), name
+
+
+def test_a_branch_stands_beside_the_example(visitor):
+    visitor.open("#ask=stale-pred")
+    visitor.press("2")
+    visitor.wait(DONE)
+    question = visitor.text("h1")
+    visitor.press("a")
+    idle(visitor)
+    assert "What if 1" in visitor.text("#branches") and visitor.text("h1") == f"What if?{question}"
+    visitor.click("#branches button", "The example")
+    assert visitor.text("h1") == question and visitor.text(".scrub .count").split()[0] == visitor.text(".scrub .count").split()[2]
+    visitor.click("#branches button", "What if 1")
+    assert "Your own branch" in visitor.text(".reveal")
+
+
+def test_the_map_ticks_what_was_guessed(visitor):
+    for name, option in (("two-removers", 1), ("stale-pred", 0)):
+        visitor.open(f"#ask={name}")
+        visitor.press(str(option + 1))
+        visitor.wait(DONE)
+    visitor.open("#ask")
+    assert "1 of 11 guessed right at the first try, 2 seen" in visitor.text(".score")
+    assert visitor.text(".card[href='#ask=two-removers'] .sign") == "✓" and visitor.text(".card[href='#ask=stale-pred'] .sign") == "seen"
+    visitor.reload()
+    visitor.wait("return document.body.dataset.ready === 'yes'")
+    assert "2 seen" in visitor.text(".score")
+
+
+def test_a_frame_in_another_page(visitor):
+    visitor.open("#story=2")
+    visitor.settle()
+    visitor.go(f"{visitor.place}/tests/nothing.html")
+    visitor.script("""const frame = document.createElement("iframe");
+        Object.assign(frame, { width: 800, height: 420, src: "../index.html#ask=two-removers&view=embed" }); document.body.append(frame)""")
+    visitor.wait("return document.querySelector('iframe').contentDocument?.body?.dataset.ready === 'yes'")
+    seen = """const { contentDocument: own } = document.querySelector("iframe");
+        const sees = (it) => { const box = own.querySelector(it)?.getBoundingClientRect(); return box !== undefined && box.height > 0 && box.bottom <= 420; };
+        return [sees("h1"), sees(".list svg"), sees("[data-option]"), sees("#show-me"), sees("#top"), own.documentElement.scrollWidth <= 800]"""
+    assert visitor.script(seen) == [True, True, True, True, False, True]
+    visitor.script("document.querySelector('iframe').contentDocument.querySelectorAll('[data-option]')[1].click()")
+    visitor.wait("return document.querySelector('iframe').contentDocument.querySelector('.reveal') !== null")
+    visitor.settle()
+    visitor.open()
+    visitor.wait("return location.hash.includes('story=2')")  # what was looked at in a frame is not where one was
+
+
+def test_old_addresses_open_the_questions(visitor):
+    visitor.open("#watch")
+    assert visitor.text("h1") == "Guess, then see"
+    visitor.open("#example=snip&event=17&view=lecture")
+    assert visitor.is_seen("#list svg") and visitor.event() == 17
+
+
+def test_sentences_are_whole(visitor):
+    """Of each event of each example, as the story tells it."""
+    visitor.open("#ask")
+    told = visitor.inside("""const { LiveRun, QUESTIONS, APPENDIX, taleOf, momentAt } = listsets;
+        return [...QUESTIONS, ...APPENDIX].flatMap(({ list, opening, threads = 2, quota = 4, lines, rest }) => {
+          const run = new LiveRun({ list, opening, threads, quota, lines: [...lines, ...rest] });
+          return Array.from({ length: run.trace.total }, (_, at) => {
+            run.moveTo(at + 1);
+            return taleOf(momentAt(run.state, run.count)).replace(/<[^>]*>/g, "");
+          });
+        })""")
+    assert len(told) > 300 and not [it for it in told if "undefined" in it or not it.endswith(".") or len(it) < 10]

@@ -1,0 +1,186 @@
+"""The path: a first-time visitor goes through it by presses, guesses and keys, and finds the way back."""
+
+import pytest
+
+DONE = "return document.querySelector('.reveal') !== null && document.body.dataset.busy !== 'yes'"
+
+
+def idle(visitor):
+    visitor.wait("return document.body.dataset.busy !== 'yes'")
+
+
+def press(visitor, keys):
+    for key in keys:
+        visitor.press(key)
+        idle(visitor)
+
+
+def guess(visitor, key):
+    visitor.press(key)
+    visitor.wait(DONE)
+
+
+def test_a_first_visit_opens_the_path(visitor):
+    visitor.open()
+    assert visitor.hash in ("", "#story=1") and "Why not just one lock?" in visitor.text("#scene .hero")
+    assert visitor.text("h1") == "How does a thread put 5 into a sorted list?" and visitor.in_window("[data-step]")
+    assert visitor.title.startswith("How does a thread put 5")
+
+
+@pytest.mark.parametrize("number", range(1, 10))
+def test_who_presses_show_me_gets_through(visitor, number):
+    visitor.open(f"#story={number}")
+    for _ in range(60):
+        stage = visitor.inside("return listsets.now.scene.stage")
+        if stage == "done":
+            break
+        if stage == "playing":
+            visitor.wait(DONE.replace("!== null &&", "!== null || listsets.now.scene.stage === 'moment' &&"))
+        else:
+            visitor.click("#show-me")
+            idle(visitor)
+    visitor.wait(DONE)
+    assert len(visitor.text(".why")) > 60 and visitor.text("#go-on").startswith(("Continue", "And now?"))
+
+
+@pytest.mark.parametrize(("keys", "lost"), [("abbbaa", 6), ("baaabb", 5), ("abaabb", 5), ("aabbba", 6)])
+def test_each_way_to_lose_a_number(visitor, keys, lost):
+    visitor.open("#story=2")
+    press(visitor, keys)
+    visitor.wait(DONE)
+    assert visitor.text(".why b") == f"{lost} is lost." and visitor.text(".ledger .odd") == str(lost)
+    assert visitor.is_seen(".list .lost") and visitor.in_window(".ledger")
+
+
+def test_a_number_that_is_not_lost_and_one_press_back(visitor):
+    visitor.open("#story=2")
+    press(visitor, "aaabbb")
+    assert "nothing is lost" in visitor.text("#talk") and visitor.text("#show-me") == "Start over"
+    visitor.click("[data-undo]")
+    assert "nothing is lost" not in visitor.text("#talk")
+
+
+def test_a_wrong_guess_has_its_reply_and_steps_are_no_entries(visitor):
+    visitor.open("#story=3")
+    before = visitor.script("return history.length")
+    guess(visitor, "2")
+    assert "You said: as far as A." in visitor.text(".reveal") and "Not one step." in visitor.text(".reveal")
+    press(visitor, "aaa")
+    visitor.settle()
+    assert visitor.script("return history.length") == before
+
+
+def test_continue_by_keys_and_back(visitor):
+    visitor.open("#story=3")
+    guess(visitor, "3")
+    assert visitor.focus() == "BUTTON go-on"
+    visitor.press("Enter")
+    visitor.wait("return location.hash === '#story=4'")
+    assert visitor.focus().startswith("H1")
+    visitor.back()
+    visitor.wait("return document.querySelector('h1').innerText.startsWith('One lock')")
+
+
+def test_who_comes_back_goes_on(visitor):
+    visitor.open("#story=3")
+    guess(visitor, "3")
+    visitor.click("#go-on")
+    visitor.wait("return location.hash === '#story=4'")
+    visitor.settle()
+    visitor.open()
+    assert "Welcome back: you have done 1 of 9" in visitor.text(".welcome") and visitor.text("h1").startswith("Can each node")
+    visitor.click(".welcome a")
+    visitor.wait("return document.querySelector('h1').innerText.startsWith('How does a thread')")
+    assert "done" in visitor.script("return document.querySelectorAll('.dots a')[2].className")
+
+
+def test_a_link_to_where_one_is_begins_anew(visitor):
+    visitor.open("#story=3")
+    guess(visitor, "3")
+    visitor.click("nav a[href='#story']")
+    visitor.wait("return document.querySelector('.reveal') === null")
+    guess(visitor, "2")
+    assert "You said: as far as A." in visitor.text(".reveal")
+
+
+def test_the_moment_is_found_and_not_told(visitor):
+    visitor.open("#story=8")
+    visitor.press("2")
+    visitor.wait("return document.querySelectorAll('.content.press').length === 3")
+    assert visitor.script("return [...document.querySelectorAll('.strip .point')].every((it) => getComputedStyle(it).display === 'none')")
+    for at in (0, 2):
+        visitor.script("document.querySelectorAll('.content')[arguments[0]].focus()", at)
+        visitor.press("Enter")
+        assert "5 was in the set" in visitor.text("#talk")
+    visitor.script("document.querySelectorAll('.content')[1].focus()")
+    visitor.press("Enter")
+    visitor.wait(DONE)
+    assert "linearizable" in visitor.text(".reveal")
+
+
+def test_step_by_the_code(visitor):
+    visitor.open("#code=lazy")
+    press(visitor, "ab")
+    for _ in range(2):
+        visitor.click(".steps button.row", "lock pred")
+        idle(visitor)
+    assert "takes the lock of 3" in visitor.text(".tale")
+    visitor.click("[data-active='0']")
+    visitor.click(".steps button.row", "validate")
+    idle(visitor)
+    assert "It waits." in visitor.text(".tale")
+    visitor.settle()
+    where = visitor.hash
+    assert where.startswith("#code=lazy&opening=3.7&s=b0.add.5")
+    visitor.open(where)
+    assert "It waits." in visitor.text(".tale")
+    visitor.open("#code=lazy&s=g0.4")
+    assert "cannot be made" in visitor.text("#code-told")
+
+
+def test_letters_can_be_switched_off(visitor):
+    visitor.open("#example=snip")
+    visitor.press("?")
+    visitor.click("#single-keys")
+    visitor.open("#story=2")
+    visitor.press("a")
+    assert visitor.script("return document.querySelectorAll('[data-undo]').length") == 0
+
+
+def test_live_regions_of_a_step_say_a_sentence_once(visitor):
+    visitor.open("#story=2")
+    visitor.script("""window.said = []; const isLive = (it) => it.closest("[aria-live=polite], [role=status]") !== null;
+        new MutationObserver((all) => all.forEach(({ target }) => { const it = target.nodeType === 1 ? target : target.parentElement;
+            if (isLive(it)) window.said.push(it.closest("[aria-live], [role=status]").className); }))
+            .observe(document.body, { subtree: true, childList: true, characterData: true })""")
+    press(visitor, "a")
+    assert visitor.script("return window.said") == ["tale"]
+
+
+@pytest.mark.parametrize("number", [1, 2, 4, 8, 10])
+def test_a_phone_by_thumb(visitor, number):
+    visitor.size(390, 844)
+    visitor.open(f"#story={number}")
+    wide = visitor.script("return [document.documentElement.scrollWidth, document.documentElement.clientWidth]")
+    assert wide[0] <= wide[1]
+    if number < 3:
+        visitor.touch("[data-step='0']")
+        idle(visitor)
+        assert visitor.text(".tale") != ""
+
+
+def test_a_slide_by_a_presenters_keys(visitor):
+    visitor.open("#story=2&view=lecture")
+    assert not visitor.is_seen("#top") and not visitor.is_seen(".dots")
+    for _ in range(8):
+        visitor.press("PageDown")
+        idle(visitor)
+    visitor.wait("return location.hash.startsWith('#story=3&view=lecture')")
+    visitor.press("Escape")
+    assert visitor.is_seen("#top")
+
+
+def test_wrong_addresses_are_told(visitor):
+    for address, word in (("#story=77", "77"), ("#ask=nothing", "nothing"), ("#break=99", "99"), ("#story=2&view=small", "small")):
+        visitor.open(address)
+        assert word in visitor.text("#told"), address

@@ -1,0 +1,69 @@
+"""What somebody meets who makes a list of his own by docs/NEW-LIST.md: that each list is in each place that names the lists, and that
+build/new_list makes a copy, writes it there, and says what is left. What it makes is proved by ./gate, of examples/lists."""
+
+import re
+import shutil
+
+import lists
+import pytest
+from harness.programs import TOP, ran, well
+
+KINDS = [it.word for it in lists.lists()]
+PLACES = {**lists.CODE, **lists.TEXTS}
+
+
+@pytest.fixture
+def copy(tmp_path):
+    """A repository with what new_list reads and writes."""
+    for path in ["build", "crates.txt", "examples/lists", *PLACES, *(f"crates/{it.crate}" for it in lists.lists())]:
+        to = tmp_path / "copy" / path
+        to.parent.mkdir(parents=True, exist_ok=True)
+        if (TOP / path).is_dir():
+            shutil.copytree(TOP / path, to, ignore=shutil.ignore_patterns("out", "__pycache__"), dirs_exist_ok=True)
+        else:
+            shutil.copy(TOP / path, to)
+    return tmp_path / "copy"
+
+
+def code_in(crate):
+    """The text of a crate's files, without comments."""
+    files = [it for it in crate.rglob("*") if it.suffix in (".rt", ".antt")]
+    return "\n".join(re.sub(r"(^|\s)(--|//).*", "", line) for it in files for line in it.read_text().splitlines())
+
+
+@pytest.mark.parametrize("one", lists.lists(), ids=KINDS)
+def test_each_list_is_in_each_place(one):
+    assert lists.missing(one, lists.CODE) + lists.missing(one, lists.TEXTS) == []
+
+
+@pytest.mark.parametrize("old", lists.lists(), ids=KINDS)
+def test_a_copy_has_names_of_its_own_and_the_kind_of_its_list(copy, old):
+    assert "crates/lset_one_more" in well(copy / "build/new_list", old.word, "one-more")
+    code = code_in(copy / "crates/lset_one_more")
+    assert old.type not in code and old.crate not in code and f"const KIND: Kind = Kind::{old.kind};" in code
+    assert "impl Machine for OneMoreList" in code and "pub one_more_lawful : Lawful one_more" in code
+
+
+def test_a_joined_list_lacks_only_what_is_written_by_hand(copy):
+    for word in ["one-more", "not-yet"]:
+        well(copy / "build/new_list", "fine", word)
+    well(copy / "build/new_list", "--join", "one-more")
+    left = ran(copy / "build/new_list", "--left", "one-more")
+    assert left.returncode == 1 and {it.partition(":")[0] for it in left.stdout.splitlines()} == set(lists.TEXTS)
+    assert len(lists.TEXTS) <= 8
+    assert "const KIND: Kind = Kind::OneMore;" in code_in(copy / "crates/lset_one_more")
+    assert [ran(copy / "build/new_list", "--left", it).returncode for it in KINDS] == [0] * len(KINDS)
+
+
+def test_the_patch_of_each_exercise_applies_to_the_copy_that_its_page_makes(copy):
+    lists.add_exercises(copy)
+    added = [it for it in lists.lists(copy) if it.word not in KINDS]
+    assert [it.word for it in added] == sorted(it.stem for it in (TOP / "examples/lists").glob("*.patch"))
+    assert all(f"pub {it.table}_lawful : Lawful {it.table}" in code_in(copy / "crates" / it.crate) for it in added)
+
+
+@pytest.mark.parametrize("words", [[], ["lazy"], ["lazy", "lazy"], ["lazy", "Lazy-Add"], ["lazy", "../x"], ["no-list", "x"], ["--check", "no-list"], ["--join", "lazy"]])
+def test_wrong_words_write_nothing(copy, words):
+    before = sorted(copy.rglob("*"))
+    done = ran(copy / "build/new_list", *words)
+    assert done.returncode in (1, 2) and done.stderr and "Traceback" not in done.stderr and sorted(copy.rglob("*")) == before
