@@ -29,8 +29,7 @@ use showing::{draw_text, example_by, run_broken};
 use std::alloc::Global;
 use tool_base::{answer_text, list_faults};
 use tool_judge::{judge_bytes, judge_input};
-use tool_replay::{Check, Expand, Replay};
-use tool_trace::Trace;
+use tool_replay::{Check, Expand, Replay, Trace};
 
 /// What `listset replay` prints of a schedule: its report; or the line about the first error of the text, the first event
 /// that is not enabled, or a text of more than 67,108,864 bytes.

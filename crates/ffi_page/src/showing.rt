@@ -3,9 +3,8 @@ use broken_lists::{BrokenList, named};
 use std::alloc::Global;
 use tool_base::{Answer, Trouble, ValueName, answer_text};
 use tool_judge::ShowJudged;
-use tool_replay::{ReplayBroken, print_example, read_example_request};
+use tool_replay::{ReplayBroken, Trace, print_example, read_example_request};
 use tool_show::{Show, read_show};
-use tool_trace::Trace;
 
 /// What the options ask for that begin at this index of the words. The error names one that is wrong.
 fn show_by(svg: bool, words: &[String], first: usize) -> Result<Show, ValueName> {

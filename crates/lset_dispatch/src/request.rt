@@ -8,9 +8,8 @@ use tool_base::{
     LivesRequest, RandomRequest, ServeRequest, ValueName, read_lives_request, read_random_request,
     read_serve_request,
 };
-use tool_replay::{ExampleRequest, read_example_request};
+use tool_replay::{ExampleRequest, Trace, read_example_request};
 use tool_show::{Show, read_show};
-use tool_trace::Trace;
 
 /// What a command line asks for, whatever the file is that the command reads.
 #[derive(Clone, Copy)]

@@ -11,9 +11,10 @@ use std::thread::Threads;
 use std::time::Clock;
 use tool_base::{deliver, list_faults, run_tool};
 use tool_judge::{ShowJudged, judge_input};
-use tool_replay::{Expand, ReplayBroken, generate_text, print_example, tool_check, tool_replay};
+use tool_replay::{
+    Expand, ReplayBroken, generate_text, print_example, tool_check, tool_replay, trace_events,
+};
 use tool_threads::{run_lives, serve_set, serve_set_of};
-use tool_trace::trace_events;
 
 /// Replays the input, by a broken list if one is given.
 fn replay<R: Read, W: Write, E: Write>(

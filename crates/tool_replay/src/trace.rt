@@ -1,6 +1,14 @@
-use crate::lines::Output;
-use crate::running::trace_into;
+//! The text of a trace: what each event of a schedule did, one line for each.
+
+mod chunks;
+mod events;
+mod lines;
+mod running;
+mod table_words;
+
 use broken_lists::BrokenList;
+use lines::Output;
+use running::trace_into;
 use std::alloc::Global;
 use std::io::{Read, Write};
 use tool_base::{Answer, Input, Tool, Trouble, read_all};

@@ -1,5 +1,5 @@
 //! The words of a list's table as text: three of the list, and three of each node.
-use crate::chunks::{Chunk, put, put_number};
+use crate::trace::chunks::{Chunk, put, put_number};
 
 /// The key word of the tail.
 const ABOVE_ALL_KEYS: u64 = 4_294_967_297;

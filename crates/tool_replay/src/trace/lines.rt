@@ -1,7 +1,7 @@
 //! The text of a trace as it is made, and where it goes.
 
-use crate::chunks::{Chunk, is_full, put, put_number};
-use crate::events::put_event;
+use crate::trace::chunks::{Chunk, is_full, put, put_number};
+use crate::trace::events::put_event;
 use lset_replay::TracedEvent;
 use lset_schedule::Schedule;
 use lset_steps::ChainKey;
