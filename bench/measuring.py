@@ -1,5 +1,6 @@
 """What the parts of bench/run share: programs that are built; the processor seconds and the peak memory of runs; rows of tables."""
 
+import datetime
 import os
 import re
 import subprocess
@@ -14,6 +15,15 @@ TOP = os.path.dirname(BENCH)
 RUNS = 9
 TIME = "/usr/bin/time"
 CALLS, SEED = "10000", "1"
+
+
+def measured_on():
+    """The date, the machine and what it had to do when a table was begun."""
+    with open("/proc/cpuinfo") as it:
+        model = re.search(r"model name\s*: (.*)", it.read())
+    named = " ".join(re.sub(r"\(R\)|\(TM\)|CPU|Processor|@", " ", model[1] if model else "").split()) or "processors"
+    many, load = len(os.sched_getaffinity(0)), os.getloadavg()[0]
+    return f"{datetime.date.today():%-d %B %Y}, {many} x {named}, load {load:.1f}"
 
 
 def built(name):

@@ -1,13 +1,11 @@
 """What running threads cost, beside lists by hand: calls by kind, and rounds of calls at several sizes of the set."""
 
-import shutil
 import statistics
 import subprocess
-import sys
 import tempfile
 
 from build_benches import by_rustc
-from measuring import BENCH, CALLS, RUNS, SEED, built, heading, kinds, row
+from measuring import CALLS, RUNS, SEED, built, heading, kinds, row
 
 THREADS = (1, 4)
 QUOTA, KEYS = "5000", "1000"
@@ -53,12 +51,7 @@ def programs_of(room):
     """Of each set the words of the program that times rounds of its calls, but for their numbers."""
     timer, tool, peer = built("bench_calls"), built("listset"), by_rustc("peer.rs", room)
     sets = {kind: [timer, kind, "whole"] for kind in kinds(tool)}
-    sets |= {"`Mutex<BTreeSet>`": [peer, "whole", "mutex-tree"], "`RwLock<BTreeSet>`": [peer, "whole", "rwlock-tree"]}
-    if shutil.which("javac"):
-        subprocess.run(["javac", "-d", room, f"{BENCH}/SkipList.java"], check=True)
-        sets["Java's `ConcurrentSkipListSet`"] = ["java", "-cp", room, "SkipList"]
-    else:
-        print("bench: no javac is installed, so the row of ConcurrentSkipListSet is left out", file=sys.stderr)
+    sets |= {"`Mutex<BTreeSet>`": [peer, "whole", "mutex-tree"]}
     return sets
 
 
@@ -76,7 +69,7 @@ def median_of(runs, call):
 
 
 def nanoseconds(words):
-    """Of each kind of call, or of all, the nanoseconds of one, as a run of bench_calls, of peer.rs or of SkipList.java tells them, which
+    """Of each kind of call, or of all, the nanoseconds of one, as a run of bench_calls or of peer.rs tells them, which
     leave out the calls in which the processor was taken away."""
     run = subprocess.run(words, stdin=subprocess.DEVNULL, capture_output=True, text=True, check=True)
     many = {kind: int(calls) for kind, calls in map(str.split, run.stdout.splitlines())}
