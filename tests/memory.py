@@ -76,27 +76,17 @@ def events_of(schedule):
     return many
 
 
-def test_drafts(program):
-    """`draft` of hundreds of thousands of events."""
-    events_of(printed_within(LITTLE, program, "draft", text=long_walks()))
-
-
-def test_traces(program):
-    """`trace` of as many: their text has tens of megabytes."""
-    schedule = printed(program, "draft", text=long_walks())
-    trace = printed_within(LITTLE, program, "trace", text=schedule)
-    assert (trace.count(b"\nevent "), trace[-5:]) == (events_of(schedule), b"\nend\n")
-
-
-@pytest.mark.parametrize("words", ["replay", "show", "show --from 400000", "show --svg --from 400000", "replay --lacks mark-in-contains",
+@pytest.mark.parametrize("words", ["draft", "trace", "replay", "show --from 400000", "show --svg --from 400000", "replay --lacks mark-in-contains",
                                    "show --lacks mark-in-contains --from 400000"])
 def test_events(program, words):
-    """Commands that execute as many, also on a broken list, and print only calls."""
+    """Commands that make or execute hundreds of thousands of events, also on a broken list: what `trace` prints has tens of megabytes."""
     schedule = printed(program, "draft", text=long_walks())
-    assert events_of(schedule) > 400_000  # (of which a picture has few from there on)
-    said = printed_within(LITTLE, program, *words.split(), text=schedule)
-    due = [b"call %d " % (WALKS - 1), b"place %d " % (WALKS - 1)] if "replay" in words else [b": %d calls" % WALKS]
-    assert [it for it in due if it not in said] == []
+    many = events_of(schedule)
+    assert many > 400_000  # (of which a picture has few from there on)
+    said = printed_within(LITTLE, program, *words.split(), text=long_walks() if words == "draft" else schedule)
+    due = {"draft": [schedule], "trace": [b"\nevent %d " % many, b"\nend\n"], "show": [b": %d calls" % WALKS]}
+    due["replay"] = [b"call %d " % (WALKS - 1), b"place %d " % (WALKS - 1)]
+    assert [it for it in due[words.split()[0]] if it not in said] == []
 
 
 # ---- rounds

