@@ -17,7 +17,7 @@ from harness.traces_model import enabled
 
 GREATEST = 2**32 - 1  # key
 MOST_THREADS, MOST_QUOTA, OPENING = 64, 16_384, 1_048_576
-CALLS, TIMES = 32_000, 8  # the most calls that are compared, and how much less the fewer ones are
+CALLS, TIMES = 16_000, 8  # the most calls that are compared, and how much less the fewer ones are
 LITTLE = 0.04, 14_000  # seconds and kilobytes that are not compared
 PROCESSOR_SECONDS = 9  # of one command: a program built without a proof takes up to 2
 SPINNING_SECONDS = 90  # of one whose threads spin at locks, of which the holder may not run for long on a busy machine
@@ -109,21 +109,18 @@ def draft_of(kind, opening, calls, threads):
     return "".join([head("draft 2", kind, threads, MOST_QUOTA, opening), *lines])
 
 
-@pytest.mark.parametrize("at_once", [False, True], ids=["in turn", "at once"])
-@pytest.mark.parametrize("name", [*SHAPES, *NEAR])
+@pytest.mark.parametrize("name, at_once", [*((name, False) for name in [*SHAPES, *NEAR]), ("rising", True), ("looks", True)])
 def test_recordings(asked, few, name, at_once):
     """A right one, and one whose last reply is wrong."""
     sizes = [CALLS // TIMES] if few else [CALLS // TIMES, CALLS]
     for size in sizes:
         opening, calls, left = {**SHAPES, **NEAR}[name](size)
         calls = [it for it in calls if it[0] != "ceiling"]
-        # (calls that change a key take turns also where others are at once, or another order would explain them)
-        is_at_once = at_once and name in ("looks", "at the least", "rising", "from the greatest")
-        text = recording_of(opening, calls, left, 7, is_at_once)
+        text = recording_of(opening, calls, left, 7, at_once)
         assert asked.says("judge", text=text, size=size).startswith(f"ok {len(calls)} calls\n")
         word, key, reply = calls[-1]
         wrong = [*calls[:-1], (word, key, {"true": "false", "false": "true"}[reply])]
-        said = asked.says("judge", text=recording_of(opening, wrong, left, 7, is_at_once), status=1, size=size)
+        said = asked.says("judge", text=recording_of(opening, wrong, left, 7, at_once), status=1, size=size)
         assert said.startswith(f"not linearizable\nno order explains the calls of key {key} ")
     asked.grows(*sizes[:1], sizes[-1])
 
@@ -145,7 +142,7 @@ def runs(asked, kind, size, made, words=()):
 
 @pytest.mark.parametrize("kind", KINDS)
 def test_schedules(asked, few, kind):
-    """Short ones of all shapes; long ones of calls that do not walk far; one that opens with as many keys as may be."""
+    """Short ones of all shapes; long ones of calls that do not walk far."""
     for shape in [*SHAPES.values(), *NEAR.values()]:
         runs(asked, kind, 0, shape(240))
     words = {"coarse": ["--lacks", "lock"], "lazy": ["--lacks", "mark-in-contains"]}.get(kind, ())  # (broken lists that make the same of calls in turn)
@@ -153,8 +150,6 @@ def test_schedules(asked, few, kind):
     for size in [CALLS // TIMES] if few else [CALLS // TIMES, CALLS]:
         runs(asked, kind, size, NEAR[name](size), words)
     asked.grows(CALLS // TIMES, CALLS)
-    if kind == "lazy" and not few:
-        runs(asked, kind, None, (range(OPENING), calls_of("contains", [0]), range(OPENING)))
 
 
 def with_far_keys(draw, lines, keys):

@@ -1,7 +1,7 @@
 """What programs print if an allocation fails: each in turn, one a run.
 
 `tests/harness/fail_allocation.c`, which the toolchain's own clang compiles, refuses the block of memory of one number, and overwrites what
-is freed, so that a read of it shows. A run that does not end within 5 seconds of a processor, or 60 in all, fails.
+is freed, so that a read of it shows. A run that does not end within 5 seconds of a processor, or 300 in all, fails.
 
 The program says that it is out of memory and prints nothing else (but `trace`, which prints its events as they are made);
 or does as ever, where std asks for less room than it guessed at first. An error for whose line there is no memory has its status.
