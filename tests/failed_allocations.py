@@ -31,40 +31,14 @@ CALLS = TOP / "crates/memory_calls/out/unproved/memory_calls"
 # What the program is asked of files in examples/, of a drawn one (DRAWN) and of one with many opening keys, which goes past the end of its
 # call (OPENING) or not (ENDED); of one with many tries at a lock (TRIES), and of one with long chains (CHAIN).
 ASKED = """
-replay opens-with-keys.schedule
-replay ceiling-left-in-chain.schedule
-replay DRAWN
-replay OPENING
-replay refused.schedule
-judge ../../tests/transcripts/data/recorded/seen.calls
-judge ../../tests/transcripts/data/recorded/lost.calls
-check opens-with-keys.report
-check snip.broken.report
-check version-1-at.report
-show OPENING
-show refused.schedule
-show two-removers.broken.report
-show --svg open-call.schedule
-show --svg --from 2 OPENING
-trace refused.schedule
-trace version-1-opening.schedule
-trace --chain OPENING
-trace --chain TRIES
-trace --chain CHAIN
-trace --lacks lock OPENING
-replay --lacks lock ENDED
-show --lacks lock ENDED
-draft ../../tests/transcripts/data/drafts/ceiling-meets-mark.draft
-draft one-add.schedule
-example
-example snip
-example --broken full
-gen fine 2 4 12 8 1
-gen skip
-run coarse 1 4 6 8 1 2
-run lock-free 1 4 20 40 1 2
-faults
---version
+replay opens-with-keys.schedule | replay ceiling-left-in-chain.schedule | replay DRAWN | replay OPENING | replay refused.schedule |
+judge ../../tests/transcripts/data/recorded/seen.calls | judge ../../tests/transcripts/data/recorded/lost.calls |
+check opens-with-keys.report | check snip.broken.report | check version-1-at.report | show OPENING | show refused.schedule |
+show two-removers.broken.report | show --svg open-call.schedule | show --svg --from 2 OPENING | trace refused.schedule |
+trace version-1-opening.schedule | trace --chain OPENING | trace --chain TRIES | trace --chain CHAIN | trace --lacks lock OPENING |
+replay --lacks lock ENDED | show --lacks lock ENDED | draft ../../tests/transcripts/data/drafts/ceiling-meets-mark.draft |
+draft one-add.schedule | example | example snip | example --broken full | gen fine 2 4 12 8 1 | gen skip | run coarse 1 4 6 8 1 2 |
+run lock-free 1 4 20 40 1 2 | faults | --version
 """
 
 LAST_CALL = "still to be refused"
@@ -145,7 +119,7 @@ def texts(program, room):
     return {name: str(file) for name, file in files.items()}
 
 
-@pytest.mark.parametrize("words", ASKED.strip().splitlines())
+@pytest.mark.parametrize("words", [it.strip() for it in ASKED.split("|")])
 def test_each_block_of_a_command(program, room, once, words):
     made = texts(program, room)
     assert out_of_memory_at_each(program, [made.get(word, word) for word in words.split()], once(refuser)) > 0

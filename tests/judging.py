@@ -160,6 +160,9 @@ def test_a_verdict_and_what_is_said_of_it(program, few, seed):
         assert (done.returncode, said, done.stderr) == (int(is_refused), due, ""), text
         assert len([it for it in shown if it.startswith("call ")]) <= 1 + MOST_SHOWN * is_refused and (is_refused or not shown), text
         assert {it for it in shown if it.startswith("call ")} <= {*map(call_line, judged.of_key.get(judged.key, []))}, text
+        if change := re.search(r"moment (\d+) the key is (not )?there, by this change:\n(call .*)", done.stdout):
+            turns = [it for it in judged.of_key[judged.key] if it.word == ("remove" if change[2] else "add") and it.reply == "true"]
+            assert change[3] == call_line(max((it for it in turns if it.end <= int(change[1])), key=lambda it: it.end)), text
         found["right" if not is_refused else "by a moment" if judged.moment else "left wrong"] += 1
     assert few or min(found[it] for it in ("right", "left wrong", "by a moment")) >= TEXTS // 10, found
 
