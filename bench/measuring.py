@@ -8,6 +8,7 @@ import sys
 import tempfile
 
 import build_benches
+import lists
 import toolchain
 
 BENCH = os.path.dirname(os.path.realpath(__file__))
@@ -15,6 +16,7 @@ TOP = os.path.dirname(BENCH)
 RUNS = 9
 TIME = "/usr/bin/time"
 CALLS, SEED = "10000", "1"
+KINDS = [it.word for it in lists.lists()]
 
 
 def measured_on():
@@ -63,12 +65,6 @@ def memory_of(words, given):
         quiet = {"stdout": subprocess.DEVNULL, "stderr": subprocess.DEVNULL}
         subprocess.run([TIME, "-q", "-f", "%M", "-o", told.name, *words], stdin=source, **quiet)
         return int(told.read())
-
-
-def kinds(tool):
-    """The words for the lists, as the help of gen has them."""
-    told = subprocess.run([tool, "help", "gen"], stdout=subprocess.PIPE, text=True, check=True).stdout
-    return re.split(r", | or ", re.search(r"The list: (.*)", told)[1])
 
 
 def heading(*columns):

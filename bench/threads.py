@@ -5,7 +5,7 @@ import subprocess
 import tempfile
 
 from build_benches import by_rustc
-from measuring import CALLS, RUNS, SEED, built, heading, kinds, row
+from measuring import CALLS, KINDS, RUNS, SEED, built, heading, row
 
 THREADS = (1, 4)
 QUOTA, KEYS = "5000", "1000"
@@ -16,12 +16,12 @@ MANY_RUNS = 25
 
 def calls():
     """Calls by kind: their time beside that of the list by hand, the median of some runs in turn."""
-    timer, tool, kind_names = built("bench_calls"), built("listset"), ("add", "remove", "contains")
+    timer, kind_names = built("bench_calls"), ("add", "remove", "contains")
     heads = (f"`{call}`" + f", {named(many)}" * (call == "add") for many in THREADS for call in kind_names)
     heading("List", *heads)
     with tempfile.TemporaryDirectory() as room:
         peer = by_rustc("peer.rs", room)
-        for kind in kinds(tool):
+        for kind in KINDS:
             ratios = []
             for many in THREADS:
                 values = [str(many), QUOTA, CALLS, KEYS, SEED]
@@ -49,10 +49,8 @@ def sizes():
 
 def programs_of(room):
     """Of each set the words of the program that times rounds of its calls, but for their numbers."""
-    timer, tool, peer = built("bench_calls"), built("listset"), by_rustc("peer.rs", room)
-    sets = {kind: [timer, kind, "whole"] for kind in kinds(tool)}
-    sets |= {"`Mutex<BTreeSet>`": [peer, "whole", "mutex-tree"]}
-    return sets
+    timer, peer = built("bench_calls"), by_rustc("peer.rs", room)
+    return {**{kind: [timer, kind, "whole"] for kind in KINDS}, "`Mutex<BTreeSet>`": [peer, "whole", "mutex-tree"]}
 
 
 def named(many):

@@ -16,7 +16,7 @@ import time
 
 import pytest
 from harness.programs import KINDS
-from harness.serve_client import SECONDS, SOON, Client, answer_of, asks, have_ended, read_all, resets, serving
+from harness.serve_client import SECONDS, SOON, Client, Server, answer_of, asks, have_ended, read_all, resets, serving, started
 from harness.set_model import SetModel
 
 pytestmark = pytest.mark.xdist_group("serve")  # (they take turns: each has more clients than there are processors)
@@ -200,14 +200,18 @@ def test_one_seat(program):
 
 
 def test_a_port_that_is_asked_for(program):
-    """A server listens on the port that its words name, which was free just before."""
-    with socket.create_server(("127.0.0.1", 0)) as free:
-        port = free.getsockname()[1]
-    with serving(program, ONE_LIST, 1, ROOM, 1, port) as server:
-        assert server.port == port
-        with server.connect() as connection:
-            asks(connection, b"CONTAINS 7\nQUIT\n", b"FALSE\nBYE\n")
-        server.ends(1, 1, 1, [])
+    """A server listens on the port that its words name, which was free just before; another program may take it first."""
+    for _ in range(5):
+        with socket.create_server(("127.0.0.1", 0)) as free:
+            port = free.getsockname()[1]
+        with started(program, "serve", ONE_LIST, 1, ROOM, port, 1) as process:
+            if first := process.stdout.readline():
+                server = Server(process, first)
+                assert server.port == port
+                with server.connect() as connection:
+                    asks(connection, b"CONTAINS 7\nQUIT\n", b"FALSE\nBYE\n")
+                return server.ends(1, 1, 1, [])
+    raise AssertionError("no port was free")
 
 
 # ---- lines in groups

@@ -46,9 +46,9 @@ def started(*words):
 
 
 @contextlib.contextmanager
-def serving(program, kind, seats, quota, sessions, port=0, before=()):
+def serving(program, kind, seats, quota, sessions, before=()):
     """The program as a server, with these words before its own, such as those of a limit."""
-    with started(*before, program, "serve", kind, seats, quota, port, sessions) as process:
+    with started(*before, program, "serve", kind, seats, quota, 0, sessions) as process:
         yield Server(process)
 
 
