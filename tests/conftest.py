@@ -47,7 +47,8 @@ def pytest_configure(config):
         return
     if config.option.program and not os.access(config.option.program, os.X_OK):
         raise pytest.UsageError(f"there is no program {config.option.program}: build/unproved builds it, ./listset --prove proves it")
-    signal.signal(signal.SIGTERM, signal.default_int_handler)
+    for number in (signal.SIGINT, signal.SIGTERM, signal.SIGHUP):  # (a shell may start it with SIGINT ignored)
+        signal.signal(number, signal.default_int_handler)
     processes.sweep("tests")
     config.folder = pathlib.Path(tempfile.mkdtemp(prefix=f"tests-{os.getpid()}-")).resolve()
     os.environ[OF_RUN] = str(config.folder)
