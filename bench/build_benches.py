@@ -1,7 +1,6 @@
 """The benches: programs in Rattle that the gate does not prove. They are proved and built in a tree of their own, beside the
 libraries below them; here their files end in `_`, since rt takes no .rt or .antt that is not a crate's of the tree."""
 
-import os
 import pathlib
 import shutil
 import subprocess
@@ -25,14 +24,9 @@ def lines_with_benches():
     return crates_txt.lines_of() | crates_txt.lines_by_crate((SOURCES / "rows.txt").read_text())
 
 
-def needed(benches):
-    """These benches and the libraries below them, lowest first."""
-    return crates_txt.below(benches, lines=lines_with_benches())
-
-
 def lay_out(room, names):
     """Makes a tree of these benches and the libraries below them in a folder."""
-    wanted = needed(names)
+    wanted = crates_txt.below(names, lines=lines_with_benches())
     (room / "crates.txt").write_text("".join(f"{lines_with_benches()[it]}\n" for it in wanted))
     shutil.copy2(TOP / "HANDLES", room)
     for it in wanted:
@@ -42,28 +36,18 @@ def lay_out(room, names):
             file.rename(str(file).removesuffix("_"))
 
 
-def is_old(name):
-    """Whether a bench is not built, or of other sources than there are now."""
-    sources = [it for made_of in needed([name]) for it in [SOURCES / made_of, TOP / "crates" / made_of]]
-    files = [file for it in sources for part in ("src", "specs", "proofs") for file in (it / part).rglob("*") if file.is_file()]
-    program = BUILT / name
-    return not program.exists() or any(it.stat().st_mtime > program.stat().st_mtime for it in files)
-
-
 def program_of(name):
-    """The built program of a bench. Where it is old, all that are old are proved and built first, by `rt ci`."""
-    old = [it for it in NAMES if is_old(it)]
-    if name in old:
-        print(f"bench: proving and building {', '.join(old)}, once", file=sys.stderr)
+    """The program of a bench; where one is missing, all are proved and built first, by `rt ci`. (Remove bench/out after a change.)"""
+    if not (BUILT / name).exists():
+        print(f"bench: proving and building {', '.join(NAMES)}, once", file=sys.stderr)
         toolchain.folder()
         with tempfile.TemporaryDirectory(prefix="bench-") as room:
-            lay_out(pathlib.Path(room), old)
+            lay_out(pathlib.Path(room), NAMES)
             if subprocess.run(["rt", "ci"], cwd=room, stdin=subprocess.DEVNULL, stdout=sys.stderr).returncode:
-                sys.exit(f"bench: {', '.join(old)}: not proved")
+                sys.exit(f"bench: {', '.join(NAMES)}: not proved")
             BUILT.mkdir(exist_ok=True)
-            for it in old:
-                shutil.copy2(pathlib.Path(room, "crates", it, "out", it), BUILT / it)
-                os.utime(BUILT / it)
+            for it in NAMES:
+                shutil.copy2(pathlib.Path(room, "crates", it, "out", it), BUILT)
     return str(BUILT / name)
 
 

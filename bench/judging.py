@@ -12,43 +12,34 @@ from measuring import built, heading, least, memory_of, row, seconds_of
 MILLION = 1_000_000
 THREADS, KEYS = 16, 64
 RUNS = 3
-MOST_KB, MOST_GROWTH, MOST_OF_THREADS = 1_000, 10.3, 2  # more of memory and of time for ten times the calls; of 4,096 threads to 8
 
 # Each recording: what it is called, how many calls it has, of how many threads on how many keys, and whether one more call spans all
 RECORDINGS = {
     "1,000,000 calls": (MILLION, THREADS, KEYS, False),
     "10,000,000 calls": (10 * MILLION, THREADS, KEYS, False),
-    "8 threads": (MILLION, 8, KEYS, False),
     "512 threads": (MILLION, 512, KEYS, False),
-    "4,096 threads": (MILLION, 4_096, KEYS, False),
     "a million keys": (MILLION, THREADS, MILLION, False),
-    "one key": (MILLION, THREADS, 1, False),
     "one call spans all": (MILLION, THREADS, KEYS, True),
     "100,000 calls pending at once": (MILLION, 200_000, KEYS, False),
 }
 
 
 def judge():
-    """The table of recordings. Gives the status: 1 where time or memory grows by more than it is to."""
+    """The table of recordings."""
     heading("Recording", "`judge`, s", "KB", "by hand, s", "KB", "ratio")
-    found = {}
     with tempfile.TemporaryDirectory(prefix="bench-") as room:
         programs = [built("listset"), "judge"], [by_rustc("peer_judge.rs", room)]
         for name, asked in RECORDINGS.items():
             with open(f"{room}/recording", "w", encoding="ascii") as file:
                 file.writelines(lines_of(*asked))
-            found[name] = measured_row(name, programs, file.name)
-    (few, few_kb), (many, many_kb) = found["1,000,000 calls"], found["10,000,000 calls"]
-    is_even = many_kb - few_kb <= MOST_KB and many <= MOST_GROWTH * few
-    return 0 if is_even and found["4,096 threads"][0] <= MOST_OF_THREADS * found["8 threads"][0] else 1
+            measured_row(name, programs, file.name)
 
 
 def measured_row(name, programs, given):
-    """Prints the row of a recording: the least seconds of some runs, in turn. Gives those of the first program, and its kilobytes."""
+    """Prints the row of a recording: the least seconds of some runs, in turn."""
     ours, hand = least([seconds_of(words, given, os.devnull, 0) for words in programs] for _ in range(RUNS))
     kb, hand_kb = (memory_of(words, given) or 0 for words in programs)
     row(name, f"{ours:.2f}", f"{kb:,}", f"{hand:.2f}", f"{hand_kb:,}", f"{ours / hand:.2f}")
-    return ours, kb
 
 
 def lines_of(calls, threads, keys, has_spanning):

@@ -1,5 +1,6 @@
 """What the parts of bench/run share: programs that are built; the processor seconds and the peak memory of runs; rows of tables."""
 
+import datetime
 import os
 import re
 import subprocess
@@ -7,6 +8,7 @@ import sys
 import tempfile
 
 import build_benches
+import lists
 import toolchain
 
 BENCH = os.path.dirname(os.path.realpath(__file__))
@@ -14,6 +16,16 @@ TOP = os.path.dirname(BENCH)
 RUNS = 9
 TIME = "/usr/bin/time"
 CALLS, SEED = "10000", "1"
+KINDS = [it.word for it in lists.lists()]
+
+
+def measured_on():
+    """The date, the machine and what it had to do when a table was begun."""
+    with open("/proc/cpuinfo") as it:
+        model = re.search(r"model name\s*: (.*)", it.read())
+    named = " ".join(re.sub(r"\(R\)|\(TM\)|CPU|Processor|@", " ", model[1] if model else "").split()) or "processors"
+    many, load = len(os.sched_getaffinity(0)), os.getloadavg()[0]
+    return f"{datetime.date.today():%-d %B %Y}, {many} x {named}, load {load:.1f}"
 
 
 def built(name):
@@ -53,12 +65,6 @@ def memory_of(words, given):
         quiet = {"stdout": subprocess.DEVNULL, "stderr": subprocess.DEVNULL}
         subprocess.run([TIME, "-q", "-f", "%M", "-o", told.name, *words], stdin=source, **quiet)
         return int(told.read())
-
-
-def kinds(tool):
-    """The words for the lists, as the help of gen has them."""
-    told = subprocess.run([tool, "help", "gen"], stdout=subprocess.PIPE, text=True, check=True).stdout
-    return re.split(r", | or ", re.search(r"The list: (.*)", told)[1])
 
 
 def heading(*columns):

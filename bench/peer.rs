@@ -2,7 +2,7 @@
 //!   rustc -O peer.rs
 //!   peer each KIND THREADS QUOTA CALLS KEYS SEED     times each call, as `bench_calls KIND each ..` does
 //!   peer whole KIND ..                               times rounds of all calls, as `bench_calls KIND whole ..` does; KIND may be
-//!                                                    `mutex-tree` or `rwlock-tree` here, which have no quota
+//!                                                    `mutex-tree` here, which has no quota
 //! The times stand on standard error: of `each`, for each kind of call, nanoseconds over all threads, and how many calls are left out of
 //! them since they took more than `LONGEST`, as where the processor was taken away; of `whole`, nanoseconds by the clock. The output
 //! tells how many calls there were.
@@ -12,7 +12,7 @@ mod lists;
 use lists::{Call, Kind, Op, Seat, Set};
 use std::collections::BTreeSet;
 use std::sync::atomic::{AtomicUsize, Ordering::SeqCst};
-use std::sync::{Mutex, RwLock};
+use std::sync::Mutex;
 use std::time::{Duration, Instant};
 
 const LONGEST: u64 = 200_000;
@@ -203,24 +203,12 @@ fn whole_of_mutex_tree(wanted: &Wanted) {
     });
 }
 
-fn whole_of_rwlock_tree(wanted: &Wanted) {
-    whole(wanted, || RwLock::new(BTreeSet::new()), |tree, _, calls| {
-        for call in calls {
-            std::hint::black_box(match call.op {
-                Op::Contains => tree.read().expect("no thread panics").contains(&call.key),
-                _ => change(&mut tree.write().expect("no thread panics"), call),
-            });
-        }
-    });
-}
-
 fn main() {
     let words: Vec<String> = std::env::args().skip(1).collect();
     let wanted = Wanted::read(&words[2..]);
     match (words[0].as_str(), words[1].as_str()) {
         ("each", kind) => each(Kind::named(kind), &wanted),
         ("whole", "mutex-tree") => whole_of_mutex_tree(&wanted),
-        ("whole", "rwlock-tree") => whole_of_rwlock_tree(&wanted),
         ("whole", kind) => whole_of_list(Kind::named(kind), &wanted),
         (word, _) => panic!("no {word} here"),
     }

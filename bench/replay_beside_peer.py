@@ -5,7 +5,7 @@ import os
 import tempfile
 
 from build_benches import by_rustc
-from measuring import RUNS, SEED, built, heading, kinds, least, row, seconds_of
+from measuring import KINDS, RUNS, SEED, built, heading, least, row, seconds_of
 
 LINES = {"`replay`, a step a line": "1", "`replay`, up to 16": "16"}
 
@@ -14,7 +14,7 @@ def replay():
     """Milliseconds of replay of a million events, and of check of the last report, ours, the peer's, and the ratio."""
     with programs() as (maker, tool, peer, room):
         heading("List", *(cell for it in [*LINES, "`check`, up to 16"] for cell in (it, "peer", "ratio")))
-        for kind in kinds(tool):
+        for kind in KINDS:
             cells = []
             for steps in LINES.values():
                 schedule = made(maker, kind, 1_000_000, steps, room)

@@ -11,7 +11,7 @@ import tempfile
 import time
 
 from build_benches import by_rustc
-from measuring import built, heading, kinds, processor_seconds, row
+from measuring import KINDS, built, heading, processor_seconds, row
 
 ROUNDS = 5
 CLIENTS = (1, 8)
@@ -88,7 +88,7 @@ def loaded(load, protocol, server, clients, at_once):
 def server():
     """Servers: thousand requests a second and the 99th of 100 of the microseconds of a write, the median of some rounds in turn."""
     tool = built("listset")
-    servers = {kind: ("listset", lambda clients, kind=kind: listset(tool, kind, clients)) for kind in kinds(tool)}
+    servers = {kind: ("listset", lambda clients, kind=kind: listset(tool, kind, clients)) for kind in KINDS}
     program = shutil.which("redis-server")
     if program:
         servers["redis"] = "redis", lambda clients: redis(program, None, clients)

@@ -1,13 +1,11 @@
 """What running threads cost, beside lists by hand: calls by kind, and rounds of calls at several sizes of the set."""
 
-import shutil
 import statistics
 import subprocess
-import sys
 import tempfile
 
 from build_benches import by_rustc
-from measuring import BENCH, CALLS, RUNS, SEED, built, heading, kinds, row
+from measuring import CALLS, KINDS, RUNS, SEED, built, heading, row
 
 THREADS = (1, 4)
 QUOTA, KEYS = "5000", "1000"
@@ -18,12 +16,12 @@ MANY_RUNS = 25
 
 def calls():
     """Calls by kind: their time beside that of the list by hand, the median of some runs in turn."""
-    timer, tool, kind_names = built("bench_calls"), built("listset"), ("add", "remove", "contains")
+    timer, kind_names = built("bench_calls"), ("add", "remove", "contains")
     heads = (f"`{call}`" + f", {named(many)}" * (call == "add") for many in THREADS for call in kind_names)
     heading("List", *heads)
     with tempfile.TemporaryDirectory() as room:
         peer = by_rustc("peer.rs", room)
-        for kind in kinds(tool):
+        for kind in KINDS:
             ratios = []
             for many in THREADS:
                 values = [str(many), QUOTA, CALLS, KEYS, SEED]
@@ -51,15 +49,8 @@ def sizes():
 
 def programs_of(room):
     """Of each set the words of the program that times rounds of its calls, but for their numbers."""
-    timer, tool, peer = built("bench_calls"), built("listset"), by_rustc("peer.rs", room)
-    sets = {kind: [timer, kind, "whole"] for kind in kinds(tool)}
-    sets |= {"`Mutex<BTreeSet>`": [peer, "whole", "mutex-tree"], "`RwLock<BTreeSet>`": [peer, "whole", "rwlock-tree"]}
-    if shutil.which("javac"):
-        subprocess.run(["javac", "-d", room, f"{BENCH}/SkipList.java"], check=True)
-        sets["Java's `ConcurrentSkipListSet`"] = ["java", "-cp", room, "SkipList"]
-    else:
-        print("bench: no javac is installed, so the row of ConcurrentSkipListSet is left out", file=sys.stderr)
-    return sets
+    timer, peer = built("bench_calls"), by_rustc("peer.rs", room)
+    return {**{kind: [timer, kind, "whole"] for kind in KINDS}, "`Mutex<BTreeSet>`": [peer, "whole", "mutex-tree"]}
 
 
 def named(many):
@@ -76,7 +67,7 @@ def median_of(runs, call):
 
 
 def nanoseconds(words):
-    """Of each kind of call, or of all, the nanoseconds of one, as a run of bench_calls, of peer.rs or of SkipList.java tells them, which
+    """Of each kind of call, or of all, the nanoseconds of one, as a run of bench_calls or of peer.rs tells them, which
     leave out the calls in which the processor was taken away."""
     run = subprocess.run(words, stdin=subprocess.DEVNULL, capture_output=True, text=True, check=True)
     many = {kind: int(calls) for kind, calls in map(str.split, run.stdout.splitlines())}

@@ -47,7 +47,6 @@ TEXTS = {
     "docs/TABLES.md": ["## {type}"],
     "docs/TEXTS.md": ["`{word}`"],
     "docs/make/believed.txt": ["{crate}/specs/{kind}.antt"],
-    "tests/harness/lists_model.py": ['"{word}": table('],
 }
 
 

@@ -3,7 +3,6 @@
     pytest-3                          all tests; -n 4 runs four side by side
     pytest-3 tests/serve_clients.py   those of a file, or of a page of tests/transcripts; -k WORD those of a name
     pytest-3 --program=PROGRAM        of this program; else of the proved or the unproved one, whichever was built of younger sources
-    pytest-3 --beside=FORM ..         same_output.py: of another form of the program; else of the page's, in node
     pytest-3 --few                    with a tenth of what is drawn at random
     pytest-3 --show PAGE              prints what the commands of a page of tests/transcripts print now, as it has them
 
@@ -17,11 +16,10 @@ import re
 import signal
 import tempfile
 
-import crates_txt
 import processes
 import pytest
 from harness.pages import PAGES, Page
-from harness.programs import PROVED, TOP, UNPROVED, clear, not_installed
+from harness.programs import PROVED, UNPROVED, clear, not_installed
 
 OF_RUN = "LISTSET_TESTS"  # in the environment of what a run starts: the run's folder
 
@@ -29,7 +27,6 @@ OF_RUN = "LISTSET_TESTS"  # in the environment of what a run starts: the run's f
 def pytest_addoption(parser):
     group = parser.getgroup("listset")
     group.addoption("--program", type=os.path.realpath, help="the program that is tested")
-    group.addoption("--beside", action="append", default=[], type=os.path.abspath, help="another form of the program")
     group.addoption("--few", action="store_true", help="a tenth of what is drawn at random")
     group.addoption("--show", action="store_true", help="prints what the commands of a page print now")
 
@@ -64,9 +61,7 @@ def pytest_configure_node(node):
 
 def pytest_unconfigure(config):
     if not is_worker(config) and hasattr(config, "folder"):
-        for _ in range(100):  # (what runs may start more, until it is ended)
-            if config.folder.exists():
-                clear(config.folder)
+        clear(config.folder)
 
 
 @pytest.hookimpl(tryfirst=True)
@@ -80,37 +75,13 @@ def built_program(config):
     return config.option.program or str(max(built, key=lambda it: it.stat().st_mtime, default=PROVED))
 
 
-def lines_about(config):
-    """Which program is tested, and a source that was edited since it was built."""
-    program = built_program(config)
-    if not os.path.exists(program):
-        return ["listset: none is built"]
-    sources = (it for name in crates_txt.below(["listset"]) for it in (TOP / "crates" / name / "src").rglob("*.rt"))
-    youngest = max(sources, key=lambda it: it.stat().st_mtime)
-    is_old = os.stat(program).st_mtime < youngest.stat().st_mtime
-    return [f"listset: {program}"] + is_old * [f"listset: {youngest.relative_to(TOP)} is younger than it: build/unproved builds it anew"]
-
-
 def pytest_report_header(config):
-    return lines_about(config)
-
-
-def pytest_terminal_summary(terminalreporter, config):
-    if config.option.verbose < 0:  # (-q prints no header)
-        terminalreporter.write_line("\n".join(lines_about(config)))
+    return f"listset: {built_program(config)}"
 
 
 def pytest_collect_file(file_path, parent):
     if file_path.parent == PAGES and file_path.suffix == ".md":
         return Page.from_parent(parent, path=file_path)
-
-
-def pytest_collection_modifyitems(config, items):
-    """Leaves out what is run only if it is named, by its own name or a word of it."""
-    words = {it.partition("::")[2].partition("[")[0] for it in config.args} | set(re.findall(r"\w+", config.option.keyword))
-    out = [it for it in items if it.get_closest_marker("when_named") and not any(word and word in it.name for word in words)]
-    config.hook.pytest_deselected(items=out)
-    items[:] = [it for it in items if it not in out]
 
 
 @pytest.fixture(scope="session")
@@ -163,9 +134,3 @@ def once(pytestconfig):
 def few(pytestconfig):
     """Whether a tenth of what is drawn at random will do."""
     return pytestconfig.option.few
-
-
-@pytest.fixture(scope="session")
-def beside(pytestconfig):
-    """Other forms of the program."""
-    return pytestconfig.option.beside

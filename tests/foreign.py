@@ -11,7 +11,8 @@ import sys
 import warnings
 
 import pytest
-import same_output
+
+from harness import same_output
 from harness.programs import LONG, QUICK_CARGO, TOP, ran, well
 from judge_in_a_test import FORMS, go_words
 

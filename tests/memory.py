@@ -1,7 +1,7 @@
 """What the program holds in memory does not grow with what it has done with, of which no contract speaks. A command is given an address
 space of which it leaves a third, and that it would need twice if it kept what it need not: of `judge` the calls of a recording; of `trace`
 its text; of `draft`, `replay` and `show` each event; of `run` the replies of each round. A
-server that has served thousands of sessions, and millions of calls, has at no time had more memory than after some hundred.
+server that has served a thousand sessions, and many calls, has at no time had more memory than after some hundred.
 """
 
 import contextlib
@@ -27,7 +27,7 @@ def printed_within(kilobytes, program, *words, text=b""):
 
 # ---- long recordings
 
-ROUNDS, KEYS = 160_000, 120
+ROUNDS, KEYS = 80_000, 120
 # Of each call of a round its thread, its word, which of two keys, when it begins and ends, and its reply
 CALLS_OF_ROUND = [
     (0, "add", 0, 1, 4, "true"), (1, "contains", 0, 2, 6, "true"), (2, "add", 0, 3, 5, "false"), (0, "contains", 0, 7, 8, "true"),
@@ -76,27 +76,17 @@ def events_of(schedule):
     return many
 
 
-def test_drafts(program):
-    """`draft` of hundreds of thousands of events."""
-    events_of(printed_within(LITTLE, program, "draft", text=long_walks()))
-
-
-def test_traces(program):
-    """`trace` of as many: their text has tens of megabytes."""
-    schedule = printed(program, "draft", text=long_walks())
-    trace = printed_within(LITTLE, program, "trace", text=schedule)
-    assert (trace.count(b"\nevent "), trace[-5:]) == (events_of(schedule), b"\nend\n")
-
-
-@pytest.mark.parametrize("words", ["replay", "show", "show --from 400000", "show --svg --from 400000", "replay --lacks mark-in-contains",
+@pytest.mark.parametrize("words", ["draft", "trace", "replay", "show --from 400000", "show --svg --from 400000", "replay --lacks mark-in-contains",
                                    "show --lacks mark-in-contains --from 400000"])
 def test_events(program, words):
-    """Commands that execute as many, also on a broken list, and print only calls."""
+    """Commands that make or execute hundreds of thousands of events, also on a broken list: what `trace` prints has tens of megabytes."""
     schedule = printed(program, "draft", text=long_walks())
-    assert events_of(schedule) > 400_000  # (of which a picture has few from there on)
-    said = printed_within(LITTLE, program, *words.split(), text=schedule)
-    due = [b"call %d " % (WALKS - 1), b"place %d " % (WALKS - 1)] if "replay" in words else [b": %d calls" % WALKS]
-    assert [it for it in due if it not in said] == []
+    many = events_of(schedule)
+    assert many > 400_000  # (of which a picture has few from there on)
+    said = printed_within(LITTLE, program, *words.split(), text=long_walks() if words == "draft" else schedule)
+    due = {"draft": [schedule], "trace": [b"\nevent %d " % many, b"\nend\n"], "show": [b": %d calls" % WALKS]}
+    due["replay"] = [b"call %d " % (WALKS - 1), b"place %d " % (WALKS - 1)]
+    assert [it for it in due[words.split()[0]] if it not in said] == []
 
 
 # ---- rounds
@@ -112,9 +102,9 @@ def test_rounds(program):
 
 # ---- a server
 
-SEATS, CALLS = 4, 4_000  # (calls of a session that sends them at once)
-FEW, MANY, LONG_LINES = 60, 600, 9  # rounds of sessions, before the memory is looked at and after that; and sessions
-GROWTH = 1_000  # kilobytes: a page for each session of MANY rounds would be 7,200, and eight bytes for each call 18,000
+SEATS, CALLS = 4, 2_000  # (calls of a session that sends them at once)
+FEW, MANY, LONG_LINES = 60, 300, 9  # rounds of sessions, before the memory is looked at and after that; and sessions
+GROWTH = 1_000  # kilobytes: a page for each session of MANY rounds would be 3,600, and eight bytes for each call 4,800
 
 
 def most_resident(server):

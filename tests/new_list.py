@@ -31,12 +31,11 @@ def code_in(crate):
     return "\n".join(re.sub(r"(^|\s)(--|//).*", "", line) for it in files for line in it.read_text().splitlines())
 
 
-@pytest.mark.parametrize("one", lists.lists(), ids=KINDS)
-def test_each_list_is_in_each_place(one):
-    assert lists.missing(one, lists.CODE) + lists.missing(one, lists.TEXTS) == []
+def test_each_list_is_in_each_place():
+    assert [it for one in lists.lists() for it in lists.missing(one, lists.CODE) + lists.missing(one, lists.TEXTS)] == []
 
 
-@pytest.mark.parametrize("old", lists.lists(), ids=KINDS)
+@pytest.mark.parametrize("old", [it for it in lists.lists() if it.word in ("coarse", "lazy")], ids=lambda it: it.word)
 def test_a_copy_has_names_of_its_own_and_the_kind_of_its_list(copy, old):
     assert "crates/lset_one_more" in well(copy / "build/new_list", old.word, "one-more")
     code = code_in(copy / "crates/lset_one_more")
@@ -62,7 +61,7 @@ def test_the_patch_of_each_exercise_applies_to_the_copy_that_its_page_makes(copy
     assert all(f"pub {it.table}_lawful : Lawful {it.table}" in code_in(copy / "crates" / it.crate) for it in added)
 
 
-@pytest.mark.parametrize("words", [[], ["lazy"], ["lazy", "lazy"], ["lazy", "Lazy-Add"], ["lazy", "../x"], ["no-list", "x"], ["--check", "no-list"], ["--join", "lazy"]])
+@pytest.mark.parametrize("words", [[], ["lazy", "lazy"], ["lazy", "../x"], ["no-list", "x"], ["--check", "no-list"], ["--join", "lazy"]])
 def test_wrong_words_write_nothing(copy, words):
     before = sorted(copy.rglob("*"))
     done = ran(copy / "build/new_list", *words)

@@ -1,5 +1,5 @@
 """The first error of texts of each kind: of each text in a table, and of each front of a text. The program writes one line about it,
-nothing else, and ends with status 1."""
+nothing else, and ends with status 1. (judging.py has those of recordings.)"""
 
 import pytest
 from harness.programs import TOP, ran
@@ -12,181 +12,47 @@ READERS = {
     "draft": ("draft", "listset-draft 2\nlist coarse\nthreads 2\nquota 1\n"),
     "report": ("check", "listset-report 1\nlist coarse\nthreads 2\nquota 4\n"),
     "report 2": ("check", "listset-report 2\nlist coarse\nthreads 1\nquota 1\n"),
-    "recording": ("judge", "listset-calls 1\n"),
     "keys": ("serve lazy 1 4 0 0 -", ""),
 }
-# A kind of text, the number of a line, and its cause; below these the texts: their lines, with an end of line between two (\n)
+# A kind of text, the number of a line and its cause; then texts with that first error: their lines, with an end of line between two (\n)
 TABLE = r"""
-schedule: line 5: Event
-take 0 5\n
-go  0 1\n
-begin 0 add\n
-opening 5\n
-schedule: line 5: Number
-begin 0 add 05\n
-begin 0 add 4294967296\n
-go 0 0\n
-go 0 10001\n
-schedule: line 5: NoThread
-begin 64 add 5\n
-schedule: line 5: Idle
-go 0 1\n
-go 0 10000\n
-schedule: line 6: Idle
-begin 0 add 5\ngo 0 8\n
-begin 0 add 5\ngo 0 10000\n
-schedule: line 6: Busy
-begin 0 add 5\nbegin 0 add 6\n
-schedule 2: line 5: Event
-opening 5 6\n
-opening\n
-opened 5\n
-schedule 2: line 5: Number
-opening 05\n
-opening \n
-schedule 2: line 6: Event
-begin 0 add 1\nopening 5\n
-schedule 2: line 6: Number
-opening 5\nopening 4294967296\n
-opening 5\ngo 0 0\n
-schedule 2: line 6: Opening
-opening 9\nopening 5\n
-opening 5\nopening 5\ngo 0 0\n
-draft: line 5: Event
-go 0 into 4\n
-draft: line 5: Number
-go 0 past\n
-go 0 to 0\n
-go 0 to 256\n
-go x out\n
-draft: line 5: Idle
-go 0 out\n
-draft: line 5: NoThread
-go 2 to 4\n
-draft: line 6: Opening
-opening 9\nopening 5\n
-draft: line 6: Idle
-begin 0 add 5\ngo 0 to 30\n
-draft: line 6: Busy
-begin 0 add 5\nbegin 0 add 7\n
-draft: line 8: Waits
-begin 0 add 5\ngo 0 to 2\nbegin 1 add 5\ngo 1 out\n
-report: line 5: Line
-call 0 0 add 5 1 8 done\n
-call 0 0 add 5 1 shut\n
-opening 5\n
-report: line 5: Number
-call 0 0 add 5 0 open\n
-call 0 0 add 5 1 4294967296 true\nend\n
-place 4294967296 true\n
-report: line 5: History
-call 1 0 add 5 1 8 true\n
-call 0 2 add 5 1 8 true\n
-call 0 0 add 5 8 8 true\n
-report: line 6: Line
-key 6\nplace 0 true\n
-end\nend\n
-report: line 6: History
-call 0 0 add 5 1 3 true\ncall 1 1 add 5 2 3 true\n
-call 0 0 add 5 1 3 true\ncall 1 1 add 5 3 4 true\n
-call 0 0 add 5 1 3 true\ncall 1 1 add 5 1 4 true\n
-call 0 0 add 5 1 3 true\ncall 1 0 add 5 2 4 true\n
-call 0 0 add 5 1 open\ncall 1 0 add 5 2 4 true\n
-report 2: line 5: Line
-opening 5 6\n
-report 2: line 5: Number
-opening 4294967296\n
-report 2: line 6: Line
-call 0 0 add 1 1 8 true\nopening 5\n
-key 5\nopening 5\n
-end\nopening 5\n
-report 2: line 6: Opening
-opening 9\nopening 5\n
-opening 5\nopening 5\nend\n
-recording: line 2: Line
-call 0 add 5 5 6 full\n
-call 0 ceiling 5 1 4 at-5\n
-call 0 add 5 1 - 4 true\n
-call 0 add 5 1 4 -\n
-call  0 add 5 1 4 true\n
-call 0 add 5 1 4 True\n
-opening 5 6\n
-key\n
-\n
-place 0 true\n
-list lazy\n
-End\n
-cut off\n
-recording: line 2: Number
-call 4294967296 add 5 1 4 true\n
-call 0 add 4294967296 1 4 true\n
-call 0 add 5 0 4 true\n
-call 0 add 5 1 9223372036854775808 true\n
-call 0 add 5 9223372036854775808 - -\n
-call 0 add 5 01 4 true\n
-call 0 add 5 1 +4 true\n
-call 00 add 5 1 4 true\n
-call 0 add 5 - 4 true\n
-call 0 add 5 1 - true\n
-call 0 add 5  4 true\n
-call 0 add 5 1 99999999999999999999999999999999999999999 true\n
-opening 05\n
-key 4294967296\n
-key -1\n
-recording: line 3: Line
-key 5\nopening 6\nend\n
-key 5\ncall 0 add 5 1 4 true\nend\n
-key 5\ncut\n
-call 0 add 5 1 4 true\nopening 6\nend\n
-call 0 contains 5 1 2 true\nEnd\n
-end\nend\n
-cut\nend\n
-end\ncut\n
-end\n\n
-recording: line 3: Opening
-opening 5\nopening 5\nend\n
-key 6\nkey 5\nend\n
-recording: line 3: History
-call 0 add 6 2 3 true\ncall 1 add 5 4 4 true\n
-call 0 add 6 2 3 true\ncall 1 add 5 4 3 true\n
-call 0 add 6 2 3 true\ncall 1 add 5 2 - -\n
-call 0 add 6 2 3 true\ncall 1 add 5 1 - -\n
-call 0 add 6 2 3 true\ncall 1 add 5 3 9 true\n
-call 0 add 6 2 3 true\ncall 0 add 5 3 4 true\n
-recording: line 4: History
-call 0 add 6 2 3 true\ncall 1 add 5 4 9 true\ncall 2 add 5 9 - -\n
-call 0 add 6 2 3 true\ncall 1 add 5 4 9 true\ncall 2 add 5 5 9 true\n
-call 0 add 6 2 3 true\ncall 1 add 5 4 - -\ncall 1 add 5 11 12 true\n
-keys: line 1: Line
-\n
-key\n
-key 1 2\n
-key  1\n
-Key 1\n
-keys 1\n
-listening\nkey 1\n
-sessions 1 2\n
-keys: line 1: Number
-key \n
-key 01\n
-key +1\n
-key x\n
-key 1\r\n
-key 4294967296\n
-keys: line 2: Line
-key 1\n\nkey 2\n
-key 1\nkeys 2\n
-sessions 1\nsessions 1\n
-sessions 2\nlistening a\nkey 1\n
-calls 1\nsessions 1\n
-key 1\nsessions 2\n
-keys: line 2: Opening
-key 5\nkey 5\n
-key 5\nkey 4\nkey x\n
-keys: line 4: Opening
-sessions 1\ncalls 2\nkey 3\nkey 2\n
-keys: line 5: Opening
-listening a\nsessions 1\ncalls 2\nkey 3\nkey 3\n
+schedule: line 5: Event | take 0 5\n | go  0 1\n | begin 0 add\n | opening 5\n
+schedule: line 5: Number | begin 0 add 05\n | begin 0 add 4294967296\n | go 0 0\n | go 0 10001\n
+schedule: line 5: NoThread | begin 64 add 5\n
+schedule: line 5: Idle | go 0 1\n | go 0 10000\n
+schedule: line 6: Idle | begin 0 add 5\ngo 0 8\n | begin 0 add 5\ngo 0 10000\n
+schedule: line 6: Busy | begin 0 add 5\nbegin 0 add 6\n
+schedule 2: line 5: Event | opening 5 6\n | opening\n | opened 5\n
+schedule 2: line 5: Number | opening 05\n | opening \n
+schedule 2: line 6: Event | begin 0 add 1\nopening 5\n
+schedule 2: line 6: Number | opening 5\nopening 4294967296\n | opening 5\ngo 0 0\n
+schedule 2: line 6: Opening | opening 9\nopening 5\n | opening 5\nopening 5\ngo 0 0\n
+draft: line 5: Event | go 0 into 4\n
+draft: line 5: Number | go 0 past\n | go 0 to 0\n | go 0 to 256\n | go x out\n
+draft: line 5: Idle | go 0 out\n
+draft: line 5: NoThread | go 2 to 4\n
+draft: line 6: Opening | opening 9\nopening 5\n
+draft: line 6: Idle | begin 0 add 5\ngo 0 to 30\n
+draft: line 6: Busy | begin 0 add 5\nbegin 0 add 7\n
+draft: line 8: Waits | begin 0 add 5\ngo 0 to 2\nbegin 1 add 5\ngo 1 out\n
+report: line 5: Line | call 0 0 add 5 1 8 done\n | call 0 0 add 5 1 shut\n | opening 5\n
+report: line 5: Number | call 0 0 add 5 0 open\n | call 0 0 add 5 1 4294967296 true\nend\n | place 4294967296 true\n
+report: line 5: History | call 1 0 add 5 1 8 true\n | call 0 2 add 5 1 8 true\n | call 0 0 add 5 8 8 true\n
+report: line 6: Line | key 6\nplace 0 true\n | end\nend\n
+report: line 6: History | call 0 0 add 5 1 3 true\ncall 1 1 add 5 2 3 true\n | call 0 0 add 5 1 3 true\ncall 1 1 add 5 3 4 true\n
+report: line 6: History | call 0 0 add 5 1 3 true\ncall 1 1 add 5 1 4 true\n | call 0 0 add 5 1 3 true\ncall 1 0 add 5 2 4 true\n
+report: line 6: History | call 0 0 add 5 1 open\ncall 1 0 add 5 2 4 true\n
+report 2: line 5: Line | opening 5 6\n
+report 2: line 5: Number | opening 4294967296\n
+report 2: line 6: Line | call 0 0 add 1 1 8 true\nopening 5\n | key 5\nopening 5\n | end\nopening 5\n
+report 2: line 6: Opening | opening 9\nopening 5\n | opening 5\nopening 5\nend\n
+keys: line 1: Line | \n | key\n | key 1 2\n | key  1\n | Key 1\n | keys 1\n | listening\nkey 1\n | sessions 1 2\n
+keys: line 1: Number | key \n | key 01\n | key +1\n | key x\n | key 1\r\n | key 4294967296\n
+keys: line 2: Line | key 1\n\nkey 2\n | key 1\nkeys 2\n | sessions 1\nsessions 1\n | sessions 2\nlistening a\nkey 1\n
+keys: line 2: Line | calls 1\nsessions 1\n | key 1\nsessions 2\n
+keys: line 2: Opening | key 5\nkey 5\n | key 5\nkey 4\nkey x\n
+keys: line 4: Opening | sessions 1\ncalls 2\nkey 3\nkey 2\n
+keys: line 5: Opening | listening a\nsessions 1\ncalls 2\nkey 3\nkey 3\n
 """
 # By the number of whole lines, what a text of each kind lacks then; with more, what a text with an end lacks
 HEADER = ["Header", "Kind", "Threads", "Quota"]
@@ -206,12 +72,10 @@ FRONTS = {
 
 def rows():
     """The kind of text, the text, and the line and the cause of its first error."""
-    kind = due = None
     for line in TABLE.strip().splitlines():
-        if line.partition(":")[0] in READERS:
-            kind, due = line.split(": ", 1)
-        else:
-            yield kind, line.replace(r"\r", "\r").replace(r"\n", "\n"), due
+        about, *texts = line.split(" | ")
+        kind, due = about.split(": ", 1)
+        yield from ((kind, it.replace(r"\r", "\r").replace(r"\n", "\n"), due) for it in texts)
 
 
 def refused(program, words, text, due):

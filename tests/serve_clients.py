@@ -1,14 +1,13 @@
 """The answers of `listset serve` to clients, at once and one after another.
 
-For each list: 63 clients on keys that they share, whose answers have to add up, and 63 clients at once, each on keys of its
-own, so that each of its answers is known. For one list: 200 clients on 8 seats; one seat and 10,000 clients one after another, with few
-open files; lines that come in groups of any size; a client that reads no answer; and clients that send bytes past the end of their
-session. On the loopback alone; every wait is bounded, and the server is ended by its own number if it does not end.
+For each list: 63 clients at once, on keys that they share, whose answers have to add up, and on keys of their own, of which each answer is
+known. For one list: 200 clients on 8 seats; one seat and 10,000 clients one after another, with few open files; lines that come in groups
+of any size; a client that reads no answer; and clients that send bytes past the end of their session. On the loopback alone; every wait is
+bounded, and the server is ended by its own number if it does not end.
 """
 
 import collections
 import contextlib
-import itertools
 import random
 import socket
 import struct
@@ -17,214 +16,92 @@ import time
 
 import pytest
 from harness.programs import KINDS
-from harness.serve_client import SECONDS, SOON, Client, answer_of, asks, have_ended, read_all, resets, serving, takes_turns
-from harness.set_model import SetModel, reply_of
+from harness.serve_client import SECONDS, SOON, Client, Server, answer_of, asks, have_ended, read_all, resets, serving, started
+from harness.set_model import SetModel
 
 pytestmark = pytest.mark.xdist_group("serve")  # (they take turns: each has more clients than there are processors)
 ONE_LIST = "lazy"
 SEATS = 64
-CLIENTS = SEATS - 1  # (and a sweeper)
-REQUESTS = 1000
-KEYS = 64
-QUOTA = 400
+CLIENTS = SEATS - 1
+REQUESTS = 300
+SHARED = 64  # keys; those of a client's own lie above
 ROOM = 16_384
 MANNERS = ["pieces", "bytes", "all at once", "middle of a line", "random bytes", "goes away"]
 BEYOND = 100_000
 LATE = 3
-CEILINGS = [{"NONE", *(f"AT {least}" for least in range(key, KEYS))} for key in range(KEYS)]
-ABOVE = 1_000_000
 
 
-class Sweeper(Client):
-    """A client that walks past all keys until the others have ended, so that no marked node stays in the chain. (A `remove` of
-    LockFreeList may leave one, at which a `ceiling` starts again until an `add` or a `remove` walks there.)"""
-
-    manner = "sweeper"
-
-    def __init__(self, server):
-        super().__init__(server)
-        self.calls, self.have_ended = 0, threading.Event()
-
-    def speak(self, connection):
-        is_last = False
-        while not is_last:
-            is_last = self.have_ended.wait(0.01)
-            asks(connection, b"REMOVE %d\n" % ABOVE, b"FALSE\n")
-            self.calls += 1
-        asks(connection, b"QUIT\n", b"BYE\n")
-
-
-@contextlib.contextmanager
-def sweeping(server):
-    """A sweeper at work; at the end its calls are known."""
-    sweeper = Sweeper(server)
-    sweeper.start()
-    try:
-        yield sweeper
-    finally:
-        sweeper.have_ended.set()
-        sweeper.join(SECONDS)
-    assert not sweeper.wrong and not sweeper.is_alive()
-
-
-def asks_each_ceiling(server, keys, span):
-    """A client that asks for the ceiling of each key up to `span`, if just `keys` are there and no one changes them. Gives how
-    many calls it makes."""
-    with server.connect() as connection:
-        takes_turns(connection, [(b"CEILING %d\n" % key, [answer_of(reply_of("ceiling", key, keys))]) for key in range(span + 1)])
-        asks(connection, b"QUIT\n", b"BYE\n")
-    return span + 1
-
-
-# ---- keys that the clients share
-
-
-def requests_of(draw, reads_only):
-    """The lines of a client, and for each the call that it asks for, or None."""
-    lines = []
-    for _ in range(REQUESTS):
-        word = draw.choice(["CONTAINS", "CEILING"] if reads_only else ["ADD", "REMOVE", "CONTAINS", "CEILING"])
-        key = draw.randrange(KEYS)
-        if draw.random() < 0.05:
-            lines.append((draw.choice([f"{word} 0{key}", f"{word.lower()} {key}", f"{word}  {key}", "", "MOVE 7"]), None))
-        else:
-            lines.append((f"{word} {key}", (word, key)))
-    return lines
-
-
-def can_answer(call, answer):
-    """Whether a call on shared keys may be answered so, whatever the others do."""
-    word, key = call
-    if word == "CEILING":
-        return answer in CEILINGS[key]
-    return answer in ("TRUE", "FALSE") or (answer == "FULL" and word == "ADD")
+# ---- many clients at once
 
 
 class Sharing(Client):
-    """A client with a manner of its own: it sends its requests in pieces of random size, byte by byte, or all before it
-    reads an answer; it ends with QUIT, in the middle of a line, or with bytes at random; or it goes away and leaves its
-    answers unread. What it saw stands in `told`: each call with its answer."""
+    """A client with a manner of its own: it sends its requests in pieces of random size, byte by byte, or all before it reads an answer; it
+    ends with QUIT, in the middle of a line, or with bytes at random; or it goes away and leaves its answers unread, of calls that change
+    nothing. `told` has what its calls on shared keys were answered, `own` its own keys.
 
-    def __init__(self, server, number, seed):
+    (A LockFreeList has no CEILING here: one that meets a marked node starts again until another call walks there.)"""
+
+    def __init__(self, server, number, kind):
         super().__init__(server)
-        self.draw, self.manner = random.Random(f"{seed} {number}"), MANNERS[number % len(MANNERS)]
-        self.told, self.unread = [], 0
-
-    def speak(self, connection):
-        goes_away = self.manner == "goes away"
-        lines = requests_of(self.draw, reads_only=goes_away)
-        text = "".join(line + "\n" for line, _ in lines).encode()
-        last = {"middle of a line": b"ADD 6", "random bytes": self.draw.randbytes(40).replace(b"\n", b"?") + b"\n" + b"x" * 65,
-                "goes away": b""}.get(self.manner, b"QUIT\n")
-        ends = {"middle of a line": [], "random bytes": ["BAD", "LONG"]}.get(self.manner, ["BYE"])
-        if goes_away:
-            connection.sendall(text)
-            self.unread = sum(call is not None for _, call in lines)
-            return
-        reader = threading.Thread(target=self.read, args=(connection,), daemon=True)
-        self.bytes = b""
-        if self.manner != "all at once":
-            reader.start()
-        self.send(connection, text + last)
-        connection.shutdown(socket.SHUT_WR)
-        if self.manner == "all at once":
-            reader.start()
-        reader.join(SECONDS)
-        assert not reader.is_alive(), "answers do not end"
-        self.compare_answers(lines, ends)
-
-    def send(self, connection, text):
-        if self.manner == "all at once":
-            connection.sendall(text)
-            return
-        most = 1 if self.manner == "bytes" else 300
-        while text:
-            size = self.draw.randint(1, most)
-            connection.sendall(text[:size])
-            text = text[size:]
-
-    def read(self, connection):
-        self.bytes = read_all(connection)
-
-    def compare_answers(self, lines, ends):
-        answers = self.bytes.decode().split("\n")
-        assert len(answers) == len(lines) + len(ends) + 1
-        assert answers[len(lines):] == [*ends, ""]
-        for (line, call), answer in zip(lines, answers):
-            assert can_answer(call, answer) if call else answer == "BAD", line
-            if call:
-                self.told.append((call, answer))
-
-
-@pytest.mark.parametrize("kind", KINDS)
-def test_shared_keys(program, kind):
-    """All answers are there. They add up with those to one more client, and with what the server
-    says as it ends."""
-    with serving(program, kind, SEATS, QUOTA, CLIENTS + 2) as server:
-        clients = [Sharing(server, number, kind) for number in range(CLIENTS)]
-        with sweeping(server) as sweeper:
-            have_ended(clients)
-        left = collections.Counter()
-        for (word, key), answer in itertools.chain.from_iterable(client.told for client in clients):
-            if answer == "TRUE" and word in ("ADD", "REMOVE"):
-                left[key] += 1 if word == "ADD" else -1
-        assert {*left.values()} <= {0, 1}
-        keys = {key for key in left if left[key]}
-        calls = sum(len(client.told) for client in clients) + sweeper.calls + asks_each_ceiling(server, keys, KEYS)
-        unread = sum(client.unread for client in clients)
-        server.ends(CLIENTS + 2, calls, calls + unread, keys)
-
-
-# ---- keys of a client's own
-
-
-class Alone(Client):
-    """A client on keys that no other client names. It has its first answer before any client goes on. It sends line after
-    line, each after the answer to the one before, or all before it reads an answer."""
-
-    CALLS, SPAN = 150, 6 * CLIENTS
-
-    def __init__(self, server, number, seed, first_answers):
-        super().__init__(server)
-        self.draw, self.first_answers = random.Random(f"{seed} alone {number}"), first_answers
-        self.manner = ["line after line", "all lines at once"][number % 2]
-        self.keys, self.own = range(number, self.SPAN, CLIENTS), SetModel()
-
-    def ceilings(self, key):
-        """The right answers to a ceiling: the client's own least key from there on, or a key of another client before it. So a
-        key below the one that was asked for is wrong, and one of the client's own that is not there."""
-        least = min((own for own in self.own.keys if own >= key), default=self.SPAN)
-        return {answer_of(reply_of("ceiling", key, self.own.keys))} | {b"AT %d\n" % other for other in range(key, least) if other not in self.keys}
+        self.draw, self.manner = random.Random(f"{kind} {number}"), MANNERS[number % len(MANNERS)]
+        self.first_own, self.own, self.told = SHARED * (number + 1), SetModel(), []
+        self.words = ["contains", *["ceiling"] * (kind != "lock-free"), *["add", "remove"] * (self.manner != "goes away")]
+        self.turns = [self.turn() for _ in range(REQUESTS)]
+        self.calls = sum(call is not None for _, call, _ in self.turns)
 
     def turn(self):
-        """A line, and its right answers: more than one to a ceiling alone."""
-        word, key = self.draw.choice(["ADD", "ADD", "REMOVE", "CONTAINS", "CEILING", "CEILING"]), self.draw.choice(self.keys)
-        if word == "CEILING":
-            near = max(0, key + self.draw.randint(-2, 1))
-            return b"CEILING %d\n" % near, self.ceilings(near)
-        return f"{word} {key}\n".encode(), {answer_of(self.own.reply(0, word.lower(), key))}
+        """A line; its call, or None; and its right answers, None for a key at or above that of the call, if any."""
+        word, key, is_own = self.draw.choice(self.words), self.draw.randrange(SHARED), self.draw.random() < 0.5
+        if self.draw.random() < 0.05:
+            return self.draw.choice([f"{word.upper()} 0{key}", f"{word} {key}", f"{word.upper()}  {key}", "", "MOVE 7"]), None, {"BAD"}
+        if word == "ceiling":
+            return f"CEILING {key}", (word, key), None
+        key += self.first_own if is_own else 0
+        due = {answer_of(self.own.reply(0, word, key)).decode().strip()} if is_own else {"TRUE", "FALSE"}
+        return f"{word.upper()} {key}", (word, key), due
 
     def speak(self, connection):
-        takes_turns(connection, [self.turn()])
-        self.first_answers.wait(SOON)
-        turns = [self.turn() for _ in range(self.CALLS - 1)]
-        for some in [turns] if self.manner == "all lines at once" else [[turn] for turn in turns]:
-            takes_turns(connection, some)
-        asks(connection, b"QUIT\n", b"BYE\n")
+        text = "".join(f"{line}\n" for line, *_ in self.turns).encode()
+        if self.manner == "goes away":
+            return connection.sendall(text)
+        last = {"middle of a line": b"ADD 6", "random bytes": self.draw.randbytes(40).replace(b"\n", b"?") + b"\n" + b"x" * 65}.get(self.manner, b"QUIT\n")
+        ends = {"middle of a line": [], "random bytes": ["BAD", "LONG"]}.get(self.manner, ["BYE"])
+        sender = threading.Thread(target=self.send, args=(connection, text + last), daemon=True)
+        sender.start()
+        if self.manner == "all at once":
+            sender.join(SECONDS)
+        answers = read_all(connection).decode().splitlines()
+        assert answers[len(self.turns):] == ends
+        for (line, call, due), answer in zip(self.turns, answers):
+            assert answer in due if due else answer == "NONE" or int(answer.removeprefix("AT ")) >= call[1], line
+            if call and call[1] < SHARED:
+                self.told.append((*call, answer))
+
+    def send(self, connection, text):
+        most = {"all at once": len(text), "bytes": 1}.get(self.manner, 300)
+        while text:
+            size = self.draw.randint(1, most) if most < len(text) else len(text)
+            connection.sendall(text[:size])
+            text = text[size:]
+        connection.shutdown(socket.SHUT_WR)
 
 
 @pytest.mark.parametrize("kind", KINDS)
-def test_keys_of_their_own(program, kind):
-    """Each answer is the right one, and all clients have their first answer before any goes on. No seat runs out of slots,
-    so `FULL` is wrong."""
-    with serving(program, kind, SEATS, ROOM, CLIENTS + 2) as server:
-        first_answers = threading.Barrier(CLIENTS)
-        clients = [Alone(server, number, kind, first_answers) for number in range(CLIENTS)]
-        with sweeping(server) as sweeper:
-            have_ended(clients)
-        keys = set().union(*(client.own.keys for client in clients))
-        calls = CLIENTS * Alone.CALLS + sweeper.calls + asks_each_ceiling(server, keys, Alone.SPAN)
-        server.ends(CLIENTS + 2, calls, calls, keys)
+def test_clients_at_once(program, kind):
+    """Each answer on a client's own keys is the right one; those on shared keys add up to what the server says as it ends. All clients have
+    a seat at once: none ends before each has connected."""
+    with serving(program, kind, SEATS, ROOM, CLIENTS + 1) as server, server.connect() as idle:
+        clients = [Sharing(server, number, kind) for number in range(CLIENTS)]
+        have_ended(clients)
+        left = collections.Counter()
+        for word, key, answer in (it for client in clients for it in client.told):
+            left[key] += {"add": 1, "remove": -1}.get(word, 0) * (answer == "TRUE")
+        assert {*left.values()} <= {0, 1}
+        keys = {key for key in left if left[key]}.union(*(it.own.keys for it in clients))
+        asks(idle, b"QUIT\n", b"BYE\n")
+        unread = sum(it.calls for it in clients if it.manner == "goes away")
+        calls = sum(it.calls for it in clients)
+        server.ends(CLIENTS + 1, calls - unread, calls, keys)
 
 
 # ---- more clients than seats
@@ -323,20 +200,24 @@ def test_one_seat(program):
 
 
 def test_a_port_that_is_asked_for(program):
-    """A server listens on the port that its words name, which was free just before."""
-    with socket.create_server(("127.0.0.1", 0)) as free:
-        port = free.getsockname()[1]
-    with serving(program, ONE_LIST, 1, ROOM, 1, port) as server:
-        assert server.port == port
-        with server.connect() as connection:
-            asks(connection, b"CONTAINS 7\nQUIT\n", b"FALSE\nBYE\n")
-        server.ends(1, 1, 1, [])
+    """A server listens on the port that its words name, which was free just before; another program may take it first."""
+    for _ in range(5):
+        with socket.create_server(("127.0.0.1", 0)) as free:
+            port = free.getsockname()[1]
+        with started(program, "serve", ONE_LIST, 1, ROOM, port, 1) as process:
+            if first := process.stdout.readline():
+                server = Server(process, first)
+                assert server.port == port
+                with server.connect() as connection:
+                    asks(connection, b"CONTAINS 7\nQUIT\n", b"FALSE\nBYE\n")
+                return server.ends(1, 1, 1, [])
+    raise AssertionError("no port was free")
 
 
 # ---- lines in groups
 
 
-@pytest.mark.parametrize("group", [1, 1000, 1023, 1024, 2048, 6000])
+@pytest.mark.parametrize("group", [1, 1023, 6000])
 def test_lines_in_groups(program, group):
     """A client sends so many lines, and reads all their answers before it sends the next: answers of each kind, keys of each length. They
     have to leave although no further line comes, also if they fill the room in which a server holds them back (4,096 bytes); and those of

@@ -1,21 +1,23 @@
 """What `trace` and `show` print is what models say, written apart from the crates (tests/harness/traces_model.py, pictures_model.py,
 reports_model.py and lists_model.py): no contract speaks of these bytes.
 
-Of each schedule of examples/schedules/, and of 40 that are drawn for each list (--few: 4), with opening keys, ceilings, calls that stay open,
+Of each schedule of examples/schedules/, and of 20 that are drawn for each list (--few: 2), with opening keys, ceilings, calls that stay open,
 events that are refused and up to 64 threads: the trace with chains and without, the picture of all moments and of a window, and the
-SVG of both, are those of the model, to the byte (of the SVG all but its style sheet, which has no model). 40 of the pictures are
-drawn at each width from 20 to 200 (--few: every 20th).
+SVG of both, are those of the model, to the byte (of the SVG its texts, and how many points and bars it has). Some of the pictures are
+drawn at each tenth width from 20 to 200.
 
-So are pictures and SVGs of 200 reports (--few: 20) of calls made at random, most of them damaged, so that each fault of an order is met, and of
-what each broken list makes of 5 schedules (1), with its traces. Windows and widths are drawn too, and which of these options are given.
+So are pictures and SVGs of 100 reports (--few: 10) of calls made at random, most of them damaged, so that each fault of an order is met, and of
+what each broken list makes of 5 schedules (--few: 1), with its traces. Windows and widths are drawn too, and which of these options are given.
 """
 
+import collections
 import random
+from xml.etree import ElementTree
 
 from harness.lists_model import LACKING
 from harness.pictures_model import Drawn, fitted, picture_of_run
 from harness.programs import KINDS, TOP, ran
-from harness.reports_model import RandomCalls, calls_text, picture_of_report, read_report
+from harness.reports_model import damage, first_fault, picture_of_report, read_report, report_text
 from harness.traces_model import enabled, read_schedule, run_of
 
 EXAMPLES = {file.stem: file for file in sorted((TOP / "examples" / "schedules").glob("*.schedule"))}
@@ -74,12 +76,10 @@ class Compared:
         lines, ended = self.said(*words)
         if is_past(picture, first):
             return self.compare(words, [2], [*lines, ended])
-        drawn = fitted(picture, first, last)
-        width, height, elements = drawn.svg()
-        ground = next((n for n, it in enumerate(lines) if it.startswith('<rect class="ground"')), 0)
-        sheet, title = lines[0].partition(" width=")[2] if lines else "", lines[1:2]
-        due = [f'"{width}" height="{height}" viewBox="0 0 {width} {height}">', f"<title>{drawn.heading()}</title>", *elements, "</svg>"]
-        self.compare(words, [*due, status_of(picture)], [sheet, *title, *lines[ground + 1:], ended])
+        svg, (texts, points, bars) = ElementTree.fromstring("\n".join(lines)), fitted(picture, first, last).in_svg()
+        classes = collections.Counter(it.get("class", "").split(" ")[0] for it in svg.iter())
+        self.compare(words, [status_of(picture), points, bars], [ended, classes["point"], classes["bar"]])
+        assert texts <= {it.text for it in svg.iter()}, f"{' '.join(words)} of {self.text!r}"
 
     def pictures(self, picture, below=()):
         """All moments at a width; a window that begins somewhere; one that ends there, or begins with the last moment, or after it. Some
@@ -119,13 +119,13 @@ def status_of(picture):
 def pytest_generate_tests(metafunc):
     """The names and the seeds of what is drawn; with --few a tenth."""
     part = 10 if metafunc.config.option.few else 1
-    named = {"schedule": [*EXAMPLES, *(f"{kind} {seed}" for kind in KINDS for seed in range(40 // part))], "report": range(200 // part),
+    named = {"schedule": [*EXAMPLES, *(f"{kind} {seed}" for kind in KINDS for seed in range(20 // part))], "report": [f"{kind} {seed}" for kind in KINDS for seed in range(20 // part)],
              "broken": [f"{name} {seed}" for name in LACKING for seed in range(max(1, 5 // part))]}
     for it in named.keys() & {*metafunc.fixturenames}:
         metafunc.parametrize(it, named[it])
 
 
-def test_trace_and_pictures_are_those_of_the_model(program, few, schedule):
+def test_trace_and_pictures_are_those_of_the_model(program, schedule):
     if schedule in EXAMPLES:
         text, seed = EXAMPLES[schedule].read_text(), 1
     else:
@@ -138,39 +138,33 @@ def test_trace_and_pictures_are_those_of_the_model(program, few, schedule):
         looked, picture = Compared(program, schedule, text), picture_of_run(plan, run)
         looked.traces(run)
         looked.pictures(picture)
-        for width in range(20, 201, 20 if few else 1) if seed % 5 == 0 else ():
+        for width in range(20, 201, 10) if seed % 5 == 0 else ():
             looked.picture(picture, (None, None, width))
 
 
 # ---- pictures of reports, and of what broken lists make of schedules
 
 
-def endings_of(program, report):
-    """What may stand below the picture of a refused report: what is known of other orders, as `judge` says it of its calls."""
-    if report.keys != sorted({*report.keys}):
-        return [["", "not linearizable", "no order leaves these keys, which do not rise"]]
-    said = ran(program, "judge", text=calls_text(report)).stdout.splitlines()
-    if said[:1] == ["not linearizable"]:
-        return [["", *said]]
-    is_plain = all(report.calls[number].word != "ceiling" and reply in ("true", "false") for number, (_, reply) in report.ends.items())
-    adds = [it.thread for it in report.calls if it.word == "add" and report.ends.get(it.number, (0, "true"))[1] == "true"]
-    if is_plain and all(adds.count(it) <= report.quota for it in adds):
-        return [["", "another order explains this report"]]
-    return [["", "it is not known whether another order explains this report"]]
-
-
 def compare_report(looked, report):
-    """Pictures of a report, which the program draws of what it is given."""
+    """Pictures of a report; below one that is refused stands what is known of other orders, in two lines or one."""
     picture, below = picture_of_report(report), []
     if picture.refusal:
-        lines, endings = looked.said("show")[0], endings_of(looked.program, report)
-        below = next((it for it in endings if lines[-len(it):] == it), endings[0])
+        said = looked.said("show")[0]
+        below = said[len(said) - 1 - said[::-1].index(""):]
+        assert below[1].startswith(("not linearizable", "another order explains this report", "it is not known whether another order"))
     looked.pictures(picture, below)
 
 
 def test_pictures_of_reports_are_those_of_the_model(program, report):
-    text = RandomCalls(random.Random(f"reports {report}")).report(faults=[0, 1, 1, 2][report % 4])
-    compare_report(Compared(program, f"reports {report}", text), read_report(text))
+    """Of the report of a drawn schedule, right or damaged; and what `check` says of it."""
+    kind, seed = report.split()
+    made, draw = read_report(ran(program, "replay", text=enabled(drawn_schedule(kind, int(seed)))).stdout), random.Random(report)
+    for _ in range([0, 1, 1, 2][int(seed) % 4]):
+        damage(draw, made)
+    text = report_text(made)
+    fault, checked = first_fault(made), ran(program, "check", text=text)
+    assert checked.stdout == (f"refused {fault.said.partition(':')[0]}\n" if fault else "ok\n"), text
+    compare_report(Compared(program, report, text), made)
 
 
 def test_traces_and_pictures_of_a_broken_list_are_those_of_the_model(program, broken):

@@ -1,41 +1,135 @@
-"""How many lines of definitions each promise of docs/BELIEVE.md needs. And what that page and believed.txt leave out, or name that is not
-there: files that public contracts reach, definitions, functions with their clauses."""
+"""What docs/BELIEVE.md and believed.txt leave out, or name that is not there: files of definitions that public contracts reach, the names
+of these definitions, functions with their clauses.
 
+From the names in the signature and the clauses of each public function, and in what public types and traits state, definitions are
+followed name by name. Lemmas are not followed: the prover checks them; nor are invariants of types."""
+
+import functools
 import re
 from pathlib import Path
+from typing import NamedTuple
 
-from reached_definitions import analysis, closure, public_contracts
+from rattle_sources import Source
 
 TOP = Path(__file__).resolve().parent.parent.parent
-BELIEVED = Path(__file__).resolve().parent / "believed.txt"
-PAGE = "docs/BELIEVE.md"
-# What a reader wants to understand, and the functions whose contracts that is.
-ROWS = [
-    ("`check_order`", lambda crate, function: function == "check_order"),
-    ("the laws of all machines (`lset_steps::laws`)", lambda crate, function: crate == "lset_steps" and function.startswith("laws::")),
-    ("the headline, as a law of all machines", lambda crate, function: function == "runs_are_linearizable"),
-    ("`replay`, with the tables of the five lists", lambda crate, function: function == "replay"),
-    ("a call of a running set (`LiveSet::call`)", lambda crate, function: crate == "lset_live" and function == "LiveSet::call"),
-    ("closing a running set (`LiveSet::close`)", lambda crate, function: crate == "lset_live" and function == "LiveSet::close"),
-    ("`work`", lambda crate, function: function == "work"),
-    ("`session`", lambda crate, function: function == "session"),
-    ("`serve`", lambda crate, function: function == "serve"),
-    ("everything: each public contract of each library", lambda crate, function: True),
-]
+CRATES, BELIEVED, PAGE = TOP / "crates", Path(__file__).resolve().parent / "believed.txt", "docs/BELIEVE.md"
+NAME = r"[^\W\d][\w'\-]*"  # of the logic
+USE = re.compile(r"^\s*(?:ghost )?(?:pub )?use Rattle\.([^\s{;]+?)(?:\.\{([^}]*)\})?(?: as (" + NAME + r"))?;?[ ]*$", re.M)
+KINDS = {"abbrev", "unfoldable", "opaque", "record", "data"}
+IMPORT = re.compile(r"(?:pub )?(?:use|mod|infixl|infixr|infix|syntax)\b")
+HEAD = re.compile(rf"((?:(?:pub|{'|'.join(KINDS)}) )*)({NAME})((?: [({{].*?[)}}])* :)?")
 # Functions in a cell of a table, and the clauses in the parentheses behind them.
 SAID_BY = re.compile(r"((?:`[a-z]\w+::[\w:{}, ]+`,? ?)+)(?:\(((?:`\w+`,? ?)+)\))?")
-NAME = re.compile(r"(?<!\w)\[([A-Z][a-z ][^][]*)\](?!\()")
+IN_BRACKETS = re.compile(r"(?<!\w)\[([A-Z][a-z ][^][]*)\](?!\()")
 
 
-def table_of_lines(_top):
-    """Of each row the lines of definitions, to two digits."""
-    modules, contracts, _ = analysis()
-    rows = ["| To understand | Lines |", "|---|---|"]
-    for title, holds in ROWS:
-        reached = closure(set().union(*(seeds for crate, name, seeds in contracts if holds(crate, name))), modules)
-        lines = sum(len(modules[path].items[name].lines) for path, name in reached if path in modules)
-        rows.append(f"| {title} | {float(f'{lines:.2g}'):.0f} |")
-    return "\n".join(rows)
+class Module(NamedTuple):
+    """A file of definitions: its path, its text, its definitions by name, and what its `use` lines bring in: names, and modules."""
+
+    file: str
+    definitions: dict
+    names: dict
+    modules: dict
+
+
+def uses(text):
+    """What the `use` lines of a file bring in of the logic: names, and modules under another name."""
+    names, modules = {}, {}
+    for path, listed, other in USE.findall(text):
+        for entry in filter(None, (listed or "").split(",")):
+            given, _, here = entry.strip().partition(" as ")
+            names[here or given] = (path, given)
+        if not listed and other:
+            modules[other] = path
+    return names, modules
+
+
+def definitions_in(text):
+    """The definitions of a file, by name, without comments."""
+    found, lemmas, into = {}, {}, None
+    for line in text.split("\n"):
+        if not line.strip() or line.strip().startswith("--"):
+            continue
+        head = HEAD.match(line)
+        if IMPORT.match(line):
+            into = None
+        elif head and (head[1] or head[3] and head[2] not in {**found, **lemmas}):
+            into = (found if KINDS & {*head[1].split()} else lemmas).setdefault(head[2], [])
+        if into is not None:
+            into.append(line)
+    return {name: "\n".join(lines) for name, lines in found.items()}
+
+
+@functools.cache
+def modules():
+    """The files of definitions of all crates, by their names as modules."""
+    found = {}
+    for path in sorted({*CRATES.glob("*/specs/**/*.antt"), *CRATES.glob("*/proofs/**/*.antt")}):
+        text, file = path.read_text(encoding="utf-8"), path.relative_to(CRATES)
+        if path.name != "Lib.antt":
+            found[".".join(file.with_suffix("").parts)] = Module(str(file), definitions_in(text), *uses(text))
+    return found
+
+
+def named(text, sign, names, others, own=()):
+    """The definitions that a text names without its comments, as pairs of a module and a name; those of its own file have no module."""
+    text = " ".join(re.sub(rf"(^|\s){sign}.*", "", text, flags=re.M).split())
+    text = re.sub(r"\bpub " + NAME + r" :", ":", re.sub(r"(?<=[{;])\s*" + NAME + r"\s*=(?![=>])", "", text))
+    for word in re.findall(NAME + r"(?:\." + NAME + ")*", text):
+        first, *rest = word.split(".")
+        if first in own:
+            yield "", first
+        elif first in names:
+            yield names[first]
+        elif first in others and rest:
+            yield others[first], rest[0]
+    for operator, given in names.items():
+        if operator.startswith("◌") and (operator.strip("◌") in text or (operator == "◌>>=◌" and re.search(r"\bdo\b", text))):
+            yield given
+
+
+def public_contracts():
+    """What each library states of its public functions, types and traits: its name, the name of what it states, the text, and what the
+    names in it can be."""
+    for root in sorted(CRATES.glob("*/src/lib.rt")):
+        texts = {it.stem: it.read_text(encoding="utf-8") for it in sorted(root.parent.rglob("*.rt"))}
+        above = {"lib", *re.findall(r"pub mod (\w+);", texts["lib"])}
+        public = {*re.findall(r"\w+", " ".join(re.findall(r"pub use ([^;]*);", texts["lib"])))}
+        public.update(*(re.findall(r"^pub (?:fn|extern \S+ fn|struct|enum|trait) (\w+)", texts[it], re.M) for it in above))
+        for stem, text in texts.items():
+            source, can_be = Source(text), uses(text)
+            for it in source.functions:
+                owner = it.block.subject if it.block else None
+                if it.is_public and (owner or it.name) in public:
+                    before = f"{owner}::" if owner else f"{stem}::" * (stem in above - {"lib"})
+                    yield root.parent.parent.name, before + it.name, it.contract, can_be
+            for it in source.blocks:
+                if it.subject in public:
+                    functions = [one.contract for one in source.functions if one.block is it and it.kind == "trait"]
+                    yield root.parent.parent.name, it.subject, it.ghosts + "".join(functions), can_be
+
+
+@functools.cache
+def reached():
+    """The definitions that public contracts reach: of each its module and its name."""
+    found, waiting = set(), [it for _, _, text, can_be in public_contracts() for it in named(text, "//", *can_be)]
+    while waiting:
+        path, name = waiting.pop()
+        above, _, behind = path.rpartition(".")
+        path, name = (above, behind) if path not in modules() and above in modules() else (path, name)
+        module = modules().get(path)
+        if module and name in module.definitions and (path, name) not in found:
+            found.add((path, name))
+            following = named(module.definitions[name], "--", module.names, module.modules, module.definitions)
+            waiting += [(where or path, what) for where, what in following]
+    return found
+
+
+def print_reached():
+    """Prints each file with the names of the definitions in it that are reached."""
+    for path, module in modules().items():
+        if names := [it for it in module.definitions if (path, it) in reached()]:
+            print(f"{module.file}: {', '.join(names)}")
 
 
 def entries():
@@ -46,20 +140,14 @@ def entries():
             yield file, names.split("; ")
 
 
-MADE = {"lines": table_of_lines}
-
-
 def problems(top):
-    page = (top / PAGE).read_text(encoding="utf-8")
-    rows = "\n".join(line for line in page.split("\n") if line.startswith("|"))
+    rows = "\n".join(line for line in (top / PAGE).read_text(encoding="utf-8").split("\n") if line.startswith("|"))
     yield from (f"{PAGE} {it}" for it in [*file_faults(), *name_faults(top, rows), *function_faults(rows)])
 
 
 def file_faults():
     """Files that public contracts reach and believed.txt does not have, and the other way round."""
-    modules, _, reached = analysis()
-    found = {modules[path].file for path, _ in reached if path in modules}
-    listed = {file for file, _ in entries()}
+    found, listed = {modules()[path].file for path, _ in reached()}, {file for file, _ in entries()}
     yield from (f"needs a line of believed.txt for {it}, which a public contract reaches" for it in sorted(found - listed))
     yield from (f"would have to list {it}: move what is reached there to specs/" for it in sorted(found) if "/proofs/" in it)
     yield from (f"lists in believed.txt {it}, which no public contract reaches" for it in sorted(listed - found) if it.endswith(".antt"))
@@ -68,41 +156,29 @@ def file_faults():
 def name_faults(top, rows):
     """Names in brackets that are no definition, in comments and pages; and definitions that no row names."""
     known = {name for _, names in entries() for name in names}
-    texts = {it.relative_to(top): without_code(it.read_text(encoding="utf-8")) for it in sorted((top / "docs").glob("*.md"))}
-    for sign, files in [("--", "specs/**/*.antt"), ("--", "proofs/**/*.antt"), ("//", "src/**/*.rt")]:
-        for path in sorted(top.glob("crates/*/" + files)):
-            texts[path.relative_to(top)] = "\n".join(re.findall(rf"{sign}(.*)", path.read_text(encoding="utf-8")))
-    for file, text in texts.items():
-        yield from (f"has no definition [{name}], which {file} names" for name in NAME.findall(text) if name not in known)
-    yield from (f"has no row that names [{name}], which believed.txt lists" for name in sorted(known - set(NAME.findall(rows))))
-
-
-def without_code(text):
-    """A page without its indented lines, and without code that has a bracket."""
-    return re.sub(r"`([^`\n]*)`", lambda it: "" if "[" in it[1] else it[0], re.sub(r"^    .*$", "", text, flags=re.M))
+    texts = {it: re.sub(r"^    .*$|`[^`\n]*\[[^`\n]*`", "", it.read_text(encoding="utf-8"), flags=re.M) for it in (top / "docs").glob("*.md")}
+    for path in [*CRATES.glob("*/*/**/*.antt"), *CRATES.glob("*/src/**/*.rt")]:
+        texts[path] = "\n".join(re.findall(r"(?:--|//)(.*)", path.read_text(encoding="utf-8")))
+    for path, text in sorted(texts.items()):
+        yield from (f"has no definition [{name}], which {path.relative_to(top)} names" for name in IN_BRACKETS.findall(text) if name not in known)
+    yield from (f"has no row that names [{name}], which believed.txt lists" for name in sorted(known - {*IN_BRACKETS.findall(rows)}))
 
 
 def function_faults(rows):
     """Functions that rows name, and clauses in the parentheses behind them, that are not there."""
     stated = {}
-    for crate, name, _, text in public_contracts():
+    for crate, name, text, _ in public_contracts():
         stated[crate, name] = stated.get((crate, name), "") + text
     for listed, clauses in SAID_BY.findall(rows):
-        functions = [*functions_in(listed)]
-        lost = [it for it in functions if it not in stated and not is_declared(*it)]
-        yield from (f"names {crate}::{name}, which is not there" for crate, name in lost)
+        cells = re.findall(r"`(\w+)::((?:\w+::)*)(\w+|\{[^}]*\})`", listed)
+        functions = [(crate, before + name) for crate, before, names in cells for name in re.findall(r"[\w:]+", names)]
+        yield from (f"names {crate}::{name}, which is not there" for crate, name in functions if (crate, name) not in stated and not is_declared(crate, name))
         text = "".join(stated.get(it, "") for it in functions)
         lost = [it for it in re.findall(r"\w+", clauses) if not re.search(rf"\bensures {it}\b", text)]
         yield from (f"names a clause {it} of {listed.strip()}, which is not there" for it in lost)
 
 
-def functions_in(listed):
-    """The functions of a cell, as crate and name, where braces may hold several."""
-    for crate, before, names in re.findall(r"`(\w+)::((?:\w+::)*)(\w+|\{[^}]*\})`", listed):
-        yield from ((crate, before + name) for name in re.findall(r"[\w:]+", names))
-
-
 def is_declared(crate, name):
     """Whether a crate declares a function, type or trait of this name."""
     declared = re.compile(rf"\b(?:fn|struct|enum|trait|type|mod) {name.rpartition('::')[2]}\b")
-    return any(declared.search(it.read_text(encoding="utf-8")) for it in (TOP / "crates" / crate / "src").rglob("*.rt"))
+    return any(declared.search(it.read_text(encoding="utf-8")) for it in (CRATES / crate / "src").rglob("*.rt"))

@@ -3,19 +3,12 @@ shows each thread at its line. docs/make/pages fails if a row has no line. The r
 interpreter."""
 
 import re
-from pathlib import Path
 
-from tables_page import READ_ROWS, Table
+from lists import TOP, lists
 
-CRATES = Path(__file__).resolve().parent.parent.parent / "crates"
+CRATES = TOP / "crates"
 READS = "lset_loops/src/reads.rt"
-LISTS = {
-    "coarse": ["lset_loops/src/coarse.rt"],
-    "fine": ["lset_loops/src/fine.rt"],
-    "optimistic": ["lset_loops/src/optimistic.rt"],
-    "lazy": ["lset_loops/src/lazy.rt", READS],
-    "lock_free": ["lset_loops/src/lock_free.rt", READS],
-}
+LISTS = {it.table: [f"lset_loops/src/{it.table}.rt", *[READS] * it.has_reads()] for it in lists()}
 OF_THE_INTERPRETER = {23, 24, 25}
 BEGINS = ("begin_at_head", "begin_locked")  # the first step of a call
 STEP = re.compile(r"\bcaller\.(\w+)(?:::<N>)?\(place")
@@ -34,8 +27,10 @@ def lines_of(file):
             yield number, step and step[1], [int(it) for it in re.findall(r"\d+", said)]
 
 
-def problems(_top):
-    for name, files in LISTS.items():
-        rows = {*Table(CRATES, name).rows(), *(READ_ROWS if READS in files else [])} - OF_THE_INTERPRETER
-        found = {row for file in files for *_, made in lines_of(file) for row in made}
-        yield from (f"{name}: row {row} of the table and of the loops" for row in sorted(rows ^ found))
+def problems(top):
+    sections = (top / "docs/TABLES.md").read_text(encoding="utf-8").split("\n## ")
+    rows = {it.partition("\n")[0]: {*map(int, re.findall(r"^\| (\d+) \|", it, re.M))} for it in sections}
+    for one in lists():
+        due = rows[one.type] | (rows["Reads without locks"] if one.has_reads() else set())
+        found = {row for file in LISTS[one.table] for *_, made in lines_of(file) for row in made}
+        yield from (f"{one.word}: row {row} of the table and of the loops" for row in sorted((due - OF_THE_INTERPRETER) ^ found))

@@ -1,5 +1,5 @@
 """Compares page/listset.js, in node, with the program on words, right and wrong: both outputs and the status. Of wrong words the status is
-the same, nothing is on the output, and the script says what is wrong in one line. tests/same_output.py compares the two on many texts."""
+the same, nothing is on the output, and the script says what is wrong in one line. page/test compares the two on many texts."""
 
 import os
 import subprocess

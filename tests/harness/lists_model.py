@@ -1,116 +1,44 @@
-"""A model of the five lists, written apart from the crates, by docs/TABLES.md alone: the rows of their tables, the nodes' words (key, link,
-lock), a thread's registers (pred, curr, ..), and one step of a thread after another. And of the broken lists, each by its rows that differ."""
+"""A model of the five lists: it executes the rows of docs/TABLES.md as they stand on that page, one step of a thread after another, on the
+nodes' words (key, link, lock) and a thread's registers (pred, curr, ..). And of the broken lists, each by its rows that differ."""
 
 import collections
+import re
+
+import lists
+from harness.programs import TOP
 
 TAIL_KEY = 4294967297
 REGISTERS = ["pred", "curr", "succ", "node", "pkey", "ckey"]
 
-# ---- the five tables, to be laid beside docs/TABLES.md, which says what their words mean
+# ---- the five tables, as docs/TABLES.md has them
 
-COARSE = """
- 1 | try list.lock                          | 2
- 2 | load head.link                         | pred = head, curr = next(s), 3
- 3 | load curr.key                          | ckey = s; below K: 4; else decide
- 4 | load curr.link                         | pred = curr, curr = next(s), 3
- 5 | store K in own.key                     | 6
- 6 | store curr in own.link                 | 7
- 7 | store own in pred.link                 | +k, reply true, 10
- 8 | load curr.link                         | succ = next(s), 9
- 9 | store succ in pred.link                | -k, reply true, 10
-10 | store 0 in list.lock                   | answers
-"""
-FINE = """
- 1 | try head.lock                          | pred = head, 2
- 2 | load head.link                         | curr = next(s), 3
- 3 | try curr.lock                          | 4
- 4 | load curr.key                          | ckey = s; below K: 5; else decide
- 5 | store 0 in pred.lock                   | 6
- 6 | load curr.link                         | pred = curr, curr = next(s), 3
- 7 | store K in own.key                     | 8
- 8 | store curr in own.link                 | 9
- 9 | store own in pred.link                 | +k, reply true, 12
-10 | load curr.link                         | succ = next(s), 11
-11 | store succ in pred.link                | -k, reply true, 12
-12 | store 0 in curr.lock                   | 13
-13 | store 0 in pred.lock                   | answers
-"""
-OPTIMISTIC = """
- 1 | load head.link                         | pred = head, pkey = 0, curr = next(s), 2
- 2 | load curr.key                          | ckey = s; below K: 3; else 4
- 3 | load curr.link                         | pred = curr, pkey = ckey, curr = next(s), 2
- 4 | try pred.lock                          | 5
- 5 | try curr.lock                          | node = head; pred is the head: 8; else 6
- 6 | load node.link                         | node = next(s), 7
- 7 | load node.key                          | above pkey: reply none, 14; node is pred: 8; else 6
- 8 | load pred.link                         | it leads to curr: decide on ckey; else reply none, 14
- 9 | store K in own.key                     | 10
-10 | store curr in own.link                 | 11
-11 | store own in pred.link                 | +k, reply true, 14
-12 | load curr.link                         | succ = next(s), 13
-13 | store succ in pred.link                | -k, reply true, 14
-14 | store 0 in pred.lock                   | 15
-15 | store 0 in curr.lock                   | without a reply: 1; else answers
-"""
-READS = """
-20 | load curr.link                         | curr = next(s), 21
-21 | load curr.key                          | below K: 20; K: 22; else answers false
-22 | load curr.link                         | marked: answers false; else answers true
-23 | load curr.link                         | curr = next(s), 24
-24 | load curr.key                          | ckey = s; below K: 23; the tail's: answers nothing; else 25
-25 | load curr.link                         | marked: curr = head, 23; else answers the key of ckey
-"""
-LAZY = READS + """
- 1 | load head.link                         | pred = head, curr = next(s), 2
- 2 | load curr.key                          | ckey = s; below K: 3; else 4
- 3 | load curr.link                         | pred = curr, curr = next(s), 2
- 4 | try pred.lock                          | 5
- 5 | try curr.lock                          | 6
- 6 | load pred.link                         | curr, unmarked: 7; else reply none, 13
- 7 | load curr.link                         | marked: reply none, 13; else succ = next(s), decide on ckey
- 8 | store K in own.key                     | 9
- 9 | store curr in own.link                 | 10
-10 | store own in pred.link                 | +k, reply true, 13
-11 | store succ* in curr.link               | -k, 12
-12 | store succ in pred.link                | reply true, 13
-13 | store 0 in curr.lock                   | 14
-14 | store 0 in pred.lock                   | without a reply: 1; else answers
-"""
-LOCK_FREE = READS + """
- 1 | load head.link                         | pred = head, curr = next(s), 2
- 2 | load curr.link                         | succ = next(s); marked: 3; else 4
- 3 | exchange pred.link from curr to succ   | success: curr = succ, 2; else 1
- 4 | load curr.key                          | below K: pred = curr, curr = succ, 2; else decide
- 5 | store K in own.key                     | 6
- 6 | store curr in own.link                 | 7
- 7 | exchange pred.link from curr to own    | success: +k, answers true; else 1
- 8 | load curr.link                         | succ = next(s), 9
- 9 | exchange curr.link from succ to succ*  | success: -k, 10; else 1
-10 | exchange pred.link from curr to succ   | answers true
-"""
+Table = collections.namedtuple("Table", "rows begin add remove leave")
+PAGE = re.split(r"^## ", (TOP / "docs/TABLES.md").read_text(encoding="utf-8"), flags=re.M)
+SECTIONS = {it.split("\n")[0]: re.sub(r"`|\*\*", "", it) for it in PAGE}
 
-Table = collections.namedtuple("Table", "rows reads add remove leave")
+
+def row_of(step, then):
+    """A row: its step, and what follows it, part by part."""
+    then = then.replace("if pred is", "pred is").replace(" that there is none", " nothing").removesuffix(" whatever was seen")
+    return step.split(), [it.strip() for it in then.split(";")]
 
 
 def rows_of(text):
-    """The rows of a text: of each its step and what follows."""
-    cells = ([it.strip() for it in line.split("|")] for line in text.strip().splitlines() if line)
-    return {int(number): (step.split(), [it.strip() for it in then.split(";")]) for number, step, then in cells}
+    """The rows of a table: of each its number, its step and what follows."""
+    cells = re.findall(r"^\|? *(\d+) \|([^|]*)\|([^|\n]*)", text, re.M)
+    return {int(number): row_of(step.strip(), then.strip()) for number, step, then in cells}
 
 
-def table(text, *places):
-    """A table: its rows; whether some of them read without locks; where add, remove and leave go."""
-    rows = rows_of(text)
-    return Table(rows, 20 in rows, *places)
+def table(one):
+    """The table of a list: its rows; where its calls begin, and where add, remove and leave go (one may leave by answering)."""
+    own, reads = SECTIONS[one.type], SECTIONS["Reads without locks"] if one.has_reads() else ""
+    places = {word: int(row) for text in (own, reads) for word, row in re.findall(r"(begin|begins|add|remove|leave|ceiling) at row (\d+)", text)}
+    begin = {"contains": places.get("begins", places["begin"]), "ceiling": places.get("ceiling", places["begin"])}
+    begin |= dict.fromkeys(("add", "remove"), places["begin"])
+    return Table(rows_of(own) | rows_of(reads), begin, places["add"], places["remove"], places.get("leave"))
 
 
-TABLES = {
-    "coarse": table(COARSE, 5, 8, 10),
-    "fine": table(FINE, 7, 10, 12),
-    "optimistic": table(OPTIMISTIC, 9, 12, 14),
-    "lazy": table(LAZY, 8, 11, 13),
-    "lock-free": table(LOCK_FREE, 5, 8, None),  # (it leaves by answering)
-}
+TABLES = {it.word: table(it) for it in lists.lists() if it.type in SECTIONS}
 
 # The broken lists, as the end of docs/CLASSIC.md says what each lacks: its list, and the rows that differ. To `pass` a lock is a try after
 # which the thread goes on; `curr^` is a link to curr with the mark that pkey keeps.
@@ -199,8 +127,8 @@ class List:
         return told
 
     def begin(self, t, call):
-        it, reads = self.threads[t], {"contains": 20, "ceiling": 23} if self.table.reads else {}
-        it.call, it.reply, it.pc = call, None, reads.get(call.word, 1)
+        it = self.threads[t]
+        it.call, it.reply, it.pc = call, None, self.table.begin[call.word]
         for name in REGISTERS:
             setattr(it, name, 0)
 

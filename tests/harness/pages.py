@@ -9,7 +9,7 @@ A heading `## NAME` begins a test. Its lines that are indented by four spaces ar
     .             at the end of a command: its output has no newline at its end
     LINE          any other: a line of the output
 
-All other lines are prose. The commands of one test run in turn, in one room. A command that runs for 60 seconds fails. None pipes
+All other lines are prose. The commands of one test run in turn, in one room. A command that runs for 300 seconds fails. None pipes
 `listset` into `head`, which ends before the program has written all now and then.
 
 In any other page a test is a block of lines that are indented by four spaces, or stand below ```sh, and of which the first is a command.

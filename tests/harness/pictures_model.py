@@ -1,6 +1,6 @@
-"""A model of the picture that `show` draws, as a text and as an SVG, by docs/TEXTS.md alone: a column for each moment, a lane for each
-thread with its begins, ends and points, the set at each change, and the order below. What is drawn is a Picture: of a run
-(traces_model), or of a report (reports_model)."""
+"""A model of the picture that `show` draws as a text, by docs/TEXTS.md alone: a column for each moment, a lane for each thread with its
+begins, ends and points, the set at each change, and the order below. What is drawn is a Picture: of a run (traces_model), or of a report
+(reports_model)."""
 
 import collections
 import functools
@@ -10,8 +10,8 @@ GREATEST = 4294967295
 # the order; the set at each moment; the keys below; why the order is refused, and which event; None if they are not
 Picture = collections.namedtuple("Picture", "kind threads quota events calls ends order sets keys refusal refused")
 Place = collections.namedtuple("Place", "number reply at change")  # in a refused order it has no moment
-# Why an order is refused: the words for it, the calls that clash, the moment of which the picture begins, and the number that no call has
-Refusal = collections.namedtuple("Refusal", "said clash begun unknown")
+# Why an order is refused: the words for it, the moment of which the picture begins, and the number that no call has
+Refusal = collections.namedtuple("Refusal", "said begun unknown")
 
 
 def picture_of_run(plan, run):
@@ -133,50 +133,12 @@ class Drawn:
             told += [*([self.cut_text()] if cut else []), *self.rows(), ""]
         return [*told, *self.below(legend)]
 
-    def x_of(self, moment):
-        return 88 + 9 * sum(self.width(it) for it in self.columns if it < moment)
-
-    def bar(self, call):
-        """The elements of a call: its line, its words if it begins in the picture, and its reply if it ends there."""
-        end, reply = self.picture.ends.get(call.number, (None, None))
-        if call.begun > self.last or end is not None and end < self.first:
-            return []
-        clash = " clash" if self.picture.refusal and call.number in self.picture.refusal.clash else ""
-        y, kind = lane(call.thread), f"thread-{call.thread % 8}{clash}"
-        x, x2 = self.x_of(call.begun), self.x_of(1 << 32 if end is None else end)
-        told = [f'<line class="bar {"open " if end is None else ""}{kind}" x1="{x}" y1="{y}" x2="{x2}" y2="{y}"/>']
-        told += [element(x, y - 10, f"{call.word} {call.key}", kind)] if self.first <= call.begun else []
-        return told + ([element(x2 + 10, y + 4, reply, kind)] if end is not None and end <= self.last else [])
-
-    def svg(self):
-        """The elements between the style sheet and the end."""
-        n, edge = self.picture.threads, self.x_of(1 << 32)
-        below = self.below("filled: changes the set    open: changes nothing, its reply fits there    dashed: still open")
-        above = [self.heading(), *self.refusal()]
-        told = [element(8, y, it) for y, it in zip([20, 34], above)]
-        told += [element(8, 38 if len(above) == 1 else 47, self.cut_text())] if any(self.is_cut()) else []
-        told += [element(8, 60, "moment"), *(element(8, lane(t) + 4, f"thread {t}", f"thread-{t % 8}") for t in range(n))]
-        told += [element(8, lane(n), "set")] if self.has_points else []
-        for moment in self.columns:
-            told.append(element(self.x_of(moment), 60, moment))
-            told += [element(self.x_of(moment), lane(n), self.told_set(moment))] if self.told_set(moment) else []
-        places = [it for it in self.picture.order if self.has_points and self.first <= it.at <= self.last]
-        dots = [(self.x_of(it.at), self.picture.calls[it.number].thread, it.change) for it in places]
-        told += [f'<line class="stem" x1="{x}" y1="{lane(t)}" x2="{x}" y2="{lane(n) - 14}"/>' for x, t, _ in dots]
-        for call in self.picture.calls:
-            told += self.bar(call)
-        told += [f'<circle class="point {"change" if change else "fit"} thread-{t % 8}" cx="{x}" cy="{lane(t)}" r="5"/>' for x, t, change in dots]
-        height = lane(n) + 36 + 16 * len(below)
-        width = max(edge + 48, 16 + 8 * min(255, max(map(len, [*above, *below]))))
-        return width, height, told + [element(8, lane(n) + 36 + 16 * at, it) for at, it in enumerate(below)]
-
-
-def element(x, y, told, kind="plain"):
-    return f'<text class="{kind}" xml:space="preserve" x="{x}" y="{y}">{told}</text>'
-
-
-def lane(t):
-    return 90 + 40 * t
+    def in_svg(self):
+        """The texts that an SVG has, among others; how many points, and how many bars of calls."""
+        legend = "filled: changes the set    open: changes nothing, its reply fits there    dashed: still open"
+        points = [it for it in self.picture.order if self.has_points and self.first <= it.at <= self.last]
+        bars = [it for it in self.picture.calls if it.begun <= self.last and self.picture.ends.get(it.number, [GREATEST])[0] >= self.first]
+        return {*map(str, self.columns), self.heading(), *self.refusal(), *filter(None, self.below(legend))}, len(points), len(bars)
 
 
 def with_rows_of(width, drawn):

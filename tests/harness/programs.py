@@ -14,8 +14,8 @@ from toolchain import NEEDS, TOP
 
 PROVED, UNPROVED = TOP / "crates/listset/out/listset", TOP / "crates/listset/out/unproved/listset"
 KINDS = [it.word for it in lists.lists()]
-SECONDS = 60  # for each wait
-LONG = 600  # seconds, for a compiler and for a whole test
+SECONDS = 300  # for each wait, also on a busy machine
+LONG = 1800  # seconds, for a compiler and for a whole test
 # cargo, for what is built once: in half the time
 QUICK_CARGO = ["env", "CARGO_INCREMENTAL=0", "CARGO_PROFILE_DEV_DEBUG=0", "cargo"]
 

@@ -1,14 +1,11 @@
 """A model of the pictures that `show` draws of a report, by docs/TEXTS.md alone: the first fault of an order with the words for it, and else
-the first moments at which its calls can take effect. Besides calls of a set made at random, as a report, right or damaged, its keys now and
-then in another order."""
+the first moments at which its calls can take effect. And damage of a report at random."""
 
 import collections
 import itertools
-import types
 
 from harness.lists_model import Call
 from harness.pictures_model import GREATEST, Picture, Place, Refusal, keys_text
-from harness.programs import KINDS
 from harness.set_model import CHANGES, SetModel
 
 Report = collections.namedtuple("Report", "kind threads quota opening calls ends order keys")
@@ -32,35 +29,18 @@ def read_report(text):
     return report
 
 
-def call_text(report, call):
-    """A call as the judge reads it: a `ceiling` that has found a key as a `contains` of it, an `add` that answered `full` as one that has not
-    found its key; any other reply than true is false."""
-    word, key, (end, reply) = call.word, call.key, report.ends.get(call.number, "--")
-    if word == "ceiling" and reply.startswith("at-"):
-        key, reply = int(reply[3:]), "true"
-    if word == "ceiling" or (word, reply) == ("add", "full"):
-        word = "contains"
-    return f"call {call.thread} {word} {key} {call.begun} {end} {reply if reply in ('true', '-') else 'false'}"
-
-
-def calls_text(report):
-    """The calls of a report as a recording."""
-    lines = [*(f"opening {it}" for it in report.opening), *(call_text(report, it) for it in report.calls), *(f"key {it}" for it in report.keys)]
-    return "\n".join(["listset-calls 1", *lines, "end", ""])
-
-
 # ---- the faults of an order, in the order in which they are looked for
 
 
-def about(report, said, *numbers):
-    """A refusal of these calls, of which the picture begins with the last."""
-    return Refusal(said, numbers, report.calls[numbers[-1]].begun, None)
+def about(report, said, number):
+    """A refusal of a call, with which the picture begins."""
+    return Refusal(said, report.calls[number].begun, None)
 
 
 def unknown(report):
     has = f"calls 0 to {len(report.calls) - 1}" if report.calls else "no calls"
     found = (it for it, _ in report.order if it >= len(report.calls))
-    return next((Refusal(f"Unknown {it}: the history has {has}", (), None, it) for it in found), None)
+    return next((Refusal(f"Unknown {it}: the history has {has}", None, it) for it in found), None)
 
 
 def twice(report):
@@ -102,7 +82,7 @@ def too_early(report):
         for other, _ in report.order[at:]:
             if other in report.ends and report.ends[other][0] < begun:
                 end = report.ends[other][0]
-                return about(report, f"TooEarly {it}: it begins at {begun} and stands before call {other}, which ended at {end}", it, other)
+                return about(report, f"TooEarly {it}: it begins at {begun} and stands before call {other}, which ended at {end}", other)
     return None
 
 
@@ -115,11 +95,12 @@ def wrong_set(report):
         return None
     first_apart = next({*pair} - {None} for pair in itertools.zip_longest(left, report.keys) if pair[0] != pair[1])
     begun = next((it.begun for it in report.calls if it.key == min(first_apart)), None)
-    clash = [it.number for it in report.calls if (it.key in left) != (it.key in report.keys)]
-    return Refusal(f"WrongSet: the order leaves {{{keys_text(left)}}}, and the keys are {{{keys_text(report.keys)}}}", clash, begun, None)
+    return Refusal(f"WrongSet: the order leaves {{{keys_text(left)}}}, and the keys are {{{keys_text(report.keys)}}}", begun, None)
 
 
-FAULTS = [unknown, twice, missing, wrong_reply, too_early, wrong_set]
+def first_fault(report):
+    """Why its order is refused, or None."""
+    return next(filter(None, (fault(report) for fault in (unknown, twice, missing, wrong_reply, too_early, wrong_set))), None)
 
 # ---- the picture
 
@@ -147,81 +128,39 @@ def places_of(report):
 
 
 def picture_of_report(it):
-    refusal = next(filter(None, (fault(it) for fault in FAULTS)), None)
+    refusal = first_fault(it)
     places = [Place(number, reply, None, None) for number, reply in it.order] if refusal else [*places_of(it)]
     return Picture(it.kind, it.threads, it.quota, None, it.calls, it.ends, places, Sets(it, places), it.keys, refusal, None)
 
 
-# ---- calls at random
+# ---- damage
 
 
-class RandomCalls:
-    """Calls of a set, each of which takes effect while it is pending. All moments differ, and some have ten digits."""
+def report_text(it):
+    """A report as a text."""
+    head = ["listset-report 2", f"list {it.kind}", f"threads {it.threads}", f"quota {it.quota}", *(f"opening {key}" for key in it.opening)]
+    calls = (f"call {one.number} {one.thread} {one.word} {one.key} {one.begun} {' '.join(map(str, it.ends.get(one.number, ['open'])))}" for one in it.calls)
+    return "\n".join([*head, *calls, *(f"place {number} {reply}" for number, reply in it.order), *(f"key {key}" for key in it.keys), "end", ""])
 
-    def __init__(self, draw):
-        self.draw, self.version, self.kind = draw, draw.choice([1, 2, 2]), draw.choice(KINDS)
-        self.threads, self.quota = draw.choice([1, 2, 3, 9, 64]), draw.choice([0, 1, 2, 4, 16384])
-        self.opening = sorted(draw.sample([*range(12), GREATEST], draw.choice([0, 1, 3, 10]))) if self.version == 2 else []
-        self.held, self.calls, self.order, self.pending = SetModel(self.quota, self.opening), [], [], {}
-        self.words = ["add", "add", "remove", "contains", *["ceiling"] * (self.version - 1)]
-        used, moment = draw.sample(range(self.threads), min(self.threads, 4)), 0
-        events = draw.choice([0, 3, 12, 40, 40, 200])
-        gap = draw.choice([1, 1, 4, GREATEST // max(events, 1)])
-        for _ in range(events):
-            moment += draw.randint(1, gap)
-            self.go(draw.choice(used), moment)
 
-    def go(self, thread, moment):
-        it = self.pending.get(thread)
-        if it is None:
-            key = self.draw.choice([*range(6), *range(12), GREATEST])
-            it = types.SimpleNamespace(number=len(self.calls), thread=thread, word=self.draw.choice(self.words), key=key, begun=moment)
-            it.reply = it.end = None
-            self.pending[thread] = it
-            self.calls.append(it)
-        elif it.reply is None:
-            it.reply = self.held.reply(thread, it.word, it.key)
-            self.order.append(it)
-        else:
-            it.end = moment
-            del self.pending[thread]
-
-    def text(self, title, *sections):
-        head = [title, f"list {self.kind}", f"threads {self.threads}", f"quota {self.quota}", *(f"opening {it}" for it in self.opening)]
-        return "\n".join([*head, *itertools.chain(*sections), "end", ""])
-
-    def reply(self):
-        return self.draw.choice(["true", "false", "full", *["nothing", "at-3", f"at-{GREATEST}"] * (self.version - 1)])
-
-    def report(self, faults):
-        """The report of the calls, which was damaged so often."""
-        places, keys = [[it.number, it.reply] for it in self.order], sorted(self.held.keys)
-        for _ in range(faults):
-            self.damage(places, keys)
-        calls = (f"call {it.number} {it.thread} {it.word} {it.key} {it.begun} " + (f"{it.end} {it.reply}" if it.end else "open") for it in self.calls)
-        return self.text(f"listset-report {self.version}", calls, (f"place {it} {reply}" for it, reply in places), (f"key {it}" for it in keys))
-
-    def damage(self, places, keys):
-        """A place is lost, stands twice, is of no call, goes elsewhere, or says another reply; or a call ended with another one; or keys are
-        lost, new, or no longer in order."""
-        draw = self.draw
-        at, other = (draw.randrange(max(1, len(places))) for _ in range(2))
-        found = (places[at:at + 1] or [[draw.randrange(3), "true"]])[0]
-        how = draw.choice(["lost", "twice", "of no call", "elsewhere", "elsewhere", "reply", "end", "keys", "keys"])
-        if how == "elsewhere":  # (often of a call that changes nothing, and so answers the same there)
-            at = draw.choice([n for n, it in enumerate(places) if it[1] != "true"] or [at])
-            places.insert(other, places.pop(at) if places else found)
-        elif how == "lost":
-            del places[at:at + 1]
-        elif how == "twice":
-            places.insert(other, [*found])
-        elif how == "of no call":
-            places.insert(at, [draw.choice([len(self.calls), len(self.calls) + 1, GREATEST]), self.reply()])
-        elif how in ("reply", "end"):
-            found[1] = self.reply()
-            if how == "end" and found[0] < len(self.calls):
-                self.calls[found[0]].reply = found[1]
-        elif how == "keys":
-            del keys[at:at + draw.randrange(2)]
-            keys += draw.sample([*range(12), GREATEST], draw.randrange(3))
-            keys.sort(reverse=draw.random() < 0.2)
+def damage(draw, it):
+    """A place is lost, stands twice, is of no call, goes elsewhere, or says another reply; or a call ended with another one; or keys are
+    lost, new, or no longer in order."""
+    at, other = (draw.randrange(max(1, len(it.order))) for _ in range(2))
+    number, reply = it.order[at] if it.order else (0, "true")
+    another = draw.choice(["true", "false", "full", "nothing", "at-3", f"at-{GREATEST}"])
+    how = draw.choice(["lost", "twice", "of no call", "elsewhere", "elsewhere", "reply", "end", "keys", "keys"])
+    if how == "elsewhere" and it.order:
+        it.order.insert(other, it.order.pop(at))
+    elif how in ("lost", "reply"):
+        it.order[at:at + 1] = [(number, another)] * (how == "reply")
+    elif how == "twice":
+        it.order.insert(other, (number, reply))
+    elif how == "of no call":
+        it.order.insert(at, (draw.choice([len(it.calls), len(it.calls) + 1, GREATEST]), another))
+    elif how == "end" and number in it.ends:
+        it.ends[number] = it.ends[number][0], another
+    elif how == "keys":
+        del it.keys[at:at + draw.randrange(2)]
+        it.keys.extend(draw.sample([*range(12), GREATEST], draw.randrange(3)))
+        it.keys.sort(reverse=draw.random() < 0.2)

@@ -7,16 +7,15 @@ import struct
 import subprocess
 import threading
 
-SECONDS = 120
-SOON = 15
+SECONDS = 300
+SOON = 60
 
 
 class Server:
     """The program as a server, and the port that it names."""
 
-    def __init__(self, process):
-        self.process = process
-        first = process.stdout.readline()
+    def __init__(self, process, first=None):
+        self.process, first = process, first or process.stdout.readline()
         assert first.startswith("listening 127.0.0.1:")
         self.port = int(first.rpartition(":")[2])
 
@@ -33,18 +32,24 @@ class Server:
 
 
 @contextlib.contextmanager
-def serving(program, kind, seats, quota, sessions, port=0, before=()):
-    """The program as a server, with these words before its own, such as those of a limit."""
-    words = [*before, program, "serve", kind, str(seats), str(quota), str(port), str(sessions)]
-    process = subprocess.Popen(words, stdout=subprocess.PIPE, text=True)
+def started(*words):
+    """A process, which is ended if it does not end."""
+    process = subprocess.Popen([*map(str, words)], stdout=subprocess.PIPE, stderr=subprocess.PIPE, text=True)
     watch = threading.Timer(2 * SECONDS, process.kill)
     watch.start()
     try:
-        yield Server(process)
+        yield process
     finally:
         watch.cancel()
         process.kill()
         process.wait()
+
+
+@contextlib.contextmanager
+def serving(program, kind, seats, quota, sessions, before=()):
+    """The program as a server, with these words before its own, such as those of a limit."""
+    with started(*before, program, "serve", kind, seats, quota, 0, sessions) as process:
+        yield Server(process)
 
 
 def answer_of(reply):
@@ -73,15 +78,6 @@ def asks(connection, lines, answers):
     connection.sendall(lines)
     assert read_lines(connection, answers.count(b"\n")) == answers, lines
     assert not (answers.endswith(b"BYE\n") and connection.recv(1)), lines
-
-
-def takes_turns(connection, turns):
-    """Sends the lines of these turns; the answer to each is one of its right answers."""
-    connection.sendall(b"".join(line for line, _ in turns))
-    told = read_lines(connection, len(turns)).splitlines(keepends=True)
-    assert len(told) == len(turns)
-    for (line, right), answer in zip(turns, told):
-        assert answer in right, line
 
 
 def resets(connection):

@@ -11,12 +11,12 @@ from harness.programs import TOP, well
 COMMANDS = "awk bash cat chmod cp cut date dirname env find grep mv readlink rm sed sh sha256sum sleep sort touch xargs".split()
 
 
-def small_clone(at, parts, texts=None, without=("out",)):
-    """A folder with these folders and files of the repository, but for what has one of these names, and with these texts by their paths."""
+def small_clone(at, parts, texts=None):
+    """A folder with these folders and files of the repository, without out/, and with these texts by their paths."""
     for part in parts:
         (at / part).parent.mkdir(parents=True, exist_ok=True)
         if (TOP / part).is_dir():
-            shutil.copytree(TOP / part, at / part, symlinks=True, ignore=shutil.ignore_patterns("__pycache__", *without))
+            shutil.copytree(TOP / part, at / part, symlinks=True, ignore=shutil.ignore_patterns("__pycache__", "out"))
         else:
             shutil.copy(TOP / part, at / part)
     for path, text in (texts or {}).items():
