@@ -1,4 +1,5 @@
 // The page: its parts are put together, and it starts.
+import { listenToBench, showBar, showRun } from "./activities/bench.js";
 import { drawCompare, listenToSides, pressForSides, showSides } from "./activities/compare.js";
 import { listenToCourses, listenToHandIn } from "./activities/courses.js";
 import { listenToJudging } from "./activities/judge_begin.js";
@@ -7,14 +8,14 @@ import { followAddress, openCourseFile, openFirst, openRecorded, showBeforehand 
 import { showPlace } from "./activities/place.js";
 import { drawReadMap } from "./activities/read.js";
 import { Engine } from "./engine/engine.js";
-import { listenToBar, listenToDrawings, listenToFiles, listenToSettings, listenToWork, placeParts, stopUnable } from "./page/controls.js";
+import { listenToBar, listenToFiles, listenToSettings, listenToWork, placeParts, stopUnable } from "./page/controls.js";
 import { byId } from "./page/dom.js";
+import { showMarks } from "./page/editor.js";
 import { refreshReport } from "./page/files.js";
 import { keysOf, pressKey } from "./page/keys.js";
 import { fillExamples, fillWorks, showQuestion } from "./page/menu.js";
 import { held, on, show, takeTrace } from "./page/now.js";
-import { fitSlide, isAtMap, services, showParts } from "./page/places.js";
-import { keepHeights, showBar, showMarks, showRun } from "./page/view.js";
+import { isAtMap, services, showParts } from "./page/places.js";
 import { keepNow, keepSoon } from "./page/visit.js";
 import { showHeader } from "./page/work.js";
 import { Trace } from "./run/trace.js";
@@ -26,7 +27,7 @@ const EMPTY_TRACE = "listset-trace 1\nlist lazy\nthreads 2\nquota 4\nend\n";
 
 function listen() {
   listenToBar();
-  listenToDrawings();
+  listenToBench();
   listenToWork();
   listenToFiles();
   listenToSettings();
@@ -38,27 +39,24 @@ function listen() {
   for (const activity of ["story", "ask", "code", "break", "learn"]) keysOf[activity] = pressInScene;
   document.addEventListener("click", stopUnable, true);
   document.addEventListener("keydown", pressKey);
-  window.addEventListener("resize", fitSlide);
   window.addEventListener("resize", show);
   window.addEventListener("popstate", followAddress);
   window.addEventListener("pagehide", keepNow);
 }
 
-// All that is seen follows from the state: first what is there at all, then what stands above the list, since the list takes what room
-// that leaves.
+// All that is seen follows from the state: first what is there at all, then what stands in it.
 function render(state, moment) {
   showParts(state);
   if (isScene(state)) {
     renderScene(state);
-    showPlace(moment);
+    showPlace();
     return keepSoon();
   }
   leaveScene();
-  for (const draw of [showBar, showQuestion, drawJudging, showPlace]) draw(moment);
+  for (const draw of [showBar, showQuestion, drawJudging, showPlace]) draw();
   if (!isAtMap()) showRun(moment);
   showMarks();
   showSides();
-  keepHeights();
   keepSoon();
 }
 

@@ -61,12 +61,12 @@ function seenIn(state, given = { hasEngine: true }) {
 function checkSeen() {
   const has = (state, ids, given) => ids.every((id) => seenIn(state, given).includes(id));
   const own = shown(EXAMPLE, TEXT);
-  check("a question", has(own, ["question-box", "go-on-box", "past", "code-column", "bench"]) && !has(own, ["scene"]));
+  check("a question", has(own, ["question-box", "go-on-here", "past", "run-figure", "bench"]) && !has(own, ["scene"]));
   check("no moves without the engine", !has(own, ["go-on-box"], { hasEngine: false }) && has(own, ["no-engine"], { hasEngine: false }));
   const claim = reduce(own, { type: "exercise", exercise: { level: "claim" } });
   check("a claim shows no run", has(claim, ["judge", "judge-moments"]) && !["list", "dock", "said", "past"].some((id) => has(claim, [id])));
   const slide = reduce(own, { type: "view", view: "lecture" });
-  check("a slide", has(slide, ["task", "list", "past", "leave"]) && !["top", "map", "go-on-box", "told"].some((id) => has(slide, [id])));
+  check("a slide", has(slide, ["task", "run-figure", "past", "leave"]) && !["top", "map", "go-on-here", "told"].some((id) => has(slide, [id])));
   const map = reduce(own, { type: "place", activity: "read", screen: "map" });
   const scene = atScene("story", "2");
   check("a scene", has(scene, ["scene", "top"]) && !["bench", "task", "map"].some((id) => has(scene, [id])));

@@ -1,17 +1,16 @@
 // Compare: two lists side by side, under one program of calls, with some programs to begin with.
 import { LISTS } from "../../made/rows.js";
-import { drawContents } from "../draw/contents.js";
-import { drawCalls, scaleOf } from "../draw/history.js";
-import { drawList, LOCK_HEIGHT } from "../draw/list.js";
-import { LEAST } from "../draw/room.js";
 import { byId, redraw } from "../page/dom.js";
 import { toggleLecture } from "../page/keys.js";
 import { askNow, change, now, show } from "../page/now.js";
 import { copied, keepSoon, linkTo, visit } from "../page/visit.js";
 import { addressOf, readAddress, warningOf } from "../run/address.js";
 import { chipOf, escaped, tag } from "../run/markup.js";
-import { momentAt, sentenceOf } from "../run/sentences.js";
+import { sentenceOf } from "../run/sentences.js";
 import { ProgramFault, programText, readProgram, Sides } from "../run/sides.js";
+import { ShownRun } from "../story/live_run.js";
+import { threadOfKey } from "../story/scene.js";
+import { StillFigure } from "../story/still_figure.js";
 
 const PRESETS = [
   ["Who waits?", "#sides=coarse.lazy&quota=4&calls=0.add.5,1.contains.5&turns=0.0.0.0.1.1.1"],
@@ -65,30 +64,29 @@ function turnOf(thread) {
   if (!isMade) sidesPart("told").innerHTML = `${chipOf(thread)} has ended all its calls in both lists.`;
 }
 
-function drawSide(side, thread, place) {
-  const count = side.counts[shownSides.at];
-  const moment = momentAt(side.state, count);
-  const hasWaited = shownSides.at > 0 && count === side.counts[shownSides.at - 1];
-  const said = hasWaited ? `${chipOf(thread)} has ended its call here, and waits for the other list.` : sentenceOf(moment);
-  const width = Math.max(320, sidesPart("pictures").clientWidth / (innerWidth < 940 ? 1 : 2) - 48);
-  const scale = scaleOf(side.trace, count, width, now.prefs.hides);
-  side.said = said;
-  return tag(
-    "section",
-    { "aria-label": LISTS[side.kind].name },
-    tag("h3", {}, `${LISTS[side.kind].name} <small>${count} events</small>`),
-    tag("p", { class: hasWaited ? "said waits" : "said" }, said),
-    tag("div", { class: "scrolls" }, drawSideList(side, moment.event, width, place, scale.height)),
-    tag("div", { class: "scrolls" }, drawCalls(side.trace, scale), drawContents(side.trace, scale)),
-    tag("p", { class: "note" }, tag("a", { class: "button", href: addressOf(side.schedule, count) ?? "#" }, "Watch this run")),
-  );
-}
+const PARTS = '<h3></h3><div class="pair"></div><p class="note"><a class="button">Watch this run</a></p>';
 
-// On a slide of 720 pixels the list has what the bars of the history and the rest leave.
-function drawSideList({ state }, event, width, place, ofBars) {
-  const most = now.place.view === "lecture" ? Math.max(220, 420 - ofBars) : 230;
-  const height = LEAST.beside + (state.trace.kind === "coarse" ? 0 : LOCK_HEIGHT); // so that both are drawn in one scale
-  return drawList(state, event, width, most, { width: 0, height }, `side-${place}`);
+// The figure of each list, while the same two lists are shown.
+function figuresOfSides(sides) {
+  if (figures.length > 0 && sides.every((side, at) => figures[at].spec.list === side.kind)) return figures;
+  figures.splice(0).forEach((figure) => figure.end());
+  sidesPart("pictures").innerHTML = sides.map(({ kind }) => tag("section", { "aria-label": LISTS[kind].name }, PARTS)).join("");
+  const boxes = sidesPart("pictures").querySelectorAll(".pair");
+  const specOf = ({ kind, trace, state }) => ({ list: kind, run: new ShownRun(trace, state), code: false, sentence: sentenceOf, roomFor: 560, high: 0.3 });
+  figures.push(...sides.map((side, at) => new StillFigure(boxes[at], specOf(side))));
+  return figures;
+}
+const figures = [];
+
+function drawSide(side, figure) {
+  const count = side.counts[shownSides.at];
+  const box = figure.box.parentElement;
+  box.querySelector("h3").innerHTML = `${LISTS[side.kind].name} <small>${count} events</small>`;
+  box.querySelector("a").href = addressOf(side.schedule, count) ?? "#";
+  side.state.moveTo(count);
+  figure.take(new ShownRun(side.trace, side.state, count), undefined, now.prefs.hides);
+  const hasWaited = shownSides.at > 0 && count === side.counts[shownSides.at - 1];
+  if (hasWaited) figure.tell(`${chipOf(shownSides.sides.turns[shownSides.at - 1])} has ended its call here, and waits for the other list.`);
 }
 
 function turnTo(at) {
@@ -96,7 +94,7 @@ function turnTo(at) {
   drawSides();
 }
 
-// A turn by its digit; an arrow, and a presenter's key, goes on and back.
+// A turn by its letter; an arrow, and a presenter's key, goes on and back.
 export function pressForSides(event) {
   const { sides, at } = shownSides;
   const by = { ArrowRight: 1, PageDown: 1, ArrowLeft: -1, PageUp: -1, Home: -Infinity, End: Infinity }[event.key];
@@ -104,9 +102,7 @@ export function pressForSides(event) {
   if (by !== undefined) {
     event.preventDefault();
     turnTo(at + by);
-  } else if (/^[0-9]$/.test(event.key) && now.prefs.letters && Number(event.key) < sides.program.length) {
-    turnOf(Number(event.key));
-  }
+  } else if (threadOfKey(event) in sides.program) turnOf(threadOfKey(event));
 }
 
 function drawSides() {
@@ -117,8 +113,7 @@ function drawSides() {
   const words = `turn ${at} of ${sides.turns.length}`;
   sidesPart("slider").setAttribute("aria-valuetext", words);
   sidesPart("where").textContent = words;
-  sidesPart("pictures").innerHTML = sides.sides.map((side, place) => drawSide(side, sides.turns[at - 1], place)).join("");
-  sidesPart("heard").innerHTML = sides.sides.map((side) => `${LISTS[side.kind].name}: ${side.said}`).join(" ");
+  figuresOfSides(sides.sides).forEach((figure, place) => drawSide(sides.sides[place], figure));
   visit.sides = addressOfSides();
   keepSoon();
 }

@@ -55,7 +55,9 @@ export function showCourseText(text) {
 }
 
 async function copyCourseLink(panel) {
-  const address = await courseAddress(panel.course.text);
+  const { course } = panel;
+  const address = await courseAddress(course.text);
+  if (course !== panel.course || lessonPart("faults").dataset.isGood !== "yes") return; // another text was checked meanwhile
   const tooLong = "This course is too long for a link: save it, and hand out the file.";
   if (address === null) return (lessonPart("faults").textContent = tooLong);
   const link = linkTo(address);
@@ -64,6 +66,7 @@ async function copyCourseLink(panel) {
   box.hidden = false;
   box.select();
   const isCopied = await copied(link);
+  if (box.hidden) return;
   lessonPart("faults").textContent = `${isCopied ? "The link is copied" : "Copy the link below"}: it opens "${panel.course.name}".${warningOf(link)}`;
 }
 

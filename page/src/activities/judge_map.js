@@ -4,7 +4,7 @@ import { CLASSICS } from "../../made/classics.js";
 import { byId } from "../page/dom.js";
 import { examples } from "../page/example.js";
 import { keptUnder } from "../page/kept.js";
-import { escaped } from "../run/markup.js";
+import { escaped, inLetters } from "../run/markup.js";
 import { itemOf } from "../story/ask_figure.js";
 import { drawCard } from "../story/ask_map.js";
 import { LIST_WORDS } from "../story/scene.js";
@@ -17,7 +17,7 @@ export function drawJudgeMap() {
   const cardOf = ({ name, kind }) => {
     const state = judged.some((run) => run.startsWith(`${name} `)) ? "done" : "";
     const { title } = itemOf({ id: name });
-    return drawCard({ href: `#example=${name}&judge`, list: LIST_WORDS[kind], title, says: escaped(CLASSICS[name].question), state });
+    return drawCard({ href: `#example=${name}&judge`, list: LIST_WORDS[kind], title, says: escaped(inLetters(CLASSICS[name].question)), state });
   };
   byId("map-judge").innerHTML = `<h1>Judge a run yourself</h1><p class="lead">You see a run without its replies. Say what each call
     answers, and put a point where it takes effect. The proved <code>check</code> judges your order: any order that explains the run

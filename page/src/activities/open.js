@@ -2,6 +2,7 @@
 import { TRACES } from "../../made/traces.js";
 import { numberOfLevel } from "../data/chapter.js";
 import { byId } from "../page/dom.js";
+import { showMarks } from "../page/editor.js";
 import { isExample, openKept } from "../page/example.js";
 import { HERE, isText, keepWork, keptUnder, works } from "../page/kept.js";
 import { fillWorks, pickExample } from "../page/menu.js";
@@ -9,7 +10,6 @@ import { exampleShown, goTo, held, now, tell } from "../page/now.js";
 import { goToPlace, setView } from "../page/places.js";
 import { stopPlay } from "../page/play.js";
 import { entryOf } from "../page/state.js";
-import { showMarks } from "../page/view.js";
 import { keepSoon, visit } from "../page/visit.js";
 import { sceneOfHash } from "../page/scene_address.js";
 import { openTask, openWork, ownTask } from "../page/work.js";

@@ -2,6 +2,7 @@
 import { CLASSICS } from "../../made/classics.js";
 import { LISTS } from "../../made/rows.js";
 import { addressOf } from "../run/address.js";
+import { inLetters } from "../run/markup.js";
 import { partsOfSeed } from "../run/seed.js";
 import { addressOfScene } from "./scene_address.js";
 
@@ -35,7 +36,7 @@ export function titleIn(state, titles) {
   if (place.screen === "map") return `${NAMES[place.activity]} · ${WHOLE}`;
   const judged = state.exercise === null ? "" : "Judge: ";
   const ofTask = {
-    example: () => `${judged}${CLASSICS[task.id].question}`,
+    example: () => `${judged}${inLetters(CLASSICS[task.id].question)}`,
     seed: () => `${judged}Run ${partsOfSeed(task.id).number} of ${list}`,
     own: () => `${judged}${task.work}: ${list}`,
   };

@@ -34,15 +34,3 @@ export function setHtml(box, html) {
   box.innerHTML = html;
 }
 const texts = new WeakMap();
-
-// A box keeps the height that it has had for one thing, so that what stands below it moves once at most.
-export function keepHeight(box, of) {
-  const key = `${of} ${innerWidth}`;
-  const isSame = heights.get(box)?.key === key;
-  if (!isSame) box.style.minHeight = "";
-  const height = box.offsetHeight;
-  if (isSame && height <= heights.get(box).height) return;
-  heights.set(box, { key, height });
-  box.style.minHeight = `${height}px`;
-}
-const heights = new WeakMap();

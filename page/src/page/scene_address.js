@@ -45,6 +45,8 @@ function addressOfLesson({ id }, { text }, { course }) {
   return whole.length <= LONGEST_ADDRESS ? whole : named;
 }
 
+export const addressOfAssignment = ({ id, given }) => `#${new URLSearchParams({ assignment: id, ...given })}`.replaceAll("%2C", ",");
+
 const ADDRESSES = {
   story: ({ id }) => `#story=${id}`,
   ask: ({ id }) => (id === "" ? "#ask" : `#ask=${id}`),
@@ -52,7 +54,7 @@ const ADDRESSES = {
   break: addressOfLevel,
   learn: addressOfLesson,
   teachers: () => "#teachers",
-  assignment: ({ id, given }) => `#${new URLSearchParams({ assignment: id, ...given })}`.replaceAll("%2C", ","),
+  assignment: addressOfAssignment,
 };
 
 // `given` has what is not of the state: the packed course, or null for the book's.
