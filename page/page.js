@@ -2205,11 +2205,9 @@ return { momentAt, sentenceOf };
 // page/state.js
 const $page_state = (() => {
 /**
- * @typedef {"story" | "ask" | "code" | "break" | "learn" | "teachers" | "assignment"} SceneName
- * @typedef {"watch" | "judge" | "compare" | "read" | SceneName} Activity
- * @typedef {object} Place  A scene of the story has the id of what is shown there, and `given`, what else its address says.
- * @property {Activity} activity
- * @property {"map" | "stage" | "scene"} screen
+ * @typedef {object} Place  A scene has the id of what is shown there, and `given`, what else its address says.
+ * @property {string} activity  that of a scene (activities/views.js); of the bench "watch" or "judge"
+ * @property {"stage" | "scene"} screen
  * @property {string} id
  * @property {Record<string, string>} given
  * @property {"lecture" | "embed" | "list" | "history" | null} view
@@ -2257,7 +2255,7 @@ const stateAtFirst = () => ({
   prefs: { hides: true, allThreads: false, letters: true },
 });
 
-/** The activity to which a run belongs. @param {State} state @returns {Activity} */
+/** The activity to which a run belongs. @param {State} state */
 const activityOfRun = ({ exercise }) => (exercise !== null ? "judge" : "watch");
 
 /** The example that is shown, or "". @param {State} state */
@@ -4320,646 +4318,6 @@ function listenToBench() {
 return { showRun, showBar, listenToBench };
 })();
 
-// page/seen.js
-const $page_seen = (() => {
-const isOneOf = (...names) => ({ activity }) => names.includes(activity);
-const isStage = ({ screen, activity }) => screen === "stage" && activity !== "compare";
-const onMapOf = (name) => ({ activity, isMap }) => isMap && activity === name;
-
-function factsOf(state, { hasEngine }) {
-  const { place, run, task, exercise } = state;
-  return {
-    ...place,
-    isMap: place.screen === "map",
-    hasEngine,
-    kind: task.kind,
-    isJudging: exercise !== null,
-    isClaim: exercise?.level === "claim",
-    isBroken: run.lacks !== null,
-  };
-}
-
-const isFull = ({ view }) => view === null;
-const isSlide = ({ view }) => view === "lecture";
-const isFree = ({ isClaim }) => !isClaim; // of a claim there is no run to step through
-
-const SEEN = {
-  top: isFull,
-  leave: ({ view }) => view !== null && view !== "embed",
-  scene: ({ screen }) => screen === "scene",
-  bench: ({ screen }) => screen !== "scene",
-  task: (facts) => isStage(facts) && (isFull(facts) || isSlide(facts)),
-  stage: isStage,
-  workshop: (facts) => isStage(facts) && isFull(facts),
-  map: (facts) => isFull(facts) && facts.isMap && facts.activity !== "compare",
-  "map-judge": onMapOf("judge"),
-  "map-read": isOneOf("read"),
-  "report-part": (facts) => isFull(facts) || facts.activity === "compare",
-  "sides-box": (facts) => facts.activity === "compare" && facts.hasEngine,
-  "question-box": ({ kind, isJudging }) => kind === "example" && !isJudging,
-  "own-head": ({ kind }) => kind === "own",
-  "seed-box": ({ kind }) => kind === "seed",
-  "judge-head": isOneOf("judge"),
-  "go-on-here": (facts) => facts.activity !== "judge" && isFull(facts) && facts.hasEngine,
-  past: ({ isJudging, view }) => !isJudging && view !== "list",
-  ticks: ({ isJudging }) => !isJudging,
-  judge: ({ isJudging }) => isJudging,
-  "judge-moments": ({ isClaim }) => isClaim,
-  "judge-note": isFree,
-  "judge-levels": ({ isBroken }) => !isBroken,
-  "report-box": ({ isJudging, hasEngine }) => !isJudging && hasEngine,
-  dock: (facts) => isStage(facts) && isFree(facts),
-  "run-figure": isFree,
-  "key-help-box": isFree,
-  "threads-box": isFree,
-  "table-box": isFree,
-  "listing-box": (facts) => isFree(facts) && !facts.isBroken,
-  told: isFull,
-  order: isFull,
-  "no-engine": ({ hasEngine }) => hasEngine === false,
-};
-return { factsOf, SEEN };
-})();
-
-// page/places.js
-const $page_places = (() => {
-const { byId, setHidden } = $page_dom;
-const { change, now, show } = $page_now;
-const { factsOf, SEEN } = $page_seen;
-const isAtMap = () => now.place.screen === "map";
-
-function goToPlace(activity, screen) {
-  change("place", { activity, screen });
-  show();
-}
-
-function showParts(state) {
-  const facts = factsOf(state, { hasEngine: services.hasEngine });
-  for (const [id, isSeen] of Object.entries(SEEN)) setHidden(byId(id), !isSeen(facts), byId("skip"));
-  const { activity, screen, view } = state.place;
-  const key = [activity, screen, view, facts.hasEngine].join();
-  if (key === placed.key) return;
-  placed.key = key;
-  for (const part of document.querySelectorAll(".of-engine:not([id])")) part.hidden = !facts.hasEngine;
-  Object.assign(document.body.dataset, { activity, screen, view: view ?? "" });
-  for (const link of document.querySelectorAll("nav [data-to]")) {
-    if (link.dataset.to.split(" ").includes(activity)) link.setAttribute("aria-current", "page");
-    else link.removeAttribute("aria-current");
-  }
-}
-const placed = { key: "" };
-const services = { hasEngine: true }; // until it is known that there is none
-
-const setView = (view) => change("view", { view });
-return { isAtMap, goToPlace, showParts, services, setView };
-})();
-
-// page/keys.js
-const $page_keys = (() => {
-const { byId } = $page_dom;
-const { now, show } = $page_now;
-const { isAtMap, setView } = $page_places;
-const { goByHand, goToTurn, togglePlay } = $page_play;
-const keysOf = {}; // of an activity that has keys of its own, what they do
-
-function pressKey(event) {
-  if (/^(TEXTAREA|INPUT|SELECT)$/.test(event.target.tagName) && event.target.id !== "slider") return;
-  if (event.ctrlKey || event.metaKey || event.altKey || event.target.closest("[role=slider]") !== null) return;
-  if (event.key === "Escape" && now.place.view !== null) return toggleLecture();
-  if (now.place.activity in keysOf) return keysOf[now.place.activity](event);
-  if (isAtMap() && event.key !== "?") return;
-  const { total } = now.run.trace;
-  const far = now.place.view === "lecture" ? 1 : 10; // what a lecturer's pointer sends
-  const steps = { ArrowRight: 1, ArrowLeft: -1, PageDown: far, PageUp: -far, Home: -total, End: total };
-  if (event.key in steps) {
-    event.preventDefault();
-    if (event.shiftKey && event.key.startsWith("Arrow")) goToTurn(steps[event.key]);
-    else goByHand(now.run.count + steps[event.key]);
-  } else if (event.key === " " && !/^(BUTTON|SUMMARY|A)$/.test(event.target.tagName)) {
-    event.preventDefault();
-    togglePlay();
-  } else if (event.key === "?" || (event.key === "p" && now.prefs.letters)) ({ "?": toggleKeys, p: togglePlay })[event.key]();
-}
-
-function toggleKeys() {
-  byId("key-help").hidden = !byId("key-help").hidden;
-  byId("keys").setAttribute("aria-expanded", String(!byId("key-help").hidden));
-}
-
-function toggleLecture() {
-  const isLeft = document.activeElement === byId("leave");
-  setView(now.place.view === null ? "lecture" : null);
-  show();
-  if (isLeft) byId(now.place.activity === "compare" ? "sides-lecture" : "lecture").focus();
-}
-return { keysOf, pressKey, toggleKeys, toggleLecture };
-})();
-
-// run/address.js
-const $run_address = (() => {
-const { LACKING } = $made_classics;
-const { LISTS } = $made_rows;
-const LONGEST_ADDRESS = 30000; // characters; a longer schedule has no address
-const SHORT_WORDS = { begin: "b", go: "g" };
-const LONG_WORDS = { b: "begin", g: "go" };
-const SHORT_EVENT = String.raw`(b\d+\.[a-z]+\.\d+|g\d+\.\d+)`;
-const ADDRESS_PARTS = {
-  example: /^[a-z-]+$/,
-  list: /^[A-Za-z-]+$/,
-  threads: /^\d+$/,
-  quota: /^\d+$/,
-  version: /^\d+$/,
-  opening: /^\d+(\.\d+)*$/,
-  s: new RegExp(`^(${SHORT_EVENT}(,${SHORT_EVENT})*)?$`),
-  event: /^\d+$/,
-  lacks: /^(\d+|[A-Za-z-]+)$/,
-  view: /^(lecture|list|history)$/,
-  course: /^[A-Za-z0-9_-]+$/,
-  sides: /^(coarse|fine|optimistic|lazy|lock-free)\.(coarse|fine|optimistic|lazy|lock-free)$/,
-  calls: /^(\d\d?\.[a-z]+\.\d+(,|$))+$/,
-  turns: /^(\d\d?(\.\d\d?)*)?$/,
-  watch: /^[a-z-]*$/,
-  learn: /^[a-z0-9-]*$/,
-  judge: /^$/,
-  break: /^\d*$/,
-  compare: /^$/,
-  read: /^$/,
-  seed: /^(coarse|fine|optimistic|lazy|lock-free)\.\d{1,2}\.\d{1,2}\.\d{1,2}\.\d{1,9}$/,
-};
-
-class AddressFault extends Error {}
-
-const neededVersion = (lines) => (lines.some((line) => /^(opening |begin \d+ ceiling )/.test(line)) ? 2 : 1);
-
-function addressOf(text, event, lacks = null) {
-  if (text.length > 2 * LONGEST_ADDRESS) return null; // an address has more than half of the letters
-  const [title, list, threads, quota, ...lines] = text.split("\n").slice(0, -1);
-  const isOpening = (line) => line.startsWith("opening ");
-  const opening = lines.filter(isOpening).map((line) => line.slice("opening ".length));
-  const events = lines.filter((line) => !isOpening(line)).map(shortLine);
-  const version = title?.split(" ")[1];
-  const parts = [`list=${list?.split(" ")[1]}`, `threads=${threads?.split(" ")[1]}`, `quota=${quota?.split(" ")[1]}`];
-  if (version !== String(neededVersion(lines))) parts.push(`version=${version}`);
-  if (opening.length > 0) parts.push(`opening=${opening.join(".")}`);
-  parts.push(`s=${events.join()}`, `event=${event}`);
-  if (lacks !== null) parts.push(`lacks=${Object.keys(LACKING).indexOf(lacks) + 1}`);
-  const address = `#${parts.join("&")}`;
-  return address.length <= LONGEST_ADDRESS && isAddressOf(address, text) ? address : null;
-}
-
-const shortLine = (line) => {
-  const [word, ...values] = line.split(" ");
-  return `${SHORT_WORDS[word] ?? word}${values.join(".")}`;
-};
-
-const longLine = (short) => `${LONG_WORDS[short[0]]} ${short.slice(1).replaceAll(".", " ")}`;
-
-function isAddressOf(address, text) {
-  try {
-    return readAddress(address).text === text;
-  } catch (fault) {
-    if (!(fault instanceof AddressFault)) throw fault;
-    return false;
-  }
-}
-
-function readAddress(hash) {
-  const { view = null, course = null, lacks: which, seed = null, ...rest } = partsOf(hash);
-  const { place, isJudged, parts } = placeOf(rest, seed);
-  const lacks = which === undefined ? null : lackingNamed(which, parts);
-  const own = { view, course, sides: null, lacks, place, seed, isJudged };
-  const named = { example: parts.example ?? null, text: null, event: Number(parts.event ?? 0), ...own };
-  if (parts.sides !== undefined) return { ...named, sides: parts };
-  const ofSchedule = Object.keys(parts).filter((name) => name !== "event" && name !== "example");
-  if (named.example !== null && ofSchedule.length > 0) {
-    throw new AddressFault(`the address names an example, and has "${ofSchedule[0]}" too`);
-  }
-  if (ofSchedule.length > 0) named.text = textOfParts(parts);
-  return named;
-}
-
-function lackingNamed(which, { list, example }) {
-  const names = Object.keys(LACKING);
-  const lacks = names.includes(which) ? which : names[which - 1];
-  if (lacks === undefined) {
-    throw new AddressFault(`there is no broken list "${which}": expected 1 to ${names.length}, or a name that "listset show --help" prints`);
-  }
-  if (list === LACKING[lacks]) return lacks;
-  const named = list !== undefined ? `list=${list}` : example !== undefined ? `example=${example}` : "no list";
-  throw new AddressFault(`lacks=${which} is a broken ${LISTS[LACKING[lacks]].name}, and the address has ${named}`);
-}
-
-function placeOf(parts, seed) {
-  const isRun = seed !== null || parts.example !== undefined || parts.list !== undefined;
-  const name = ["watch", "learn", "judge", "break", "compare", "read"].find((one) => parts[one] !== undefined);
-  if (name === undefined) return { place: null, isJudged: false, parts };
-  const { [name]: value, ...others } = parts;
-  const isJudged = name === "judge" && isRun;
-  return { place: isJudged ? null : [name, value], isJudged, parts: others };
-}
-
-function partsOf(hash) {
-  const parts = {};
-  for (const [name, value] of new URLSearchParams(hash.replace(/^#/, ""))) {
-    if (!Object.hasOwn(ADDRESS_PARTS, name)) throw new AddressFault(`the address has a part "${name}", which is none`);
-    if (name in parts) throw new AddressFault(`the address has "${name}" twice`);
-    if (!ADDRESS_PARTS[name].test(value)) throw new AddressFault(`"${value.slice(0, 60)}" is no ${name} of an address`);
-    parts[name] = value;
-  }
-  return parts;
-}
-
-function textOfParts(parts) {
-  const missing = ["list", "threads", "quota"].find((name) => parts[name] === undefined);
-  if (missing !== undefined) throw new AddressFault(`the address has no "${missing}"`);
-  const opening = (parts.opening?.split(".") ?? []).map((key) => `opening ${key}`);
-  const events = (parts.s ? parts.s.split(",") : []).map(longLine);
-  const lines = [...opening, ...events];
-  const title = `listset-schedule ${parts.version ?? neededVersion(lines)}`;
-  return [title, `list ${parts.list}`, `threads ${parts.threads}`, `quota ${parts.quota}`, ...lines, ""].join("\n");
-}
-
-const warningOf = (link) =>
-  link.startsWith("file:") ? " Others cannot open it, since it leads to a file on this computer: copy it from a page on a web server." : "";
-return { LONGEST_ADDRESS, AddressFault, addressOf, longLine, readAddress, warningOf };
-})();
-
-// run/seed.js
-const $run_seed = (() => {
-const { AddressFault } = $run_address;
-const { isTrace, Trace } = $run_trace;
-const KINDS = ["coarse", "fine", "optimistic", "lazy", "lock-free"];
-const TRIES = 200;
-const MOST_TRIED_CALLS = 8; // of a run with more calls the first is taken
-const MOST_SEEN = 60; // events that are told apart by eye
-
-const seedOf = (kind, number, { threads = 2, calls = 5, keys = 2 } = {}) => `${kind}.${threads}.${calls}.${keys}.${number}`;
-
-function partsOfSeed(seed) {
-  const [kind, ...values] = seed.split(".");
-  const [threads, calls, keys, number] = values.map(Number);
-  return { kind, threads, calls, keys, number };
-}
-
-function scheduleOfSeed(ask, seed) {
-  const { kind, threads, calls, keys, number } = partsOfSeed(seed);
-  const tries = calls > MOST_TRIED_CALLS ? 1 : TRIES;
-  let text = "";
-  for (let tried = 0; tried < tries; tried++) {
-    const answer = ask("listset_gen", [kind, threads, 4, calls, keys, number * TRIES + tried].join("\0"));
-    if (answer.status !== 0) throw new AddressFault(`the address names no run: ${answer.text.trim()}`);
-    text = answer.text;
-    const traced = ask("listset_trace", text).text;
-    if (!isTrace(traced)) throw new AddressFault(`the run of the address has no trace: ${traced.trim()}`);
-    if (isWorthIt(new Trace(traced))) break;
-  }
-  return joined(text);
-}
-
-function isWorthIt({ calls, changes, total }) {
-  const puts = changes.some(({ put }) => put !== undefined) && changes.some(({ took }) => took !== undefined);
-  const isBeside = (one, other) => one.thread !== other.thread && one.begun < other.ended && other.begun < one.ended;
-  const beside = calls.filter((one) => calls.some((other) => isBeside(one, other)));
-  const isTold = beside.some(({ changes: own, operation, reply }) => !own && (operation === "contains" || reply === "false"));
-  return puts && isTold && total <= MOST_SEEN && calls.every(({ ended }) => ended !== null);
-}
-
-function joined(text) {
-  const lines = [];
-  for (const line of text.trimEnd().split("\n")) {
-    const [thread, steps] = /^go (\d+) (\d+)$/.exec(line)?.slice(1) ?? [];
-    const [before, count] = /^go (\d+) (\d+)$/.exec(lines.at(-1) ?? "")?.slice(1) ?? [];
-    if (thread !== undefined && thread === before) lines[lines.length - 1] = `go ${thread} ${Number(count) + Number(steps)}`;
-    else lines.push(line);
-  }
-  return `${lines.join("\n")}\n`;
-}
-
-function anotherSeed(before, kind = null) {
-  const list = kind ?? KINDS[Math.floor(Math.random() * KINDS.length)];
-  const number = 1 + Math.floor(Math.random() * 9999);
-  const seed = seedOf(list, number);
-  return seed === before ? seedOf(list, (number % 9999) + 1) : seed;
-}
-return { seedOf, partsOfSeed, scheduleOfSeed, anotherSeed };
-})();
-
-// data/levels.js
-const $data_levels = (() => {
-const BREAK_LEVELS = {
-  lock: {
-    story: "One thread at a time, they say. Let two of them meet.",
-    hints: [
-      "Two adds of different keys, both between 3 and 7.",
-      "Let both threads walk to the same place: pred is the node of 3, curr that of 7.",
-      "Stop A just before it writes pred.next. Let B do its whole add. Then let A end.",
-    ],
-    lacks: "It continues although another thread holds the lock.",
-    others: {
-      "It releases the lock before it writes the link.": "it releases the lock only after that",
-      "It writes the link of pred before that of its own node.": "it writes the link of its own node first",
-    },
-    start: [["add", 5], ["add", 4]], shortest: [20, 2],
-    missing: [{ row: 1, part: "lock the list" }],
-  },
-  "mark-in-remove": {
-    story: "Two threads remove one key. One of them should answer that it came too late.",
-    hints: [
-      "Two removes of the same key, 3.",
-      "Let both threads find the node of 3 before either of them marks it.",
-      "Stop A before the step that sets the mark; let B set its own; then let both end.",
-    ],
-    lacks: "A remove marks a node that is marked already.",
-    others: {
-      "A remove takes its node out before it marks it.": "it marks the node first",
-      "A remove does not look whether its key is there.": "it compares curr.key with its key",
-    },
-    start: [["remove", 3], ["remove", 3]], shortest: [14, 2],
-    missing: [{ row: 9, part: "no mark" }],
-  },
-  mark: {
-    story: "Removing a node is one compare-and-set here. Fast. Too fast?",
-    hints: [
-      "An add of 5, and a remove of the node in front of it.",
-      "The pred of the add must be the node of 3, which the other thread removes.",
-      "Stop A before the step that links 5 in. Let B remove 3. Then one step of A.",
-    ],
-    lacks: "A remove unlinks its node without marking it first.",
-    others: {
-      "A remove marks a node that is marked already.": "it marks no node at all",
-      "An add writes its link without comparing.": "it compares with what it saw",
-    },
-    start: [["add", 5], ["remove", 3]], shortest: [15, 2],
-    missing: [{ row: 9, part: "CAS curr.next: succ, no mark → mark" }],
-  },
-  "new-slot": {
-    story: "Each key that is added needs a node of its own. Does it get one?",
-    hints: ["One thread is enough. It adds.", "Two adds of different keys, one after the other.", "Let A add 4, and then 5. Where is 4?"],
-    lacks: "An add writes into the node of its last key.",
-    others: {
-      "An add does not look whether its key is there.": "it compares curr.key with its key",
-      "An add writes its link without comparing.": "it compares with what it saw",
-    },
-    start: [["add", 4], ["add", 5]], shortest: [20, 2],
-    missing: [{ row: 5, part: "new " }],
-  },
-  "second-lock": {
-    story: "Hand over hand, the book says: two locks at a time. Here one hand stays in the pocket.",
-    hints: [
-      "An add of 5 beside a remove of 3, its neighbour.",
-      "The add must hold the lock of 3 while the other thread removes that node.",
-      "Let B step through its add until just before it writes pred.next, with 3 as its pred. Then try a remove of 3 by A.",
-    ],
-    lacks: "A remove locks only pred, and not the node that it unlinks.",
-    others: {
-      "A remove does not lock pred.": "it locks pred, and keeps that lock until it has written",
-      "A remove releases its lock before it writes.": "it releases its lock only after that",
-    },
-    start: [["remove", 3], ["add", 5]], shortest: [21, 2],
-    missing: [{ row: 3, part: "lock curr," }],
-  },
-  "hand-over-hand": {
-    story: "A walk should never be without a lock, not for one moment.",
-    hints: [
-      "An add of 5 beside a remove of 3, its neighbour.",
-      "There is a moment in which the walk of the add holds no lock. Find it.",
-      "Stop B on its way from the node of 3 to that of 7. Let A remove 3. Then let B end.",
-    ],
-    lacks: "A walk releases one lock before it has the next.",
-    others: {
-      "It releases its locks before it writes.": "it releases them only after that",
-      "A walk does not lock the head.": "it locks the head first of all",
-    },
-    start: [["remove", 3], ["add", 5]], shortest: [24, 2],
-    missing: [{ row: 3, part: "pred still locked" }],
-  },
-  "second-walk": {
-    story: "It locks two nodes, and looks again. But what does it look at?",
-    hints: [
-      "An add of 5 beside a remove of 3, its neighbour.",
-      "The node that the add has found as pred may be unlinked before it is locked.",
-      "Stop A before it locks pred, which is the node of 3. Let B remove 3. Then let A end.",
-    ],
-    lacks: "With the locks it does not walk again: pred may not be in the list any more.",
-    others: {
-      "It does not lock curr.": "it locks pred and curr",
-      "It does not look whether pred still leads to curr.": "it looks at that, with both locks",
-    },
-    start: [["add", 5], ["remove", 3]], shortest: [23, 2],
-    missing: [{ row: 6, part: "walk from the head again" }, { row: 7, part: "until pred is met, else not valid" }],
-  },
-  "marks-in-validation": {
-    story: "Marks are set here. Does everybody read them?",
-    hints: [
-      "An add of 5 beside a remove of 3, its neighbour.",
-      "The node that the add has found as pred may be removed before it is locked.",
-      "Stop A before it locks pred, which is the node of 3. Let B remove 3. Then let A end.",
-    ],
-    lacks: "The validation does not look at the marks.",
-    others: {
-      "The validation does not look whether pred still leads to curr.": "it looks at that, with both locks",
-      "A remove does not mark its node.": "it marks the node before it unlinks it",
-    },
-    start: [["add", 5], ["remove", 3]], shortest: [25, 2],
-    missing: [{ row: 6, part: "pred unmarked," }, { row: 7, part: "and curr unmarked" }],
-  },
-  "mark-in-add": {
-    story: "A marked link must not change. Somebody changes it all the same.",
-    hints: [
-      "An add of 5, and a remove of the node in front of it.",
-      "The remove must have marked the node of 3, and done no more.",
-      "Stop A before its last step. Let B remove 3 until it has set the mark. Then let A end.",
-    ],
-    lacks: "An add inserts its node behind a marked one.",
-    others: {
-      "A remove does not mark its node.": "it marks the node before it unlinks it",
-      "An add does not look whether its key is there.": "it compares curr.key with its key",
-    },
-    start: [["add", 5], ["remove", 3]], shortest: [17, 2],
-    missing: [{ row: 7, part: "no mark" }],
-  },
-  "same-node": {
-    story: "The second walk looks for pred. It meets something that looks like it.",
-    hints: [
-      "Three calls: an add of 5, and of the other thread a remove and an add of one key.",
-      "The node of 3 is unlinked, and another node of 3 is inserted.",
-      "Stop A before it locks pred, the old node of 3. Let B remove 3 and add 3 again. Then let A end.",
-    ],
-    lacks: "The second walk looks for the key of pred, and not for the node itself.",
-    others: {
-      "It does not walk a second time.": "it walks from the head again, with its locks",
-      "It does not lock pred.": "it locks pred and curr",
-    },
-    start: [["add", 5], ["remove", 3]], shortest: [36, 3],
-    missing: [{ row: 7, part: "pred is met" }],
-  },
-  "mark-at-key": {
-    story: "A marked node can stay in the chain for a while. Who reads it there?",
-    hints: [
-      "Three calls: an add of 5, a remove of 7, and then a contains of 7.",
-      "A remove whose last compare-and-set fails leaves its node in the chain, marked.",
-      "Stop A before it links 5 in. Let B remove 7 up to its last step. Link 5 in, let B end. Then call contains(7).",
-    ],
-    lacks: "A contains does not look at the mark of the node with its key.",
-    others: {
-      "A remove does not mark its node.": "it marks the node before it unlinks it",
-      "A contains stops before it comes to its key.": "it walks on while curr.key is below its key",
-    },
-    start: [["add", 5], ["remove", 7]], shortest: [26, 3],
-    missing: [{ row: 22, part: "and unmarked" }],
-  },
-  "mark-in-ceiling": {
-    story: "ceiling(2) asks for the smallest key from 2 on. It takes the first node that it finds. Any node?",
-    hints: [
-      "A remove of 3, and a ceiling of 2. Let something end in between.",
-      "The remove has marked the node of 3 and has not ended. A contains of 3 answers false. And then the ceiling?",
-      "Stop A after it set the mark. Let B call contains(3), and then ceiling(2).",
-    ],
-    lacks: "A ceiling does not look at the mark of its node.",
-    others: {
-      "A ceiling stops before it comes to its key.": "it walks on while curr.key is below its key",
-      "A remove does not mark its node.": "it marks the node before it unlinks it",
-    },
-    start: [["remove", 3], ["contains", 3]], shortest: [16, 3],
-    missing: [{ row: 25, part: "if marked: start again;" }],
-  },
-  "mark-in-contains": {
-    story: "Here contains does not look at the mark. No schedule is known after which no order explains the calls. Why not?",
-    hints: [
-      "A remove of 3, and a contains of 3 by the other thread.",
-      "The remove has set its mark and is still pending. So it may come after the contains.",
-      "When the remove has ended, can a new contains still reach its node? In this list a remove ends after the node is unlinked.",
-    ],
-    lacks: "A contains does not look at the mark of its node.",
-    others: {},
-    start: [["remove", 3], ["contains", 3]], shortest: null,
-    missing: [{ row: 22, part: "and unmarked" }],
-  },
-};
-return { BREAK_LEVELS };
-})();
-
-// data/chapter.js
-const $data_chapter = (() => {
-const { BREAK_LEVELS } = $data_levels;
-const CHAPTER = [
-  "lock", "second-lock", "hand-over-hand", "second-walk", "same-node", "marks-in-validation", "mark-in-remove", "mark", "mark-in-add",
-  "mark-at-key",
-];
-const BEYOND = ["new-slot", "mark-in-ceiling", "mark-in-contains"];
-
-const NUMBERED = Object.keys(BREAK_LEVELS);
-const numberOfLevel = (name) => NUMBERED.indexOf(name) + 1;
-const levelOfNumber = (number) => NUMBERED[Number(number) - 1];
-
-const whyWrong = (name, sentence) => `No: ${BREAK_LEVELS[name].others[sentence]}. Look for the line that this list makes differently.`;
-return { CHAPTER, BEYOND, numberOfLevel, levelOfNumber, whyWrong };
-})();
-
-// page/scene_address.js
-const $page_scene_address = (() => {
-const { levelOfNumber } = $data_chapter;
-const { AddressFault, addressOf, LONGEST_ADDRESS, longLine } = $run_address;
-const { startOfLacking } = $run_broken;
-const { eventsAsked } = $run_schedule_text;
-const SCENES = /** @type {const} */ (["assignment", "story", "ask", "code", "teachers"]); // `break` is in run/address.js, with its schedules
-const SCENE_VIEWS = ["lecture", "embed"];
-
-function sceneOfHash(hash) {
-  const { view = null, ...parts } = Object.fromEntries(new URLSearchParams(hash.replace(/^#/, "")));
-  const activity = SCENES.find((name) => name in parts);
-  if (activity === undefined) return null;
-  if (view !== null && !SCENE_VIEWS.includes(view)) throw new AddressFault(`"${view.slice(0, 60)}" is no view of a page`);
-  const { [activity]: id, ...given } = parts;
-  return { activity, id, given, view };
-}
-
-const START_OF_CODE = [3, 7];
-const shortLine = (line) => `${line[0]}${line.split(" ").slice(1).join(".")}`;
-const linesOfCode = (s) => s.split(",").filter((line) => /^(b\d+\.[a-z]+\.\d+|g\d+\.\d+)$/.test(line)).map(longLine);
-
-const SET_OF_CODE = { threads: 2, quota: 9 };
-
-function addressOfCode(list, opening, lines, set = SET_OF_CODE) {
-  const ofOpening = opening.join() === START_OF_CODE.join() && lines.length === 0 ? "" : `&opening=${opening.join(".")}`;
-  const ofSet = ["threads", "quota"].map((name) => (set[name] === SET_OF_CODE[name] ? "" : `&${name}=${set[name]}`)).join("");
-  return `#code=${list}${ofSet}${ofOpening}${lines.length > 0 ? `&s=${lines.map(shortLine).join()}` : ""}`;
-}
-
-function addressOfLevel({ id }, { text }) {
-  const name = levelOfNumber(id);
-  if (id === "" || text === "" || text === startOfLacking(name)) return id === "" ? "#break" : `#break=${id}`;
-  return `#break=${id}&${addressOf(text, eventsAsked(text))?.slice(1) ?? ""}`;
-}
-
-function addressOfLesson({ id }, { text }, { course }) {
-  const named = `${course === null ? "#" : `${course}&`}learn${id === "" ? "" : `=${id}`}`;
-  const own = text === "" ? null : addressOf(text, eventsAsked(text));
-  const whole = own === null ? named : `${named}&${own.slice(1)}`;
-  return whole.length <= LONGEST_ADDRESS ? whole : named;
-}
-
-const addressOfAssignment = ({ id, given }) => `#${new URLSearchParams({ assignment: id, ...given })}`.replaceAll("%2C", ",");
-
-const ADDRESSES = {
-  story: ({ id }) => `#story=${id}`,
-  ask: ({ id }) => (id === "" ? "#ask" : `#ask=${id}`),
-  code: ({ id, given }, { text }) => (text === "" ? `#${new URLSearchParams({ code: id, ...given })}` : text),
-  break: addressOfLevel,
-  learn: addressOfLesson,
-  teachers: () => "#teachers",
-  assignment: addressOfAssignment,
-};
-
-const addressOfScene = ({ place, scene }, given) =>
-  `${ADDRESSES[place.activity](place, scene, given)}${place.view === null ? "" : `&view=${place.view}`}`;
-return { sceneOfHash, START_OF_CODE, linesOfCode, SET_OF_CODE, addressOfCode, addressOfAssignment, addressOfScene };
-})();
-
-// page/address_of.js
-const $page_address_of = (() => {
-const { CLASSICS } = $made_classics;
-const { LISTS } = $made_rows;
-const { addressOf } = $run_address;
-const { inLetters } = $run_markup;
-const { partsOfSeed } = $run_seed;
-const { addressOfScene } = $page_scene_address;
-function ofRun(state) {
-  const { task, run } = state;
-  if (task.kind === "own") return addressOf(run.text, run.count, run.lacks);
-  return `#${task.kind}=${task.id}&event=${run.count}`;
-}
-
-function addressIn(state, given) {
-  const { place, exercise } = state;
-  if (place.screen === "scene") return addressOfScene(state, given);
-  const view = place.view === null ? "" : `&view=${place.view}`;
-  if (place.activity === "compare") return given.sides === null ? `#compare${view}` : `${given.sides}${view}`;
-  if (place.screen === "map") return `#${place.activity}${view}`;
-  const address = ofRun(state);
-  return address === null ? null : `${address}${exercise === null ? "" : "&judge"}${view}`;
-}
-
-const WHOLE = "Why not just one lock?";
-const NAMES = { judge: "Judge", compare: "Compare", read: "Read" };
-
-function titleIn(state, titles) {
-  const { place, task, run } = state;
-  const list = run.trace === null ? "" : LISTS[run.trace.kind].name;
-  if (place.screen === "scene") return titles.scene;
-  if (place.activity === "compare") return `${titles.sides} · ${WHOLE}`;
-  if (place.screen === "map") return `${NAMES[place.activity]} · ${WHOLE}`;
-  const judged = state.exercise === null ? "" : "Judge: ";
-  const ofTask = {
-    example: () => `${judged}${inLetters(CLASSICS[task.id].question)}`,
-    seed: () => `${judged}Run ${partsOfSeed(task.id).number} of ${list}`,
-    own: () => `${judged}${task.work}: ${list}`,
-  };
-  return `${ofTask[task.kind]()} · ${WHOLE}`;
-}
-return { addressIn, titleIn };
-})();
-
 // made/book.js
 const $made_book = (() => {
 // The lessons of book.course, by page/build.
@@ -5455,549 +4813,133 @@ const BOOK = [
 return { BOOK_NAME, BOOK };
 })();
 
-// page/kept.js
-const $page_kept = (() => {
-const { BOOK_NAME } = $made_book;
-const { CLASSICS } = $made_classics;
-const { byId } = $page_dom;
-const { announce, held, now } = $page_now;
-const KEPT = "listset-page-2";
-const KEPT_BEFORE = "listset-page"; // one text, as the page kept it before
-const HERE = "listset-here"; // the address of what was shown last
-const MOST_WORKS = 60; // the oldest ones go
-
-function keptUnder(name) {
-  try {
-    return JSON.parse(localStorage.getItem(name));
-  } catch {
-    return null;
-  }
-}
-
-function keepUnder(name, value) {
-  try {
-    localStorage.setItem(name, JSON.stringify(value));
-    return true;
-  } catch {
-    return false;
-  }
-}
-
-const isText = (value) => typeof value === "string";
-const isWork = (kept) => typeof kept?.text === "string" && typeof kept.box === "string" && Number.isInteger(kept.count);
-const KINDS = ["own", "example", "lesson", "seed"];
-const isTask = (task) => KINDS.includes(task?.kind) && isText(task.id) && isText(task.course);
-
-function taskOfName(name) {
-  const [, lesson, course = BOOK_NAME] = /^lesson ([a-z0-9-]+)(?: of (.+?))?(?: \d+)?$/.exec(name) ?? [];
-  if (lesson !== undefined) return { kind: "lesson", id: lesson, course };
-  const [, example] = /^from ([a-z-]+)(?: \d+)?$/.exec(name) ?? [];
-  if (Object.hasOwn(CLASSICS, example)) return { kind: "example", id: example, course: "" };
-  return { kind: "own", id: "", course: "" };
-}
-
-/** @type {(entry: any[]) => [string, any]} */
-const workOf = ([name, kept]) => [name, { ...kept, task: isTask(kept.task) ? kept.task : taskOfName(name) }];
-
-const works = {
-  /** @type {Map<string, any>} */
-  byName: new Map(),
-  isKept: true,
-
-  load() {
-    const kept = keptUnder(KEPT);
-    const before = keptUnder(KEPT_BEFORE);
-    const entries = Array.isArray(kept) ? kept : isWork(before) ? [["my schedule", before]] : [];
-    const isGood = (entry) => Array.isArray(entry) && isText(entry[0]) && isWork(entry[1]);
-    this.byName = new Map(entries.filter(isGood).map(workOf));
-  },
-
-  set(name, work) {
-    this.byName.delete(name);
-    this.byName.set(name, work);
-    const names = [...this.byName.keys()];
-    for (const old of names.slice(0, Math.max(0, names.length - MOST_WORKS))) this.byName.delete(old);
-    this.isKept = keepUnder(KEPT, [...this.byName]);
-  },
-
-  last(isWanted) {
-    return [...this.byName].findLast(([, work]) => isWanted(work))?.[0] ?? null;
-  },
-
-  nameOf(text, lacks = null) {
-    return this.last((work) => work.text === text && (work.lacks ?? null) === lacks);
-  },
-
-  newName(word) {
-    for (let number = 1; ; number++) {
-      const name = number === 1 ? word : `${word} ${number}`;
-      if (!this.byName.has(name)) return name;
-    }
-  },
-};
-
-function keepWork() {
-  const box = byId("schedule").value;
-  const { run, task } = now;
-  const isLookedAt = box === run.text && run.text === task.begun;
-  if (held.engine === null || run.text === "" || isLookedAt || task.work === "") return;
-  const before = works.byName.get(task.work);
-  if (before?.text === run.text && before.box === box && before.count === run.count) return;
-  const { kind, id } = task;
-  works.set(task.work, { text: run.text, box, count: run.count, lacks: run.lacks, task: { kind, id, course: "" } });
-  announce("kept");
-}
-return { HERE, keptUnder, keepUnder, isText, works, keepWork };
-})();
-
-// page/visit.js
-const $page_visit = (() => {
-const { warningOf } = $run_address;
-const { escaped } = $run_markup;
-const { addressIn } = $page_address_of;
-const { HERE, keepUnder, keepWork } = $page_kept;
-const { held, now, tell } = $page_now;
-const { entryOf } = $page_state;
-const MOMENT = 400; // milliseconds: the bar follows once nothing has moved for so long, since browsers refuse quick changes of it
-const visit = { timer: 0, entry: null, isRead: false, course: null, sides: null };
-
-const addressHere = () => addressIn(held.state, visit);
-
-function keepSoon() {
-  clearTimeout(visit.timer);
-  visit.timer = setTimeout(keepNow, MOMENT);
-}
-
-function keepNow() {
-  clearTimeout(visit.timer);
-  keepWork();
-  if (visit.isRead) setAddress();
-}
-
-function setAddress() {
-  const address = addressHere();
-  const entry = entryOf(held.state);
-  const isNew = visit.entry !== null && visit.entry !== entry;
-  visit.entry = entry;
-  if (held.state.place.view !== "embed") keepUnder(HERE, address);
-  if (!isNew && location.hash === (address ?? "")) return;
-  const { text, count, lacks } = now.run;
-  const kept = address === null ? { text, count, lacks } : null;
-  const how = isNew ? "pushState" : "replaceState";
-  const place = address ?? location.pathname + location.search;
-  try {
-    history[how](kept, "", place);
-  } catch {
-    history[how](null, "", place); // a state may be too large for a browser
-  }
-}
-
-const linkTo = (address) => location.href.replace(/#.*$/, "") + address;
-
-async function copyLink() {
-  const address = now.run.isRun ? addressHere() : null;
-  if (address === null) return tell("This schedule has no link: it is refused, or too long for an address. Save it as a file.");
-  const link = linkTo(address);
-  const shown = `<code>${escaped(link)}</code>${warningOf(link)}`;
-  tell(`Copy this link: ${shown}`);
-  if (await copied(link)) tell(`The link is copied: ${shown}`);
-}
-
-async function copied(text) {
-  try {
-    await navigator.clipboard.writeText(text);
-    return true;
-  } catch {
-    return false;
-  }
-}
-return { visit, keepSoon, keepNow, linkTo, copyLink, copied };
-})();
-
-// run/sides.js
-const $run_sides = (() => {
-const { titleOf } = $run_schedule_text;
-const { letterOf } = $run_markup;
-const { State } = $run_state;
-const { isTrace, MOST_NUMBER, Trace } = $run_trace;
-const MOST_TURNS = 500;
-
-class ProgramFault extends Error {}
-
-function readProgram(text) {
-  const program = [];
-  for (const line of text.split("\n").filter((one) => one.trim() !== "")) {
-    const [, number, letter, calls] = /^\s*(?:t?(\d+)|([A-Z]))\s*:\s*(.+?)\s*$/i.exec(line) ?? [];
-    const thread = Number(number ?? letter?.toUpperCase().charCodeAt(0) - "A".charCodeAt(0));
-    if (!(thread < 64)) throw new ProgramFault(`"${line.slice(0, 60)}" is no line as "A: add 5, remove 5"`);
-    for (const call of calls.split(",").map((one) => one.trim())) {
-      const [, operation, key] = /^(add|remove|contains|ceiling) (0|[1-9]\d{0,9})$/.exec(call) ?? [];
-      if (key === undefined || Number(key) > MOST_NUMBER) throw new ProgramFault(`"${call.slice(0, 40)}" is no call as "add 5"`);
-      (program[thread] ??= []).push(`${operation} ${key}`);
-    }
-  }
-  if (program.length === 0) throw new ProgramFault('a program has lines as "A: add 5, remove 5"');
-  return Array.from(program, (calls) => calls ?? []);
-}
-
-function programText(program) {
-  const lines = program.map((calls, thread) => (calls.length === 0 ? "" : `${letterOf(thread)}: ${calls.join(", ")}\n`));
-  return lines.join("");
-}
-
-class Side {
-  constructor(ask, kind, { program, quota, opening }) {
-    this.ask = ask;
-    this.kind = kind;
-    this.lines = [];
-    this.counts = [0];
-    const set = [titleOf(2), `list ${kind}`, `threads ${program.length}`, `quota ${quota}`];
-    this.head = [...set, ...opening.map((key) => `opening ${key}`)];
-    this.run();
-  }
-
-  get schedule() {
-    return [...this.head, ...this.lines, ""].join("\n");
-  }
-
-  run() {
-    const { text } = this.ask("listset_trace", this.schedule);
-    if (!isTrace(text)) throw new ProgramFault(text.trim());
-    this.trace = new Trace(text, 2);
-    this.state = new State(this.trace);
-    this.state.moveTo(this.trace.total);
-  }
-
-  isOpen(thread) {
-    return this.state.threads[thread].pc !== 0;
-  }
-
-  take(line) {
-    if (line !== null) {
-      this.lines.push(line);
-      this.run();
-    }
-    this.counts.push(this.trace.total);
-  }
-}
-
-class Sides {
-  constructor(ask, kinds, { program, quota, opening }) {
-    this.program = program;
-    this.turns = [];
-    this.sides = kinds.map((kind) => new Side(ask, kind, { program, quota, opening }));
-  }
-
-  linesOf(thread) {
-    if (thread >= this.program.length) return null;
-    const isOpen = this.sides.map((side) => side.isOpen(thread));
-    if (isOpen.includes(true)) return isOpen.map((open) => (open ? `go ${thread} 1` : null));
-    const next = this.program[thread]?.[this.sides[0].trace.callsOf[thread].length];
-    return next === undefined ? null : this.sides.map(() => `begin ${thread} ${next}`);
-  }
-
-  turn(thread) {
-    const lines = this.linesOf(thread);
-    if (lines === null || this.turns.length === MOST_TURNS) return false;
-    this.sides.forEach((side, at) => side.take(lines[at]));
-    this.turns.push(thread);
-    return true;
-  }
-}
-return { ProgramFault, readProgram, programText, Sides };
-})();
-
-// story/scene.js
-const $story_scene = (() => {
-const { change, dispatch, now } = $page_now;
-const { byId, setHtml } = $page_dom;
-const { tag } = $run_markup;
-/**
- * @typedef {object} View
- * @property {string} kind  the class of the place
- * @property {(place: import("../page/state.js").Place) => string} title
- * @property {(place: any) => string | null} [fault]  why there is no such place, or null
- * @property {(place: import("../page/state.js").Place) => string} html
- * @property {(place: import("../page/state.js").Place) => void} [begin]  once its parts are there: its figure, its first stage
- * @property {(scene: import("../page/state.js").Scene) => void} [draw]  what follows from how far one is
- * @property {() => void} [end]  before its parts go
- * @property {Record<string, (target: any) => any>} [deeds]
- * @property {(event: KeyboardEvent) => any} [press]  a key
- */
-
-/** @type {Record<string, View>} of an activity, or of one without an id its map */
-const VIEWS = {};
-const scene = { key: "", view: null, figure: null, isFirst: true };
-
-const part = (selector) => byId("scene").querySelector(selector);
-const viewOf = ({ activity, id }) => (id === "" ? VIEWS[`${activity} map`] : undefined) ?? VIEWS[activity];
-const titleOfScene = (place) => viewOf(place).title(place);
-const faultOfScene = (place) => viewOf(place).fault?.(place) ?? null;
-const isScene = ({ place }) => place.screen === "scene";
-const setScene = (given) => dispatch("scene", given);
-const talk = (html) => setHtml(part("#talk"), html);
-
-function takeFigure(figure) {
-  scene.figure?.end();
-  scene.figure = figure;
-  return figure;
-}
-
-function leaveScene() {
-  if (scene.view === null) return;
-  scene.view?.end?.();
-  takeFigure(null);
-  Object.assign(scene, { key: "", view: null });
-  byId("scene").innerHTML = "";
-}
-
-function renderScene({ place, scene: state }) {
-  const key = JSON.stringify([place.activity, place.id, place.given, place.view === "embed"]);
-  if (key === scene.key) return scene.view.draw?.(state);
-  scene.view?.end?.();
-  takeFigure(null);
-  const view = viewOf(place);
-  Object.assign(scene, { key, view });
-  const box = byId("scene");
-  box.className = view.kind;
-  box.innerHTML = view.html(place);
-  scrollTo(0, 0);
-  view.begin?.(place);
-  view.draw?.(now.scene);
-  if (!scene.isFirst && document.activeElement === document.body) box.querySelector("h1")?.focus({ preventScroll: true });
-  scene.isFirst = false; // who comes by a key goes on at the title of what is opened
-}
-
-function openScene({ activity, id = "", given = {}, view = null }) {
-  scene.key = ""; // also where it is shown already, it begins anew
-  change("view", { view });
-  dispatch("place", { activity, screen: "scene", id, given });
-}
-
-function listenToScene() {
-  byId("scene").addEventListener("click", (event) => {
-    const target = event.target.closest("[data-do]");
-    if (target !== null && byId("scene").contains(target)) scene.view?.deeds?.[target.dataset.do]?.(target);
-  });
-}
-
-const pressInScene = (event) => scene.view?.press?.(event);
-
-
-const head = (kicker, title, more = "", kind = "") =>
-  `<div class="head">${kicker === "" ? "" : `<p class="kicker">${kicker}</p>`}<h1 class="${kind}" tabindex="-1">${title}</h1>${more}</div>`;
-
-const FIGURE_AND_TALK = '<div id="figure"></div><div id="talk" class="talk" aria-live="polite"></div>';
-
-const hintAndOn = (next) =>
-  `<button id="hint" class="primary" data-do="hint"></button>${tag("a", { id: "go-on", class: "button quiet", href: next }, "Skip →")}`;
-
-const foot = (left, right) => tag("footer", { class: "foot" }, left, tag("span", { class: "spread" }), right);
-
-const optionButtons = (texts, wrong = []) => {
-  const button = (text, at) => {
-    const given = { class: "option", "data-do": "answer", "data-option": at, ...(wrong.includes(text) ? { "aria-disabled": "true" } : {}) };
-    return tag("button", given, `<b aria-hidden="true">${at + 1}</b> `, tag("span", {}, text));
-  };
-  return tag("div", { class: "options" }, ...texts.map(button));
-};
-
-const lowered = (text) => text[0].toLowerCase() + text.slice(1);
-
-function replyTo(options, chosen) {
-  const option = options?.[chosen];
-  if (option === undefined) return "";
-  const { text, say, right = false } = option;
-  const said = `You said: ${lowered(text)}${text.endsWith("?") ? "" : "."}`;
-  return `<p class="you ${right ? "right" : "wrong"}"><b>${said}</b> ${say || (right ? "Let us see." : "")}</p>`;
-}
-
-function drawLedger(run) {
-  const [promised, has] = [run.promised(), run.has()];
-  const all = [...new Set([...promised, ...has])].sort((one, other) => one - other);
-  const cell = (keys, others) => (key) => {
-    const isIn = keys.includes(key);
-    return tag("td", { class: isIn ? (others.includes(key) ? "" : "odd") : "gap" }, isIn ? key : "");
-  };
-  const row = (name, keys, others) => tag("tr", {}, tag("th", { scope: "row" }, name), ...all.map(cell(keys, others)));
-  return tag("table", { class: "ledger" }, row("What the answers promise", promised, has), row("What the list has", has, promised));
-}
-
-const isOddRun = (run) => run.promised().join() !== run.has().join();
-
-function threadOfKey({ key, ctrlKey, metaKey, altKey }) {
-  if (!now.prefs.letters || ctrlKey || metaKey || altKey || !/^[a-z]$/.test(key)) return -1;
-  return key.charCodeAt(0) - "a".charCodeAt(0);
-}
-
-const numberOfKey = ({ key }) => (now.prefs.letters && /^[1-9]$/.test(key) ? Number(key) - 1 : -1);
-
-const LIST_WORDS = { coarse: "One lock", fine: "Hand over hand", optimistic: "Optimistic", lazy: "Lazy", "lock-free": "Lock-free" };
-return { VIEWS, scene, part, titleOfScene, faultOfScene, isScene, setScene, talk, takeFigure, leaveScene, renderScene, openScene, listenToScene, pressInScene, head, FIGURE_AND_TALK, hintAndOn, foot, optionButtons, replyTo, drawLedger, isOddRun, threadOfKey, numberOfKey, LIST_WORDS };
-})();
-
-// activities/compare.js
-const $activities_compare = (() => {
+// run/address.js
+const $run_address = (() => {
+const { LACKING } = $made_classics;
 const { LISTS } = $made_rows;
-const { byId, redraw } = $page_dom;
-const { toggleLecture } = $page_keys;
-const { askNow, change, now, show } = $page_now;
-const { copied, keepSoon, linkTo, visit } = $page_visit;
-const { addressOf, readAddress, warningOf } = $run_address;
-const { chipOf, escaped, tag } = $run_markup;
-const { sentenceOf } = $run_sentences;
-const { ProgramFault, programText, readProgram, Sides } = $run_sides;
-const { ShownRun } = $story_live_run;
-const { threadOfKey } = $story_scene;
-const { StillFigure } = $story_still_figure;
-const PRESETS = [
-  ["Who waits?", "#sides=coarse.lazy&quota=4&calls=0.add.5,1.contains.5&turns=0.0.0.0.1.1.1"],
-  ["Two removes of neighbours", "#sides=fine.optimistic&quota=4&opening=3.5.7&calls=0.remove.3,1.remove.7&turns=0.0.0.1.1.1"],
-  ["A reader beside a writer", "#sides=lazy.lock-free&quota=4&opening=3.5.7&calls=0.remove.5,1.contains.5&turns=0.0.0.0.0.1.1"],
-];
+const LONGEST_ADDRESS = 30000; // characters; a longer schedule has no address
+const SHORT_WORDS = { begin: "b", go: "g" };
+const LONG_WORDS = { b: "begin", g: "go" };
+const SHORT_EVENT = String.raw`(b\d+\.[a-z]+\.\d+|g\d+\.\d+)`;
+const ADDRESS_PARTS = {
+  example: /^[a-z-]+$/,
+  list: /^[A-Za-z-]+$/,
+  threads: /^\d+$/,
+  quota: /^\d+$/,
+  version: /^\d+$/,
+  opening: /^\d+(\.\d+)*$/,
+  s: new RegExp(`^(${SHORT_EVENT}(,${SHORT_EVENT})*)?$`),
+  event: /^\d+$/,
+  lacks: /^(\d+|[A-Za-z-]+)$/,
+  view: /^(lecture|list|history)$/,
+  course: /^[A-Za-z0-9_-]+$/,
+  sides: /^(coarse|fine|optimistic|lazy|lock-free)\.(coarse|fine|optimistic|lazy|lock-free)$/,
+  calls: /^(\d\d?\.[a-z]+\.\d+(,|$))+$/,
+  turns: /^(\d\d?(\.\d\d?)*)?$/,
+  watch: /^[a-z-]*$/,
+  learn: /^[a-z0-9-]*$/,
+  judge: /^$/,
+  break: /^\d*$/,
+  compare: /^$/,
+  read: /^$/,
+  seed: /^(coarse|fine|optimistic|lazy|lock-free)\.\d{1,2}\.\d{1,2}\.\d{1,2}\.\d{1,9}$/,
+};
 
-function drawCompare() {
-  byId("sides-presets").innerHTML = PRESETS.map(([name, href]) => tag("a", { class: "button", href }, escaped(name))).join(" ");
-}
+class AddressFault extends Error {}
 
-function openCompare(named) {
-  change("place", { activity: "compare", screen: "map" });
-  if (named !== null || shownSides.sides === null) openSides(named ?? readAddress(PRESETS[0][1]).sides);
-  show();
-}
+const neededVersion = (lines) => (lines.some((line) => /^(opening |begin \d+ ceiling )/.test(line)) ? 2 : 1);
 
-const titleOfSides = () => ["one", "other"].map((name) => LISTS[sidesPart(name).value].name).join(" beside ");
-
-const sidesPart = (name) => byId(`sides-${name}`);
-
-const shownSides = { sides: null, at: 0, quota: 4, opening: [] }; // at: how many turns are shown
-
-function beginSides(turns = []) {
-  try {
-    const program = readProgram(sidesPart("program").value);
-    const opening = sidesPart("opening").value.split(/[\s,]+/).filter((key) => key !== "");
-    const kinds = ["one", "other"].map((name) => sidesPart(name).value);
-    Object.assign(shownSides, { sides: new Sides(askNow, kinds, { program, quota: shownSides.quota, opening }), at: 0, opening });
-    for (const thread of turns) if (!shownSides.sides.turn(thread)) break;
-    shownSides.at = shownSides.sides.turns.length;
-    sidesPart("told").textContent = "";
-    drawSides();
-  } catch (fault) {
-    if (!(fault instanceof ProgramFault)) throw fault;
-    sidesPart("told").textContent = fault.message;
-  }
-}
-
-function turnOf(thread) {
-  const { sides, at } = shownSides;
-  const turns = sides.turns.slice(0, at);
-  if (at < sides.turns.length) beginSides(turns);
-  const isMade = shownSides.sides.turn(thread);
-  shownSides.at = shownSides.sides.turns.length;
-  drawSides();
-  if (!isMade) sidesPart("told").innerHTML = `${chipOf(thread)} has ended all its calls in both lists.`;
-}
-
-const PARTS = '<h3></h3><div class="pair"></div><p class="note"><a class="button">Watch this run</a></p>';
-
-function figuresOfSides(sides) {
-  if (figures.length > 0 && sides.every((side, at) => figures[at].spec.list === side.kind)) return figures;
-  figures.splice(0).forEach((figure) => figure.end());
-  sidesPart("pictures").innerHTML = sides.map(({ kind }) => tag("section", { "aria-label": LISTS[kind].name }, PARTS)).join("");
-  const boxes = sidesPart("pictures").querySelectorAll(".pair");
-  const specOf = ({ kind, trace, state }) => ({ list: kind, run: new ShownRun(trace, state), code: false, sentence: sentenceOf, roomFor: 560, high: 0.3 });
-  figures.push(...sides.map((side, at) => new StillFigure(boxes[at], specOf(side))));
-  return figures;
-}
-const figures = [];
-
-function drawSide(side, figure) {
-  const count = side.counts[shownSides.at];
-  const box = figure.box.parentElement;
-  box.querySelector("h3").innerHTML = `${LISTS[side.kind].name} <small>${count} events</small>`;
-  box.querySelector("a").href = addressOf(side.schedule, count) ?? "#";
-  side.state.moveTo(count);
-  figure.take(new ShownRun(side.trace, side.state, count), undefined, now.prefs.hides);
-  const hasWaited = shownSides.at > 0 && count === side.counts[shownSides.at - 1];
-  if (hasWaited) figure.tell(`${chipOf(shownSides.sides.turns[shownSides.at - 1])} has ended its call here, and waits for the other list.`);
-}
-
-function turnTo(at) {
-  shownSides.at = Math.min(Math.max(at, 0), shownSides.sides.turns.length);
-  drawSides();
-}
-
-function pressForSides(event) {
-  const { sides, at } = shownSides;
-  const by = { ArrowRight: 1, PageDown: 1, ArrowLeft: -1, PageUp: -1, Home: -Infinity, End: Infinity }[event.key];
-  if (sides === null) return;
-  if (by !== undefined) {
-    event.preventDefault();
-    turnTo(at + by);
-  } else if (threadOfKey(event) in sides.program) turnOf(threadOfKey(event));
-}
-
-function drawSides() {
-  const { sides, at } = shownSides;
-  const buttons = sides.program.map((_, thread) => tag("button", { "data-thread": thread }, `${chipOf(thread)} next step`));
-  redraw(sidesPart("turns"), buttons.join(" "));
-  Object.assign(sidesPart("slider"), { max: sides.turns.length, value: at });
-  const words = `turn ${at} of ${sides.turns.length}`;
-  sidesPart("slider").setAttribute("aria-valuetext", words);
-  sidesPart("where").textContent = words;
-  figuresOfSides(sides.sides).forEach((figure, place) => drawSide(sides.sides[place], figure));
-  visit.sides = addressOfSides();
-  keepSoon();
-}
-
-function showSides() {
-  if (now.place.activity === "compare" && shownSides.sides !== null) drawSides();
-}
-
-function addressOfSides() {
-  const { sides, quota, opening } = shownSides;
-  const calls = sides.program.flatMap((own, thread) => own.map((call) => `${thread}.${call.replace(" ", ".")}`));
-  const parts = [`sides=${sides.sides.map(({ kind }) => kind).join(".")}`, `quota=${quota}`];
+function addressOf(text, event, lacks = null) {
+  if (text.length > 2 * LONGEST_ADDRESS) return null; // an address has more than half of the letters
+  const [title, list, threads, quota, ...lines] = text.split("\n").slice(0, -1);
+  const isOpening = (line) => line.startsWith("opening ");
+  const opening = lines.filter(isOpening).map((line) => line.slice("opening ".length));
+  const events = lines.filter((line) => !isOpening(line)).map(shortLine);
+  const version = title?.split(" ")[1];
+  const parts = [`list=${list?.split(" ")[1]}`, `threads=${threads?.split(" ")[1]}`, `quota=${quota?.split(" ")[1]}`];
+  if (version !== String(neededVersion(lines))) parts.push(`version=${version}`);
   if (opening.length > 0) parts.push(`opening=${opening.join(".")}`);
-  return `#${[...parts, `calls=${calls.join()}`, `turns=${sides.turns.join(".")}`].join("&")}`;
+  parts.push(`s=${events.join()}`, `event=${event}`);
+  if (lacks !== null) parts.push(`lacks=${Object.keys(LACKING).indexOf(lacks) + 1}`);
+  const address = `#${parts.join("&")}`;
+  return address.length <= LONGEST_ADDRESS && isAddressOf(address, text) ? address : null;
 }
 
-function openSides({ sides, calls, turns = "", quota = "4", opening = "" }) {
-  const program = [];
-  for (const call of (calls ?? "").split(",").filter((one) => one !== "")) {
-    const [thread, operation, key] = call.split(".");
-    (program[Number(thread)] ??= []).push(`${operation} ${key}`);
+const shortLine = (line) => {
+  const [word, ...values] = line.split(" ");
+  return `${SHORT_WORDS[word] ?? word}${values.join(".")}`;
+};
+
+const longLine = (short) => `${LONG_WORDS[short[0]]} ${short.slice(1).replaceAll(".", " ")}`;
+
+function isAddressOf(address, text) {
+  try {
+    return readAddress(address).text === text;
+  } catch (fault) {
+    if (!(fault instanceof AddressFault)) throw fault;
+    return false;
   }
-  [sidesPart("one").value, sidesPart("other").value] = sides.split(".");
-  sidesPart("program").value = programText(Array.from(program, (own) => own ?? []));
-  sidesPart("opening").value = opening.replaceAll(".", " ");
-  shownSides.quota = Number(quota);
-  beginSides(turns.split(".").filter((thread) => thread !== "").map(Number));
 }
 
-async function copySides() {
-  const link = linkTo(addressOfSides());
-  const isCopied = await copied(link);
-  sidesPart("told").innerHTML = `${isCopied ? "The link is copied" : "Copy this link"}: <code>${escaped(link)}</code>${warningOf(link)}`;
-}
-
-function listenToSides() {
-  for (const name of ["one", "other"]) {
-    sidesPart(name).append(...Object.entries(LISTS).map(([kind, { name: words }]) => new Option(words, kind)));
-    sidesPart(name).onchange = () => beginSides();
+function readAddress(hash) {
+  const { view = null, course = null, lacks: which, seed = null, ...rest } = partsOf(hash);
+  const { place, isJudged, parts } = placeOf(rest, seed);
+  const lacks = which === undefined ? null : lackingNamed(which, parts);
+  const own = { view, course, sides: null, lacks, place, seed, isJudged };
+  const named = { example: parts.example ?? null, text: null, event: Number(parts.event ?? 0), ...own };
+  if (parts.sides !== undefined) return { ...named, sides: parts };
+  const ofSchedule = Object.keys(parts).filter((name) => name !== "event" && name !== "example");
+  if (named.example !== null && ofSchedule.length > 0) {
+    throw new AddressFault(`the address names an example, and has "${ofSchedule[0]}" too`);
   }
-  sidesPart("other").value = "lock-free";
-  sidesPart("begin").onclick = () => beginSides();
-  sidesPart("link").onclick = copySides;
-  sidesPart("lecture").onclick = toggleLecture;
-  sidesPart("back").onclick = () => turnTo(shownSides.at - 1);
-  sidesPart("turns").onclick = ({ target }) => {
-    const thread = target.closest("[data-thread]")?.dataset.thread;
-    if (thread !== undefined) turnOf(Number(thread));
-  };
-  sidesPart("slider").oninput = () => turnTo(Number(sidesPart("slider").value));
+  if (ofSchedule.length > 0) named.text = textOfParts(parts);
+  return named;
 }
-return { drawCompare, openCompare, titleOfSides, pressForSides, showSides, listenToSides };
+
+function lackingNamed(which, { list, example }) {
+  const names = Object.keys(LACKING);
+  const lacks = names.includes(which) ? which : names[which - 1];
+  if (lacks === undefined) {
+    throw new AddressFault(`there is no broken list "${which}": expected 1 to ${names.length}, or a name that "listset show --help" prints`);
+  }
+  if (list === LACKING[lacks]) return lacks;
+  const named = list !== undefined ? `list=${list}` : example !== undefined ? `example=${example}` : "no list";
+  throw new AddressFault(`lacks=${which} is a broken ${LISTS[LACKING[lacks]].name}, and the address has ${named}`);
+}
+
+function placeOf(parts, seed) {
+  const isRun = seed !== null || parts.example !== undefined || parts.list !== undefined;
+  const name = ["watch", "learn", "judge", "break", "compare", "read"].find((one) => parts[one] !== undefined);
+  if (name === undefined) return { place: null, isJudged: false, parts };
+  const { [name]: value, ...others } = parts;
+  const isJudged = name === "judge" && isRun;
+  return { place: isJudged ? null : [name, value], isJudged, parts: others };
+}
+
+function partsOf(hash) {
+  const parts = {};
+  for (const [name, value] of new URLSearchParams(hash.replace(/^#/, ""))) {
+    if (!Object.hasOwn(ADDRESS_PARTS, name)) throw new AddressFault(`the address has a part "${name}", which is none`);
+    if (name in parts) throw new AddressFault(`the address has "${name}" twice`);
+    if (!ADDRESS_PARTS[name].test(value)) throw new AddressFault(`"${value.slice(0, 60)}" is no ${name} of an address`);
+    parts[name] = value;
+  }
+  return parts;
+}
+
+function textOfParts(parts) {
+  const missing = ["list", "threads", "quota"].find((name) => parts[name] === undefined);
+  if (missing !== undefined) throw new AddressFault(`the address has no "${missing}"`);
+  const opening = (parts.opening?.split(".") ?? []).map((key) => `opening ${key}`);
+  const events = (parts.s ? parts.s.split(",") : []).map(longLine);
+  const lines = [...opening, ...events];
+  const title = `listset-schedule ${parts.version ?? neededVersion(lines)}`;
+  return [title, `list ${parts.list}`, `threads ${parts.threads}`, `quota ${parts.quota}`, ...lines, ""].join("\n");
+}
+
+const warningOf = (link) =>
+  link.startsWith("file:") ? " Others cannot open it, since it leads to a file on this computer: copy it from a page on a web server." : "";
+return { LONGEST_ADDRESS, AddressFault, addressOf, longLine, readAddress, warningOf };
 })();
 
 // course/course_link.js
@@ -7749,6 +6691,101 @@ function openKept(name, count) {
 return { examples, isExample, exampleText, openKept };
 })();
 
+// page/kept.js
+const $page_kept = (() => {
+const { BOOK_NAME } = $made_book;
+const { CLASSICS } = $made_classics;
+const { byId } = $page_dom;
+const { announce, held, now } = $page_now;
+const KEPT = "listset-page-2";
+const KEPT_BEFORE = "listset-page"; // one text, as the page kept it before
+const HERE = "listset-here"; // the address of what was shown last
+const MOST_WORKS = 60; // the oldest ones go
+
+function keptUnder(name) {
+  try {
+    return JSON.parse(localStorage.getItem(name));
+  } catch {
+    return null;
+  }
+}
+
+function keepUnder(name, value) {
+  try {
+    localStorage.setItem(name, JSON.stringify(value));
+    return true;
+  } catch {
+    return false;
+  }
+}
+
+const isText = (value) => typeof value === "string";
+const isWork = (kept) => typeof kept?.text === "string" && typeof kept.box === "string" && Number.isInteger(kept.count);
+const KINDS = ["own", "example", "lesson", "seed"];
+const isTask = (task) => KINDS.includes(task?.kind) && isText(task.id) && isText(task.course);
+
+function taskOfName(name) {
+  const [, lesson, course = BOOK_NAME] = /^lesson ([a-z0-9-]+)(?: of (.+?))?(?: \d+)?$/.exec(name) ?? [];
+  if (lesson !== undefined) return { kind: "lesson", id: lesson, course };
+  const [, example] = /^from ([a-z-]+)(?: \d+)?$/.exec(name) ?? [];
+  if (Object.hasOwn(CLASSICS, example)) return { kind: "example", id: example, course: "" };
+  return { kind: "own", id: "", course: "" };
+}
+
+/** @type {(entry: any[]) => [string, any]} */
+const workOf = ([name, kept]) => [name, { ...kept, task: isTask(kept.task) ? kept.task : taskOfName(name) }];
+
+const works = {
+  /** @type {Map<string, any>} */
+  byName: new Map(),
+  isKept: true,
+
+  load() {
+    const kept = keptUnder(KEPT);
+    const before = keptUnder(KEPT_BEFORE);
+    const entries = Array.isArray(kept) ? kept : isWork(before) ? [["my schedule", before]] : [];
+    const isGood = (entry) => Array.isArray(entry) && isText(entry[0]) && isWork(entry[1]);
+    this.byName = new Map(entries.filter(isGood).map(workOf));
+  },
+
+  set(name, work) {
+    this.byName.delete(name);
+    this.byName.set(name, work);
+    const names = [...this.byName.keys()];
+    for (const old of names.slice(0, Math.max(0, names.length - MOST_WORKS))) this.byName.delete(old);
+    this.isKept = keepUnder(KEPT, [...this.byName]);
+  },
+
+  last(isWanted) {
+    return [...this.byName].findLast(([, work]) => isWanted(work))?.[0] ?? null;
+  },
+
+  nameOf(text, lacks = null) {
+    return this.last((work) => work.text === text && (work.lacks ?? null) === lacks);
+  },
+
+  newName(word) {
+    for (let number = 1; ; number++) {
+      const name = number === 1 ? word : `${word} ${number}`;
+      if (!this.byName.has(name)) return name;
+    }
+  },
+};
+
+function keepWork() {
+  const box = byId("schedule").value;
+  const { run, task } = now;
+  const isLookedAt = box === run.text && run.text === task.begun;
+  if (held.engine === null || run.text === "" || isLookedAt || task.work === "") return;
+  const before = works.byName.get(task.work);
+  if (before?.text === run.text && before.box === box && before.count === run.count) return;
+  const { kind, id } = task;
+  works.set(task.work, { text: run.text, box, count: run.count, lacks: run.lacks, task: { kind, id, course: "" } });
+  announce("kept");
+}
+return { HERE, keptUnder, keepUnder, isText, works, keepWork };
+})();
+
 // page/run_text.js
 const $page_run_text = (() => {
 const { askList } = $run_broken;
@@ -7976,6 +7013,441 @@ function refreshReport() {
   if (byId("report-box").open && held.engine !== null) showOwnReport(now.run.text);
 }
 return { saveText, comparedTrace, openFile, refreshReport };
+})();
+
+// run/seed.js
+const $run_seed = (() => {
+const { AddressFault } = $run_address;
+const { isTrace, Trace } = $run_trace;
+const KINDS = ["coarse", "fine", "optimistic", "lazy", "lock-free"];
+const TRIES = 200;
+const MOST_TRIED_CALLS = 8; // of a run with more calls the first is taken
+const MOST_SEEN = 60; // events that are told apart by eye
+
+const seedOf = (kind, number, { threads = 2, calls = 5, keys = 2 } = {}) => `${kind}.${threads}.${calls}.${keys}.${number}`;
+
+function partsOfSeed(seed) {
+  const [kind, ...values] = seed.split(".");
+  const [threads, calls, keys, number] = values.map(Number);
+  return { kind, threads, calls, keys, number };
+}
+
+function scheduleOfSeed(ask, seed) {
+  const { kind, threads, calls, keys, number } = partsOfSeed(seed);
+  const tries = calls > MOST_TRIED_CALLS ? 1 : TRIES;
+  let text = "";
+  for (let tried = 0; tried < tries; tried++) {
+    const answer = ask("listset_gen", [kind, threads, 4, calls, keys, number * TRIES + tried].join("\0"));
+    if (answer.status !== 0) throw new AddressFault(`the address names no run: ${answer.text.trim()}`);
+    text = answer.text;
+    const traced = ask("listset_trace", text).text;
+    if (!isTrace(traced)) throw new AddressFault(`the run of the address has no trace: ${traced.trim()}`);
+    if (isWorthIt(new Trace(traced))) break;
+  }
+  return joined(text);
+}
+
+function isWorthIt({ calls, changes, total }) {
+  const puts = changes.some(({ put }) => put !== undefined) && changes.some(({ took }) => took !== undefined);
+  const isBeside = (one, other) => one.thread !== other.thread && one.begun < other.ended && other.begun < one.ended;
+  const beside = calls.filter((one) => calls.some((other) => isBeside(one, other)));
+  const isTold = beside.some(({ changes: own, operation, reply }) => !own && (operation === "contains" || reply === "false"));
+  return puts && isTold && total <= MOST_SEEN && calls.every(({ ended }) => ended !== null);
+}
+
+function joined(text) {
+  const lines = [];
+  for (const line of text.trimEnd().split("\n")) {
+    const [thread, steps] = /^go (\d+) (\d+)$/.exec(line)?.slice(1) ?? [];
+    const [before, count] = /^go (\d+) (\d+)$/.exec(lines.at(-1) ?? "")?.slice(1) ?? [];
+    if (thread !== undefined && thread === before) lines[lines.length - 1] = `go ${thread} ${Number(count) + Number(steps)}`;
+    else lines.push(line);
+  }
+  return `${lines.join("\n")}\n`;
+}
+
+function anotherSeed(before, kind = null) {
+  const list = kind ?? KINDS[Math.floor(Math.random() * KINDS.length)];
+  const number = 1 + Math.floor(Math.random() * 9999);
+  const seed = seedOf(list, number);
+  return seed === before ? seedOf(list, (number % 9999) + 1) : seed;
+}
+return { seedOf, partsOfSeed, scheduleOfSeed, anotherSeed };
+})();
+
+// data/levels.js
+const $data_levels = (() => {
+const BREAK_LEVELS = {
+  lock: {
+    story: "One thread at a time, they say. Let two of them meet.",
+    hints: [
+      "Two adds of different keys, both between 3 and 7.",
+      "Let both threads walk to the same place: pred is the node of 3, curr that of 7.",
+      "Stop A just before it writes pred.next. Let B do its whole add. Then let A end.",
+    ],
+    lacks: "It continues although another thread holds the lock.",
+    others: {
+      "It releases the lock before it writes the link.": "it releases the lock only after that",
+      "It writes the link of pred before that of its own node.": "it writes the link of its own node first",
+    },
+    start: [["add", 5], ["add", 4]], shortest: [20, 2],
+    missing: [{ row: 1, part: "lock the list" }],
+  },
+  "mark-in-remove": {
+    story: "Two threads remove one key. One of them should answer that it came too late.",
+    hints: [
+      "Two removes of the same key, 3.",
+      "Let both threads find the node of 3 before either of them marks it.",
+      "Stop A before the step that sets the mark; let B set its own; then let both end.",
+    ],
+    lacks: "A remove marks a node that is marked already.",
+    others: {
+      "A remove takes its node out before it marks it.": "it marks the node first",
+      "A remove does not look whether its key is there.": "it compares curr.key with its key",
+    },
+    start: [["remove", 3], ["remove", 3]], shortest: [14, 2],
+    missing: [{ row: 9, part: "no mark" }],
+  },
+  mark: {
+    story: "Removing a node is one compare-and-set here. Fast. Too fast?",
+    hints: [
+      "An add of 5, and a remove of the node in front of it.",
+      "The pred of the add must be the node of 3, which the other thread removes.",
+      "Stop A before the step that links 5 in. Let B remove 3. Then one step of A.",
+    ],
+    lacks: "A remove unlinks its node without marking it first.",
+    others: {
+      "A remove marks a node that is marked already.": "it marks no node at all",
+      "An add writes its link without comparing.": "it compares with what it saw",
+    },
+    start: [["add", 5], ["remove", 3]], shortest: [15, 2],
+    missing: [{ row: 9, part: "CAS curr.next: succ, no mark → mark" }],
+  },
+  "new-slot": {
+    story: "Each key that is added needs a node of its own. Does it get one?",
+    hints: ["One thread is enough. It adds.", "Two adds of different keys, one after the other.", "Let A add 4, and then 5. Where is 4?"],
+    lacks: "An add writes into the node of its last key.",
+    others: {
+      "An add does not look whether its key is there.": "it compares curr.key with its key",
+      "An add writes its link without comparing.": "it compares with what it saw",
+    },
+    start: [["add", 4], ["add", 5]], shortest: [20, 2],
+    missing: [{ row: 5, part: "new " }],
+  },
+  "second-lock": {
+    story: "Hand over hand, the book says: two locks at a time. Here one hand stays in the pocket.",
+    hints: [
+      "An add of 5 beside a remove of 3, its neighbour.",
+      "The add must hold the lock of 3 while the other thread removes that node.",
+      "Let B step through its add until just before it writes pred.next, with 3 as its pred. Then try a remove of 3 by A.",
+    ],
+    lacks: "A remove locks only pred, and not the node that it unlinks.",
+    others: {
+      "A remove does not lock pred.": "it locks pred, and keeps that lock until it has written",
+      "A remove releases its lock before it writes.": "it releases its lock only after that",
+    },
+    start: [["remove", 3], ["add", 5]], shortest: [21, 2],
+    missing: [{ row: 3, part: "lock curr," }],
+  },
+  "hand-over-hand": {
+    story: "A walk should never be without a lock, not for one moment.",
+    hints: [
+      "An add of 5 beside a remove of 3, its neighbour.",
+      "There is a moment in which the walk of the add holds no lock. Find it.",
+      "Stop B on its way from the node of 3 to that of 7. Let A remove 3. Then let B end.",
+    ],
+    lacks: "A walk releases one lock before it has the next.",
+    others: {
+      "It releases its locks before it writes.": "it releases them only after that",
+      "A walk does not lock the head.": "it locks the head first of all",
+    },
+    start: [["remove", 3], ["add", 5]], shortest: [24, 2],
+    missing: [{ row: 3, part: "pred still locked" }],
+  },
+  "second-walk": {
+    story: "It locks two nodes, and looks again. But what does it look at?",
+    hints: [
+      "An add of 5 beside a remove of 3, its neighbour.",
+      "The node that the add has found as pred may be unlinked before it is locked.",
+      "Stop A before it locks pred, which is the node of 3. Let B remove 3. Then let A end.",
+    ],
+    lacks: "With the locks it does not walk again: pred may not be in the list any more.",
+    others: {
+      "It does not lock curr.": "it locks pred and curr",
+      "It does not look whether pred still leads to curr.": "it looks at that, with both locks",
+    },
+    start: [["add", 5], ["remove", 3]], shortest: [23, 2],
+    missing: [{ row: 6, part: "walk from the head again" }, { row: 7, part: "until pred is met, else not valid" }],
+  },
+  "marks-in-validation": {
+    story: "Marks are set here. Does everybody read them?",
+    hints: [
+      "An add of 5 beside a remove of 3, its neighbour.",
+      "The node that the add has found as pred may be removed before it is locked.",
+      "Stop A before it locks pred, which is the node of 3. Let B remove 3. Then let A end.",
+    ],
+    lacks: "The validation does not look at the marks.",
+    others: {
+      "The validation does not look whether pred still leads to curr.": "it looks at that, with both locks",
+      "A remove does not mark its node.": "it marks the node before it unlinks it",
+    },
+    start: [["add", 5], ["remove", 3]], shortest: [25, 2],
+    missing: [{ row: 6, part: "pred unmarked," }, { row: 7, part: "and curr unmarked" }],
+  },
+  "mark-in-add": {
+    story: "A marked link must not change. Somebody changes it all the same.",
+    hints: [
+      "An add of 5, and a remove of the node in front of it.",
+      "The remove must have marked the node of 3, and done no more.",
+      "Stop A before its last step. Let B remove 3 until it has set the mark. Then let A end.",
+    ],
+    lacks: "An add inserts its node behind a marked one.",
+    others: {
+      "A remove does not mark its node.": "it marks the node before it unlinks it",
+      "An add does not look whether its key is there.": "it compares curr.key with its key",
+    },
+    start: [["add", 5], ["remove", 3]], shortest: [17, 2],
+    missing: [{ row: 7, part: "no mark" }],
+  },
+  "same-node": {
+    story: "The second walk looks for pred. It meets something that looks like it.",
+    hints: [
+      "Three calls: an add of 5, and of the other thread a remove and an add of one key.",
+      "The node of 3 is unlinked, and another node of 3 is inserted.",
+      "Stop A before it locks pred, the old node of 3. Let B remove 3 and add 3 again. Then let A end.",
+    ],
+    lacks: "The second walk looks for the key of pred, and not for the node itself.",
+    others: {
+      "It does not walk a second time.": "it walks from the head again, with its locks",
+      "It does not lock pred.": "it locks pred and curr",
+    },
+    start: [["add", 5], ["remove", 3]], shortest: [36, 3],
+    missing: [{ row: 7, part: "pred is met" }],
+  },
+  "mark-at-key": {
+    story: "A marked node can stay in the chain for a while. Who reads it there?",
+    hints: [
+      "Three calls: an add of 5, a remove of 7, and then a contains of 7.",
+      "A remove whose last compare-and-set fails leaves its node in the chain, marked.",
+      "Stop A before it links 5 in. Let B remove 7 up to its last step. Link 5 in, let B end. Then call contains(7).",
+    ],
+    lacks: "A contains does not look at the mark of the node with its key.",
+    others: {
+      "A remove does not mark its node.": "it marks the node before it unlinks it",
+      "A contains stops before it comes to its key.": "it walks on while curr.key is below its key",
+    },
+    start: [["add", 5], ["remove", 7]], shortest: [26, 3],
+    missing: [{ row: 22, part: "and unmarked" }],
+  },
+  "mark-in-ceiling": {
+    story: "ceiling(2) asks for the smallest key from 2 on. It takes the first node that it finds. Any node?",
+    hints: [
+      "A remove of 3, and a ceiling of 2. Let something end in between.",
+      "The remove has marked the node of 3 and has not ended. A contains of 3 answers false. And then the ceiling?",
+      "Stop A after it set the mark. Let B call contains(3), and then ceiling(2).",
+    ],
+    lacks: "A ceiling does not look at the mark of its node.",
+    others: {
+      "A ceiling stops before it comes to its key.": "it walks on while curr.key is below its key",
+      "A remove does not mark its node.": "it marks the node before it unlinks it",
+    },
+    start: [["remove", 3], ["contains", 3]], shortest: [16, 3],
+    missing: [{ row: 25, part: "if marked: start again;" }],
+  },
+  "mark-in-contains": {
+    story: "Here contains does not look at the mark. No schedule is known after which no order explains the calls. Why not?",
+    hints: [
+      "A remove of 3, and a contains of 3 by the other thread.",
+      "The remove has set its mark and is still pending. So it may come after the contains.",
+      "When the remove has ended, can a new contains still reach its node? In this list a remove ends after the node is unlinked.",
+    ],
+    lacks: "A contains does not look at the mark of its node.",
+    others: {},
+    start: [["remove", 3], ["contains", 3]], shortest: null,
+    missing: [{ row: 22, part: "and unmarked" }],
+  },
+};
+return { BREAK_LEVELS };
+})();
+
+// data/chapter.js
+const $data_chapter = (() => {
+const { BREAK_LEVELS } = $data_levels;
+const CHAPTER = [
+  "lock", "second-lock", "hand-over-hand", "second-walk", "same-node", "marks-in-validation", "mark-in-remove", "mark", "mark-in-add",
+  "mark-at-key",
+];
+const BEYOND = ["new-slot", "mark-in-ceiling", "mark-in-contains"];
+
+const NUMBERED = Object.keys(BREAK_LEVELS);
+const numberOfLevel = (name) => NUMBERED.indexOf(name) + 1;
+const levelOfNumber = (number) => NUMBERED[Number(number) - 1];
+
+const whyWrong = (name, sentence) => `No: ${BREAK_LEVELS[name].others[sentence]}. Look for the line that this list makes differently.`;
+return { CHAPTER, BEYOND, numberOfLevel, levelOfNumber, whyWrong };
+})();
+
+// page/scene_address.js
+const $page_scene_address = (() => {
+const { levelOfNumber } = $data_chapter;
+const { AddressFault, addressOf, LONGEST_ADDRESS, longLine } = $run_address;
+const { startOfLacking } = $run_broken;
+const { eventsAsked } = $run_schedule_text;
+const SCENES = ["assignment", "story", "ask", "code", "teachers"]; // run/address.js reads the others, with their schedules
+const SCENE_VIEWS = ["lecture", "embed"];
+
+function sceneOfHash(hash) {
+  const { view = null, ...parts } = Object.fromEntries(new URLSearchParams(hash.replace(/^#/, "")));
+  const activity = SCENES.find((name) => name in parts);
+  if (activity === undefined) return null;
+  if (view !== null && !SCENE_VIEWS.includes(view)) throw new AddressFault(`"${view.slice(0, 60)}" is no view of a page`);
+  const { [activity]: id, ...given } = parts;
+  return { activity, id, given, view };
+}
+
+const START_OF_CODE = [3, 7];
+const shortLine = (line) => `${line[0]}${line.split(" ").slice(1).join(".")}`;
+const linesOfCode = (s) => s.split(",").filter((line) => /^(b\d+\.[a-z]+\.\d+|g\d+\.\d+)$/.test(line)).map(longLine);
+
+const SET_OF_CODE = { threads: 2, quota: 9 };
+
+function addressOfCode(list, opening, lines, set = SET_OF_CODE) {
+  const ofOpening = opening.join() === START_OF_CODE.join() && lines.length === 0 ? "" : `&opening=${opening.join(".")}`;
+  const ofSet = ["threads", "quota"].map((name) => (set[name] === SET_OF_CODE[name] ? "" : `&${name}=${set[name]}`)).join("");
+  return `#code=${list}${ofSet}${ofOpening}${lines.length > 0 ? `&s=${lines.map(shortLine).join()}` : ""}`;
+}
+
+function addressOfLevel({ id }, { text }) {
+  const name = levelOfNumber(id);
+  if (id === "" || text === "" || text === startOfLacking(name)) return id === "" ? "#break" : `#break=${id}`;
+  return `#break=${id}&${addressOf(text, eventsAsked(text))?.slice(1) ?? ""}`;
+}
+
+function addressOfLesson({ id }, { text }, { course }) {
+  const named = `${course === null ? "#" : `${course}&`}learn${id === "" ? "" : `=${id}`}`;
+  const own = text === "" ? null : addressOf(text, eventsAsked(text));
+  const whole = own === null ? named : `${named}&${own.slice(1)}`;
+  return whole.length <= LONGEST_ADDRESS ? whole : named;
+}
+
+const addressOfAssignment = ({ id, given }) => `#${new URLSearchParams({ assignment: id, ...given })}`.replaceAll("%2C", ",");
+
+const plainAddress = ({ activity, id }) => `#${activity}${id === "" ? "" : `=${id}`}`;
+
+const ADDRESSES = {
+  code: ({ id, given }, { text }) => text || `#${new URLSearchParams({ code: id, ...given })}`,
+  compare: (place, { text }) => text || plainAddress(place),
+  break: addressOfLevel,
+  learn: addressOfLesson,
+  assignment: addressOfAssignment,
+};
+
+const addressOfScene = ({ place, scene }, given) =>
+  `${(ADDRESSES[place.activity] ?? plainAddress)(place, scene, given)}${place.view === null ? "" : `&view=${place.view}`}`;
+return { sceneOfHash, START_OF_CODE, linesOfCode, SET_OF_CODE, addressOfCode, addressOfAssignment, addressOfScene };
+})();
+
+// page/address_of.js
+const $page_address_of = (() => {
+const { CLASSICS } = $made_classics;
+const { LISTS } = $made_rows;
+const { addressOf } = $run_address;
+const { inLetters } = $run_markup;
+const { partsOfSeed } = $run_seed;
+const { addressOfScene } = $page_scene_address;
+function ofRun(state) {
+  const { task, run } = state;
+  if (task.kind === "own") return addressOf(run.text, run.count, run.lacks);
+  return `#${task.kind}=${task.id}&event=${run.count}`;
+}
+
+function addressIn(state, given) {
+  const { place, exercise } = state;
+  if (place.screen === "scene") return addressOfScene(state, given);
+  const view = place.view === null ? "" : `&view=${place.view}`;
+  const address = ofRun(state);
+  return address === null ? null : `${address}${exercise === null ? "" : "&judge"}${view}`;
+}
+
+const WHOLE = "Why not just one lock?";
+
+function titleIn(state, titleOfScene) {
+  const { place, task, run } = state;
+  const list = run.trace === null ? "" : LISTS[run.trace.kind].name;
+  if (place.screen === "scene") return titleOfScene(place);
+  const judged = state.exercise === null ? "" : "Judge: ";
+  const ofTask = {
+    example: () => `${judged}${inLetters(CLASSICS[task.id].question)}`,
+    seed: () => `${judged}Run ${partsOfSeed(task.id).number} of ${list}`,
+    own: () => `${judged}${task.work}: ${list}`,
+  };
+  return `${ofTask[task.kind]()} · ${WHOLE}`;
+}
+return { addressIn, titleIn };
+})();
+
+// page/visit.js
+const $page_visit = (() => {
+const { warningOf } = $run_address;
+const { escaped } = $run_markup;
+const { addressIn } = $page_address_of;
+const { HERE, keepUnder, keepWork } = $page_kept;
+const { held, now, tell } = $page_now;
+const { entryOf } = $page_state;
+const MOMENT = 400; // milliseconds: the bar follows once nothing has moved for so long, since browsers refuse quick changes of it
+const visit = { timer: 0, entry: null, isRead: false, course: null };
+
+const addressHere = () => addressIn(held.state, visit);
+
+function keepSoon() {
+  clearTimeout(visit.timer);
+  visit.timer = setTimeout(keepNow, MOMENT);
+}
+
+function keepNow() {
+  clearTimeout(visit.timer);
+  keepWork();
+  if (visit.isRead) setAddress();
+}
+
+function setAddress() {
+  const address = addressHere();
+  const entry = entryOf(held.state);
+  const isNew = visit.entry !== null && visit.entry !== entry;
+  visit.entry = entry;
+  if (held.state.place.view !== "embed") keepUnder(HERE, address);
+  if (!isNew && location.hash === (address ?? "")) return;
+  const { text, count, lacks } = now.run;
+  const kept = address === null ? { text, count, lacks } : null;
+  const how = isNew ? "pushState" : "replaceState";
+  const place = address ?? location.pathname + location.search;
+  try {
+    history[how](kept, "", place);
+  } catch {
+    history[how](null, "", place); // a state may be too large for a browser
+  }
+}
+
+const linkTo = (address) => location.href.replace(/#.*$/, "") + address;
+
+async function copyLink() {
+  const address = now.run.isRun ? addressHere() : null;
+  if (address === null) return tell("This schedule has no link: it is refused, or too long for an address. Save it as a file.");
+  const link = linkTo(address);
+  const shown = `<code>${escaped(link)}</code>${warningOf(link)}`;
+  tell(`Copy this link: ${shown}`);
+  if (await copied(link)) tell(`The link is copied: ${shown}`);
+}
+
+async function copied(text) {
+  try {
+    await navigator.clipboard.writeText(text);
+    return true;
+  } catch {
+    return false;
+  }
+}
+return { visit, keepSoon, keepNow, linkTo, copyLink, copied };
 })();
 
 // story/kept_story.js
@@ -8238,6 +7710,135 @@ const APPENDIX = [
   },
 ];
 return { APPENDIX };
+})();
+
+// story/scene.js
+const $story_scene = (() => {
+const { change, dispatch, now } = $page_now;
+const { byId, setHtml } = $page_dom;
+const { tag } = $run_markup;
+/**
+ * @typedef {object} View
+ * @property {string} kind  the class of the place
+ * @property {(place: import("../page/state.js").Place) => string} title
+ * @property {(place: any) => string | null} [fault]  why there is no such place, or null
+ * @property {(place: import("../page/state.js").Place) => string} html
+ * @property {(place: import("../page/state.js").Place) => void} [begin]  once its parts are there: its figure, its first stage
+ * @property {(scene: import("../page/state.js").Scene) => void} [draw]  what follows from how far one is
+ * @property {() => void} [end]  before its parts go
+ * @property {Record<string, (target: any) => any>} [deeds]
+ * @property {(event: KeyboardEvent) => any} [press]  a key
+ */
+
+/** @type {Record<string, View>} of an activity, or of one without an id its map */
+const VIEWS = {};
+const scene = { key: "", view: null, figure: null, isFirst: true };
+
+const part = (selector) => byId("scene").querySelector(selector);
+const viewOf = ({ activity, id }) => (id === "" ? VIEWS[`${activity} map`] : undefined) ?? VIEWS[activity];
+const titleOfScene = (place) => viewOf(place).title(place);
+const faultOfScene = (place) => viewOf(place).fault?.(place) ?? null;
+const isScene = ({ place }) => place.screen === "scene";
+const setScene = (given) => dispatch("scene", given);
+const talk = (html) => setHtml(part("#talk"), html);
+
+function takeFigure(figure) {
+  scene.figure?.end();
+  scene.figure = figure;
+  return figure;
+}
+
+function leaveScene() {
+  if (scene.view === null) return;
+  scene.view?.end?.();
+  takeFigure(null);
+  Object.assign(scene, { key: "", view: null });
+  byId("scene").innerHTML = "";
+}
+
+function renderScene({ place, scene: state }) {
+  const key = JSON.stringify([place.activity, place.id, place.given, place.view === "embed"]);
+  if (key === scene.key) return scene.view.draw?.(state);
+  scene.view?.end?.();
+  takeFigure(null);
+  const view = viewOf(place);
+  Object.assign(scene, { key, view });
+  const box = byId("scene");
+  box.className = view.kind;
+  box.innerHTML = view.html(place);
+  scrollTo(0, 0);
+  view.begin?.(place);
+  view.draw?.(now.scene);
+  if (!scene.isFirst && document.activeElement === document.body) box.querySelector("h1")?.focus({ preventScroll: true });
+  scene.isFirst = false; // who comes by a key goes on at the title of what is opened
+}
+
+function openScene({ activity, id = "", given = {}, view = null }) {
+  scene.key = ""; // also where it is shown already, it begins anew
+  change("view", { view });
+  dispatch("place", { activity, screen: "scene", id, given });
+}
+
+function listenToScene() {
+  byId("scene").addEventListener("click", (event) => {
+    const target = event.target.closest("[data-do]");
+    if (target !== null && byId("scene").contains(target)) scene.view?.deeds?.[target.dataset.do]?.(target);
+  });
+}
+
+const pressInScene = (event) => scene.view?.press?.(event);
+
+
+const head = (kicker, title, more = "", kind = "") =>
+  `<div class="head">${kicker === "" ? "" : `<p class="kicker">${kicker}</p>`}<h1 class="${kind}" tabindex="-1">${title}</h1>${more}</div>`;
+
+const FIGURE_AND_TALK = '<div id="figure"></div><div id="talk" class="talk" aria-live="polite"></div>';
+
+const hintAndOn = (next) =>
+  `<button id="hint" class="primary" data-do="hint"></button>${tag("a", { id: "go-on", class: "button quiet", href: next }, "Skip →")}`;
+
+const foot = (left, right) => tag("footer", { class: "foot" }, left, tag("span", { class: "spread" }), right);
+
+const optionButtons = (texts, wrong = []) => {
+  const button = (text, at) => {
+    const given = { class: "option", "data-do": "answer", "data-option": at, ...(wrong.includes(text) ? { "aria-disabled": "true" } : {}) };
+    return tag("button", given, `<b aria-hidden="true">${at + 1}</b> `, tag("span", {}, text));
+  };
+  return tag("div", { class: "options" }, ...texts.map(button));
+};
+
+const lowered = (text) => text[0].toLowerCase() + text.slice(1);
+
+function replyTo(options, chosen) {
+  const option = options?.[chosen];
+  if (option === undefined) return "";
+  const { text, say, right = false } = option;
+  const said = `You said: ${lowered(text)}${text.endsWith("?") ? "" : "."}`;
+  return `<p class="you ${right ? "right" : "wrong"}"><b>${said}</b> ${say || (right ? "Let us see." : "")}</p>`;
+}
+
+function drawLedger(run) {
+  const [promised, has] = [run.promised(), run.has()];
+  const all = [...new Set([...promised, ...has])].sort((one, other) => one - other);
+  const cell = (keys, others) => (key) => {
+    const isIn = keys.includes(key);
+    return tag("td", { class: isIn ? (others.includes(key) ? "" : "odd") : "gap" }, isIn ? key : "");
+  };
+  const row = (name, keys, others) => tag("tr", {}, tag("th", { scope: "row" }, name), ...all.map(cell(keys, others)));
+  return tag("table", { class: "ledger" }, row("What the answers promise", promised, has), row("What the list has", has, promised));
+}
+
+const isOddRun = (run) => run.promised().join() !== run.has().join();
+
+function threadOfKey({ key, ctrlKey, metaKey, altKey }) {
+  if (!now.prefs.letters || ctrlKey || metaKey || altKey || !/^[a-z]$/.test(key)) return -1;
+  return key.charCodeAt(0) - "a".charCodeAt(0);
+}
+
+const numberOfKey = ({ key }) => (now.prefs.letters && /^[1-9]$/.test(key) ? Number(key) - 1 : -1);
+
+const LIST_WORDS = { coarse: "One lock", fine: "Hand over hand", optimistic: "Optimistic", lazy: "Lazy", "lock-free": "Lock-free" };
+return { VIEWS, scene, part, titleOfScene, faultOfScene, isScene, setScene, talk, takeFigure, leaveScene, renderScene, openScene, listenToScene, pressInScene, head, FIGURE_AND_TALK, hintAndOn, foot, optionButtons, replyTo, drawLedger, isOddRun, threadOfKey, numberOfKey, LIST_WORDS };
 })();
 
 // story/ask_map.js
@@ -8522,9 +8123,13 @@ class Learning {
   }
 }
 
-const learning = { panel: null }; // once the engine is there
-const startLearning = () => (learning.panel = new Learning());
-return { learning, startLearning };
+const learning = {
+  get panel() {
+    return (made.panel ??= new Learning());
+  },
+};
+const made = { panel: null };
+return { learning };
 })();
 
 // story/learn_map.js
@@ -8561,7 +8166,13 @@ function drawLearnMap() {
   begin();
 }
 
-const begin = () => part("#learn-folds").append(byId("lesson-folds"));
+function begin() {
+  const { kept, course } = learning.panel;
+  part("#learn-folds").append(byId("lesson-folds"));
+  byId("lesson-course").replaceChildren(...[BOOK_NAME, ...kept.courses.keys()].map((name) => new Option(name)));
+  byId("lesson-course").value = course.name;
+  byId("lesson-student").value = kept.student;
+}
 const end = () => byId("courses").append(byId("lesson-folds"));
 
 /** @type {import("./scene.js").View} */
@@ -8929,22 +8540,16 @@ const { learning } = $story_learning;
 const { JUDGED } = $activities_judging;
 const lessonPart = (name) => byId(`lesson-${name}`);
 
-function takeCourseText(panel, text) {
+function takeCourseText(text) {
   const course = triedCourse(askNow, text);
   const { faults, name, lessons } = course;
   const lines = faults.map(({ line, fault }) => `line ${line}: ${fault}`);
   lessonPart("faults").textContent = lines.length > 0 ? lines.join("\n") : `${name}: ${counted(lessons.length, "lesson")}, all good.`;
   lessonPart("faults").dataset.isGood = faults.length > 0 ? "no" : "yes";
   lessonPart("link-text").hidden = true;
-  if (faults.length === 0) panel.takeCourse(course);
-  fillCourses(panel);
+  if (faults.length === 0) learning.panel.takeCourse(course);
   drawLearnMap();
   return faults.length === 0;
-}
-
-function fillCourses({ kept, course }) {
-  lessonPart("course").replaceChildren(...[BOOK_NAME, ...kept.courses.keys()].map((name) => new Option(name)));
-  lessonPart("course").value = course.name;
 }
 
 async function takeCourseOfAddress(letters) {
@@ -8960,13 +8565,13 @@ async function takeCourseOfAddress(letters) {
 function showCourseText(text) {
   lessonPart("course-text").value = text;
   lessonPart("write").open = true;
-  takeCourseText(learning.panel, text);
+  takeCourseText(text);
 }
 
-async function copyCourseLink(panel) {
-  const { course } = panel;
+async function copyCourseLink() {
+  const { course } = learning.panel;
   const address = await courseAddress(course.text);
-  if (course !== panel.course || lessonPart("faults").dataset.isGood !== "yes") return; // another text was checked meanwhile
+  if (course !== learning.panel.course || lessonPart("faults").dataset.isGood !== "yes") return; // another text was checked meanwhile
   const tooLong = "This course is too long for a link: save it, and hand out the file.";
   if (address === null) return (lessonPart("faults").textContent = tooLong);
   const link = linkTo(address);
@@ -8976,33 +8581,33 @@ async function copyCourseLink(panel) {
   box.select();
   const isCopied = await copied(link);
   if (box.hidden) return;
-  lessonPart("faults").textContent = `${isCopied ? "The link is copied" : "Copy the link below"}: it opens "${panel.course.name}".${warningOf(link)}`;
+  lessonPart("faults").textContent = `${isCopied ? "The link is copied" : "Copy the link below"}: it opens "${course.name}".${warningOf(link)}`;
 }
 
-function listenToCourses(panel) {
-  fillCourses(panel);
+function listenToCourses() {
   const box = lessonPart("course-text");
   lessonPart("course").onchange = () => {
     const name = lessonPart("course").value;
-    takeCourseText(panel, name === BOOK_NAME ? BOOK : panel.kept.courses.get(name));
-    box.value = panel.course.text;
+    takeCourseText(name === BOOK_NAME ? BOOK : learning.panel.kept.courses.get(name));
+    box.value = learning.panel.course.text;
   };
   lessonPart("write").ontoggle = () => {
-    if (box.value === "") box.value = panel.course.text;
+    if (box.value === "") box.value = learning.panel.course.text;
   };
   lessonPart("file").onchange = async () => {
     box.value = await lessonPart("file").files[0].text();
     lessonPart("file").value = "";
     lessonPart("write").open = true;
-    takeCourseText(panel, box.value);
+    takeCourseText(box.value);
   };
-  lessonPart("try").onclick = () => takeCourseText(panel, box.value);
-  lessonPart("link").onclick = () => takeCourseText(panel, box.value) && copyCourseLink(panel);
+  lessonPart("try").onclick = () => takeCourseText(box.value);
+  lessonPart("link").onclick = () => takeCourseText(box.value) && copyCourseLink();
   lessonPart("save").onclick = () => saveText("lessons.course", box.value);
 }
 
 
-async function handIn(panel) {
+async function handIn() {
+  const { panel } = learning;
   const lessons = panel.course.lessons.filter(({ name }) => panel.isSolved(name));
   const solutions = lessons.map(({ name }) => ({ name, schedule: panel.own.solutions.get(name) }));
   const orders = Object.values(keptUnder(JUDGED) ?? {}).filter(isText);
@@ -9016,10 +8621,10 @@ async function handIn(panel) {
   lessonPart("told").textContent = (await copied(box.value)) ? `The text with ${count} is copied.` : `Copy this text: it has ${count}.`;
 }
 
-function listenToHandIn(panel) {
-  lessonPart("student").value = panel.kept.student;
-  lessonPart("hand-in").onclick = () => handIn(panel);
+function listenToHandIn() {
+  lessonPart("hand-in").onclick = handIn;
   lessonPart("student").onchange = () => {
+    const { panel } = learning;
     panel.kept.student = lessonPart("student").value.trim();
     if (!panel.kept.save()) lessonPart("told").textContent = "This browser keeps nothing: hand in before you leave the page.";
   };
@@ -9124,47 +8729,83 @@ function showQuestion() {
 return { fillWorks, fillExamples, chooseInList, pickExample, showQuestion };
 })();
 
-// story/ask_figure.js
-const $story_ask_figure = (() => {
-const { BREAK_LEVELS } = $data_levels;
-const { now } = $page_now;
-const { QUESTIONS } = $story_ask;
-const { APPENDIX } = $story_ask_more;
-const { Figure } = $story_figure;
-const { LIST_WORDS, part, takeFigure } = $story_scene;
-const CHECK_WORDS = {
-  lock: "the lock is ignored",
-  "hand-over-hand": "it lets go of one lock before it has the next",
-  "second-walk": "it does not walk again",
-  "marks-in-validation": "it does not look at the marks",
-  "mark-in-remove": "it marks a node that is marked already",
-  "mark-in-add": "an add does not look at the mark of its pred",
-  "mark-at-key": "a contains does not look at the mark",
+// page/seen.js
+const $page_seen = (() => {
+const isStage = ({ screen }) => screen === "stage";
+
+function factsOf(state, { hasEngine }) {
+  const { place, run, task, exercise } = state;
+  return {
+    ...place,
+    hasEngine,
+    kind: task.kind,
+    isJudging: exercise !== null,
+    isClaim: exercise?.level === "claim",
+    isBroken: run.lacks !== null,
+  };
+}
+
+const isFull = ({ view }) => view === null;
+const isSlide = ({ view }) => view === "lecture";
+const isFree = ({ isClaim }) => !isClaim; // of a claim there is no run to step through
+
+const SEEN = {
+  top: isFull,
+  leave: ({ view }) => view !== null && view !== "embed",
+  scene: ({ screen }) => screen === "scene",
+  bench: ({ screen }) => screen !== "scene",
+  task: (facts) => isStage(facts) && (isFull(facts) || isSlide(facts)),
+  stage: isStage,
+  workshop: (facts) => isStage(facts) && isFull(facts),
+  "question-box": ({ kind, isJudging }) => kind === "example" && !isJudging,
+  "own-head": ({ kind }) => kind === "own",
+  "seed-box": ({ kind }) => kind === "seed",
+  "judge-head": ({ activity }) => activity === "judge",
+  "go-on-here": (facts) => facts.activity !== "judge" && isFull(facts) && facts.hasEngine,
+  past: ({ isJudging, view }) => !isJudging && view !== "list",
+  ticks: ({ isJudging }) => !isJudging,
+  judge: ({ isJudging }) => isJudging,
+  "judge-moments": ({ isClaim }) => isClaim,
+  "judge-note": isFree,
+  "judge-levels": ({ isBroken }) => !isBroken,
+  "report-box": ({ isJudging, hasEngine }) => !isJudging && hasEngine,
+  dock: (facts) => isStage(facts) && isFree(facts),
+  "run-figure": isFree,
+  "key-help-box": isFree,
+  "threads-box": isFree,
+  "table-box": isFree,
+  "listing-box": (facts) => isFree(facts) && !facts.isBroken,
+  told: isFull,
+  order: isFull,
+  "no-engine": ({ hasEngine }) => hasEngine === false,
 };
-const ALL = [...QUESTIONS, ...APPENDIX];
-const itemOf = ({ id }) => ALL.find(({ name }) => name === id);
-const isEmbed = () => now.place.view === "embed";
+return { factsOf, SEEN };
+})();
 
-function takeBranch({ lines, opening, lacks = null, isFree = false }) {
-  const item = itemOf(now.place);
-  const calls = isFree ? {} : item.calls;
-  return takeFigure(new Figure(freshBox(), {
-    list: item.list, lacks, lines, calls, threads: item.threads ?? 2, quota: item.quota ?? 4, opening: opening ?? item.opening,
-    operations: operationsIn(item),
-    strip: true, scrub: true, again: false, free: isFree, short: true, roomFor: 552, high: isEmbed() ? 0.34 : 0.23, least: isEmbed() ? 110 : 180,
-    code: !isEmbed(), codeTitle: LIST_WORDS[item.list], codeNote: lacks === null ? "" : `Here ${CHECK_WORDS[lacks]}.`,
-    struck: BREAK_LEVELS[lacks]?.missing,
-  }));
+// page/places.js
+const $page_places = (() => {
+const { byId, setHidden } = $page_dom;
+const { change } = $page_now;
+const { factsOf, SEEN } = $page_seen;
+function showParts(state) {
+  const facts = factsOf(state, { hasEngine: services.hasEngine });
+  for (const [id, isSeen] of Object.entries(SEEN)) setHidden(byId(id), !isSeen(facts), byId("skip"));
+  const { activity, screen, view } = state.place;
+  const key = [activity, screen, view, facts.hasEngine].join();
+  if (key === placed.key) return;
+  placed.key = key;
+  for (const part of document.querySelectorAll(".of-engine:not([id])")) part.hidden = !facts.hasEngine;
+  Object.assign(document.body.dataset, { activity, screen, view: view ?? "" });
+  for (const link of document.querySelectorAll("nav [data-to]")) {
+    if (link.dataset.to.split(" ").includes(activity)) link.setAttribute("aria-current", "page");
+    else link.removeAttribute("aria-current");
+  }
 }
+const placed = { key: "" };
+const services = { hasEngine: true }; // until it is known that there is none
 
-const operationsIn = ({ lines, rest }) => [...lines, ...rest].filter((line) => line.startsWith("begin")).map((line) => line.split(" ")[2]);
-
-function freshBox() {
-  const box = Object.assign(document.createElement("div"), { id: "figure" });
-  part("#figure").replaceWith(box);
-  return box;
-}
-return { CHECK_WORDS, ALL, itemOf, takeBranch };
+const setView = (view) => change("view", { view });
+return { showParts, services, setView };
 })();
 
 // activities/recorded.js
@@ -9296,79 +8937,6 @@ function drawSeedBox(seed, more) {
 return { FIRST, seedForm, listenToSeedForm, openSeed, taskOfWatch };
 })();
 
-// activities/judge_map.js
-const $activities_judge_map = (() => {
-const { CLASSICS } = $made_classics;
-const { byId } = $page_dom;
-const { examples } = $page_example;
-const { keptUnder } = $page_kept;
-const { escaped, inLetters } = $run_markup;
-const { itemOf } = $story_ask_figure;
-const { drawCard } = $story_ask_map;
-const { LIST_WORDS } = $story_scene;
-const { JUDGED } = $activities_judging;
-const { drawRecordedBox, listenToRecorded } = $activities_recorded;
-const { listenToSeedForm, seedForm } = $activities_watch;
-function drawJudgeMap() {
-  const judged = Object.keys(keptUnder(JUDGED) ?? {});
-  const cardOf = ({ name, kind }) => {
-    const state = judged.some((run) => run.startsWith(`${name} `)) ? "done" : "";
-    const { title } = itemOf({ id: name });
-    return drawCard({ href: `#example=${name}&judge`, list: LIST_WORDS[kind], title, says: escaped(inLetters(CLASSICS[name].question)), state });
-  };
-  byId("map-judge").innerHTML = `<h1>Judge a run yourself</h1><p class="lead">You see a run without its replies. Say what each call
-    answers, and put a point where it takes effect. The proved <code>check</code> judges your order: any order that explains the run
-    is right.</p><h2>A random run</h2>${seedForm("judge-seed", "Judge a run")}${drawRecordedBox()}<h2>An example, by its question</h2>
-    <div class="cards">${examples().map(cardOf).join("")}</div>`;
-  listenToSeedForm("judge-seed", "&judge");
-  listenToRecorded();
-}
-return { drawJudgeMap };
-})();
-
-// activities/read.js
-const $activities_read = (() => {
-const { byId } = $page_dom;
-const { escaped, tag } = $run_markup;
-const { drawCard } = $story_ask_map;
-const PAGES = [
-  ["how-it-works.html", "How it works", "The five lists, from one lock to none, each with the runs that show why."],
-  ["classic.html", "The examples", "Eighteen runs, each with its question, the answer, and what goes wrong without the check."],
-  ["tables.html", "The step tables", "Each list row by row: what a step reads and writes, and which row comes next."],
-  ["tables.html#progress", "Progress: blocking, lock-free, wait-free", "Which calls of each list may block, and within how many steps a call ends."],
-];
-const TERMS = {
-  event: "The begin of a call, or one step of it: one load, store or compare-and-exchange of one word.",
-  schedule: "Which thread makes the next step, from the first event to the last. It is the whole input of a run.",
-  history: "The calls with their begin, end, thread and reply. Two calls overlap if neither ends before the other begins.",
-  pending: "A call that has begun and not ended.",
-  "takes effect": "At its linearization point: the moment between begin and end at which a call counts in the order.",
-  order: "The calls one after the other. It explains a run if a sequential set gives the same replies in this order.",
-  linearizable: "Some order explains the replies, and keeps each pair of calls that do not overlap as they were.",
-  "row, step table": "The algorithm as numbered steps; a row says what the thread does next.",
-  "pred, curr": "The two nodes that a walk holds: curr is the next one behind pred.",
-  marked: "A node whose key is removed; it may still be in the chain until it is unlinked.",
-  "quota, slot": "How many keys a thread can add in all. Each needs a slot, a node of its own; then add answers full.",
-  "not linearizable": "Proved of a report by a few of its calls: no order of them explains their replies.",
-};
-
-function drawReadMap() {
-  const cards = PAGES.map(([href, title, says]) => drawCard({ href, list: "", title, says: escaped(says) }));
-  const terms = Object.entries(TERMS).map(([term, says]) => `<div><dt>${term}</dt><dd>${escaped(says)}</dd></div>`);
-  const isAlone = document.body.dataset.alone !== undefined; // the page is one file, without the others beside it
-  const pages = isAlone ? "" : tag("div", { class: "cards" }, ...cards);
-  const words = tag("dl", { class: "words card" }, ...terms);
-  const heads = ["Read", "Terms", "What is proved, and what is not"].map((text, at) => tag(at === 0 ? "h1" : "h2", {}, text));
-  byId("map-read").innerHTML = [heads[0], pages, heads[1], words, heads[2]].join("");
-  const box = byId("proved").querySelector("details");
-  const copy = document.createElement("div");
-  copy.className = "proved";
-  copy.innerHTML = box.innerHTML.replace(/<summary>.*?<\/summary>/, "");
-  byId("map-read").append(copy);
-}
-return { PAGES, drawReadMap };
-})();
-
 // activities/open.js
 const $activities_open = (() => {
 const { TRACES } = $made_traces;
@@ -9379,7 +8947,7 @@ const { isExample, openKept } = $page_example;
 const { HERE, isText, keepWork, keptUnder, works } = $page_kept;
 const { fillWorks, pickExample } = $page_menu;
 const { exampleShown, goTo, held, now, tell } = $page_now;
-const { goToPlace, setView } = $page_places;
+const { setView } = $page_places;
 const { stopPlay } = $page_play;
 const { entryOf } = $page_state;
 const { keepSoon, visit } = $page_visit;
@@ -9390,29 +8958,18 @@ const { escaped } = $run_markup;
 const { learning } = $story_learning;
 const { keptStory } = $story_kept_story;
 const { faultOfScene, openScene } = $story_scene;
-const { openCompare } = $activities_compare;
 const { showCourseText, takeCourseOfAddress } = $activities_courses;
 const { beginJudging } = $activities_judge_begin;
-const { drawJudgeMap } = $activities_judge_map;
-const { drawReadMap } = $activities_read;
 const { showRecorded } = $activities_recorded;
 const { FIRST, openSeed } = $activities_watch;
-const MAPS = { judge: drawJudgeMap, read: drawReadMap };
 const WANTS_ENGINE = { learn: "a lesson", judge: "runs to judge", break: "a broken list", compare: "two lists side by side" };
 
 function needEngine(what) {
   if (held.engine === null) throw new AddressFault(`the address names ${what}, which cannot be run here`);
 }
 
-function showMap(activity) {
-  stopPlay();
-  MAPS[activity]();
-  goToPlace(activity, "map");
-  scrollTo(0, 0);
-}
-
 function openStory(place) {
-  needEngine("a place where threads step");
+  if (place.activity !== "read") needEngine(WANTS_ENGINE[place.activity] ?? "a place where threads step");
   if (place.activity === "story" && place.id === "") place.id = String(keptStory().at);
   const fault = faultOfScene({ id: "", given: {}, ...place });
   if (fault !== null) throw new AddressFault(fault);
@@ -9425,12 +8982,10 @@ const openLevel = (id, text, view) => openStory({ activity: "break", id, given: 
 
 /** @param {string[]} place @param {any} wanted */
 function openPlace([activity, value], { text, event, view }) {
-  if (activity in WANTS_ENGINE) needEngine(WANTS_ENGINE[activity]);
   if (activity === "break") return openLevel(value, text, view);
   if (activity === "watch" && value === "") return openStory({ activity: "ask", view });
-  if (activity === "compare") return openCompare(null);
   if (activity === "learn") return openStory({ activity, id: value, given: text === null ? {} : { text }, view });
-  if (activity !== "watch") return showMap(activity);
+  if (activity !== "watch") return openStory({ activity, view });
   if (text === null) openRun({ seed: null, example: value, event });
   else openLink({ text, event, lacks: null });
 }
@@ -9482,10 +9037,8 @@ async function openAddress(hash) {
     setView(wanted.view);
     if (wanted.course !== null) await openCourse(wanted);
     else if (wanted.place !== null) openPlace(wanted.place, wanted);
-    else if (wanted.sides !== null) {
-      needEngine("two lists side by side");
-      openCompare(wanted.sides);
-    } else if (wanted.example !== null || wanted.text !== null || wanted.seed !== null) openRun(wanted);
+    else if (wanted.sides !== null) openStory({ activity: "compare", given: wanted.sides, view: wanted.view });
+    else if (wanted.example !== null || wanted.text !== null || wanted.seed !== null) openRun(wanted);
     else return false;
     return true;
   } catch (fault) {
@@ -9496,7 +9049,7 @@ async function openAddress(hash) {
 }
 
 function openRecorded(text) {
-  showMap("judge");
+  openStory({ activity: "judge" });
   showRecorded(text);
 }
 
@@ -9660,7 +9213,6 @@ const $activities_place = (() => {
 const { titleIn } = $page_address_of;
 const { byId } = $page_dom;
 const { held, now } = $page_now;
-const { titleOfSides } = $activities_compare;
 const { addressOfAssignment, addressOfCode } = $page_scene_address;
 const { scheduleOfTrace } = $run_schedule_text;
 const { hasTask } = $story_assignment;
@@ -9669,16 +9221,6 @@ const { keptStory } = $story_kept_story;
 const { linesOf } = $story_live_run;
 const { titleOfScene } = $story_scene;
 const { taskOfWatch } = $activities_watch;
-const TASKS = { watch: taskOfWatch, judge: taskOfWatch };
-const TITLES = {
-  get sides() {
-    return titleOfSides();
-  },
-  get scene() {
-    return titleOfScene(now.place);
-  },
-};
-
 function showHome() {
   const { homework } = keptStory();
   const isTask = homework !== null && now.place.view === null && hasTask(homework.given, now.place, now.task);
@@ -9689,12 +9231,12 @@ function showHome() {
 }
 
 function showPlace() {
-  document.title = titleIn(held.state, TITLES);
+  document.title = titleIn(held.state, titleOfScene);
   showHome();
   if (now.place.screen !== "stage") return;
   const { trace, count } = now.run;
   byId("go-on-here").hash = addressOfCode(trace.kind, trace.opening, linesOf(scheduleOfTrace(trace, count)), trace);
-  const links = TASKS[now.place.activity]();
+  const links = taskOfWatch();
   for (const name of ["before", "next"]) {
     byId(`task-${name}`).hidden = links[name] === null;
     if (links[name] !== null) byId(`task-${name}`).href = links[name];
@@ -9704,136 +9246,47 @@ function showPlace() {
 return { showPlace };
 })();
 
-// page/save_picture.js
-const $page_save_picture = (() => {
-const { byId } = $page_dom;
-const { saveText } = $page_files;
-const DRAWN_BY = ["fill", "stroke", "stroke-width", "stroke-dasharray", "fill-opacity", "stroke-opacity", "opacity", "font-family",
-  "font-size", "font-weight", "font-style", "text-anchor", "paint-order", "text-decoration-line"];
+// story/ask_figure.js
+const $story_ask_figure = (() => {
+const { BREAK_LEVELS } = $data_levels;
+const { now } = $page_now;
+const { QUESTIONS } = $story_ask;
+const { APPENDIX } = $story_ask_more;
+const { Figure } = $story_figure;
+const { LIST_WORDS, part, takeFigure } = $story_scene;
+const CHECK_WORDS = {
+  lock: "the lock is ignored",
+  "hand-over-hand": "it lets go of one lock before it has the next",
+  "second-walk": "it does not walk again",
+  "marks-in-validation": "it does not look at the marks",
+  "mark-in-remove": "it marks a node that is marked already",
+  "mark-in-add": "an add does not look at the mark of its pred",
+  "mark-at-key": "a contains does not look at the mark",
+};
+const ALL = [...QUESTIONS, ...APPENDIX];
+const itemOf = ({ id }) => ALL.find(({ name }) => name === id);
+const isEmbed = () => now.place.view === "embed";
 
-function drawnOut(svg) {
-  const copy = svg.cloneNode(true);
-  const parts = [...svg.querySelectorAll("*")];
-  [...copy.querySelectorAll("*")].forEach((part, index) => {
-    const style = getComputedStyle(parts[index]);
-    for (const name of DRAWN_BY) part.style.setProperty(name, style.getPropertyValue(name));
-  });
-  return copy;
+function takeBranch({ lines, opening, lacks = null, isFree = false }) {
+  const item = itemOf(now.place);
+  const calls = isFree ? {} : item.calls;
+  return takeFigure(new Figure(freshBox(), {
+    list: item.list, lacks, lines, calls, threads: item.threads ?? 2, quota: item.quota ?? 4, opening: opening ?? item.opening,
+    operations: operationsIn(item),
+    strip: true, scrub: true, again: false, free: isFree, short: true, roomFor: 552, high: isEmbed() ? 0.34 : 0.23, least: isEmbed() ? 110 : 180,
+    code: !isEmbed(), codeTitle: LIST_WORDS[item.list], codeNote: lacks === null ? "" : `Here ${CHECK_WORDS[lacks]}.`,
+    struck: BREAK_LEVELS[lacks]?.missing,
+  }));
 }
 
-function wholePicture() {
-  const drawings = [...byId("stage").querySelectorAll(":is(.list, .strip, #judge-bars) svg")].filter((svg) => svg.clientWidth > 0);
-  const boxes = drawings.map((svg) => ({ svg, width: svg.clientWidth, height: svg.clientHeight }));
-  const width = Math.max(...boxes.map((box) => box.width));
-  let y = 0;
-  const placed = boxes.map(({ svg, width: own, height }) => {
-    const copy = drawnOut(svg);
-    Object.entries({ x: 0, y, width: own, height }).forEach(([name, value]) => copy.setAttribute(name, value));
-    y += height + 8;
-    return new XMLSerializer().serializeToString(copy);
-  });
-  const ground = `<rect width="100%" height="100%" fill="${getComputedStyle(document.body).backgroundColor}"/>`;
-  const frame = `width="${width}" height="${y}" viewBox="0 0 ${width} ${y}"`;
-  return `<svg xmlns="http://www.w3.org/2000/svg" ${frame}>${ground}${placed.join("")}</svg>\n`;
-}
+const operationsIn = ({ lines, rest }) => [...lines, ...rest].filter((line) => line.startsWith("begin")).map((line) => line.split(" ")[2]);
 
-const savePicture = () => saveText("page.svg", wholePicture());
-return { savePicture };
-})();
-
-// page/controls.js
-const $page_controls = (() => {
-const { byId } = $page_dom;
-const { showMarks, watchEditor } = $page_editor;
-const { openFile, refreshReport, saveText } = $page_files;
-const { keepUnder, keptUnder } = $page_kept;
-const { toggleKeys, toggleLecture } = $page_keys;
-const { cancelLong } = $page_long_run;
-const { chooseInList } = $page_menu;
-const { change, dispatch, now } = $page_now;
-const { changeSpeed, goByHand, togglePlay, wantsLessMotion } = $page_play;
-const { savePicture } = $page_save_picture;
-const { copyLink, keepSoon } = $page_visit;
-const { newSchedule, runBox, runWithOpening } = $page_work;
-function stopUnable(event) {
-  if (event.target.closest?.('[aria-disabled="true"]') == null) return;
-  event.stopPropagation();
-  event.preventDefault();
+function freshBox() {
+  const box = Object.assign(document.createElement("div"), { id: "figure" });
+  part("#figure").replaceWith(box);
+  return box;
 }
-
-function skipToRun() {
-  const first = {
-    map: `#map-${now.place.activity} a, [data-activity=compare] #sides-turns button`,
-    stage: "#next",
-    scene: "#scene :is(.option, .fig button, .card, .foot .primary)",
-  };
-  document.querySelector(first[now.place.screen])?.focus();
-}
-
-function listenToBar() {
-  byId("back").onclick = () => goByHand(now.run.count - 1);
-  byId("next").onclick = () => goByHand(now.run.count + 1);
-  byId("play").onclick = togglePlay;
-  byId("speed").onchange = changeSpeed;
-  byId("speed").value = wantsLessMotion() ? "slow" : "medium";
-  byId("slider").oninput = () => goByHand(Number(byId("slider").value));
-  byId("all-threads").onclick = () => dispatch("prefs", { allThreads: !now.prefs.allThreads });
-  byId("keys").onclick = toggleKeys;
-  byId("skip").onclick = skipToRun;
-  for (const name of ["lecture", "leave"]) byId(name).onclick = toggleLecture;
-  byId("link-here").onclick = copyLink;
-  byId("long-cancel").onclick = cancelLong;
-}
-
-function listenToSettings() {
-  const kept = keptUnder(SETTINGS) ?? {};
-  change("prefs", { hides: kept.hides !== false, letters: kept.letters !== false });
-  byId("hides").checked = now.prefs.hides;
-  byId("single-keys").checked = now.prefs.letters;
-  for (const [name, id] of [["hides", "hides"], ["letters", "single-keys"]]) {
-    byId(id).onchange = () => {
-      dispatch("prefs", { [name]: byId(id).checked });
-      keepUnder(SETTINGS, { hides: now.prefs.hides, letters: now.prefs.letters });
-    };
-  }
-}
-const SETTINGS = "listset-settings";
-
-function listenToWork() {
-  const box = byId("schedule");
-  byId("examples").onchange = () => chooseInList(byId("examples").value);
-  byId("run").onclick = runBox;
-  byId("opening").onchange = runWithOpening;
-  byId("link").onclick = copyLink;
-  byId("new").onclick = () => newSchedule(byId("new-list").value, byId("new-threads").value, byId("new-quota").value);
-  box.onscroll = showMarks;
-  watchEditor();
-  box.oninput = () => {
-    showMarks();
-    keepSoon();
-  };
-  box.onkeydown = (event) => {
-    if (event.key === "Enter" && (event.ctrlKey || event.metaKey)) runBox();
-  };
-}
-
-function listenToFiles() {
-  byId("report-box").ontoggle = refreshReport;
-  byId("file").onchange = () => openFile(byId("file").files[0]).then(() => (byId("file").value = ""));
-  byId("save-schedule").onclick = () => saveText("page.schedule", byId("schedule").value);
-  byId("save-trace").onclick = () => saveText("now.run.trace", now.run.trace.text);
-  byId("save-picture").onclick = savePicture;
-}
-
-function placeParts() {
-  const narrow = matchMedia("(max-width: 940px)");
-  const place = () => {
-    for (const name of ["schedule-box", "new-box", "files-box", "threads-box"]) byId(name).open = !narrow.matches;
-  };
-  narrow.addEventListener("change", place);
-  place();
-}
-return { stopUnable, listenToBar, listenToSettings, listenToWork, listenToFiles, placeParts };
+return { CHECK_WORDS, ALL, itemOf, takeBranch };
 })();
 
 // story/ask_branches.js
@@ -11340,8 +10793,394 @@ const teachView = {
 return { teachView };
 })();
 
-// story/views.js
-const $story_views = (() => {
+// page/keys.js
+const $page_keys = (() => {
+const { byId } = $page_dom;
+const { now, show } = $page_now;
+const { setView } = $page_places;
+const { goByHand, goToTurn, togglePlay } = $page_play;
+const keysOf = { scene: (event) => event }; // what keys do in a scene
+
+function pressKey(event) {
+  if (/^(TEXTAREA|INPUT|SELECT)$/.test(event.target.tagName) && event.target.id !== "slider") return;
+  if (event.ctrlKey || event.metaKey || event.altKey || event.target.closest("[role=slider]") !== null) return;
+  if (event.key === "Escape" && now.place.view !== null) return toggleLecture();
+  if (now.place.screen === "scene") return keysOf.scene(event);
+  const { total } = now.run.trace;
+  const far = now.place.view === "lecture" ? 1 : 10; // what a lecturer's pointer sends
+  const steps = { ArrowRight: 1, ArrowLeft: -1, PageDown: far, PageUp: -far, Home: -total, End: total };
+  if (event.key in steps) {
+    event.preventDefault();
+    if (event.shiftKey && event.key.startsWith("Arrow")) goToTurn(steps[event.key]);
+    else goByHand(now.run.count + steps[event.key]);
+  } else if (event.key === " " && !/^(BUTTON|SUMMARY|A)$/.test(event.target.tagName)) {
+    event.preventDefault();
+    togglePlay();
+  } else if (event.key === "?" || (event.key === "p" && now.prefs.letters)) ({ "?": toggleKeys, p: togglePlay })[event.key]();
+}
+
+function toggleKeys() {
+  byId("key-help").hidden = !byId("key-help").hidden;
+  byId("keys").setAttribute("aria-expanded", String(!byId("key-help").hidden));
+}
+
+function toggleLecture() {
+  const isLeft = document.activeElement === byId("leave");
+  setView(now.place.view === null ? "lecture" : null);
+  show();
+  if (isLeft) (byId("sides-lecture") ?? byId("lecture")).focus();
+}
+return { keysOf, pressKey, toggleKeys, toggleLecture };
+})();
+
+// run/sides.js
+const $run_sides = (() => {
+const { titleOf } = $run_schedule_text;
+const { letterOf } = $run_markup;
+const { State } = $run_state;
+const { isTrace, MOST_NUMBER, Trace } = $run_trace;
+const MOST_TURNS = 500;
+
+class ProgramFault extends Error {}
+
+function readProgram(text) {
+  const program = [];
+  for (const line of text.split("\n").filter((one) => one.trim() !== "")) {
+    const [, number, letter, calls] = /^\s*(?:t?(\d+)|([A-Z]))\s*:\s*(.+?)\s*$/i.exec(line) ?? [];
+    const thread = Number(number ?? letter?.toUpperCase().charCodeAt(0) - "A".charCodeAt(0));
+    if (!(thread < 64)) throw new ProgramFault(`"${line.slice(0, 60)}" is no line as "A: add 5, remove 5"`);
+    for (const call of calls.split(",").map((one) => one.trim())) {
+      const [, operation, key] = /^(add|remove|contains|ceiling) (0|[1-9]\d{0,9})$/.exec(call) ?? [];
+      if (key === undefined || Number(key) > MOST_NUMBER) throw new ProgramFault(`"${call.slice(0, 40)}" is no call as "add 5"`);
+      (program[thread] ??= []).push(`${operation} ${key}`);
+    }
+  }
+  if (program.length === 0) throw new ProgramFault('a program has lines as "A: add 5, remove 5"');
+  return Array.from(program, (calls) => calls ?? []);
+}
+
+function programText(program) {
+  const lines = program.map((calls, thread) => (calls.length === 0 ? "" : `${letterOf(thread)}: ${calls.join(", ")}\n`));
+  return lines.join("");
+}
+
+class Side {
+  constructor(ask, kind, { program, quota, opening }) {
+    this.ask = ask;
+    this.kind = kind;
+    this.lines = [];
+    this.counts = [0];
+    const set = [titleOf(2), `list ${kind}`, `threads ${program.length}`, `quota ${quota}`];
+    this.head = [...set, ...opening.map((key) => `opening ${key}`)];
+    this.run();
+  }
+
+  get schedule() {
+    return [...this.head, ...this.lines, ""].join("\n");
+  }
+
+  run() {
+    const { text } = this.ask("listset_trace", this.schedule);
+    if (!isTrace(text)) throw new ProgramFault(text.trim());
+    this.trace = new Trace(text, 2);
+    this.state = new State(this.trace);
+    this.state.moveTo(this.trace.total);
+  }
+
+  isOpen(thread) {
+    return this.state.threads[thread].pc !== 0;
+  }
+
+  take(line) {
+    if (line !== null) {
+      this.lines.push(line);
+      this.run();
+    }
+    this.counts.push(this.trace.total);
+  }
+}
+
+class Sides {
+  constructor(ask, kinds, { program, quota, opening }) {
+    this.program = program;
+    this.turns = [];
+    this.sides = kinds.map((kind) => new Side(ask, kind, { program, quota, opening }));
+  }
+
+  linesOf(thread) {
+    if (thread >= this.program.length) return null;
+    const isOpen = this.sides.map((side) => side.isOpen(thread));
+    if (isOpen.includes(true)) return isOpen.map((open) => (open ? `go ${thread} 1` : null));
+    const next = this.program[thread]?.[this.sides[0].trace.callsOf[thread].length];
+    return next === undefined ? null : this.sides.map(() => `begin ${thread} ${next}`);
+  }
+
+  turn(thread) {
+    const lines = this.linesOf(thread);
+    if (lines === null || this.turns.length === MOST_TURNS) return false;
+    this.sides.forEach((side, at) => side.take(lines[at]));
+    this.turns.push(thread);
+    return true;
+  }
+}
+return { ProgramFault, readProgram, programText, Sides };
+})();
+
+// activities/compare.js
+const $activities_compare = (() => {
+const { LISTS } = $made_rows;
+const { byId, redraw } = $page_dom;
+const { toggleLecture } = $page_keys;
+const { askNow, now } = $page_now;
+const { copied, linkTo } = $page_visit;
+const { addressOf, readAddress, warningOf } = $run_address;
+const { chipOf, escaped, tag } = $run_markup;
+const { sentenceOf } = $run_sentences;
+const { ProgramFault, programText, readProgram, Sides } = $run_sides;
+const { ShownRun } = $story_live_run;
+const { head, setScene, threadOfKey } = $story_scene;
+const { StillFigure } = $story_still_figure;
+const PRESETS = [
+  ["Who waits?", "#sides=coarse.lazy&quota=4&calls=0.add.5,1.contains.5&turns=0.0.0.0.1.1.1"],
+  ["Two removes of neighbours", "#sides=fine.optimistic&quota=4&opening=3.5.7&calls=0.remove.3,1.remove.7&turns=0.0.0.1.1.1"],
+  ["A reader beside a writer", "#sides=lazy.lock-free&quota=4&opening=3.5.7&calls=0.remove.5,1.contains.5&turns=0.0.0.0.0.1.1"],
+];
+const PICTURE = '<h3></h3><div class="pair"></div><p class="note"><a class="button">Watch this run</a></p>';
+const SIDES = ["one", "other"];
+const shown = { sides: null, at: 0, quota: 4, opening: [], figures: [] }; // at: how many turns are shown
+const sidesPart = (name) => byId(`sides-${name}`);
+
+const listsOf = ({ given }) => (given.sides ?? "coarse.lazy").split(".");
+
+function html(place) {
+  const preset = ([name, href]) => tag("a", { class: "button", href }, escaped(name));
+  const listOf = (at) => Object.entries(LISTS).map(([kind, { name }]) =>
+    tag("option", { value: kind, ...(kind === listsOf(place)[at] ? { selected: "" } : {}) }, name));
+  const choice = (name, at) => tag("label", {}, ["left ", "right "][at], tag("select", { id: `sides-${name}` }, ...listOf(at)));
+  const lead = `<p class="lead">The same calls on two lists. A turn of a thread executes its next step in both; a call that has ended waits for
+    the other list. Who has to wait, and who is done? <a class="beside" href="tables.html#progress">Progress of each list: blocking, lock-free, wait-free</a></p>`;
+  return `<section class="screen">${head("", "Two lists, one program", lead)}
+    <div id="sides-presets" class="line">${PRESETS.map(preset).join(" ")}</div>
+    <details id="sides-own"><summary>Your own program</summary><div class="line small">${SIDES.map(choice).join("")}
+      <label>initial keys <input id="sides-opening" spellcheck="false" placeholder="no keys" size="8"></label>
+      <label>calls <textarea id="sides-program" rows="2" cols="24" spellcheck="false"></textarea></label>
+      <button data-do="begin">Run this program</button> <button data-do="copy">Copy link</button></div></details>
+    <p id="sides-told" role="status"></p><div id="sides-pictures"></div></section>
+    <footer class="foot"><button class="quiet" data-do="back" aria-label="one turn back">◂</button>
+      <input id="sides-slider" type="range" min="0" value="0" aria-label="turn"> <span id="sides-where" class="small"></span> <span id="sides-turns"></span>
+      <button class="quiet" id="sides-lecture" data-do="lecture" title="show this as one slide for a lecture hall; Escape leads back">Lecture view</button></footer>`;
+}
+
+function begin({ given }) {
+  /** @type {Record<string, string>} */
+  const { calls, turns = "", quota, opening = "" } = { ...readAddress(PRESETS[0][1]).sides, ...given };
+  const program = [];
+  for (const call of calls.split(",").filter((one) => one !== "")) {
+    const [thread, operation, key] = call.split(".");
+    (program[Number(thread)] ??= []).push(`${operation} ${key}`);
+  }
+  sidesPart("program").value = programText(Array.from(program, (own) => own ?? []));
+  sidesPart("opening").value = opening.replaceAll(".", " ");
+  for (const name of SIDES) sidesPart(name).onchange = () => beginSides();
+  sidesPart("slider").oninput = () => turnTo(Number(sidesPart("slider").value));
+  Object.assign(shown, { sides: null, quota: Number(quota), figures: [] });
+  beginSides(turns.split(".").filter((thread) => thread !== "").map(Number));
+}
+
+function beginSides(turns = []) {
+  try {
+    const program = readProgram(sidesPart("program").value);
+    const opening = sidesPart("opening").value.split(/[\s,]+/).filter((key) => key !== "");
+    const kinds = SIDES.map((name) => sidesPart(name).value);
+    Object.assign(shown, { sides: new Sides(askNow, kinds, { program, quota: shown.quota, opening }), opening });
+    for (const thread of turns) if (!shown.sides.turn(thread)) break;
+    sidesPart("told").textContent = "";
+    takeTurns();
+  } catch (fault) {
+    if (!(fault instanceof ProgramFault)) throw fault;
+    sidesPart("told").textContent = fault.message;
+  }
+}
+
+function takeTurns() {
+  shown.at = shown.sides.turns.length;
+  setScene({ text: addressOfSides() });
+}
+
+function turnOf(thread) {
+  const { sides, at } = shown;
+  if (at < sides.turns.length) beginSides(sides.turns.slice(0, at));
+  const isMade = shown.sides.turn(thread);
+  takeTurns();
+  if (!isMade) sidesPart("told").innerHTML = `${chipOf(thread)} has ended all its calls in both lists.`;
+}
+
+function turnTo(at) {
+  shown.at = Math.min(Math.max(at, 0), shown.sides.turns.length);
+  draw();
+}
+
+
+function draw() {
+  const { sides, at } = shown;
+  if (sides === null) return;
+  const button = (_, thread) => tag("button", { "data-do": "turn", "data-thread": thread }, `${chipOf(thread)} next step`);
+  redraw(sidesPart("turns"), sides.program.map(button).join(" "));
+  const words = `turn ${at} of ${sides.turns.length}`;
+  Object.assign(sidesPart("slider"), { max: sides.turns.length, value: at });
+  sidesPart("slider").setAttribute("aria-valuetext", words);
+  sidesPart("where").textContent = words;
+  figuresOf(sides.sides).forEach((figure, place) => drawSide(sides.sides[place], figure));
+}
+
+function figuresOf(sides) {
+  const { figures } = shown;
+  if (figures.length > 0 && sides.every((side, at) => figures[at].spec.list === side.kind)) return figures;
+  end();
+  sidesPart("pictures").innerHTML = sides.map(({ kind }) => tag("section", { "aria-label": LISTS[kind].name }, PICTURE)).join("");
+  const boxes = sidesPart("pictures").querySelectorAll(".pair");
+  const specOf = ({ kind, trace, state }) => ({ list: kind, run: new ShownRun(trace, state), code: false, sentence: sentenceOf, roomFor: 560, high: 0.3 });
+  figures.push(...sides.map((side, at) => new StillFigure(boxes[at], specOf(side))));
+  return figures;
+}
+
+const end = () => shown.figures.splice(0).forEach((figure) => figure.end());
+
+function drawSide(side, figure) {
+  const { at, sides: { turns } } = shown;
+  const count = side.counts[at];
+  const box = figure.box.parentElement;
+  box.querySelector("h3").innerHTML = `${LISTS[side.kind].name} <small>${count} events</small>`;
+  box.querySelector("a").href = addressOf(side.schedule, count) ?? "#";
+  side.state.moveTo(count);
+  figure.take(new ShownRun(side.trace, side.state, count), undefined, now.prefs.hides);
+  const hasWaited = at > 0 && count === side.counts[at - 1];
+  if (hasWaited) figure.tell(`${chipOf(turns[at - 1])} has ended its call here, and waits for the other list.`);
+}
+
+function addressOfSides() {
+  const { sides, quota, opening } = shown;
+  const calls = sides.program.flatMap((own, thread) => own.map((call) => `${thread}.${call.replace(" ", ".")}`));
+  const parts = [`sides=${sides.sides.map(({ kind }) => kind).join(".")}`, `quota=${quota}`];
+  if (opening.length > 0) parts.push(`opening=${opening.join(".")}`);
+  return `#${[...parts, `calls=${calls.join()}`, `turns=${sides.turns.join(".")}`].join("&")}`;
+}
+
+async function copySides() {
+  const link = linkTo(addressOfSides());
+  const isCopied = await copied(link);
+  sidesPart("told").innerHTML = `${isCopied ? "The link is copied" : "Copy this link"}: <code>${escaped(link)}</code>${warningOf(link)}`;
+}
+
+function press(event) {
+  const { sides, at } = shown;
+  const by = { ArrowRight: 1, PageDown: 1, ArrowLeft: -1, PageUp: -1, Home: -Infinity, End: Infinity }[event.key];
+  if (sides === null) return;
+  if (by !== undefined) {
+    event.preventDefault();
+    turnTo(at + by);
+  } else if (threadOfKey(event) in sides.program) turnOf(threadOfKey(event));
+}
+
+/** @type {import("../story/scene.js").View} */
+const compareView = {
+  kind: "compare",
+  title: (place) => `${listsOf(place).map((kind) => LISTS[kind].name).join(" beside ")} · Why not just one lock?`,
+  html,
+  begin,
+  draw,
+  end,
+  press,
+  deeds: {
+    begin: () => beginSides(),
+    copy: copySides,
+    back: () => turnTo(shown.at - 1),
+    turn: ({ dataset }) => turnOf(Number(dataset.thread)),
+    lecture: toggleLecture,
+  },
+};
+return { compareView };
+})();
+
+// activities/judge_map.js
+const $activities_judge_map = (() => {
+const { CLASSICS } = $made_classics;
+const { examples } = $page_example;
+const { keptUnder } = $page_kept;
+const { escaped, inLetters } = $run_markup;
+const { itemOf } = $story_ask_figure;
+const { drawCard } = $story_ask_map;
+const { head, LIST_WORDS } = $story_scene;
+const { JUDGED } = $activities_judging;
+const { drawRecordedBox, listenToRecorded } = $activities_recorded;
+const { listenToSeedForm, seedForm } = $activities_watch;
+function html() {
+  const judged = Object.keys(keptUnder(JUDGED) ?? {});
+  const cardOf = ({ name, kind }) => {
+    const state = judged.some((run) => run.startsWith(`${name} `)) ? "done" : "";
+    const { title } = itemOf({ id: name });
+    return drawCard({ href: `#example=${name}&judge`, list: LIST_WORDS[kind], title, says: escaped(inLetters(CLASSICS[name].question)), state });
+  };
+  const lead = `<p class="lead">You see a run without its replies. Say what each call
+    answers, and put a point where it takes effect. The proved <code>check</code> judges your order: any order that explains the run
+    is right.</p>`;
+  return `${head("", "Judge a run yourself", lead, "title")}<h2>A random run</h2>${seedForm("judge-seed", "Judge a run")}${drawRecordedBox()}<h2>An example, by its question</h2>
+    <div class="cards">${examples().map(cardOf).join("")}</div>`;
+}
+
+function begin() {
+  listenToSeedForm("judge-seed", "&judge");
+  listenToRecorded();
+}
+
+/** @type {import("../story/scene.js").View} */
+const judgeMapView = { kind: "asks", title: () => "Judge · Why not just one lock?", html, begin };
+return { judgeMapView };
+})();
+
+// activities/read.js
+const $activities_read = (() => {
+const { byId } = $page_dom;
+const { escaped, tag } = $run_markup;
+const { drawCard } = $story_ask_map;
+const { head } = $story_scene;
+const PAGES = [
+  ["how-it-works.html", "How it works", "The five lists, from one lock to none, each with the runs that show why."],
+  ["classic.html", "The examples", "Eighteen runs, each with its question, the answer, and what goes wrong without the check."],
+  ["tables.html", "The step tables", "Each list row by row: what a step reads and writes, and which row comes next."],
+  ["tables.html#progress", "Progress: blocking, lock-free, wait-free", "Which calls of each list may block, and within how many steps a call ends."],
+];
+const TERMS = {
+  event: "The begin of a call, or one step of it: one load, store or compare-and-exchange of one word.",
+  schedule: "Which thread makes the next step, from the first event to the last. It is the whole input of a run.",
+  history: "The calls with their begin, end, thread and reply. Two calls overlap if neither ends before the other begins.",
+  pending: "A call that has begun and not ended.",
+  "takes effect": "At its linearization point: the moment between begin and end at which a call counts in the order.",
+  order: "The calls one after the other. It explains a run if a sequential set gives the same replies in this order.",
+  linearizable: "Some order explains the replies, and keeps each pair of calls that do not overlap as they were.",
+  "row, step table": "The algorithm as numbered steps; a row says what the thread does next.",
+  "pred, curr": "The two nodes that a walk holds: curr is the next one behind pred.",
+  marked: "A node whose key is removed; it may still be in the chain until it is unlinked.",
+  "quota, slot": "How many keys a thread can add in all. Each needs a slot, a node of its own; then add answers full.",
+  "not linearizable": "Proved of a report by a few of its calls: no order of them explains their replies.",
+};
+
+function html() {
+  const cards = PAGES.map(([href, title, says]) => drawCard({ href, list: "", title, says: escaped(says) }));
+  const terms = Object.entries(TERMS).map(([term, says]) => `<div><dt>${term}</dt><dd>${escaped(says)}</dd></div>`);
+  const isAlone = document.body.dataset.alone !== undefined; // the page is one file, without the others beside it
+  const pages = isAlone ? "" : tag("div", { class: "cards" }, ...cards);
+  return `${head("", "Read", "", "title")}${pages}<h2>Terms</h2>${tag("dl", { class: "words card" }, ...terms)}
+    <h2>What is proved, and what is not</h2><div class="panel prose">${byId("proved").innerHTML}</div>`;
+}
+
+/** @type {import("../story/scene.js").View} */
+const readView = { kind: "asks", title: () => "Read · Why not just one lock?", html };
+return { PAGES, readView };
+})();
+
+// activities/views.js
+const $activities_views = (() => {
 const { askMapView } = $story_ask_map;
 const { askView } = $story_ask_view;
 const { assignmentView } = $story_assignment_view;
@@ -11353,24 +11192,154 @@ const { learnView } = $story_learn_view;
 const { pathView } = $story_path_view;
 const { VIEWS } = $story_scene;
 const { teachView } = $story_teach_view;
+const { compareView } = $activities_compare;
+const { judgeMapView } = $activities_judge_map;
+const { readView } = $activities_read;
 function takeViews() {
   Object.assign(VIEWS, { story: pathView, code: codeView, teachers: teachView, assignment: assignmentView });
   Object.assign(VIEWS, { ask: askView, "ask map": askMapView, break: breakView, "break map": breakMapView });
-  Object.assign(VIEWS, { learn: learnView, "learn map": learnMapView });
+  Object.assign(VIEWS, { learn: learnView, "learn map": learnMapView, judge: judgeMapView, compare: compareView, read: readView });
 }
 return { takeViews };
+})();
+
+// page/save_picture.js
+const $page_save_picture = (() => {
+const { byId } = $page_dom;
+const { saveText } = $page_files;
+const DRAWN_BY = ["fill", "stroke", "stroke-width", "stroke-dasharray", "fill-opacity", "stroke-opacity", "opacity", "font-family",
+  "font-size", "font-weight", "font-style", "text-anchor", "paint-order", "text-decoration-line"];
+
+function drawnOut(svg) {
+  const copy = svg.cloneNode(true);
+  const parts = [...svg.querySelectorAll("*")];
+  [...copy.querySelectorAll("*")].forEach((part, index) => {
+    const style = getComputedStyle(parts[index]);
+    for (const name of DRAWN_BY) part.style.setProperty(name, style.getPropertyValue(name));
+  });
+  return copy;
+}
+
+function wholePicture() {
+  const drawings = [...byId("stage").querySelectorAll(":is(.list, .strip, #judge-bars) svg")].filter((svg) => svg.clientWidth > 0);
+  const boxes = drawings.map((svg) => ({ svg, width: svg.clientWidth, height: svg.clientHeight }));
+  const width = Math.max(...boxes.map((box) => box.width));
+  let y = 0;
+  const placed = boxes.map(({ svg, width: own, height }) => {
+    const copy = drawnOut(svg);
+    Object.entries({ x: 0, y, width: own, height }).forEach(([name, value]) => copy.setAttribute(name, value));
+    y += height + 8;
+    return new XMLSerializer().serializeToString(copy);
+  });
+  const ground = `<rect width="100%" height="100%" fill="${getComputedStyle(document.body).backgroundColor}"/>`;
+  const frame = `width="${width}" height="${y}" viewBox="0 0 ${width} ${y}"`;
+  return `<svg xmlns="http://www.w3.org/2000/svg" ${frame}>${ground}${placed.join("")}</svg>\n`;
+}
+
+const savePicture = () => saveText("page.svg", wholePicture());
+return { savePicture };
+})();
+
+// page/controls.js
+const $page_controls = (() => {
+const { byId } = $page_dom;
+const { showMarks, watchEditor } = $page_editor;
+const { openFile, refreshReport, saveText } = $page_files;
+const { keepUnder, keptUnder } = $page_kept;
+const { toggleKeys, toggleLecture } = $page_keys;
+const { cancelLong } = $page_long_run;
+const { chooseInList } = $page_menu;
+const { change, dispatch, now } = $page_now;
+const { changeSpeed, goByHand, togglePlay, wantsLessMotion } = $page_play;
+const { savePicture } = $page_save_picture;
+const { copyLink, keepSoon } = $page_visit;
+const { newSchedule, runBox, runWithOpening } = $page_work;
+function stopUnable(event) {
+  if (event.target.closest?.('[aria-disabled="true"]') == null) return;
+  event.stopPropagation();
+  event.preventDefault();
+}
+
+function skipToRun() {
+  const first = { stage: "#next", scene: "#scene :is(.option, .fig button, .card, #sides-turns button, .foot .primary)" };
+  document.querySelector(first[now.place.screen])?.focus();
+}
+
+function listenToBar() {
+  byId("back").onclick = () => goByHand(now.run.count - 1);
+  byId("next").onclick = () => goByHand(now.run.count + 1);
+  byId("play").onclick = togglePlay;
+  byId("speed").onchange = changeSpeed;
+  byId("speed").value = wantsLessMotion() ? "slow" : "medium";
+  byId("slider").oninput = () => goByHand(Number(byId("slider").value));
+  byId("all-threads").onclick = () => dispatch("prefs", { allThreads: !now.prefs.allThreads });
+  byId("keys").onclick = toggleKeys;
+  byId("skip").onclick = skipToRun;
+  for (const name of ["lecture", "leave"]) byId(name).onclick = toggleLecture;
+  byId("link-here").onclick = copyLink;
+  byId("long-cancel").onclick = cancelLong;
+}
+
+function listenToSettings() {
+  const kept = keptUnder(SETTINGS) ?? {};
+  change("prefs", { hides: kept.hides !== false, letters: kept.letters !== false });
+  byId("hides").checked = now.prefs.hides;
+  byId("single-keys").checked = now.prefs.letters;
+  for (const [name, id] of [["hides", "hides"], ["letters", "single-keys"]]) {
+    byId(id).onchange = () => {
+      dispatch("prefs", { [name]: byId(id).checked });
+      keepUnder(SETTINGS, { hides: now.prefs.hides, letters: now.prefs.letters });
+    };
+  }
+}
+const SETTINGS = "listset-settings";
+
+function listenToWork() {
+  const box = byId("schedule");
+  byId("examples").onchange = () => chooseInList(byId("examples").value);
+  byId("run").onclick = runBox;
+  byId("opening").onchange = runWithOpening;
+  byId("link").onclick = copyLink;
+  byId("new").onclick = () => newSchedule(byId("new-list").value, byId("new-threads").value, byId("new-quota").value);
+  box.onscroll = showMarks;
+  watchEditor();
+  box.oninput = () => {
+    showMarks();
+    keepSoon();
+  };
+  box.onkeydown = (event) => {
+    if (event.key === "Enter" && (event.ctrlKey || event.metaKey)) runBox();
+  };
+}
+
+function listenToFiles() {
+  byId("report-box").ontoggle = refreshReport;
+  byId("file").onchange = () => openFile(byId("file").files[0]).then(() => (byId("file").value = ""));
+  byId("save-schedule").onclick = () => saveText("page.schedule", byId("schedule").value);
+  byId("save-trace").onclick = () => saveText("now.run.trace", now.run.trace.text);
+  byId("save-picture").onclick = savePicture;
+}
+
+function placeParts() {
+  const narrow = matchMedia("(max-width: 940px)");
+  const place = () => {
+    for (const name of ["schedule-box", "new-box", "files-box", "threads-box"]) byId(name).open = !narrow.matches;
+  };
+  narrow.addEventListener("change", place);
+  place();
+}
+return { stopUnable, listenToBar, listenToSettings, listenToWork, listenToFiles, placeParts };
 })();
 
 // main.js
 const $main = (() => {
 const { listenToBench, showBar, showRun } = $activities_bench;
-const { drawCompare, listenToSides, pressForSides, showSides } = $activities_compare;
 const { listenToCourses, listenToHandIn } = $activities_courses;
 const { listenToJudging } = $activities_judge_begin;
 const { drawJudging } = $activities_judging;
 const { followAddress, openCourseFile, openFirst, openRecorded, showBeforehand } = $activities_open;
 const { showPlace } = $activities_place;
-const { drawReadMap } = $activities_read;
+const { takeViews } = $activities_views;
 const { Engine } = $engine_engine;
 const { listenToBar, listenToFiles, listenToSettings, listenToWork, placeParts, stopUnable } = $page_controls;
 const { byId } = $page_dom;
@@ -11379,13 +11348,11 @@ const { refreshReport } = $page_files;
 const { keysOf, pressKey } = $page_keys;
 const { fillExamples, fillWorks, showQuestion } = $page_menu;
 const { held, on, show, takeTrace } = $page_now;
-const { isAtMap, services, showParts } = $page_places;
+const { services, showParts } = $page_places;
 const { keepNow, keepSoon } = $page_visit;
 const { showHeader } = $page_work;
 const { Trace } = $run_trace;
 const { isScene, leaveScene, listenToScene, pressInScene, renderScene } = $story_scene;
-const { startLearning } = $story_learning;
-const { takeViews } = $story_views;
 const EMPTY_TRACE = "listset-trace 1\nlist lazy\nthreads 2\nquota 4\nend\n";
 
 function listen() {
@@ -11395,11 +11362,11 @@ function listen() {
   listenToFiles();
   listenToSettings();
   listenToJudging();
+  listenToCourses();
+  listenToHandIn();
   listenToScene();
-  listenToSides();
   placeParts();
-  keysOf.compare = pressForSides;
-  for (const activity of ["story", "ask", "code", "break", "learn"]) keysOf[activity] = pressInScene;
+  keysOf.scene = pressInScene;
   document.addEventListener("click", stopUnable, true);
   document.addEventListener("keydown", pressKey);
   window.addEventListener("resize", show);
@@ -11416,9 +11383,8 @@ function render(state, moment) {
   }
   leaveScene();
   for (const draw of [showBar, showQuestion, drawJudging, showPlace]) draw();
-  if (!isAtMap()) showRun(moment);
+  showRun(moment);
   showMarks();
-  showSides();
   keepSoon();
 }
 
@@ -11448,17 +11414,6 @@ async function startEngine() {
   }
 }
 
-function fillMaps() {
-  fillExamples();
-  if (held.engine !== null) {
-    const panel = startLearning();
-    listenToCourses(panel);
-    listenToHandIn(panel);
-  }
-  drawReadMap();
-  drawCompare();
-}
-
 async function startPage() {
   document.body.dataset.ready = "begun";
   takeViews();
@@ -11466,7 +11421,7 @@ async function startPage() {
   listen();
   if (!showBeforehand()) takeEmpty();
   await startEngine();
-  fillMaps();
+  fillExamples();
   document.body.dataset.ready = "soon";
   try {
     await openFirst();
@@ -11479,5 +11434,5 @@ if (typeof document !== "undefined") startPage(); // in node there is none
 return {  };
 })();
 
-return Object.assign({}, $made_rows, $run_markup, $run_trace, $run_state, $draw_labels, $draw_history, $draw_contents, $made_code, $draw_listing, $draw_table, $draw_threads, $page_dom, $engine_answers, $run_faults, $run_judged, $run_schedule_text, $run_outcomes, $run_sentences, $page_state, $page_now, $page_editor, $made_classics, $page_play, $run_broken, $run_draft, $story_phases, $story_live_run, $draw_glide, $draw_places, $draw_arrows, $draw_list, $data_book_code, $story_code, $story_tale, $story_dock, $story_figure_parts, $story_figure_press, $story_figure, $story_still_figure, $activities_bench, $page_seen, $page_places, $page_keys, $run_address, $run_seed, $data_levels, $data_chapter, $page_scene_address, $page_address_of, $made_book, $page_kept, $page_visit, $run_sides, $story_scene, $activities_compare, $course_course_link, $run_moments, $course_goal_words, $course_course_text, $course_lesson, $course_hand_in, $run_check_trace, $run_recorded, $engine_engine, $engine_worker, $page_long_run, $made_traces, $page_example, $page_run_text, $page_work, $page_files, $story_kept_story, $story_ask, $story_ask_more, $story_ask_map, $story_assignment, $story_kept_lessons, $story_learning, $story_learn_map, $draw_judged, $activities_judging, $activities_courses, $activities_judge_begin, $page_menu, $story_ask_figure, $activities_recorded, $activities_watch, $activities_judge_map, $activities_read, $activities_open, $story_give, $story_assignment_view, $activities_place, $page_save_picture, $page_controls, $story_ask_branches, $story_ask_view, $story_break_map, $story_run_of_text, $story_break_view, $story_code_view, $story_learn_view, $story_path, $story_path_parts, $story_path_end, $story_path_view, $data_own_course, $story_handins, $story_handins_view, $story_homework_view, $story_teach_view, $story_views);
+return Object.assign({}, $made_rows, $run_markup, $run_trace, $run_state, $draw_labels, $draw_history, $draw_contents, $made_code, $draw_listing, $draw_table, $draw_threads, $page_dom, $engine_answers, $run_faults, $run_judged, $run_schedule_text, $run_outcomes, $run_sentences, $page_state, $page_now, $page_editor, $made_classics, $page_play, $run_broken, $run_draft, $story_phases, $story_live_run, $draw_glide, $draw_places, $draw_arrows, $draw_list, $data_book_code, $story_code, $story_tale, $story_dock, $story_figure_parts, $story_figure_press, $story_figure, $story_still_figure, $activities_bench, $made_book, $run_address, $course_course_link, $run_moments, $course_goal_words, $course_course_text, $course_lesson, $course_hand_in, $run_check_trace, $run_recorded, $engine_engine, $engine_worker, $page_long_run, $made_traces, $page_example, $page_kept, $page_run_text, $page_work, $page_files, $run_seed, $data_levels, $data_chapter, $page_scene_address, $page_address_of, $page_visit, $story_kept_story, $story_ask, $story_ask_more, $story_scene, $story_ask_map, $story_assignment, $story_kept_lessons, $story_learning, $story_learn_map, $draw_judged, $activities_judging, $activities_courses, $activities_judge_begin, $page_menu, $page_seen, $page_places, $activities_recorded, $activities_watch, $activities_open, $story_give, $story_assignment_view, $activities_place, $story_ask_figure, $story_ask_branches, $story_ask_view, $story_break_map, $story_run_of_text, $story_break_view, $story_code_view, $story_learn_view, $story_path, $story_path_parts, $story_path_end, $story_path_view, $data_own_course, $story_handins, $story_handins_view, $story_homework_view, $story_teach_view, $page_keys, $run_sides, $activities_compare, $activities_judge_map, $activities_read, $activities_views, $page_save_picture, $page_controls);
 })();

@@ -1,12 +1,11 @@
 // The page: its parts are put together, and it starts.
 import { listenToBench, showBar, showRun } from "./activities/bench.js";
-import { drawCompare, listenToSides, pressForSides, showSides } from "./activities/compare.js";
 import { listenToCourses, listenToHandIn } from "./activities/courses.js";
 import { listenToJudging } from "./activities/judge_begin.js";
 import { drawJudging } from "./activities/judging.js";
 import { followAddress, openCourseFile, openFirst, openRecorded, showBeforehand } from "./activities/open.js";
 import { showPlace } from "./activities/place.js";
-import { drawReadMap } from "./activities/read.js";
+import { takeViews } from "./activities/views.js";
 import { Engine } from "./engine/engine.js";
 import { listenToBar, listenToFiles, listenToSettings, listenToWork, placeParts, stopUnable } from "./page/controls.js";
 import { byId } from "./page/dom.js";
@@ -15,13 +14,11 @@ import { refreshReport } from "./page/files.js";
 import { keysOf, pressKey } from "./page/keys.js";
 import { fillExamples, fillWorks, showQuestion } from "./page/menu.js";
 import { held, on, show, takeTrace } from "./page/now.js";
-import { isAtMap, services, showParts } from "./page/places.js";
+import { services, showParts } from "./page/places.js";
 import { keepNow, keepSoon } from "./page/visit.js";
 import { showHeader } from "./page/work.js";
 import { Trace } from "./run/trace.js";
 import { isScene, leaveScene, listenToScene, pressInScene, renderScene } from "./story/scene.js";
-import { startLearning } from "./story/learning.js";
-import { takeViews } from "./story/views.js";
 
 const EMPTY_TRACE = "listset-trace 1\nlist lazy\nthreads 2\nquota 4\nend\n";
 
@@ -32,11 +29,11 @@ function listen() {
   listenToFiles();
   listenToSettings();
   listenToJudging();
+  listenToCourses();
+  listenToHandIn();
   listenToScene();
-  listenToSides();
   placeParts();
-  keysOf.compare = pressForSides;
-  for (const activity of ["story", "ask", "code", "break", "learn"]) keysOf[activity] = pressInScene;
+  keysOf.scene = pressInScene;
   document.addEventListener("click", stopUnable, true);
   document.addEventListener("keydown", pressKey);
   window.addEventListener("resize", show);
@@ -54,9 +51,8 @@ function render(state, moment) {
   }
   leaveScene();
   for (const draw of [showBar, showQuestion, drawJudging, showPlace]) draw();
-  if (!isAtMap()) showRun(moment);
+  showRun(moment);
   showMarks();
-  showSides();
   keepSoon();
 }
 
@@ -87,17 +83,6 @@ async function startEngine() {
   }
 }
 
-function fillMaps() {
-  fillExamples();
-  if (held.engine !== null) {
-    const panel = startLearning();
-    listenToCourses(panel);
-    listenToHandIn(panel);
-  }
-  drawReadMap();
-  drawCompare();
-}
-
 async function startPage() {
   document.body.dataset.ready = "begun";
   takeViews();
@@ -105,7 +90,7 @@ async function startPage() {
   listen();
   if (!showBeforehand()) takeEmpty();
   await startEngine();
-  fillMaps();
+  fillExamples();
   document.body.dataset.ready = "soon";
   try {
     await openFirst();

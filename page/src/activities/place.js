@@ -2,7 +2,6 @@
 import { titleIn } from "../page/address_of.js";
 import { byId } from "../page/dom.js";
 import { held, now } from "../page/now.js";
-import { titleOfSides } from "./compare.js";
 import { addressOfAssignment, addressOfCode } from "../page/scene_address.js";
 import { scheduleOfTrace } from "../run/schedule_text.js";
 import { hasTask } from "../story/assignment.js";
@@ -11,16 +10,6 @@ import { keptStory } from "../story/kept_story.js";
 import { linesOf } from "../story/live_run.js";
 import { titleOfScene } from "../story/scene.js";
 import { taskOfWatch } from "./watch.js";
-
-const TASKS = { watch: taskOfWatch, judge: taskOfWatch };
-const TITLES = {
-  get sides() {
-    return titleOfSides();
-  },
-  get scene() {
-    return titleOfScene(now.place);
-  },
-};
 
 // A task of the assignment that was opened last leads back to it.
 function showHome() {
@@ -34,12 +23,12 @@ function showHome() {
 
 // After each time that the run was drawn: the task, the title.
 export function showPlace() {
-  document.title = titleIn(held.state, TITLES);
+  document.title = titleIn(held.state, titleOfScene);
   showHome();
   if (now.place.screen !== "stage") return;
   const { trace, count } = now.run;
   byId("go-on-here").hash = addressOfCode(trace.kind, trace.opening, linesOf(scheduleOfTrace(trace, count)), trace);
-  const links = TASKS[now.place.activity]();
+  const links = taskOfWatch();
   for (const name of ["before", "next"]) {
     byId(`task-${name}`).hidden = links[name] === null;
     if (links[name] !== null) byId(`task-${name}`).href = links[name];

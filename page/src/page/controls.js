@@ -19,13 +19,9 @@ export function stopUnable(event) {
   event.preventDefault();
 }
 
-// Past the links of the frame, for whoever comes by the key Tab: to the step, to what can be pressed first, or to the first link of a map.
+// Past the links of the frame, for whoever comes by the key Tab: to the step, or to what can be pressed first.
 function skipToRun() {
-  const first = {
-    map: `#map-${now.place.activity} a, [data-activity=compare] #sides-turns button`,
-    stage: "#next",
-    scene: "#scene :is(.option, .fig button, .card, .foot .primary)",
-  };
+  const first = { stage: "#next", scene: "#scene :is(.option, .fig button, .card, #sides-turns button, .foot .primary)" };
   document.querySelector(first[now.place.screen])?.focus();
 }
 

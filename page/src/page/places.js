@@ -1,14 +1,7 @@
-// Where the reader is: a scene of the story, or an activity, and in that the map of what there is, or the stage; and what is seen there.
+// Where the reader is: a scene, or the stage of the bench; and what is seen there.
 import { byId, setHidden } from "./dom.js";
-import { change, now, show } from "./now.js";
+import { change } from "./now.js";
 import { factsOf, SEEN } from "./seen.js";
-
-export const isAtMap = () => now.place.screen === "map";
-
-export function goToPlace(activity, screen) {
-  change("place", { activity, screen });
-  show();
-}
 
 // What is seen in a state; and the activity is marked as the one that is open.
 export function showParts(state) {

@@ -1,15 +1,12 @@
 // Which parts of the page are seen where. A part that is not named here is seen wherever what it stands in is.
 
-const isOneOf = (...names) => ({ activity }) => names.includes(activity);
-const isStage = ({ screen, activity }) => screen === "stage" && activity !== "compare";
-const onMapOf = (name) => ({ activity, isMap }) => isMap && activity === name;
+const isStage = ({ screen }) => screen === "stage";
 
 // What decides it: the place, and what the run is.
 export function factsOf(state, { hasEngine }) {
   const { place, run, task, exercise } = state;
   return {
     ...place,
-    isMap: place.screen === "map",
     hasEngine,
     kind: task.kind,
     isJudging: exercise !== null,
@@ -30,15 +27,10 @@ export const SEEN = {
   task: (facts) => isStage(facts) && (isFull(facts) || isSlide(facts)),
   stage: isStage,
   workshop: (facts) => isStage(facts) && isFull(facts),
-  map: (facts) => isFull(facts) && facts.isMap && facts.activity !== "compare",
-  "map-judge": onMapOf("judge"),
-  "map-read": isOneOf("read"),
-  "report-part": (facts) => isFull(facts) || facts.activity === "compare",
-  "sides-box": (facts) => facts.activity === "compare" && facts.hasEngine,
   "question-box": ({ kind, isJudging }) => kind === "example" && !isJudging,
   "own-head": ({ kind }) => kind === "own",
   "seed-box": ({ kind }) => kind === "seed",
-  "judge-head": isOneOf("judge"),
+  "judge-head": ({ activity }) => activity === "judge",
   "go-on-here": (facts) => facts.activity !== "judge" && isFull(facts) && facts.hasEngine,
   past: ({ isJudging, view }) => !isJudging && view !== "list",
   ticks: ({ isJudging }) => !isJudging,
