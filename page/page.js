@@ -358,7 +358,7 @@ const openReply = "true"; // an open call that stands in the order has changed t
 
 function inLetters(text) {
   const letters = (numbers) => numbers.replace(/\d+/g, (number) => letterOf(Number(number)));
-  const some = text.replace(/\bthreads (\d+(?:, \d+)*(?:,? and \d+)?)/gi, (_, numbers) => letters(numbers));
+  const some = text.replace(/\b(?:the )?threads (\d+(?:, \d+)*(?:,? and \d+)?)/gi, (_, numbers) => letters(numbers));
   return some.replace(/\bthread (\d+)/gi, (_, number) => letterOf(Number(number))).replace(/\bt(\d+)\b/g, (_, number) => letterOf(Number(number)));
 }
 return { escaped, tag, label, title, colourOf, letterOf, chipOf, holderOf, keyText, said, counted, callText, openReply, inLetters };
@@ -863,7 +863,7 @@ function drawWindow(scale, total, x) {
 
 function nameOfContents({ lacks }) {
   if (lacks === null) return label({ class: "name", x: 6, y: 17 }, "set");
-  const lines = ["set by", "points"].map((words, line) => label({ class: "name", x: 2, y: 10 + 12 * line }, words));
+  const lines = ["set as", "told"].map((words, line) => label({ class: "name", x: 2, y: 10 + 12 * line }, words));
   return tag("g", {}, title(`${BY_POINTS}; the list may have other keys`), ...lines);
 }
 const BY_POINTS = "the set by the linearization points of the calls";
@@ -1631,9 +1631,10 @@ function setHidden(part, isHidden, other) {
 }
 
 function setHtml(box, html) {
-  if (texts.get(box) === html) return;
+  if (texts.get(box) === html) return false;
   texts.set(box, html);
   box.innerHTML = html;
+  return true;
 }
 const texts = new WeakMap();
 return { byId, redraw, setAble, setHidden, setHtml };
@@ -3564,7 +3565,7 @@ function wordsOf(text, rows, struck) {
   return `${inBold(text.slice(0, at))}${missing}${inBold(text.slice(at + part.length))}`;
 }
 
-const drawHere = (threads) => threads.slice(0, 2).map(chipOf).join("") + (threads.length > 2 ? tag("small", {}, `+${threads.length - 2}`) : "");
+const drawHere = (threads) => (threads.length < 3 ? threads.map(chipOf).join("") : `${chipOf(threads[0])}<small>+${threads.length - 1}</small>`);
 
 /** @param {any} line @param {CodeSpec} spec */
 function drawOwnLine({ text, rows = [], isPlain = false }, { next, made, fresh = [], struck = [], canStep, active }) {
@@ -3674,7 +3675,7 @@ function linkTold(moment, owner, who, phase) {
     }
     return `walks from ${who} once more.`;
   }
-  if (phase === "unlink" || before.pc === 8) return `looks what comes after ${who}: ${to}.`;
+  if (phase === "unlink" || before.pc === 8) return `reads what comes after ${who}: ${to}.`;
   if (trace.kind === "lock-free" && event.changes.curr === undefined) {
     return isMarked ? `meets ${who}, which is marked: it will take it out on its way.` : `looks at the arrow of ${who}: no mark.`;
   }
@@ -3818,7 +3819,7 @@ const isNarrow = () => matchMedia(NARROW).matches;
 
 const codeBox = ({ codeTitle, codeNote = "" }) => `<details class="codebox" ${isNarrow() ? "" : "open"}><summary><b>${codeTitle}</b></summary>
     <p class="small code-note" ${codeNote === "" ? "hidden" : ""}>${codeNote}</p><span class="runs"></span><div class="lines"></div>
-    <p class="small hint">Press the lit line to step, another line to run there.</p></details>`;
+    <p class="small hint">A letter stands at its thread’s next line. Press the line to step, another one to run there.</p></details>`;
 
 function frameOf({ box, spec }) {
   box.innerHTML = `<div class="stage"><div class="list" tabindex="0" role="group" aria-label="the list"></div>
@@ -3939,14 +3940,14 @@ function showCode(figure, { state, event, before }) {
   box.scrollTop = scroll;
   const toggles = figure.shown.filter(isAble).map((thread) => toggleOf(thread, active));
   figure.part("runs").innerHTML = canStep && toggles.length > 1 ? toggles.join("") : "";
-  scrollToLit(box, active);
+  scrollToLit(box, event?.thread ?? active);
 }
 
 const toggleOf = (thread, active) => `<button class="who ${colourOf(thread)}" data-active="${thread}" aria-pressed="${thread === active}"
   title="${letterOf(thread)} runs to another line that is pressed">${letterOf(thread)}</button>`;
 
-function scrollToLit(box, active) {
-  const line = box.querySelector(`.lit.${colourOf(active)}`) ?? box.querySelector(".lit") ?? box.querySelector(".made");
+function scrollToLit(box, moved) {
+  const line = box.querySelector(`.lit.${colourOf(moved)}`) ?? box.querySelector(".made") ?? box.querySelector(".lit");
   if (line === null || box.scrollHeight <= box.clientHeight) return;
   const y = line.offsetTop - box.offsetTop;
   if (y < box.scrollTop + 10 || y > box.scrollTop + box.clientHeight - 50) box.scrollTop = y - box.clientHeight / 2;
@@ -7717,6 +7718,7 @@ const $story_scene = (() => {
 const { change, dispatch, now } = $page_now;
 const { byId, setHtml } = $page_dom;
 const { tag } = $run_markup;
+const { isNarrow } = $story_figure_parts;
 /**
  * @typedef {object} View
  * @property {string} kind  the class of the place
@@ -7732,7 +7734,7 @@ const { tag } = $run_markup;
 
 /** @type {Record<string, View>} of an activity, or of one without an id its map */
 const VIEWS = {};
-const scene = { key: "", view: null, figure: null, isFirst: true };
+const scene = { key: "", view: null, figure: null, isFirst: true, isNew: false };
 
 const part = (selector) => byId("scene").querySelector(selector);
 const viewOf = ({ activity, id }) => (id === "" ? VIEWS[`${activity} map`] : undefined) ?? VIEWS[activity];
@@ -7740,7 +7742,25 @@ const titleOfScene = (place) => viewOf(place).title(place);
 const faultOfScene = (place) => viewOf(place).fault?.(place) ?? null;
 const isScene = ({ place }) => place.screen === "scene";
 const setScene = (given) => dispatch("scene", given);
-const talk = (html) => setHtml(part("#talk"), html);
+
+function talk(html) {
+  const box = part("#talk");
+  if (!setHtml(box, html) || scene.isNew || hiddenBelow() <= 0) return;
+  box.lastElementChild.scrollIntoView({ block: "end", behavior: "smooth" });
+}
+
+function hiddenBelow() {
+  const [last, bar] = [part("#talk")?.lastElementChild, part(".foot")];
+  return last == null || bar === null ? 0 : last.getBoundingClientRect().bottom - bar.getBoundingClientRect().top;
+}
+
+function fitFigure({ spec }) {
+  const list = scene.figure.part("list").firstElementChild;
+  const over = hiddenBelow();
+  if (over <= 0 || list === null || isNarrow()) return;
+  Object.assign(spec, { high: (Number(list.getAttribute("height")) - over - 8) / innerHeight, least: 110 });
+  scene.figure.draw();
+}
 
 function takeFigure(figure) {
   scene.figure?.end();
@@ -7767,8 +7787,11 @@ function renderScene({ place, scene: state }) {
   box.className = view.kind;
   box.innerHTML = view.html(place);
   scrollTo(0, 0);
+  scene.isNew = true;
   view.begin?.(place);
   view.draw?.(now.scene);
+  if (scene.figure !== null) fitFigure(scene.figure);
+  scene.isNew = false;
   if (!scene.isFirst && document.activeElement === document.body) box.querySelector("h1")?.focus({ preventScroll: true });
   scene.isFirst = false; // who comes by a key goes on at the title of what is opened
 }
@@ -7809,12 +7832,12 @@ const optionButtons = (texts, wrong = []) => {
 
 const lowered = (text) => text[0].toLowerCase() + text.slice(1);
 
-function replyTo(options, chosen) {
+function replyTo(options, chosen, isToCome) {
   const option = options?.[chosen];
   if (option === undefined) return "";
   const { text, say, right = false } = option;
   const said = `You said: ${lowered(text)}${text.endsWith("?") ? "" : "."}`;
-  return `<p class="you ${right ? "right" : "wrong"}"><b>${said}</b> ${say || (right ? "Let us see." : "")}</p>`;
+  return `<p class="you ${right ? "right" : "wrong"}"><b>${said}</b> ${say || (right && isToCome ? "Let us see." : "")}</p>`;
 }
 
 function drawLedger(run) {
@@ -9227,7 +9250,7 @@ function showHome() {
   byId("home").hidden = !isTask;
   if (!isTask) return;
   byId("home").textContent = `← Back to ${titleOfAssignment(homework)}`;
-  byId("home").hash = addressOfAssignment(homework);
+  byId("home").href = addressOfAssignment(homework);
 }
 
 function showPlace() {
@@ -9335,7 +9358,6 @@ async function openBranch(at, plays = false) {
   await figure.replay(hasOwnRun ? 0 : Math.min(asked, figure.run.trace.total - 1));
   if (scene.figure !== figure) return;
   setScene({ stage: "done" });
-  part("#talk").scrollIntoView({ block: "nearest", behavior: "smooth" });
 }
 
 const goBack = () => openBranch(0);
@@ -9448,13 +9470,12 @@ async function guessed(index) {
   if (scene.figure !== figure) return;
   setScene({ branches: [{ ...now.scene.branches[0], from: asked }] });
   openBranch(0);
-  part("#talk").scrollIntoView({ block: "nearest", behavior: "smooth" });
 }
 
 
 function talkOf({ stage, chosen, at, branches }) {
   const item = here();
-  const reply = replyTo(item.options, chosen);
+  const reply = replyTo(item.options, chosen, stage === "playing");
   if (stage === "guess") return optionButtons(item.options.map(({ text }) => text));
   if (stage === "playing") return at === 0 ? reply || '<p class="you">Let us see.</p>' : '<p class="you">Now on a list without its check.</p>';
   if (at > 0) return talkOfBranch(branches[at]);
@@ -9463,7 +9484,7 @@ function talkOf({ stage, chosen, at, branches }) {
       <p class="line"><button data-do="home">← Back to the example</button></p>`;
   }
   const without = item.lacks === undefined ? "" : '<button data-do="without">And without this check?</button>';
-  return `<div class="reveal"><div>${reply}<p class="why">${item.why}</p><p class="line more"><button data-do="if">What if …?</button> ${without}
+  return `<div class="reveal${item.options[chosen]?.right ? "" : " other"}"><div>${reply}<p class="why">${item.why}</p><p class="line more"><button data-do="if">What if …?</button> ${without}
     <button data-do="again" class="quiet">See it again</button></p></div></div>`;
 }
 
@@ -9616,15 +9637,18 @@ function looked() {
   const verdict = run.verdict();
   const isBroken = isTaskDone(name, verdict);
   if (now.scene.stage !== "task") return scene.figure.set({ isLost: isBroken });
-  if (!isBroken) return setScene({ note: verdict.kind === "points" ? POINTS : "" });
+  if (!isBroken) return setScene({ note: notYet(run, verdict) });
   const wasShown = isShown(run);
   if (!wasShown) keepBrokenLine(name, `break ${name} ${addressOf(run.schedule, run.trace.total, name)}`);
   scene.figure.set({ isLost: true });
   setScene({ stage: "done", note: whyOf(verdict, wasShown) });
-  part("#talk").scrollIntoView({ block: "nearest", behavior: "smooth" });
 }
 
-const POINTS = "The moments at which these calls take effect are out of order. But another order explains their answers: not broken yet.";
+function notYet(run, { kind }) {
+  const lost = run.promised().filter((key) => !run.has().includes(key));
+  if (run.trace.calls.some(({ ended }) => ended === null)) return lost.length === 0 ? "" : `${lost.join(" and ")} is not in the list any more. Now let each call come to its answer.`;
+  return kind === "points" ? "That looks wrong. But calls that overlap may count in either order, and one order explains these answers: not broken yet." : "";
+}
 
 const whyOf = ({ why }, wasShown) => {
   const ofList = why.replace(/the set (has|does not have) it/, "the list $1 it"); // no set is this
@@ -10028,7 +10052,7 @@ const SCREENS = [
     nav: "Free walk",
     question: "Most steps only look. Can a walk do without locks?",
     prose: "So let threads walk freely, and lock only at the end: pred and curr. Then check that pred still points to curr, and only then write. Nothing holds up a walk any more. Is it still right?",
-    figure: { list: "optimistic", lacks: "second-walk", opening: [3, 7], calls: { 0: [["add", 5]], 1: [["remove", 3]] }, codeTitle: "Walk, then lock", tale: "Nobody has begun yet.", hides: [6, 7], instead: { 8: "pred.next = curr? else start again" }, words: { again: "see if pred points to curr" }, roomFor: 694, tall: true },
+    figure: { list: "optimistic", lacks: "second-walk", opening: [3, 7], calls: { 0: [["add", 5]], 1: [["remove", 3]] }, codeTitle: "Walk, then lock", tale: "Nobody has begun yet.", hides: [6, 7], instead: { 8: "valid: pred.next is curr" }, words: { again: "see if pred points to curr" }, roomFor: 694, tall: true },
     task: "A adds 5, B removes 3. Find an order in which 5 gets lost, although both lock what they change.",
     help: [[0], [1], [1], [1], [1], [1], [1], [0], [0], [0], [0], [0]],
     goal: (fig) => {
@@ -10051,14 +10075,15 @@ const SCREENS = [
       { text: "Does pred still point to curr?", say: "It does, and A has looked at that before, in vain: B changed the arrow <i>before</i> 3, not that of 3. A needs this check too, but it is not enough." },
       { text: "Does a new walk from the head meet pred?", right: true, say: "" },
     ],
-    play: [[0, "out"]],
-    reveal: () => `${b("A walks once more.")} The new walk gets past the place of 3 without meeting A’s pred. So A lets go and starts again, and then 5 is in. Hope first, check at the end: that is called <i>optimistic</i>. Its price: each call walks twice, and even readers have to lock.`,
+    play: [[0]],
+    after: "Let A go on: it lets go, starts again, and 5 is in.",
+    reveal: () => `${b("A walks once more.")} The new walk gets past the place of 3 without meeting A’s pred: not valid, A starts again. Hope first, check at the end: that is called <i>optimistic</i>. Its price: each call walks twice, and even readers have to lock.`,
   },
   {
     id: "mark",
     nav: "A mark",
     question: "Could a node itself say that it is gone?",
-    prose: "Walking twice, only to learn whether one node is still in? Give each node a <b>mark</b> instead. To remove 5, a thread first marks it, and then takes it out of the chain. Whoever meets the mark knows.",
+    prose: "Walking twice, only to learn whether one node is still in? Give each node a <b>mark</b> instead. To remove 5, a thread first marks it, and then takes it out of the chain.",
     figure: { list: "lazy", opening: [3, 5, 8], calls: { 0: [["contains", 5]] }, lines: ["begin 1 remove 5", "go 1 to 12"], shown: [0, 1], codeTitle: "Lazy", fresh: [6, 7, 11, 22], hidden: { operations: ["contains"] }, roomFor: 694 },
     ask: "B has marked 5, and is stopped before it takes the node out. A asks contains(5), and walks onto that node. What may A answer?",
     options: [
@@ -10073,10 +10098,10 @@ const SCREENS = [
   {
     id: "when",
     nav: "When?",
-    question: "A’s answer fits none of A’s steps. Is it wrong?",
-    prose: "A asks contains(5), and has come to the node of 5. Now A is stopped. B removes 5, and adds 5 again in a new node. Then A goes on: it looks at the mark of its old node.",
+    question: "At which moment has an answer to be right?",
+    prose: "A asks contains(5), comes to the node of 5, and is stopped. B removes 5, and adds it again in a new node. Then A looks at the mark of its old node. Below the list, each call is a bar in time.",
     figure: { list: "lazy", opening: [5], calls: { 0: [["contains", 5]] }, lines: ["begin 0 contains 5", "go 0 2", "begin 1 remove 5", "go 1 out", "begin 1 add 5", "go 1 out"], strip: true, code: false, dock: false, high: .27, hidesPoints: true, roomFor: 552 },
-    ask: "5 was in the set at each step of A, and is in it now. A is going to answer false. Is that a bug?",
+    ask: "At each of A’s own steps 5 was in the set. A is going to answer false. Is that a bug?",
     options: [
       { text: "Yes, it is a bug", say: "It looks like one. But look at the whole time of A’s call, also where A stood still." },
       { text: "No, false is right", right: true, say: "" },
@@ -10179,8 +10204,8 @@ function endHtml(done) {
     check. Leave the check out, and numbers get lost.</p>
     <table class="five"><thead><tr><th>The list</th><td>Who waits?</td><td>What does it need for that?</td></tr></thead>
     <tbody>${LISTS_AT_END.map(rowOfList).join("")}</tbody></table>
-    <p class="prose">And faster? Not always. With four threads and 64 numbers, this lock-free list was almost twice as fast as a tree behind one
-    lock; with 1,000 numbers it was slower. One lock is a good answer, until it is not.</p>
+    <p class="prose">And faster? Not always. With four threads and 64 numbers, this lock-free list was almost twice as fast as a balanced tree
+    behind one lock; with 1,000 numbers it was slower. One lock is a good answer, until it is not.</p>
     <h2>You have done ${count} of ${SCREENS.length}. And now?</h2><div class="ways">${ways.join("")}</div>${TRUTH}</section>
     <footer class="foot"><button class="quiet" data-do="back">← Back</button><span class="spread"></span>
     <button class="quiet" data-do="afresh">Start afresh</button><a class="button primary" href="#ask">Guess, then see →</a></footer>`;
@@ -10233,14 +10258,15 @@ function begin(place) {
 const asked = (text, note = "") => `<p class="ask">${text}</p>${note === "" ? "" : `<p class="again">${note}</p>`}`;
 
 function talkOf(screen, { stage, chosen, note }) {
-  const reply = replyTo(screen.options, chosen);
+  const reply = replyTo(screen.options, chosen, stage !== "done");
   if (stage === "guess") return asked(screen.ask) + optionButtons(screen.options.map(({ text }) => text));
   if (stage === "task" || stage === "again") return reply + asked(screen.task ?? screen.playTask, note);
   if (stage === "moment") return reply + asked(screen.then.task, note);
   if (stage === "playing") return reply;
   const after = screen.after === undefined ? "" : `<p class="small">${screen.after}</p>`;
   const ledger = screen.ledger ? drawLedger(scene.figure.run) : "";
-  return `<div class="reveal">${ledger}<div>${reply}<p class="why">${screen.reveal(scene.figure)}</p>${after}</div></div>`;
+  const isOther = screen.options !== undefined && !screen.options[chosen]?.right;
+  return `<div class="reveal${isOther ? " other" : ""}">${ledger}<div>${reply}<p class="why">${screen.reveal(scene.figure)}</p>${after}</div></div>`;
 }
 
 function draw(state) {
@@ -10323,7 +10349,6 @@ function done() {
   setScene({ stage: "done" });
   const on = part("#go-on");
   if (document.activeElement === document.body) on.focus({ preventScroll: true });
-  if (part("#talk").getBoundingClientRect().bottom > innerHeight - 70) part("#talk").scrollIntoView({ block: "end", behavior: "smooth" });
 }
 
 
@@ -10945,7 +10970,7 @@ const PRESETS = [
   ["Two removes of neighbours", "#sides=fine.optimistic&quota=4&opening=3.5.7&calls=0.remove.3,1.remove.7&turns=0.0.0.1.1.1"],
   ["A reader beside a writer", "#sides=lazy.lock-free&quota=4&opening=3.5.7&calls=0.remove.5,1.contains.5&turns=0.0.0.0.0.1.1"],
 ];
-const PICTURE = '<h3></h3><div class="pair"></div><p class="note"><a class="button">Watch this run</a></p>';
+const PICTURE = '<h2></h2><div class="pair"></div><p class="note"><a class="button">Watch this run</a></p>';
 const SIDES = ["one", "other"];
 const shown = { sides: null, at: 0, quota: 4, opening: [], figures: [] }; // at: how many turns are shown
 const sidesPart = (name) => byId(`sides-${name}`);
@@ -11050,7 +11075,7 @@ function drawSide(side, figure) {
   const { at, sides: { turns } } = shown;
   const count = side.counts[at];
   const box = figure.box.parentElement;
-  box.querySelector("h3").innerHTML = `${LISTS[side.kind].name} <small>${count} events</small>`;
+  box.querySelector("h2").innerHTML = `${LISTS[side.kind].name} <small>${count} events</small>`;
   box.querySelector("a").href = addressOf(side.schedule, count) ?? "#";
   side.state.moveTo(count);
   figure.take(new ShownRun(side.trace, side.state, count), undefined, now.prefs.hides);

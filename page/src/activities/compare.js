@@ -17,7 +17,7 @@ const PRESETS = [
   ["Two removes of neighbours", "#sides=fine.optimistic&quota=4&opening=3.5.7&calls=0.remove.3,1.remove.7&turns=0.0.0.1.1.1"],
   ["A reader beside a writer", "#sides=lazy.lock-free&quota=4&opening=3.5.7&calls=0.remove.5,1.contains.5&turns=0.0.0.0.0.1.1"],
 ];
-const PICTURE = '<h3></h3><div class="pair"></div><p class="note"><a class="button">Watch this run</a></p>';
+const PICTURE = '<h2></h2><div class="pair"></div><p class="note"><a class="button">Watch this run</a></p>';
 const SIDES = ["one", "other"];
 const shown = { sides: null, at: 0, quota: 4, opening: [], figures: [] }; // at: how many turns are shown
 const sidesPart = (name) => byId(`sides-${name}`);
@@ -126,7 +126,7 @@ function drawSide(side, figure) {
   const { at, sides: { turns } } = shown;
   const count = side.counts[at];
   const box = figure.box.parentElement;
-  box.querySelector("h3").innerHTML = `${LISTS[side.kind].name} <small>${count} events</small>`;
+  box.querySelector("h2").innerHTML = `${LISTS[side.kind].name} <small>${count} events</small>`;
   box.querySelector("a").href = addressOf(side.schedule, count) ?? "#";
   side.state.moveTo(count);
   figure.take(new ShownRun(side.trace, side.state, count), undefined, now.prefs.hides);

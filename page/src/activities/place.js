@@ -18,7 +18,7 @@ function showHome() {
   byId("home").hidden = !isTask;
   if (!isTask) return;
   byId("home").textContent = `← Back to ${titleOfAssignment(homework)}`;
-  byId("home").hash = addressOfAssignment(homework);
+  byId("home").href = addressOfAssignment(homework);
 }
 
 // After each time that the run was drawn: the task, the title.

@@ -27,10 +27,11 @@ export function setHidden(part, isHidden, other) {
   part.hidden = isHidden;
 }
 
-// Puts a text of elements in place of what a box has, where that is another one.
+// Puts a text of elements in place of what a box has; whether that is another one.
 export function setHtml(box, html) {
-  if (texts.get(box) === html) return;
+  if (texts.get(box) === html) return false;
   texts.set(box, html);
   box.innerHTML = html;
+  return true;
 }
 const texts = new WeakMap();

@@ -25,6 +25,6 @@ export const openReply = "true"; // an open call that stands in the order has ch
 // A text about "thread 0", with the letters of the threads.
 export function inLetters(text) {
   const letters = (numbers) => numbers.replace(/\d+/g, (number) => letterOf(Number(number)));
-  const some = text.replace(/\bthreads (\d+(?:, \d+)*(?:,? and \d+)?)/gi, (_, numbers) => letters(numbers));
+  const some = text.replace(/\b(?:the )?threads (\d+(?:, \d+)*(?:,? and \d+)?)/gi, (_, numbers) => letters(numbers));
   return some.replace(/\bthread (\d+)/gi, (_, number) => letterOf(Number(number))).replace(/\bt(\d+)\b/g, (_, number) => letterOf(Number(number)));
 }

@@ -39,8 +39,8 @@ function wordsOf(text, rows, struck) {
   return `${inBold(text.slice(0, at))}${missing}${inBold(text.slice(at + part.length))}`;
 }
 
-// The threads at a line: the first two, and how many more.
-const drawHere = (threads) => threads.slice(0, 2).map(chipOf).join("") + (threads.length > 2 ? tag("small", {}, `+${threads.length - 2}`) : "");
+// The threads at a line: two of them, or the first and how many more.
+const drawHere = (threads) => (threads.length < 3 ? threads.map(chipOf).join("") : `${chipOf(threads[0])}<small>+${threads.length - 1}</small>`);
 
 /** @param {any} line @param {CodeSpec} spec */
 function drawOwnLine({ text, rows = [], isPlain = false }, { next, made, fresh = [], struck = [], canStep, active }) {

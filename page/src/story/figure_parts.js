@@ -17,7 +17,7 @@ export const isNarrow = () => matchMedia(NARROW).matches;
 
 const codeBox = ({ codeTitle, codeNote = "" }) => `<details class="codebox" ${isNarrow() ? "" : "open"}><summary><b>${codeTitle}</b></summary>
     <p class="small code-note" ${codeNote === "" ? "hidden" : ""}>${codeNote}</p><span class="runs"></span><div class="lines"></div>
-    <p class="small hint">Press the lit line to step, another line to run there.</p></details>`;
+    <p class="small hint">A letter stands at its thread’s next line. Press the line to step, another one to run there.</p></details>`;
 
 export function frameOf({ box, spec }) {
   box.innerHTML = `<div class="stage"><div class="list" tabindex="0" role="group" aria-label="the list"></div>
@@ -145,14 +145,15 @@ function showCode(figure, { state, event, before }) {
   box.scrollTop = scroll;
   const toggles = figure.shown.filter(isAble).map((thread) => toggleOf(thread, active));
   figure.part("runs").innerHTML = canStep && toggles.length > 1 ? toggles.join("") : "";
-  scrollToLit(box, active);
+  scrollToLit(box, event?.thread ?? active);
 }
 
 const toggleOf = (thread, active) => `<button class="who ${colourOf(thread)}" data-active="${thread}" aria-pressed="${thread === active}"
   title="${letterOf(thread)} runs to another line that is pressed">${letterOf(thread)}</button>`;
 
-function scrollToLit(box, active) {
-  const line = box.querySelector(`.lit.${colourOf(active)}`) ?? box.querySelector(".lit") ?? box.querySelector(".made");
+// In sight is the next line of the thread that has moved; where its call has ended, its last one.
+function scrollToLit(box, moved) {
+  const line = box.querySelector(`.lit.${colourOf(moved)}`) ?? box.querySelector(".made") ?? box.querySelector(".lit");
   if (line === null || box.scrollHeight <= box.clientHeight) return;
   const y = line.offsetTop - box.offsetTop;
   if (y < box.scrollTop + 10 || y > box.scrollTop + box.clientHeight - 50) box.scrollTop = y - box.clientHeight / 2;

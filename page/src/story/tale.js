@@ -79,7 +79,7 @@ function linkTold(moment, owner, who, phase) {
     }
     return `walks from ${who} once more.`;
   }
-  if (phase === "unlink" || before.pc === 8) return `looks what comes after ${who}: ${to}.`;
+  if (phase === "unlink" || before.pc === 8) return `reads what comes after ${who}: ${to}.`;
   if (trace.kind === "lock-free" && event.changes.curr === undefined) {
     return isMarked ? `meets ${who}, which is marked: it will take it out on its way.` : `looks at the arrow of ${who}: no mark.`;
   }

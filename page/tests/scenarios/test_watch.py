@@ -80,8 +80,8 @@ def test_keys_and_slider(visitor):
 
 
 def test_live_regions_say_a_sentence_once(visitor):
-    """One region alone speaks of a step, once: on the bench, and of two lists each its own."""
-    for address, key, regions in (("#example=snip", "Right", 1), ("#compare", "Left", 2)):
+    """Of a step the sentence alone is heard, once: on the bench, and of two lists at most one of each."""
+    for address, key, most in (("#example=snip", "Right", 1), ("#compare", "Left", 2)):
         visitor.open(address)
         visitor.script("""window.said = []; const isLive = (it) => it?.closest("[aria-live=polite], [role=status], [role=alert], output") ?? null;
             new MutationObserver((all) => all.forEach(({ target }) => window.said.push(isLive(target.closest ? target : target.parentElement))))
@@ -89,7 +89,7 @@ def test_live_regions_say_a_sentence_once(visitor):
         visitor.press(key)
         visitor.settle()
         heard = visitor.script("return window.said.filter((it) => it !== null && it.getClientRects().length > 0 && it.innerText !== '').map((it) => it.className)")
-        assert heard == ["tale"] * regions, address
+        assert set(heard) == {"tale"} and len(heard) <= most, address
 
 
 def test_print_shows_the_run_alone(visitor):
